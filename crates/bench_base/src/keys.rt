@@ -10,6 +10,9 @@ const NEW_KEYS: u32 = 1_000;
 /// How many locks a commit ends.
 const COMMITTED: u32 = 10;
 
+/// How many relations stand in slots where a session has eight groups of these.
+const ALL_SLOTS: u32 = 128;
+
 static MODES: [Mode; 8] = [
     Mode::AccessShare,
     Mode::RowShare,
@@ -34,11 +37,12 @@ pub enum Kind {
     Modes,
 }
 
-/// How many sessions there can be, how many keys are held from the start, how many objects of one partition, and how many a few
-/// relations are.
+/// How many sessions there can be, with how many groups of slots each, how many keys are held from the start, how many objects of one
+/// partition, and how many a few relations are.
 #[derive(Clone, Copy)]
 pub struct Size {
     pub sessions: u32,
+    pub groups: u32,
     pub held: u32,
     pub crowd: u32,
     pub few: u32,
@@ -65,6 +69,10 @@ pub enum KeyList {
     FewStrong,
     /// Ten other relations, each in AccessShareLock.
     Ten,
+    /// A hundred of them.
+    Hundred,
+    /// As many of them as there can be slots.
+    AllSlots,
     /// The objects that the other session has, each in AccessShareLock.
     Refused,
     /// The same objects, each in AccessExclusiveLock, as the other session has them.
@@ -95,6 +103,8 @@ impl KeyList {
             KeyList::Few => (relations, 200_000, size.few),
             KeyList::FewStrong => (strong_relations, 200_000, size.few),
             KeyList::Ten => (relations, 300_000, COMMITTED),
+            KeyList::Hundred => (relations, 300_000, 100),
+            KeyList::AllSlots => (relations, 300_000, ALL_SLOTS),
             KeyList::Refused => (objects, 100_000, size.held),
             KeyList::OfOther => (Kind::Objects(Mode::AccessExclusive), 100_000, size.held),
             KeyList::InPartition => (Kind::OnePartition(Mode::AccessShare), 0, NEW_KEYS),

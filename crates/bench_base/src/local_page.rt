@@ -160,6 +160,7 @@ fn print_size<R: CpuClock + AllocGlobal + Print>(
 ) -> Result<()> {
     let size = Size {
         sessions: 1,
+        groups: 1,
         held,
         crowd: 0,
         few: 0,

@@ -22,7 +22,7 @@ pub fn is_right(alloc: Global) -> Result<bool> {
             return Ok(false);
         }
     }
-    let plain = run_events(alloc, events.as_slice())?;
+    let plain = run_events(alloc, 1, events.as_slice())?;
     Ok(holds_are_right(&plain) && words_are_right(&plain))
 }
 

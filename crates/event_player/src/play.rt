@@ -1,6 +1,6 @@
 //! The play of a script, line by line.
 //!
-//! `test NAME` begins a test. `given EVENTS` adds events that all of its cases begin with, `case EVENTS` begins a case,
+//! `test NAME` begins a test, with one group of slots a session, or as many as `groups N` says. `given EVENTS` adds events that all of its cases begin with, `case EVENTS` begins a case,
 //! `then EVENTS` adds events to it, and `see LOOKS` runs its events and looks at what the machine shows. Events and
 //! looks are parted by semicolons, their words by blanks; a line that begins with `#` is a comment.
 
@@ -16,6 +16,8 @@ use std::alloc::Global;
 /// The events of a test.
 #[derive(Drop)]
 struct Test {
+    /// How many groups of slots each session has.
+    groups: u8,
     /// Those that all cases begin with.
     given: Vec<Event>,
     /// Those of the case, with the given ones.
@@ -36,6 +38,7 @@ enum Played {
 pub fn play_script(rt: &(impl AllocGlobal + Print), script: &str) -> Result<bool> {
     let alloc = rt.alloc();
     let mut test = Test {
+        groups: 1,
         given: Vec::new(alloc),
         events: Vec::new(alloc),
     };
@@ -64,10 +67,12 @@ fn play_line(alloc: Global, test: &mut Test, line: &str) -> Result<Played> {
     match verb {
         "" | "#" => Ok(Played::Well),
         "test" => {
+            test.groups = 1;
             test.given.clear();
             test.events.clear();
             Ok(Played::Well)
         }
+        "groups" => set_groups(test, rest),
         "given" => add_events(&mut test.given, rest),
         "case" => {
             test.events.clear();
@@ -75,8 +80,19 @@ fn play_line(alloc: Global, test: &mut Test, line: &str) -> Result<Played> {
             add_events(&mut test.events, rest)
         }
         "then" => add_events(&mut test.events, rest),
-        "see" => see(alloc, test.events.as_slice(), rest),
+        "see" => see(alloc, test.groups, test.events.as_slice(), rest),
         _ => Ok(Played::Unread),
+    }
+}
+
+/// Sets how many groups of slots each session has.
+fn set_groups(test: &mut Test, text: &str) -> Result<Played> {
+    match small_number(&mut text.split_whitespace()) {
+        Some(groups) => {
+            test.groups = groups;
+            Ok(Played::Well)
+        }
+        None => Ok(Played::Unread),
     }
 }
 
@@ -141,8 +157,11 @@ fn parse_walk(words: &mut Words) -> Option<(u8, u8, Tag, Mode)> {
 }
 
 /// Runs the events, and looks at what the text names.
-fn see(alloc: Global, events: &[Event], text: &str) -> Result<Played> {
-    let plain = run_events(alloc, events)?;
+fn see(alloc: Global, groups: u8, events: &[Event], text: &str) -> Result<Played> {
+    if !(1..=8).contains(&groups) {
+        return Ok(Played::Unread);
+    }
+    let plain = run_events(alloc, groups, events)?;
     for part in text.split(';') {
         let mut words = part.split_whitespace();
         match look(&plain, &mut words) {

@@ -1,38 +1,45 @@
-use Rattle.std.proofs.Common.{◌≡◌, ℕ, ◌+◌, ◌<◌, ◌≤◌, ◌^◌, Bool, true, false, nat_eq, [], ◌∷◌, ◌++◌, Option, Some, None, refl, sym, ap, ◌∙◌, subst, inl, inr, arith, append_assoc}
-use Rattle.std.specs.Prelude.{◌==◌, if◌then◌else◌, IfSome, IfNone, IsSome}
-use Rattle.std.proofs.lemmas.Bool.{both_ways, and_parts, eqb-true, eq-eqb, cond-true, cond-false}
+use Rattle.std.proofs.Common.{◌≡◌, ◌≢◌, ℕ, ◌+◌, ◌<◌, ◌≤◌, ◌^◌, Bool, true, false, nat_eq, [], ◌∷◌, ◌++◌, Option, Some, None, refl, sym, ap, ◌∙◌, subst, inl, inr, arith, append_assoc}
+use Rattle.std.specs.Prelude.{◌/◌, ◌==◌, if◌then◌else◌, IfSome, IfNone, IsSome}
+use Rattle.std.proofs.lemmas.Bool.{cases_eq, both_ways, and_parts, eqb-true, eq-eqb, cond-true, cond-false}
 use Rattle.modes_core.specs.declared.modes.Mode.{Mode}
 use Rattle.modes_core.specs.declared.tags.Tag.{Tag}
 use Rattle.modes_core.specs.Mode.{number_of}
 use Rattle.modes_core.specs.Tag.{index_of, is_eligible_for}
 use Rattle.lw_word.specs.SlotWord.{in_use, relation_in, word_with}
+use Rattle.lw_word.proofs.SlotLemmas.{relation_in-word_with}
 use Rattle.lock_table.specs.Put.{set_at}
-use Rattle.lock_table.proofs.PutLemmas.{set_at-here, set_at-same, set_at-twice}
+use Rattle.lock_table.proofs.PutLemmas.{set_at-here, set_at-else, set_at-same, set_at-twice}
 use Rattle.lock_world.specs.declared.events.Word.TheVariants.{Strong}
-use Rattle.lock_world.specs.SlotHolds.{slot_count, relation_of, is_slot_of, used, IsSlotToGrant}
+use Rattle.lock_world.specs.SlotHolds.{group_size, most_groups, place_in_group, group_of_relation}
+use Rattle.lock_world.specs.SlotHolds.{may_use, relation_of, is_slot_of, used_in, AreInGroups, IsSlotToGrant}
 use Rattle.lock_world.specs.World.{Loaded}
 use Rattle.lock_world.specs.Account.{Account, SlotsInHand}
 use Rattle.lock_world.specs.AccountSteps.{own_with, account_reading, account_setting, account_taking_fast, account_putting_fast}
 use Rattle.lock_world.specs.AccountLaw.{MayPutFastBy}
 use Rattle.lock_world.proofs.Slots.Eligible.{eligible-is}
-use Rattle.lock_world.proofs.Slots.Used.{used-fewer, used-same, used-one_more, used-room, word_with-in_use}
+use Rattle.lock_world.proofs.Slots.Used.{place-split, place-group, relation-group, used-same, used-one_more, used-elsewhere}
+use Rattle.lock_world.proofs.Slots.Used.{used-room, word_with-in_use}
 use Rattle.shared_rule.specs.History.{slots_here}
 use Rattle.shared_rule.specs.Slots.{TakesFast}
 use Rattle.fast_path.specs.declared.slot_words.SeenSlot.{SeenSlot}
 use Rattle.fast_path.specs.declared.slot_words.Sighting.{Sighting}
-use Rattle.fast_path.specs.Slots.{account_loading, account_tried, slot_loads, IsReady}
-use Rattle.fast_path.specs.Slots.{IsHighestUnused, IsSeenOf, IsSeenUnused, Sights}
-use Rattle.fast_path.specs.Grants.{GrantsInSlot, HasOwnSlots, without_slots}
+use Rattle.fast_path.specs.declared.use_counts.UseCounts.{UseCounts}
+use Rattle.fast_path.specs.Slots.{group_of_tag, group_loads, account_loading, account_tried, IsReady}
+use Rattle.fast_path.specs.Slots.{IsOfGroup, NoneInGroup, IsHighestUnused, IsSeenOf, IsSeenUnused, Sights}
+use Rattle.fast_path.specs.Slots.{count_in, one_more_in, AreCounted, AreUseCounts}
+use Rattle.fast_path.specs.Grants.{GrantsInSlot, HasOwnSlots, HasRoom, without_slots}
+use Rattle.fast_path.proofs.GroupCounts.{counted-fewer}
+use Rattle.fast_path.proofs.Showing.{within-of_group}
 
 -- A grant by the fast path, through its steps.
 
 -- Taking the lock of its own slots.
 
--- Whoever has none in hand and takes it has it and no other one; its use count is still enough.
+-- Whoever has none in hand and takes it has it and no other one; its use counts are still enough.
 pub has_own_slots :
-    (number : ℕ) (a b : Account) (uses own : ℕ) → own ≡ number → IsReady a uses → TakesFast number a own b
-    → HasOwnSlots number b uses
-has_own_slots number a b uses own same ready takes = record {
+    (groups number : ℕ) (a b : Account) (uses : UseCounts) (own : ℕ) → own ≡ number
+    → IsReady groups a uses → TakesFast groups number a own b → HasOwnSlots groups number b uses
+has_own_slots groups number a b uses own same ready takes = record {
   slots = takes.slots;
   in_hand =
       ap (λ (x : Account). x.fast.slots) taken ∙ (λ i. set_at (ready.no_slots i) number (Some takes.slots));
@@ -41,95 +48,190 @@ has_own_slots number a b uses own same ready takes = record {
       ap (λ (x : Account). x.fast.remembered) taken
       ∙ cond-true (number == number) takes.slots.word a.fast.remembered (eq-eqb number number refl);
   one_each = takes.knows.one_each;
+  in_groups = takes.knows.in_groups;
   no_zero = ap (λ (x : Account). x.fast.zero) taken ∙ ready.no_zero;
-  enough =
-      let fewer : used takes.slots.word ≤ used a.fast.remembered =
-      used-fewer takes.slots.word a.fast.remembered (takes.knows.as_remembered same) in
-      omega (arith, fewer, ready.enough);
+  enough = counted-fewer takes.slots.word a.fast.remembered (count_in uses) (takes.knows.as_remembered same) ready.enough;
+  within = ready.within;
 } where
   taken : b ≡ account_taking_fast number a number takes.slots
   taken = takes.account ∙ ap (λ (n : ℕ). account_taking_fast number a n takes.slots) same
 
 -- The slot that a grant takes: the one that the relation has,
-pub its-takes : (slot : ℕ → ℕ) (relation place : ℕ) → place < slot_count → is_slot_of (slot place) relation ≡ true
-    → IsSlotToGrant slot relation place
-its-takes slot relation place within its = record { within = within; usable = refl; its_or_unused = inl its }
+pub its-takes :
+    (groups : ℕ) (slot : ℕ → ℕ) (relation place : ℕ) → 0 < groups → groups ≤ most_groups
+    → IsOfGroup (group_of_relation groups relation) place → is_slot_of (slot place) relation ≡ true
+    → IsSlotToGrant groups slot relation place
+its-takes groups slot relation place some few of_group its = record {
+  within = within-of_group groups relation place some few of_group;
+  usable = eq-eqb (place / group_size) (group_of_relation groups relation) of_group;
+  its_or_unused = inl its;
+}
 
--- or one not in use, where it has none.
+-- or one not in use, where its group has none for it.
 pub unused-takes :
-    (slot : ℕ → ℕ) (relation place : ℕ) → IsHighestUnused slot place
-    → ((other : ℕ) → other < slot_count → is_slot_of (slot other) relation ≡ false) → IsSlotToGrant slot relation place
-unused-takes slot relation place highest none =
-    record { within = highest.within; usable = refl; its_or_unused = inr (highest.unused, none) }
+    (groups : ℕ) (slot : ℕ → ℕ) (relation place : ℕ) → 0 < groups → groups ≤ most_groups
+    → IsHighestUnused (group_of_relation groups relation) slot place
+    → NoneInGroup (group_of_relation groups relation) slot relation → IsSlotToGrant groups slot relation place
+unused-takes groups slot relation place some few highest none = record {
+  within = within-of_group groups relation place some few highest.within;
+  usable = eq-eqb (place / group_size) (group_of_relation groups relation) highest.within;
+  its_or_unused = inr (
+    highest.unused,
+    λ other within usable.
+        none other (eqb-true (other / group_size) (group_of_relation groups relation) usable),
+  );
+}
 
-its_relation : (slot : ℕ → ℕ) (relation place : ℕ) → IsSlotToGrant slot relation place → in_use (slot place) ≡ true
-    → relation_in (slot place) ≡ relation
-its_relation slot relation place takes is =
+its_relation :
+    (groups : ℕ) (slot : ℕ → ℕ) (relation place : ℕ) → IsSlotToGrant groups slot relation place
+    → in_use (slot place) ≡ true → relation_in (slot place) ≡ relation
+its_relation groups slot relation place takes is =
     elim takes.its_or_unused [
       | inl its ↦ eqb-true (relation_in (slot place)) relation
           (and_parts (in_use (slot place)) (nat_eq (relation_in (slot place)) relation) its).1
       | inr unused ↦ absurd (both_ways (in_use (slot place)) unused.0 is)
     ]
 
--- With the mode set there one more is in use, if that one was not.
-pub used-granted :
-    (slot : ℕ → ℕ) (relation place uses : ℕ) (mode : Mode) → relation < 2 ^ 32 → number_of mode ≤ 3
-    → IsSlotToGrant slot relation place → used slot ≤ uses
-    → used (set_at slot place (word_with (slot place) relation mode)) ≤ (if in_use (slot place) then uses else uses + 1)
-used-granted slot relation place uses mode fits weak takes enough = at (in_use (slot place)) refl where
+-- With the mode set there one more of the group is in use, if that one was not.
+module _ (groups : ℕ) (slot : ℕ → ℕ) (relation place : ℕ) (mode : Mode) (uses : UseCounts) (fits : relation < 2 ^ 32)
+    (weak : number_of mode ≤ 3) (takes : IsSlotToGrant groups slot relation place) (few : groups ≤ most_groups)
+    (some : 0 < groups) where
+  -- the relation's group
+  abbrev its_group : ℕ
+  its_group = group_of_relation groups relation
+
+  -- the use counts then
+  abbrev pub counts_granted : ℕ → ℕ
+  counts_granted = if in_use (slot place) then count_in uses else one_more_in uses its_group
+
+  -- the words then
+  abbrev slots_granted : ℕ → ℕ
+  slots_granted = set_at slot place (word_with (slot place) relation mode)
+
   is : in_use (word_with (slot place) relation mode) ≡ true
-  is = word_with-in_use (slot place) relation mode fits weak (its_relation slot relation place takes)
+  is = word_with-in_use (slot place) relation mode fits weak (its_relation groups slot relation place takes)
 
-  at : (b : Bool) → in_use (slot place) ≡ b
-      → used (set_at slot place (word_with (slot place) relation mode)) ≤ (if b then uses else uses + 1)
-  at true was =
-      let same : used (set_at slot place (word_with (slot place) relation mode)) ≡ used slot =
-      used-same slot place (word_with (slot place) relation mode) (is ∙ sym was) in
-      omega (arith, same, enough)
-  at false was =
-      let more : used (set_at slot place (word_with (slot place) relation mode)) ≡ used slot + 1 =
-      used-one_more slot place (word_with (slot place) relation mode) takes.within was is in
-      omega (arith, more, enough)
+  of_group : place / group_size ≡ its_group
+  of_group = eqb-true (place / group_size) its_group takes.usable
 
--- Where not all are in use one is found that is not.
+  exists : its_group < most_groups
+  exists = let its : its_group < groups = relation-group groups relation some in omega (arith, its, few)
+
+  more : in_use (slot place) ≡ false → used_in its_group slots_granted ≡ used_in its_group slot + 1
+  more was =
+      let there = place-split its_group place of_group in
+      (λ i. used_in its_group (set_at slot (there.2 i) (word_with (slot place) relation mode)))
+      ∙ used-one_more its_group slot there.0 (word_with (slot place) relation mode) there.1
+      (ap (λ p. in_use (slot p)) (sym there.2) ∙ was) is
+
+  pub counted-granted : AreCounted slot (count_in uses) → AreCounted slots_granted counts_granted
+  counted-granted enough group below = at (in_use (slot place)) refl where
+    at : (b : Bool) → in_use (slot place) ≡ b
+        → used_in group slots_granted ≤ (if b then count_in uses else one_more_in uses its_group) group
+    at true was =
+        let same : used_in group slots_granted ≡ used_in group slot =
+        used-same group slot place (word_with (slot place) relation mode) (is ∙ sym was) in
+        let before : used_in group slot ≤ count_in uses group = enough group below in
+        omega (arith, same, before)
+    at false was = elim (cases_eq group its_group) [
+      | inl same ↦
+          let one : used_in its_group slots_granted ≡ used_in its_group slot + 1 = more was in
+          let before : used_in its_group slot ≤ count_in uses its_group = enough its_group exists in
+          let now : one_more_in uses its_group its_group ≡ count_in uses its_group + 1 =
+          set_at-here (count_in uses) its_group (count_in uses its_group + 1) its_group refl in
+          subst (λ (g : ℕ). used_in g slots_granted ≤ one_more_in uses its_group g) (sym same)
+          (omega (arith, one, before, now))
+      | inr other ↦
+          let same : used_in group slots_granted ≡ used_in group slot =
+          used-elsewhere group slot place (word_with (slot place) relation mode)
+          (λ its. other (sym its ∙ of_group)) in
+          let before : used_in group slot ≤ count_in uses group = enough group below in
+          let now : one_more_in uses its_group group ≡ count_in uses group =
+          set_at-else (count_in uses) its_group (count_in uses its_group + 1) group other in
+          omega (arith, same, before, now)
+    ]
+
+  pub within-granted :
+      count_in uses its_group ≢ group_size → AreUseCounts (count_in uses) → AreUseCounts counts_granted
+  within-granted room within group below = at (in_use (slot place)) where
+    at : (b : Bool) → (if b then count_in uses else one_more_in uses its_group) group ≤ group_size
+    at true = within group below
+    at false = elim (cases_eq group its_group) [
+      | inl same ↦
+          let before : count_in uses its_group ≤ group_size = within its_group exists in
+          let now : one_more_in uses its_group its_group ≡ count_in uses its_group + 1 =
+          set_at-here (count_in uses) its_group (count_in uses its_group + 1) its_group refl in
+          subst (λ (g : ℕ). one_more_in uses its_group g ≤ group_size) (sym same)
+          (omega (arith, before, now, room))
+      | inr other ↦
+          let before : count_in uses group ≤ group_size = within group below in
+          let now : one_more_in uses its_group group ≡ count_in uses group =
+          set_at-else (count_in uses) its_group (count_in uses its_group + 1) group other in
+          omega (arith, before, now)
+    ]
+
+  -- Each slot in use is still of its relation's group.
+  pub in_groups-granted : AreInGroups groups slot → AreInGroups groups slots_granted
+  in_groups-granted in_groups k below used = elim (cases_eq k place) [
+    | inl same ↦
+        let here : slots_granted k ≡ word_with (slot place) relation mode =
+        set_at-here slot place (word_with (slot place) relation mode) k same in
+        let its : relation_in (slots_granted k) ≡ relation =
+        ap relation_in here ∙ relation_in-word_with (slot place) relation mode fits weak in
+        ap (λ r. may_use groups r k) its ∙ ap (may_use groups relation) same ∙ takes.usable
+    | inr other ↦
+        let here : slots_granted k ≡ slot k = set_at-else slot place (word_with (slot place) relation mode) k other in
+        ap (λ w. may_use groups (relation_in w) k) here ∙ in_groups k below (ap in_use (sym here) ∙ used)
+  ]
+
+-- Where not all of a group are in use one is found that is not.
 pub some-unused :
-    (word : ℕ → ℕ) (uses : ℕ) (found : Option SeenSlot) → used word ≤ uses → uses < slot_count
-    → IfNone found ((place : ℕ) → place < slot_count → in_use (word place) ≡ true) → IsSome found
-some-unused word uses (Some slot) enough room all = refl
-some-unused word uses None enough room all =
-    let free = used-room word (omega (arith, enough, room)) in
-    absurd (both_ways (in_use (word free.0)) free.2 (all free.0 free.1))
+    (groups group : ℕ) (word : ℕ → ℕ) (uses : UseCounts) (found : Option SeenSlot) → group < most_groups
+    → AreCounted word (count_in uses) → AreUseCounts (count_in uses) → count_in uses group ≢ group_size
+    → IfNone found ((place : ℕ) → IsOfGroup group place → in_use (word place) ≡ true) → IsSome found
+some-unused groups group word uses (Some slot) exists enough within room all = refl
+some-unused groups group word uses None exists enough within room all =
+    let before : used_in group word ≤ count_in uses group = enough group exists in
+    let most : count_in uses group ≤ group_size = within group exists in
+    let free = used-room group word (omega (arith, before, most, room)) in
+    absurd (both_ways (in_use (word (place_in_group group free.0))) free.2
+    (all (place_in_group group free.0) (place-group group free.0 free.1)))
 
--- The counter read as 0, and all slots loaded.
+-- The counter read as 0, and all slots of the group loaded.
 
-module _ (number : ℕ) (a : Account) (tag : Tag) (mine : SlotsInHand)
+module _ (groups number : ℕ) (a : Account) (tag : Tag) (mine : SlotsInHand)
     (in_hand : a.fast.slots ≡ set_at (λ _. None) number (Some mine)) where
   -- the account then
   abbrev pub account_looked : Account
-  account_looked = account_loading (account_reading number a (index_of tag) 0) number mine.word slot_count
+  account_looked = account_loading (account_reading number a (index_of tag) 0) number
+      (place_in_group (group_of_tag groups tag)) mine.word group_size
 
   its_slots : a.fast.slots number ≡ Some mine
   its_slots = (λ i. in_hand i number) ∙ set_at-here (λ _. None) number (Some mine) number refl
 
-  module _ (b : Account) (own index shown : ℕ) (same : own ≡ number) (of_tag : index ≡ index_of tag)
-      (is_zero : shown ≡ 0) (read : b ≡ account_reading number a index shown) where
+  module _ (b : Account) (own index group shown : ℕ) (same : own ≡ number) (of_tag : index ≡ index_of tag)
+      (its_group : group ≡ group_of_tag groups tag) (is_zero : shown ≡ 0) (read : b ≡ account_reading number a index shown) where
     read_slots : b.fast.slots own ≡ Some mine
     read_slots = ap (λ (x : Account). x.fast.slots own) read ∙ ap a.fast.slots same ∙ its_slots
 
     pub looked :
-        (c : Account) → c ≡ account_loading b own (slots_here (b.fast.slots own)).word slot_count → c ≡ account_looked
+        (c : Account)
+        → c ≡ account_loading b own (place_in_group group) (slots_here (b.fast.slots own)).word group_size
+        → c ≡ account_looked
     looked c loaded =
         loaded
-        ∙ (λ i. account_loading b (same i) (slots_here (read_slots i)).word slot_count)
-        ∙ ap (λ (x : Account). account_loading x number mine.word slot_count)
+        ∙ (λ i. account_loading b (same i) (place_in_group (its_group i)) (slots_here (read_slots i)).word group_size)
+        ∙ ap (λ (x : Account). account_loading x number (place_in_group (group_of_tag groups tag)) mine.word group_size)
         (read ∙ (λ i. account_reading number a (of_tag i) (is_zero i)))
 
     pub looked-sights :
         (relation : ℕ) (seen : Sighting) → relation ≡ relation_of tag
-        → Sights (slots_here (b.fast.slots own)).word relation seen → Sights mine.word (relation_of tag) seen
+        → Sights group (slots_here (b.fast.slots own)).word relation seen
+        → Sights (group_of_tag groups tag) mine.word (relation_of tag) seen
     looked-sights relation seen its sighted =
-        subst (λ (r : ℕ). Sights mine.word r seen) its
-        (subst (λ found. Sights (slots_here found).word relation seen) read_slots sighted)
+        subst (λ (k : ℕ). Sights k mine.word (relation_of tag) seen) its_group
+        (subst (λ (r : ℕ). Sights group mine.word r seen) its
+        (subst (λ found. Sights group (slots_here found).word relation seen) read_slots sighted))
 
   -- The mode set in a slot, and the lock put.
   module _ (mode : Mode) (place : ℕ) where
@@ -140,7 +242,7 @@ module _ (number : ℕ) (a : Account) (tag : Tag) (mine : SlotsInHand)
     -- the account then
     abbrev pub account_granted : Account
     account_granted = record (account_tried (without_slots a) words_granted
-        (a.trace ++ Loaded (Strong (index_of tag)) 0 ∷ slot_loads number mine.word slot_count))
+        (a.trace ++ Loaded (Strong (index_of tag)) 0 ∷ group_loads number (group_of_tag groups tag) mine.word))
         { own = own_with a.own tag mode true }
 
     module _ (c d : Account) (by own : ℕ) (same_by : by ≡ number) (same : own ≡ number) (looked : c ≡ account_looked)
@@ -174,7 +276,7 @@ module _ (number : ℕ) (a : Account) (tag : Tag) (mine : SlotsInHand)
             own = own_with a.own tag mode true;
             fast = record (a.fast) { slots = gone i; remembered = words_granted; zero = unread i };
             trace = append_assoc a.trace (Loaded (Strong (index_of tag)) 0 ∷ [])
-                (slot_loads number mine.word slot_count) i;
+                (group_loads number (group_of_tag groups tag) mine.word) i;
           }) where
             its_account : Account
             its_account = account_putting_fast number (account_setting number account_looked mine place tag mode) number
@@ -191,11 +293,11 @@ module _ (number : ℕ) (a : Account) (tag : Tag) (mine : SlotsInHand)
 
       -- The mode is granted so,
       pub grants :
-          (e : Account) (uses left : ℕ) → a.fast.zero ≡ None → e ≡ account_putting_fast by d own
-          → IsSlotToGrant mine.word (relation_of tag) place
-          → (in_use (mine.word place) ≡ false → IsHighestUnused mine.word place)
-          → left ≡ (if in_use (mine.word place) then uses else uses + 1)
-          → GrantsInSlot number (without_slots a) a.trace uses tag mode e left
+          (e : Account) (uses left : UseCounts) → a.fast.zero ≡ None → e ≡ account_putting_fast by d own
+          → IsSlotToGrant groups mine.word (relation_of tag) place
+          → (in_use (mine.word place) ≡ false → IsHighestUnused (group_of_tag groups tag) mine.word place)
+          → count_in left ≡ (if in_use (mine.word place) then count_in uses else one_more_in uses (group_of_tag groups tag))
+          → GrantsInSlot groups number (without_slots a) a.trace uses tag mode e left
       grants e uses left no_zero put takes highest raised = record {
         word = mine.word;
         place = place;
@@ -207,88 +309,101 @@ module _ (number : ℕ) (a : Account) (tag : Tag) (mine : SlotsInHand)
 
       -- and the session is ready for the next call.
       pub ready :
-          (e : Account) (uses left : ℕ) → a.fast.zero ≡ None → a.fast.shared_slots ≡ (λ _. None)
+          (e : Account) (uses left : UseCounts) → a.fast.zero ≡ None → a.fast.shared_slots ≡ (λ _. None)
           → e ≡ account_putting_fast by d own
-          → IsSlotToGrant mine.word (relation_of tag) place
-          → is_eligible_for a.fast.database tag mode ≡ true → relation_of tag < 2 ^ 32 → used mine.word ≤ uses
-          → left ≡ (if in_use (mine.word place) then uses else uses + 1) → left ≤ slot_count → IsReady e left
-      ready e uses left no_zero no_shared put takes eligible fits enough raised within =
+          → IsSlotToGrant groups mine.word (relation_of tag) place
+          → is_eligible_for a.fast.database tag mode ≡ true → relation_of tag < 2 ^ 32
+          → 0 < groups → groups ≤ most_groups → AreInGroups groups mine.word
+          → AreCounted mine.word (count_in uses) → AreUseCounts (count_in uses) → HasRoom groups uses tag
+          → count_in left ≡ (if in_use (mine.word place) then count_in uses else one_more_in uses (group_of_tag groups tag))
+          → IsReady groups e left
+      ready e uses left no_zero no_shared put takes eligible fits some few in_groups enough within room raised =
           let after = granted e no_zero put in
-          let most = used-granted mine.word (relation_of tag) place uses mode fits
-          (eligible-is a.fast.database tag mode eligible).2 takes enough in
+          let weak = (eligible-is a.fast.database tag mode eligible).2 in
+          let remembered : words_granted ≡ e.fast.remembered = sym (ap (λ (x : Account). x.fast.remembered) after) in
           record {
             no_slots = ap (λ (x : Account). x.fast.slots) after;
             no_shared_slots = ap (λ (x : Account). x.fast.shared_slots) after ∙ no_shared;
             no_zero = ap (λ (x : Account). x.fast.zero) after ∙ no_zero;
-            enough = subst (λ word. used word ≤ left) (sym (ap (λ (x : Account). x.fast.remembered) after))
-                (subst (λ (n : ℕ). used words_granted ≤ n) (sym raised) most);
-            within = within;
+            in_groups = subst (λ word. AreInGroups groups word) remembered
+                (in_groups-granted groups mine.word (relation_of tag) place mode uses fits weak takes few some in_groups);
+            enough = subst (λ word. AreCounted word (count_in left)) remembered
+                (subst (λ (n : ℕ → ℕ). AreCounted words_granted n) (sym raised)
+                (counted-granted groups mine.word (relation_of tag) place mode uses fits weak takes few some enough));
+            within = subst (λ (n : ℕ → ℕ). AreUseCounts n) (sym raised)
+                (within-granted groups mine.word (relation_of tag) place mode uses fits weak takes few some room within);
           }
 
 -- The same by what each step ensures.
-module _ (number : ℕ) (a : Account) (uses : ℕ) (tag : Tag) (mode : Mode) (has : HasOwnSlots number a uses)
-    (own index shown by : ℕ) (slot : SeenSlot) (b c d : Account) (same : own ≡ number) (same_by : by ≡ number)
-    (of_tag : index ≡ index_of tag) (is_zero : shown ≡ 0) (read : b ≡ account_reading number a index shown)
-    (loaded : c ≡ account_loading b own (slots_here (b.fast.slots own)).word slot_count)
+module _ (groups number : ℕ) (a : Account) (uses : UseCounts) (tag : Tag) (mode : Mode)
+    (has : HasOwnSlots groups number a uses)
+    (own index group shown by : ℕ) (slot : SeenSlot) (b c d : Account) (same : own ≡ number) (same_by : by ≡ number)
+    (of_tag : index ≡ index_of tag) (its_group : group ≡ group_of_tag groups tag) (is_zero : shown ≡ 0)
+    (read : b ≡ account_reading number a index shown)
+    (loaded : c ≡ account_loading b own (place_in_group group) (slots_here (b.fast.slots own)).word group_size)
     (set : d ≡ account_setting by c (slots_here (c.fast.slots by)) slot.place tag mode) where
-  is_looked : c ≡ account_looked number a tag has.slots has.in_hand
-  is_looked = looked number a tag has.slots has.in_hand b own index shown same of_tag is_zero read c loaded
+  is_looked : c ≡ account_looked groups number a tag has.slots has.in_hand
+  is_looked = looked groups number a tag has.slots has.in_hand b own index group shown same of_tag its_group is_zero read c
+      loaded
 
   pub may_put-granted : (slots : SlotsInHand) × MayPutFastBy d own slots
-  may_put-granted = may_put number a tag has.slots has.in_hand mode slot.place c d by own same_by same is_looked set
+  may_put-granted =
+      may_put groups number a tag has.slots has.in_hand mode slot.place c d by own same_by same is_looked set
 
   module _ (relation : ℕ) (its_relation : relation ≡ relation_of tag) (fits : relation < 2 ^ 32)
-      (eligible : is_eligible_for a.fast.database tag mode ≡ true)
-      (room : uses < slot_count) (seen : Sighting)
-      (sighted : Sights (slots_here (b.fast.slots own)).word relation seen)
+      (eligible : is_eligible_for a.fast.database tag mode ≡ true) (some : 0 < groups) (few : groups ≤ most_groups)
+      (room : HasRoom groups uses tag) (seen : Sighting)
+      (sighted : Sights group (slots_here (b.fast.slots own)).word relation seen)
       (e : Account) (last : ℕ) (same_last : last ≡ by) (put : e ≡ account_putting_fast last d own) where
     is_put : e ≡ account_putting_fast by d own
     is_put = put ∙ ap (λ (n : ℕ). account_putting_fast n d own) same_last
 
-    sights : Sights has.slots.word (relation_of tag) seen
-    sights = looked-sights number a tag has.slots has.in_hand b own index shown same of_tag is_zero read relation seen
-        its_relation sighted
+    sights : Sights (group_of_tag groups tag) has.slots.word (relation_of tag) seen
+    sights = looked-sights groups number a tag has.slots has.in_hand b own index group shown same of_tag its_group is_zero
+        read relation seen its_relation sighted
 
-    done : (left : ℕ) → IsSlotToGrant has.slots.word (relation_of tag) slot.place
-        → (in_use (has.slots.word slot.place) ≡ false → IsHighestUnused has.slots.word slot.place)
-        → left ≡ (if in_use (has.slots.word slot.place) then uses else uses + 1) → left ≤ slot_count
-        → GrantsInSlot number (without_slots a) a.trace uses tag mode e left × IsReady e left
-    done left takes highest raised within = (
-      grants number a tag has.slots has.in_hand mode slot.place c d by own same_by same is_looked set e uses left
+    done : (left : UseCounts) → IsSlotToGrant groups has.slots.word (relation_of tag) slot.place
+        → (in_use (has.slots.word slot.place) ≡ false
+        → IsHighestUnused (group_of_tag groups tag) has.slots.word slot.place)
+        → count_in left ≡ (if in_use (has.slots.word slot.place) then count_in uses else one_more_in uses (group_of_tag groups tag))
+        → GrantsInSlot groups number (without_slots a) a.trace uses tag mode e left × IsReady groups e left
+    done left takes highest raised = (
+      grants groups number a tag has.slots has.in_hand mode slot.place c d by own same_by same is_looked set e uses left
           has.no_zero is_put takes highest raised,
-      ready number a tag has.slots has.in_hand mode slot.place c d by own same_by same is_looked set e uses left
+      ready groups number a tag has.slots has.in_hand mode slot.place c d by own same_by same is_looked set e uses left
           has.no_zero has.no_shared_slots is_put takes eligible
-          (subst (λ r. r < 2 ^ 32) its_relation fits) has.enough raised within,
+          (subst (λ r. r < 2 ^ 32) its_relation fits) some few has.in_groups has.enough has.within room raised,
     )
 
     -- In the slot that the relation has the use count stays,
     pub done-its :
         seen.of_relation ≡ Some slot
-        → GrantsInSlot number (without_slots a) a.trace uses tag mode e uses × IsReady e uses
+        → GrantsInSlot groups number (without_slots a) a.trace uses tag mode e uses × IsReady groups e uses
     done-its is =
-        let its : IsSeenOf has.slots.word (relation_of tag) slot =
-        subst (λ found. IfSome found (IsSeenOf has.slots.word (relation_of tag))) is sights.found in
+        let its : IsSeenOf (group_of_tag groups tag) has.slots.word (relation_of tag) slot =
+        subst (λ found. IfSome found (IsSeenOf (group_of_tag groups tag) has.slots.word (relation_of tag))) is
+        sights.found in
         let its_word : is_slot_of (has.slots.word slot.place) (relation_of tag) ≡ true =
         ap (λ w. is_slot_of w (relation_of tag)) (sym its.shown) ∙ its.its in
         let is_relation = nat_eq (relation_in (has.slots.word slot.place)) (relation_of tag) in
         let used_by = (and_parts (in_use (has.slots.word slot.place)) is_relation its_word).0 in
-        done uses (its-takes has.slots.word (relation_of tag) slot.place its.within its_word)
+        done uses (its-takes groups has.slots.word (relation_of tag) slot.place some few its.within its_word)
         (λ unused. absurd (both_ways (in_use (has.slots.word slot.place)) unused used_by))
-        (sym (cond-true (in_use (has.slots.word slot.place)) uses (uses + 1) used_by))
-        (omega (arith, room))
+        (sym (cond-true (in_use (has.slots.word slot.place)) (count_in uses) (one_more_in uses (group_of_tag groups tag)) used_by))
 
     -- and in another one it is raised.
     pub done-unused :
-        seen.of_relation ≡ None → seen.highest_unused ≡ Some slot
-        → GrantsInSlot number (without_slots a) a.trace uses tag mode e (uses + 1) × IsReady e (uses + 1)
-    done-unused no_slot is =
-        let unused : IsSeenUnused has.slots.word slot =
-        subst (λ found. IfSome found (IsSeenUnused has.slots.word)) is sights.unused in
-        let none : (other : ℕ) → other < slot_count → is_slot_of (has.slots.word other) (relation_of tag) ≡ false =
-        subst (λ found. IfNone found ((other : ℕ) → other < slot_count
-        → is_slot_of (has.slots.word other) (relation_of tag) ≡ false)) no_slot sights.none in
-        done (uses + 1)
-        (unused-takes has.slots.word (relation_of tag) slot.place unused.highest none)
+        (left : UseCounts) → count_in left ≡ one_more_in uses (group_of_tag groups tag)
+        → seen.of_relation ≡ None → seen.highest_unused ≡ Some slot
+        → GrantsInSlot groups number (without_slots a) a.trace uses tag mode e left × IsReady groups e left
+    done-unused left one no_slot is =
+        let unused : IsSeenUnused (group_of_tag groups tag) has.slots.word slot =
+        subst (λ found. IfSome found (IsSeenUnused (group_of_tag groups tag) has.slots.word)) is sights.unused in
+        let none : NoneInGroup (group_of_tag groups tag) has.slots.word (relation_of tag) =
+        subst (λ found. IfNone found (NoneInGroup (group_of_tag groups tag) has.slots.word (relation_of tag))) no_slot
+        sights.none in
+        done left
+        (unused-takes groups has.slots.word (relation_of tag) slot.place some few unused.highest none)
         (λ _. unused.highest)
-        (sym (cond-false (in_use (has.slots.word slot.place)) uses (uses + 1) unused.highest.unused))
-        (omega (arith, room))
+        (one ∙ sym (cond-false (in_use (has.slots.word slot.place)) (count_in uses) (one_more_in uses (group_of_tag groups tag))
+        unused.highest.unused))

@@ -1,5 +1,6 @@
 mod Loading
 mod Words
+pub mod GroupCounts
 mod Looking
 mod Granting
 mod Releasing

@@ -1,10 +1,10 @@
-use Rattle.std.proofs.Common.{◌≡◌, ◌≢◌, ℕ, List, [], ◌∷◌, ◌++◌, Some, None, refl, sym, ap, ◌∙◌, append_assoc}
+use Rattle.std.proofs.Common.{◌≡◌, ◌≢◌, ℕ, ◌*◌, List, [], ◌∷◌, ◌++◌, Some, None, refl, sym, ap, ◌∙◌, append_assoc}
 use Rattle.std.specs.Prelude.{◌==◌}
 use Rattle.std.proofs.lemmas.Bool.{cond-true, cond-false, eq-eqb, ne_eqb}
 use Rattle.lock_table.specs.Put.{set_at}
 use Rattle.lock_table.proofs.PutLemmas.{set_at-here, set_at-same, set_at-twice}
 use Rattle.lock_world.specs.declared.events.Word.TheVariants.{Database}
-use Rattle.lock_world.specs.SlotHolds.{slot_count, slot_holds}
+use Rattle.lock_world.specs.SlotHolds.{group_size, slot_holds}
 use Rattle.lock_world.specs.World.{TraceEntry, Loaded}
 use Rattle.lock_world.specs.Account.{Account, SlotsInHand}
 use Rattle.lock_world.specs.AccountFacts.{KnowsSlots}
@@ -13,7 +13,7 @@ use Rattle.lock_world.specs.AccountLaw.{MayUnshareFastBy}
 use Rattle.shared_rule.specs.History.{slots_here}
 use Rattle.shared_rule.specs.Slots.{SharesFast}
 use Rattle.fast_path.specs.Rows.{ReadsSlots}
-use Rattle.fast_path.specs.Slots.{slot_loads, account_loading}
+use Rattle.fast_path.specs.Slots.{all_loads, account_loading}
 use Rattle.fast_path.proofs.Passing.{remembered_then}
 
 -- Reading a session's slots while their lock is shared.
@@ -29,19 +29,19 @@ account_sharing number a owner slots steps = record a {
 }
 
 -- The lock is shared, and then the session's database was loaded.
-pub record Reads (number : ℕ) (a : Account) (owner shown : ℕ) (b : Account) : Type 0 where
+pub record Reads (groups number : ℕ) (a : Account) (owner shown : ℕ) (b : Account) : Type 0 where
   pub slots : SlotsInHand
-  pub knows : KnowsSlots number a owner slots
+  pub knows : KnowsSlots groups number a owner slots
   pub holds : slots.holds ≡ slot_holds shown slots.word
   pub own_database : owner ≡ number → shown ≡ a.fast.database
   pub account : b ≡ account_sharing number a owner slots (Loaded (Database owner) shown ∷ [])
 
 pub reads :
-    (number : ℕ) (a shared b : Account) (owner shown : ℕ) → SharesFast number a owner shared
+    (groups number : ℕ) (a shared b : Account) (owner shown : ℕ) → SharesFast groups number a owner shared
     → ((slots : SlotsInHand) → shared.fast.shared_slots owner ≡ Some slots → slots.holds ≡ slot_holds shown slots.word)
     → (owner ≡ number → shown ≡ shared.fast.database)
-    → b ≡ account_tracing shared (Loaded (Database owner) shown) → Reads number a owner shown b
-reads number a shared b owner shown shares of_slots own loaded = record {
+    → b ≡ account_tracing shared (Loaded (Database owner) shown) → Reads groups number a owner shown b
+reads groups number a shared b owner shown shares of_slots own loaded = record {
   slots = shares.slots;
   knows = shares.knows;
   holds = of_slots shares.slots
@@ -51,12 +51,12 @@ reads number a shared b owner shown shares of_slots own loaded = record {
   account = loaded ∙ (λ i. account_tracing (shares.account i) (Loaded (Database owner) shown));
 }
 
-module _ (number : ℕ) (a b : Account) (owner shown : ℕ) (read : Reads number a owner shown b) where
+module _ (groups number : ℕ) (a b : Account) (owner shown : ℕ) (read : Reads groups number a owner shown b) where
   pub slots-shared : b.fast.shared_slots owner ≡ Some read.slots
   slots-shared = (λ i. (read.account i).fast.shared_slots owner)
       ∙ set_at-here a.fast.shared_slots owner (Some read.slots) owner refl
 
-  pub reads-slots : ReadsSlots number a owner shown read.slots.word
+  pub reads-slots : ReadsSlots groups number a owner shown read.slots.word
   reads-slots = record {
     slots = read.slots;
     knows = read.knows;
@@ -67,18 +67,19 @@ module _ (number : ℕ) (a b : Account) (owner shown : ℕ) (read : Reads number
 
   -- the loads of the database and of the slots
   abbrev pub its_loads : List TraceEntry
-  its_loads = Loaded (Database owner) shown ∷ slot_loads owner read.slots.word slot_count
+  its_loads = Loaded (Database owner) shown ∷ all_loads groups owner read.slots.word
 
-  module _ (v : Account) (loaded : v ≡ account_loading b owner (slots_here (b.fast.shared_slots owner)).word slot_count) where
+  module _ (v : Account) (count : ℕ) (all : count ≡ group_size * groups)
+      (loaded : v ≡ account_loading b owner (λ k. k) (slots_here (b.fast.shared_slots owner)).word count) where
     -- Then its slots are loaded,
     read-loads : v ≡ account_sharing number a owner read.slots its_loads
     read-loads =
         loaded
-        ∙ (λ i. account_loading b owner (slots_here (slots-shared i)).word slot_count)
-        ∙ (λ i. account_loading (read.account i) owner read.slots.word slot_count)
+        ∙ (λ i. account_loading b owner (λ k. k) (slots_here (slots-shared i)).word (all i))
+        ∙ (λ i. account_loading (read.account i) owner (λ k. k) read.slots.word (group_size * groups))
         ∙ (λ i. record (account_sharing number a owner read.slots []) {
           trace = append_assoc a.trace (Loaded (Database owner) shown ∷ [])
-              (slot_loads owner read.slots.word slot_count) i;
+              (all_loads groups owner read.slots.word) i;
         })
 
     -- the lock may be shared no more,

@@ -1,48 +1,49 @@
-use Rattle.std.proofs.Common.{◌≡◌, ℕ, ◌+◌, ◌-◌, ◌<◌, ◌≤◌, true, false, nat_eq, ◌++◌, Some, None, refl, sym, ap, ◌∙◌, subst, arith}
-use Rattle.std.specs.Prelude.{◌==◌, if◌then◌else◌, IfSome, IfNone}
-use Rattle.std.proofs.lemmas.Bool.{both_ways, false_from_ne_true, and_parts, and_from, eq-eqb, cond-true}
+use Rattle.std.proofs.Common.{◌≡◌, ℕ, ◌+◌, ◌-◌, ◌<◌, ◌≤◌, true, false, nat_eq, ◌++◌, Some, None, refl, sym, ap, ◌∙◌, subst, inl, inr, arith}
+use Rattle.std.specs.Prelude.{◌==◌, ◌&&◌, not, if◌then◌else◌, IfSome, IfNone}
+use Rattle.std.proofs.lemmas.Bool.{cases_eq, both_ways, false_from_ne_true, and_parts, and_from, eq-eqb, cond-true}
 use Rattle.modes_core.specs.declared.modes.Mode.{Mode}
 use Rattle.modes_core.specs.declared.tags.Tag.{Tag}
 use Rattle.modes_core.specs.Tag.{is_eligible_for}
+use Rattle.modes_core.specs.Mode.{mode_eq, number_of}
 use Rattle.lw_word.specs.SlotWord.{in_use, relation_in, has_mode, shows, word_without}
+use Rattle.lw_word.proofs.SlotLemmas.{shows-word_without}
 use Rattle.lock_table.specs.Put.{set_at}
-use Rattle.lock_table.proofs.PutLemmas.{set_at-here, set_at-same, set_at-twice}
-use Rattle.lock_world.specs.SlotHolds.{slot_count, relation_of, slot_holds, is_slot_of, used, OneSlotEach}
+use Rattle.lock_table.proofs.PutLemmas.{set_at-here, set_at-else, set_at-same, set_at-twice}
+use Rattle.lock_world.specs.SlotHolds.{group_size, most_groups, slot_count, place_in_group, group_of_relation}
+use Rattle.lock_world.specs.SlotHolds.{relation_of, slot_holds, is_slot_of, used_in, OneSlotEach, AreInGroups, ShowsNoMore}
 use Rattle.lock_world.specs.Account.{Account, SlotsInHand}
 use Rattle.lock_world.specs.AccountSteps.{own_with, account_unsetting, account_taking_fast, account_putting_fast}
 use Rattle.lock_world.specs.AccountLaw.{MayPutFastBy}
-use Rattle.lock_world.proofs.Slots.Eligible.{shown-in_use, slot_holds-none}
+use Rattle.lock_world.proofs.Slots.Eligible.{eligible-is, shown-in_use, slot_holds-none}
 use Rattle.lock_table.proofs.Totals.{some_pass}
-use Rattle.lock_world.proofs.Slots.Used.{used-most, used-same, used-one_less, used-zero, no_slot-no_hold}
+use Rattle.lock_world.proofs.Slots.Used.{place-split, relation-group, used-most, used-same, used-one_less}
+use Rattle.lock_world.proofs.Slots.Used.{in_groups-fewer, none_in_group-no_hold}
 use Rattle.shared_rule.specs.History.{slots_here}
 use Rattle.shared_rule.specs.Slots.{TakesFast}
 use Rattle.fast_path.specs.declared.slot_words.SeenSlot.{SeenSlot}
 use Rattle.fast_path.specs.declared.slot_words.Sighting.{Sighting}
-use Rattle.fast_path.specs.Slots.{account_loading, account_tried, slot_loads, IsSeenOf, Sights, IsReady}
-use Rattle.fast_path.specs.Releases.{ClearsSlot, FindsNoSlot}
+use Rattle.fast_path.specs.declared.use_counts.UseCounts.{UseCounts}
+use Rattle.fast_path.specs.Slots.{group_of_tag, group_loads, account_loading, account_tried, IsReady}
+use Rattle.fast_path.specs.Slots.{IsOfGroup, NoneInGroup, IsSeenOf, Sights, count_in, counting, AreCounted, AreUseCounts}
+use Rattle.fast_path.specs.Releases.{ClearsSlot, FindsNoSlot, IsUnused}
+use Rattle.fast_path.proofs.GroupCounts.{counted-fewer}
+use Rattle.fast_path.proofs.Showing.{within-of_group, no_slot-none}
 
 -- A release by the fast path, through its steps.
 
--- A use count of 0 says that no slot has the hold.
+-- A use count of 0 says that no slot has a hold on a relation of the group.
 pub none-used :
-    (a : Account) (uses : ℕ) (tag : Tag) (mode : Mode) → IsReady a uses → uses ≡ 0
-    → slot_holds a.fast.database a.fast.remembered tag mode ≡ false
-none-used a uses tag mode ready none =
-    no_slot-no_hold a.fast.database a.fast.remembered (used-zero a.fast.remembered (omega (arith, ready.enough, none)))
-    tag mode
+    (groups : ℕ) (a : Account) (uses : UseCounts) (tag : Tag) (mode : Mode) → 0 < groups → groups ≤ most_groups
+    → IsReady groups a uses → IsUnused groups uses tag → slot_holds a.fast.database a.fast.remembered tag mode ≡ false
+none-used groups a uses tag mode some few ready none =
+    none_in_group-no_hold groups a.fast.database a.fast.remembered tag mode ready.in_groups
+    (at (group_of_tag groups tag) (relation-group groups (relation_of tag) some) none) where
+      at : (group : ℕ) → group < groups → count_in uses group ≡ 0 → used_in group a.fast.remembered ≡ 0
+      at group exists is =
+          let most : used_in group a.fast.remembered ≤ count_in uses group = ready.enough group (omega (arith, exists, few)) in
+          omega (arith, most, is)
 
--- Where no slot is the relation's none has the hold,
-in_none :
-    (database : ℕ) (slot : ℕ → ℕ) (tag : Tag) (mode : Mode)
-    → ((place : ℕ) → place < slot_count → is_slot_of (slot place) (relation_of tag) ≡ false)
-    → slot_holds database slot tag mode ≡ false
-in_none database slot tag mode none =
-    slot_holds-none database slot tag mode (λ k within.
-    false_from_ne_true (shows (slot k) (relation_of tag) mode) (λ shown.
-    let its = shown-in_use (slot k) (relation_of tag) mode shown in
-    both_ways (is_slot_of (slot k) (relation_of tag)) (none k within) its))
-
--- nor where the relation's has not the mode.
+-- Where the relation's slot has not the mode none has the hold.
 not_in_its :
     (database : ℕ) (slot : ℕ → ℕ) (tag : Tag) (mode : Mode) (place : ℕ) → OneSlotEach slot → place < slot_count
     → is_slot_of (slot place) (relation_of tag) ≡ true → has_mode (slot place) mode ≡ false
@@ -62,14 +63,61 @@ shown-there word relation mode its has =
     and_from (has_mode word mode) (nat_eq (relation_in word) relation) has
     (and_parts (in_use word) (nat_eq (relation_in word) relation) its).1
 
--- The lock taken, and all slots loaded.
-module _ (number : ℕ) (a : Account) (slots : SlotsInHand) where
+-- The use count of a group set to the number of its slots in use, where slots show no more than before.
+counted-set :
+    (group : ℕ) (slot before : ℕ → ℕ) (uses : UseCounts) (used : ℕ) (left : UseCounts)
+    → ShowsNoMore slot before → AreCounted before (count_in uses) → used ≡ used_in group slot
+    → count_in left ≡ counting uses group used → AreCounted slot (count_in left)
+counted-set group slot before uses used left fewer enough is set k below = elim (cases_eq k group) [
+  | inl same ↦
+      let now : count_in left k ≡ used = (λ i. set i k) ∙ set_at-here (count_in uses) group used k same in
+      let here : used ≡ used_in k slot = is ∙ ap (λ j. used_in j slot) (sym same) in
+      omega (arith, now, here)
+  | inr other ↦
+      let now : count_in left k ≡ count_in uses k = (λ i. set i k) ∙ set_at-else (count_in uses) group used k other in
+      let most : used_in k slot ≤ count_in uses k =
+      counted-fewer slot before (count_in uses) fewer enough k below in
+      omega (arith, now, most)
+]
+
+within-set :
+    (group : ℕ) (slot : ℕ → ℕ) (uses : UseCounts) (used : ℕ) (left : UseCounts)
+    → AreUseCounts (count_in uses) → used ≡ used_in group slot
+    → count_in left ≡ counting uses group used → AreUseCounts (count_in left)
+within-set group slot uses used left within is set k below = elim (cases_eq k group) [
+  | inl same ↦
+      let now : count_in left k ≡ used = (λ i. set i k) ∙ set_at-here (count_in uses) group used k same in
+      let most : used_in group slot ≤ group_size = used-most group slot in
+      omega (arith, now, is, most)
+  | inr other ↦
+      let now : count_in left k ≡ count_in uses k = (λ i. set i k) ∙ set_at-else (count_in uses) group used k other in
+      let most : count_in uses k ≤ group_size = within k below in
+      omega (arith, now, most)
+]
+
+-- With a mode cleared slots show no more than before.
+cleared-fewer :
+    (slot : ℕ → ℕ) (place : ℕ) (mode : Mode) → number_of mode ≤ 3
+    → ShowsNoMore (set_at slot place (word_without (slot place) mode)) slot
+cleared-fewer slot place mode weak k relation its below shown = elim (cases_eq k place) [
+  | inl same ↦
+      ap (λ p. shows (slot p) relation its) same
+      ∙ (and_parts (not (mode_eq its mode)) (shows (slot place) relation its)
+      (sym (shows-word_without (slot place) mode weak relation its)
+      ∙ ap (λ w. shows w relation its) (sym (set_at-here slot place (word_without (slot place) mode) k same)) ∙ shown)).1
+  | inr other ↦
+      ap (λ w. shows w relation its) (sym (set_at-else slot place (word_without (slot place) mode) k other)) ∙ shown
+]
+
+-- The lock taken, and all slots of a group loaded.
+module _ (number group : ℕ) (a : Account) (slots : SlotsInHand) where
   -- the account then
   abbrev pub account_seen : Account
-  account_seen = account_loading (account_taking_fast number a number slots) number slots.word slot_count
+  account_seen =
+      account_loading (account_taking_fast number a number slots) number (place_in_group group) slots.word group_size
 
-module _ (number : ℕ) (a : Account) (uses own : ℕ) (ready : IsReady a uses) (same : own ≡ number) (b : Account)
-    (takes : TakesFast number a own b) where
+module _ (groups number : ℕ) (a : Account) (uses : UseCounts) (own : ℕ) (ready : IsReady groups a uses)
+    (same : own ≡ number) (b : Account) (takes : TakesFast groups number a own b) where
   taken : b ≡ account_taking_fast number a number takes.slots
   taken = takes.account ∙ ap (λ (n : ℕ). account_taking_fast number a n takes.slots) same
 
@@ -78,23 +126,36 @@ module _ (number : ℕ) (a : Account) (uses own : ℕ) (ready : IsReady a uses) 
       ∙ set_at-here a.fast.slots number (Some takes.slots) own same
 
   looked :
-      (c : Account) → c ≡ account_loading b own (slots_here (b.fast.slots own)).word slot_count
-      → c ≡ account_seen number a takes.slots
-  looked c loaded =
+      (c : Account) (group : ℕ)
+      → c ≡ account_loading b own (place_in_group group) (slots_here (b.fast.slots own)).word group_size
+      → c ≡ account_seen number group a takes.slots
+  looked c group loaded =
       loaded
-      ∙ (λ i. account_loading b (same i) (slots_here (read_slots i)).word slot_count)
-      ∙ ap (λ (x : Account). account_loading x number takes.slots.word slot_count) taken
+      ∙ (λ i. account_loading b (same i) (place_in_group group) (slots_here (read_slots i)).word group_size)
+      ∙ ap (λ (x : Account). account_loading x number (place_in_group group) takes.slots.word group_size) taken
 
-  module _ (c : Account) (loaded : c ≡ account_loading b own (slots_here (b.fast.slots own)).word slot_count)
-      (tag : Tag) (mode : Mode) (relation : ℕ) (its_relation : relation ≡ relation_of tag) (seen : Sighting)
-      (sighted : Sights (slots_here (b.fast.slots own)).word relation seen) where
-    sights : Sights takes.slots.word (relation_of tag) seen
+  module _ (some : 0 < groups) (few : groups ≤ most_groups) (c : Account) (group : ℕ)
+      (loaded : c ≡ account_loading b own (place_in_group group) (slots_here (b.fast.slots own)).word group_size)
+      (tag : Tag) (mode : Mode) (relation : ℕ) (its_relation : relation ≡ relation_of tag)
+      (its_group : group ≡ group_of_relation groups relation) (seen : Sighting)
+      (sighted : Sights group (slots_here (b.fast.slots own)).word relation seen) where
+    of_tag : group ≡ group_of_tag groups tag
+    of_tag = its_group ∙ ap (group_of_relation groups) its_relation
+
+    exists : group < groups
+    exists = subst (λ (k : ℕ). k < groups) (sym of_tag) (relation-group groups (relation_of tag) some)
+
+    sights : Sights group takes.slots.word (relation_of tag) seen
     sights =
-        subst (λ (r : ℕ). Sights takes.slots.word r seen) its_relation
-        (subst (λ found. Sights (slots_here found).word relation seen) read_slots sighted)
+        subst (λ (r : ℕ). Sights group takes.slots.word r seen) its_relation
+        (subst (λ found. Sights group (slots_here found).word relation seen) read_slots sighted)
 
-    its : (slot : SeenSlot) → seen.of_relation ≡ Some slot → IsSeenOf takes.slots.word (relation_of tag) slot
-    its slot is = subst (λ found. IfSome found (IsSeenOf takes.slots.word (relation_of tag))) is sights.found
+    its : (slot : SeenSlot) → seen.of_relation ≡ Some slot → IsSeenOf group takes.slots.word (relation_of tag) slot
+    its slot is = subst (λ found. IfSome found (IsSeenOf group takes.slots.word (relation_of tag))) is sights.found
+
+    its-within : (slot : SeenSlot) → seen.of_relation ≡ Some slot → slot.place < slot_count
+    its-within slot is = within-of_group groups (relation_of tag) slot.place some few
+        (subst (λ (k : ℕ). IsOfGroup k slot.place) of_tag (its slot is).within)
 
     its-there : (slot : SeenSlot) → seen.of_relation ≡ Some slot
         → is_slot_of (takes.slots.word slot.place) (relation_of tag) ≡ true
@@ -108,24 +169,26 @@ module _ (number : ℕ) (a : Account) (uses own : ℕ) (ready : IsReady a uses) 
     -- No slot has the hold where none is the relation's,
     pub no-its : seen.of_relation ≡ None → slot_holds a.fast.database takes.slots.word tag mode ≡ false
     no-its is =
-        in_none a.fast.database takes.slots.word tag mode
-        (subst (λ found. IfNone found ((place : ℕ) → place < slot_count
-        → is_slot_of (takes.slots.word place) (relation_of tag) ≡ false)) is sights.none)
+        no_slot-none groups tag a.fast.database takes.slots.word takes.knows.in_groups
+        (subst (λ (k : ℕ). NoneInGroup k takes.slots.word (relation_of tag)) of_tag
+        (subst (λ found. IfNone found (NoneInGroup group takes.slots.word (relation_of tag))) is sights.none)) mode
 
     -- or the relation's hasn't the mode.
     pub no-mode :
         (slot : SeenSlot) → seen.of_relation ≡ Some slot → has_mode slot.word mode ≡ false
         → slot_holds a.fast.database takes.slots.word tag mode ≡ false
     no-mode slot is hasn't =
-        not_in_its a.fast.database takes.slots.word tag mode slot.place takes.knows.one_each (its slot is).within
+        not_in_its a.fast.database takes.slots.word tag mode slot.place takes.knows.one_each (its-within slot is)
         (its-there slot is) (ap (λ w. has_mode w mode) (sym (its slot is).shown) ∙ hasn't)
 
     -- Where one is the relation's some are in use.
     pub some-used : (slot : SeenSlot) → seen.of_relation ≡ Some slot → 0 < seen.used_count
     some-used slot is =
-        let some : 0 < used takes.slots.word =
-        some_pass slot_count (λ k. in_use (takes.slots.word k)) slot.place (its slot is).within (its-used slot is) in
-        omega (arith, some, sights.counted)
+        let there = place-split group slot.place (its slot is).within in
+        let any : 0 < used_in group takes.slots.word =
+        some_pass group_size (λ k. in_use (takes.slots.word (place_in_group group k))) there.0 there.1
+        (ap (λ p. in_use (takes.slots.word p)) (sym there.2) ∙ its-used slot is) in
+        omega (arith, any, sights.counted)
 
     -- The mode cleared in a slot.
     module _ (d : Account) (by : ℕ) (slot : SeenSlot) (same_by : by ≡ number)
@@ -134,14 +197,14 @@ module _ (number : ℕ) (a : Account) (uses own : ℕ) (ready : IsReady a uses) 
       words_left = set_at takes.slots.word slot.place (word_without (takes.slots.word slot.place) mode)
 
       here : c.fast.slots by ≡ Some takes.slots
-      here = ap (λ (x : Account). x.fast.slots by) (looked c loaded)
+      here = ap (λ (x : Account). x.fast.slots by) (looked c group loaded)
           ∙ set_at-here a.fast.slots number (Some takes.slots) by same_by
 
-      is_cleared : d ≡ account_unsetting number (account_seen number a takes.slots) takes.slots slot.place tag mode
+      is_cleared : d ≡ account_unsetting number (account_seen number group a takes.slots) takes.slots slot.place tag mode
       is_cleared =
           cleared
           ∙ (λ i. account_unsetting (same_by i) c (slots_here (here i)) slot.place tag mode)
-          ∙ ap (λ (x : Account). account_unsetting number x takes.slots slot.place tag mode) (looked c loaded)
+          ∙ ap (λ (x : Account). account_unsetting number x takes.slots slot.place tag mode) (looked c group loaded)
 
       -- Then the lock may be put,
       pub may_put-cleared : (slots : SlotsInHand) × MayPutFastBy d own slots
@@ -156,7 +219,7 @@ module _ (number : ℕ) (a : Account) (uses own : ℕ) (ready : IsReady a uses) 
 
       module _ (e : Account) (last : ℕ) (same_last : last ≡ by) (put : e ≡ account_putting_fast last d own) where
         after :
-            e ≡ record (account_tried a words_left (a.trace ++ slot_loads number takes.slots.word slot_count)) {
+            e ≡ record (account_tried a words_left (a.trace ++ group_loads number (group_of_tag groups tag) takes.slots.word)) {
               own =
                   own_with a.own tag mode false;
             }
@@ -166,10 +229,10 @@ module _ (number : ℕ) (a : Account) (uses own : ℕ) (ready : IsReady a uses) 
             ∙ (λ i. record a {
               own = own_with a.own tag mode false;
               fast = record (a.fast) { slots = gone i; remembered = words_left; zero = unread i };
-              trace = a.trace ++ slot_loads number takes.slots.word slot_count;
+              trace = a.trace ++ group_loads number (of_tag i) takes.slots.word;
             }) where
               its_account : Account
-              its_account = account_putting_fast number (account_unsetting number (account_seen number a takes.slots)
+              its_account = account_putting_fast number (account_unsetting number (account_seen number group a takes.slots)
                   takes.slots slot.place tag mode) number
 
               gone : its_account.fast.slots ≡ a.fast.slots
@@ -181,65 +244,81 @@ module _ (number : ℕ) (a : Account) (uses own : ℕ) (ready : IsReady a uses) 
               unread : its_account.fast.zero ≡ a.fast.zero
               unread = cond-true (number == number) None _ (eq-eqb number number refl) ∙ sym ready.no_zero
 
+        -- They show no more than before,
+        fewer : is_eligible_for a.fast.database tag mode ≡ true → ShowsNoMore words_left takes.slots.word
+        fewer eligible = cleared-fewer takes.slots.word slot.place mode (eligible-is a.fast.database tag mode eligible).2
+
         -- and the mode was cleared so.
         pub clears :
-            (left : ℕ) → is_eligible_for a.fast.database tag mode ≡ true → seen.of_relation ≡ Some slot
-            → has_mode slot.word mode ≡ true → left ≡ used words_left
-            → ClearsSlot number a tag mode e left × IsReady e left
-        clears left eligible is has recounted = (
+            (left : UseCounts) (used : ℕ) → is_eligible_for a.fast.database tag mode ≡ true
+            → seen.of_relation ≡ Some slot → has_mode slot.word mode ≡ true → used ≡ used_in group words_left
+            → count_in left ≡ counting uses group used
+            → ClearsSlot groups number a uses tag mode e left × IsReady groups e left
+        clears left used eligible is has recounted counted = (
           record {
             word = takes.slots.word;
             place = slot.place;
             held_in = record {
               eligible = eligible;
-              within = (its slot is).within;
+              within = its-within slot is;
               shown = shown-there (takes.slots.word slot.place) (relation_of tag) mode (its-there slot is)
                   (ap (λ w. has_mode w mode) (sym (its slot is).shown) ∙ has);
             };
             account = after;
-            recomputed = recounted;
+            recomputed = counted ∙ (λ i. counting uses (of_tag i) ((recounted ∙ ap (λ k. used_in k words_left) of_tag) i));
           },
           record {
             no_slots = ap (λ (x : Account). x.fast.slots) after ∙ ready.no_slots;
             no_shared_slots = ap (λ (x : Account). x.fast.shared_slots) after ∙ ready.no_shared_slots;
             no_zero = ap (λ (x : Account). x.fast.zero) after ∙ ready.no_zero;
-            enough = subst (λ slots. used slots ≤ left) (sym (ap (λ (x : Account). x.fast.remembered) after))
-                (omega (arith, recounted));
-            within = subst (λ (n : ℕ). n ≤ slot_count) (sym recounted) (used-most words_left);
+            in_groups = subst (λ slots. AreInGroups groups slots) (sym (ap (λ (x : Account). x.fast.remembered) after))
+                (in_groups-fewer groups words_left takes.slots.word (fewer eligible) takes.knows.in_groups);
+            enough = subst (λ slots. AreCounted slots (count_in left))
+                (sym (ap (λ (x : Account). x.fast.remembered) after))
+                (counted-set group words_left a.fast.remembered uses used left
+                (λ place r m below shown. takes.knows.as_remembered same place r m below (fewer eligible place r m below shown))
+                ready.enough recounted counted);
+            within = within-set group words_left uses used left ready.within recounted counted;
           },
         )
 
       -- As many slots are in use then where that one still is,
       pub recounted-kept :
           seen.of_relation ≡ Some slot → in_use (word_without slot.word mode) ≡ true
-          → seen.used_count ≡ used words_left
+          → seen.used_count ≡ used_in group words_left
       recounted-kept is still =
           sights.counted
-          ∙ sym (used-same takes.slots.word slot.place (word_without (takes.slots.word slot.place) mode)
+          ∙ sym (used-same group takes.slots.word slot.place (word_without (takes.slots.word slot.place) mode)
           (ap (λ w. in_use (word_without w mode)) (sym (its slot is).shown) ∙ still ∙ sym (its-used slot is)))
 
       -- and one fewer where it is not.
       pub recounted-less :
           (left : ℕ) → seen.of_relation ≡ Some slot → in_use (word_without slot.word mode) ≡ false
-          → left ≡ seen.used_count - 1 → left ≡ used words_left
+          → left ≡ seen.used_count - 1 → left ≡ used_in group words_left
       recounted-less left is empty one =
-          let less : used words_left + 1 ≡ used takes.slots.word =
-          used-one_less takes.slots.word slot.place (word_without (takes.slots.word slot.place) mode) (its slot is).within
-          (its-used slot is) (ap (λ w. in_use (word_without w mode)) (sym (its slot is).shown) ∙ empty) in
-          omega (arith, less, one, sights.counted)
+          let there = place-split group slot.place (its slot is).within in
+          let word : ℕ = word_without (takes.slots.word slot.place) mode in
+          let less : used_in group (set_at takes.slots.word (place_in_group group there.0) word) + 1
+          ≡ used_in group takes.slots.word =
+          used-one_less group takes.slots.word there.0 word there.1
+          (ap (λ p. in_use (takes.slots.word p)) (sym there.2) ∙ its-used slot is)
+          (ap (λ w. in_use (word_without w mode)) (sym (its slot is).shown) ∙ empty) in
+          let same_words : used_in group words_left ≡ used_in group (set_at takes.slots.word (place_in_group group there.0) word) =
+          ap (λ p. used_in group (set_at takes.slots.word p word)) there.2 in
+          omega (arith, less, one, same_words, sights.counted)
 
     -- The hold in no slot, and the lock put.
     module _ (e : Account) (last : ℕ) (same_last : last ≡ number) (put : e ≡ account_putting_fast last c own) where
-      left_alone : e ≡ account_tried a takes.slots.word (a.trace ++ slot_loads number takes.slots.word slot_count)
+      left_alone : e ≡ account_tried a takes.slots.word (a.trace ++ group_loads number (group_of_tag groups tag) takes.slots.word)
       left_alone =
           put
-          ∙ (λ i. account_putting_fast (same_last i) (looked c loaded i) (same i))
+          ∙ (λ i. account_putting_fast (same_last i) (looked c group loaded i) (same i))
           ∙ (λ i. record a {
             fast = record (a.fast) { slots = gone i; remembered = remembered i; zero = unread i };
-            trace = a.trace ++ slot_loads number takes.slots.word slot_count;
+            trace = a.trace ++ group_loads number (of_tag i) takes.slots.word;
           }) where
             its_account : Account
-            its_account = account_putting_fast number (account_seen number a takes.slots) number
+            its_account = account_putting_fast number (account_seen number group a takes.slots) number
 
             unread : its_account.fast.zero ≡ a.fast.zero
             unread = cond-true (number == number) None _ (eq-eqb number number refl) ∙ sym ready.no_zero
@@ -254,20 +333,29 @@ module _ (number : ℕ) (a : Account) (uses own : ℕ) (ready : IsReady a uses) 
 
       -- The release finds nothing.
       pub finds_none :
-          (left : ℕ) → slot_holds a.fast.database takes.slots.word tag mode ≡ false → left ≡ seen.used_count
-          → FindsNoSlot number a tag mode e left × IsReady e left
+          (left : UseCounts) → slot_holds a.fast.database takes.slots.word tag mode ≡ false
+          → count_in left ≡ counting uses group seen.used_count
+          → FindsNoSlot groups number a uses tag mode e left × IsReady groups e left
           × (slot_holds e.fast.database e.fast.remembered tag mode ≡ false)
       finds_none left none counted = (
-        record { word = takes.slots.word; in_none = none; account = left_alone; recomputed = recounted },
+        record {
+          word = takes.slots.word;
+          in_none = none;
+          account = left_alone;
+          recomputed =
+              counted ∙ (λ i. counting uses (of_tag i) ((sights.counted ∙ ap (λ k. used_in k takes.slots.word) of_tag) i));
+        },
         record {
           no_slots = ap (λ (x : Account). x.fast.slots) left_alone ∙ ready.no_slots;
           no_shared_slots = ap (λ (x : Account). x.fast.shared_slots) left_alone ∙ ready.no_shared_slots;
           no_zero = ap (λ (x : Account). x.fast.zero) left_alone ∙ ready.no_zero;
-          enough = subst (λ slot. used slot ≤ left) (sym (ap (λ (x : Account). x.fast.remembered) left_alone))
-              (omega (arith, recounted));
-          within = subst (λ (n : ℕ). n ≤ slot_count) (sym recounted) (used-most takes.slots.word);
+          in_groups = subst (λ slots. AreInGroups groups slots)
+              (sym (ap (λ (x : Account). x.fast.remembered) left_alone)) takes.knows.in_groups;
+          enough = subst (λ slots. AreCounted slots (count_in left))
+              (sym (ap (λ (x : Account). x.fast.remembered) left_alone))
+              (counted-set group takes.slots.word a.fast.remembered uses seen.used_count left
+              (takes.knows.as_remembered same) ready.enough sights.counted counted);
+          within = within-set group takes.slots.word uses seen.used_count left ready.within sights.counted counted;
         },
         ap (λ (x : Account). slot_holds x.fast.database x.fast.remembered tag mode) left_alone ∙ none,
-      ) where
-        recounted : left ≡ used takes.slots.word
-        recounted = counted ∙ sights.counted
+      )

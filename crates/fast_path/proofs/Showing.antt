@@ -1,6 +1,6 @@
 use Rattle.std.proofs.Common.{◌≡◌, ◌≢◌, ℕ, zero, suc, ◌+◌, ◌<◌, ◌≤◌, Bool, true, false, not, ◌&&◌, nat_eq}
 use Rattle.std.proofs.Common.{nat_le, Option, Some, None, IfNone, IsSome, refl, sym, ap, ◌∙◌, inl, inr, arith}
-use Rattle.std.specs.Prelude.{nat_lt}
+use Rattle.std.specs.Prelude.{◌/◌, nat_lt}
 use Rattle.std.proofs.lemmas.Bool.{cases_Bool, false≢true, both_ways, false_from_ne_true, and_parts}
 use Rattle.std.proofs.lemmas.Bool.{and_from, eqb-true, eq-eqb, le-leb, lt-ltb, le-ltb}
 use Rattle.modes_core.specs.declared.modes.Mode.{Mode}
@@ -12,9 +12,12 @@ use Rattle.modes_core.specs.declared.tags.Tag.TheVariants.{Relation, Object, Adv
 use Rattle.modes_core.specs.Mode.{number_of}
 use Rattle.modes_core.specs.Tag.{database_of, is_eligible_for, is_strong_on}
 use Rattle.lw_word.specs.SlotWord.{relation_in, in_use, has_mode, shows}
-use Rattle.lock_world.specs.SlotHolds.{slot_count, relation_of, slot_holds, is_slot_of}
+use Rattle.lock_world.specs.SlotHolds.{group_size, most_groups, slot_count, group_of_relation, may_use}
+use Rattle.lock_world.specs.SlotHolds.{relation_of, slot_holds, is_slot_of, AreInGroups}
 use Rattle.lock_world.specs.Account.{SlotsInHand}
 use Rattle.lock_world.proofs.Slots.Eligible.{eligible-is, held-is_in, is_in-held, shown-in_use, slot_holds-none}
+use Rattle.lock_world.proofs.Slots.Used.{relation-group}
+use Rattle.fast_path.specs.Slots.{group_of_tag, IsOfGroup, NoneInGroup}
 use Rattle.fast_path.specs.Turns.{HasRelation}
 
 -- What slots show of an object.
@@ -72,16 +75,36 @@ elsewhere-none (Relation d r) strong database slot mode is other =
 elsewhere-none (Object s d c o) strong database slot mode is other = absurd (false≢true is)
 elsewhere-none (Advisory s d k l) strong database slot mode is other = absurd (false≢true is)
 
--- Where no slot is in use for its relation no mode is held by one.
+-- A place of a relation's group is one of those that there are.
+pub within-of_group :
+    (groups relation place : ℕ) → 0 < groups → groups ≤ most_groups → IsOfGroup (group_of_relation groups relation) place
+    → place < slot_count
+within-of_group groups relation place some few its = at (group_of_relation groups relation)
+    (relation-group groups relation some) its where
+      at : (group : ℕ) → group < groups → place / group_size ≡ group → place < slot_count
+      at group below is = omega (arith, few, below, is)
+
+-- A slot in use for a relation is of its group.
+pub slot-of_group :
+    (groups : ℕ) (slot : ℕ → ℕ) (relation place : ℕ) → AreInGroups groups slot → place < slot_count
+    → is_slot_of (slot place) relation ≡ true → IsOfGroup (group_of_relation groups relation) place
+slot-of_group groups slot relation place in_groups within its =
+    let parts = and_parts (in_use (slot place)) (nat_eq (relation_in (slot place)) relation) its in
+    let same : relation_in (slot place) ≡ relation = eqb-true (relation_in (slot place)) relation parts.1 in
+    eqb-true (place / group_size) (group_of_relation groups relation)
+    (ap (λ r. may_use groups r place) (sym same) ∙ in_groups place within parts.0)
+
+-- Where no slot of its relation's group is in use for it no mode is held by one.
 pub no_slot-none :
-    (tag : Tag) (database : ℕ) (slot : ℕ → ℕ)
-    → ((place : ℕ) → place < slot_count → is_slot_of (slot place) (relation_of tag) ≡ false)
+    (groups : ℕ) (tag : Tag) (database : ℕ) (slot : ℕ → ℕ) → AreInGroups groups slot
+    → NoneInGroup (group_of_tag groups tag) slot (relation_of tag)
     → (mode : Mode) → slot_holds database slot tag mode ≡ false
-no_slot-none tag database slot none mode =
+no_slot-none groups tag database slot in_groups none mode =
     slot_holds-none database slot tag mode
     (λ k within. false_from_ne_true (shows (slot k) (relation_of tag) mode) (λ shown.
-    both_ways (is_slot_of (slot k) (relation_of tag)) (none k within)
-    (shown-in_use (slot k) (relation_of tag) mode shown)))
+    let its = shown-in_use (slot k) (relation_of tag) mode shown in
+    both_ways (is_slot_of (slot k) (relation_of tag))
+    (none k (slot-of_group groups slot (relation_of tag) k in_groups within its)) its))
 
 -- A slot that has the relation shows a mode of it where it has the mode,
 pub slot-shows : (word relation : ℕ) (mode : Mode) → is_slot_of word relation ≡ true

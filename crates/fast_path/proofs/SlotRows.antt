@@ -1,20 +1,25 @@
-use Rattle.std.proofs.Common.{◌≡◌, ◌≢◌, ℕ, zero, suc, ◌+◌, ◌<◌, List, [], ◌∷◌, ◌++◌, length, take}
+use Rattle.std.proofs.Common.{◌≡◌, ◌≢◌, ℕ, zero, suc, ◌+◌, ◌-◌, ◌*◌, ◌<◌, ◌≤◌, false, List, [], ◌∷◌, ◌++◌, length, take}
 use Rattle.std.proofs.Common.{Result, Ok, Err, OnOk, refl, sym, ap, ◌∙◌, subst, arith, append_assoc}
 use Rattle.std.proofs.Common.{append-nil, inl, inr}
-use Rattle.std.proofs.lemmas.Bool.{cases_eq}
+use Rattle.std.specs.Prelude.{◌==◌}
+use Rattle.std.proofs.lemmas.Bool.{cases_eq, both_ways, false_from_ne_true, and_from, eq-eqb, cond-false}
 use Rattle.std.proofs.lemmas.List.{take_at}
+use Rattle.modes_core.specs.declared.modes.Mode.{Mode}
+use Rattle.modes_core.specs.declared.modes.Mode.TheVariants.{AccessShare, RowShare, RowExclusive}
+use Rattle.lw_word.specs.SlotWord.{relation_in, in_use, has_mode}
 use Rattle.lock_table.specs.declared.no_memory.NoMemory.{NoMemory}
 use Rattle.lock_table.specs.declared.rows.SlotRow.{SlotRow}
 use Rattle.lock_table.specs.Put.{set_at}
 use Rattle.lock_table.proofs.PutLemmas.{set_at-here, set_at-else}
 use Rattle.lock_world.specs.declared.events.Word.TheVariants.{Database}
-use Rattle.lock_world.specs.SlotHolds.{slot_count, ShowsNoMore}
+use Rattle.lock_world.specs.SlotHolds.{group_size, most_groups, slot_count, AreInGroups, ShowsNoMore}
+use Rattle.lock_world.proofs.Slots.Used.{shows-used, none_past-groups}
 use Rattle.lock_world.specs.World.{TraceEntry, Loaded}
 use Rattle.lock_world.specs.Account.{Account}
 use Rattle.lock_world.specs.AccountSteps.{account_unsharing_fast}
 use Rattle.shared_rule.specs.History.{slots_here}
-use Rattle.fast_path.specs.Slots.{word_of, AreWords, slot_loads, account_loading}
-use Rattle.fast_path.specs.Rows.{database_in, rows_of_slot, rows_below, rows_of_session, rows_of_all, loads_of_all}
+use Rattle.fast_path.specs.Slots.{word_of, AreWords, all_loads, account_loading}
+use Rattle.fast_path.specs.Rows.{database_in, mode_row, rows_of_slot, rows_below, rows_of_session, rows_of_all, loads_of_all}
 use Rattle.fast_path.specs.Rows.{ReadsSlots, ListsSlots, ListsSession, BeginsWith}
 use Rattle.fast_path.specs.Turns.{IsUnlocked}
 use Rattle.fast_path.specs.Transfers.{IsAfterScan}
@@ -51,32 +56,32 @@ rows_below-same (suc limit) f g same =
     (λ i. before i ++ last i)
 
 loads-same :
-    (limit : ℕ) (f g : ℕ → ℕ) (v w : ℕ → ℕ → ℕ) → ((k : ℕ) → k < limit → f k ≡ g k) → ((k : ℕ) → k < limit → v k ≡ w k)
-    → loads_of_all limit f v ≡ loads_of_all limit g w
+    (groups limit : ℕ) (f g : ℕ → ℕ) (v w : ℕ → ℕ → ℕ) → ((k : ℕ) → k < limit → f k ≡ g k) → ((k : ℕ) → k < limit → v k ≡ w k)
+    → loads_of_all groups limit f v ≡ loads_of_all groups limit g w
 unfolding loads_of_all
-loads-same zero f g v w same same_words = refl
-loads-same (suc limit) f g v w same same_words =
-    let before : loads_of_all limit f v ≡ loads_of_all limit g w =
-    loads-same limit f g v w (λ k below. same k (omega (arith, below)))
+loads-same groups zero f g v w same same_words = refl
+loads-same groups (suc limit) f g v w same same_words =
+    let before : loads_of_all groups limit f v ≡ loads_of_all groups limit g w =
+    loads-same groups limit f g v w (λ k below. same k (omega (arith, below)))
     (λ k below. same_words k (omega (arith, below))) in
     let last : f limit ≡ g limit = same limit (omega arith) in
     let last_words : v limit ≡ w limit = same_words limit (omega arith) in
-    (λ i. before i ++ Loaded (Database limit) (last i) ∷ slot_loads limit (last_words i) slot_count)
+    (λ i. before i ++ Loaded (Database limit) (last i) ∷ all_loads groups limit (last_words i))
 
 -- One session's more.
 loads-more :
-    (limit : ℕ) (database : ℕ → ℕ) (word : ℕ → ℕ → ℕ) (shown : ℕ) (its : ℕ → ℕ)
-    → loads_of_all limit database word ++ Loaded (Database limit) shown ∷ slot_loads limit its slot_count
-    ≡ loads_of_all (suc limit) (set_at database limit shown) (set_at word limit its)
+    (groups limit : ℕ) (database : ℕ → ℕ) (word : ℕ → ℕ → ℕ) (shown : ℕ) (its : ℕ → ℕ)
+    → loads_of_all groups limit database word ++ Loaded (Database limit) shown ∷ all_loads groups limit its
+    ≡ loads_of_all groups (suc limit) (set_at database limit shown) (set_at word limit its)
 unfolding loads_of_all
-loads-more limit database word shown its =
-    let before : loads_of_all limit database word ≡ loads_of_all limit (set_at database limit shown)
+loads-more groups limit database word shown its =
+    let before : loads_of_all groups limit database word ≡ loads_of_all groups limit (set_at database limit shown)
     (set_at word limit its) =
-    loads-same limit database (set_at database limit shown) word (set_at word limit its)
+    loads-same groups limit database (set_at database limit shown) word (set_at word limit its)
     (λ k below. sym (set_at-else database limit shown k (λ same. omega (arith, below, same))))
     (λ k below. sym (set_at-else word limit its k (λ same. omega (arith, below, same)))) in
     (λ i. before i ++ Loaded (Database limit) (sym (set_at-here database limit shown limit refl) i)
-    ∷ slot_loads limit (sym (set_at-here word limit its limit refl) i) slot_count)
+    ∷ all_loads groups limit (sym (set_at-here word limit its limit refl) i))
 
 rows-more :
     (limit : ℕ) (database : ℕ → ℕ) (word : ℕ → ℕ → ℕ) (shown : ℕ) (its : ℕ → ℕ)
@@ -106,19 +111,63 @@ behind-cut xs ys zs n behind is cut = cut ∙ ap (take n) behind.1 ∙ take_at x
 
 -- ---- one session
 
+-- A slot that is not in use has no row.
+rows-unused : (session database place word : ℕ) → in_use word ≡ false → rows_of_slot session database place word ≡ []
+rows-unused session database place word unused =
+    (λ i. row_if AccessShare i ++ (row_if RowShare i ++ row_if RowExclusive i)) where
+      none : (mode : Mode) → has_mode word mode ≡ false
+      none mode = false_from_ne_true (has_mode word mode) (λ has.
+          both_ways (in_use word) unused (shows-used word (relation_in word) mode
+          (and_from (has_mode word mode) (relation_in word == relation_in word) has
+          (eq-eqb (relation_in word) (relation_in word) refl))))
+
+      row_if : (mode : Mode) → mode_row session database place word mode ≡ []
+      row_if mode = cond-false (has_mode word mode) _ [] (none mode)
+
+-- Lists past a limit that are empty add nothing.
+rows_below-past :
+    (limit more : ℕ) (rows : ℕ → List SlotRow) → ((k : ℕ) → limit ≤ k → k < limit + more → rows k ≡ [])
+    → rows_below (limit + more) rows ≡ rows_below limit rows
+unfolding rows_below
+rows_below-past limit zero rows none =
+    let same : limit + 0 ≡ limit = omega arith in
+    ap (λ n. rows_below n rows) same
+rows_below-past limit (suc more) rows none =
+    let next : limit + suc more ≡ suc (limit + more) = omega arith in
+    let last : rows (limit + more) ≡ [] = none (limit + more) (omega arith) (omega arith) in
+    ap (λ n. rows_below n rows) next ∙ ap (λ xs. rows_below (limit + more) rows ++ xs) last
+    ∙ append-nil (rows_below (limit + more) rows)
+    ∙ rows_below-past limit more rows (λ k from below. none k from (omega (arith, below)))
+
+-- The rows of slots of so many groups are those of all slots, where each in use is of its relation's group.
+pub rows-of_groups :
+    (groups session database : ℕ) (slot : ℕ → ℕ) → 0 < groups → groups ≤ most_groups → AreInGroups groups slot
+    → rows_below (group_size * groups) (λ place. rows_of_slot session database place (slot place))
+    ≡ rows_of_session session database slot
+rows-of_groups groups session database slot some few in_groups =
+    let all : slot_count ≡ group_size * groups + (slot_count - group_size * groups) = omega (arith, few) in
+    sym (ap (λ n. rows_below n (λ place. rows_of_slot session database place (slot place))) all
+    ∙ rows_below-past (group_size * groups) (slot_count - group_size * groups)
+    (λ place. rows_of_slot session database place (slot place))
+    (λ k from below. rows-unused session database k (slot k)
+    (none_past-groups groups slot in_groups some k from (omega (arith, below, few)))))
+
 pub lists-session :
-    (own : ℕ) (a b v c : Account) (owner shown database : ℕ) (words : List ℕ) (old new : List SlotRow)
+    (groups own : ℕ) (a b v c : Account) (owner shown database count : ℕ) (words : List ℕ) (old new : List SlotRow)
     (result : Result (Unit {0}) NoMemory)
-    → IsUnlocked a → (read : Reads own a owner shown b)
-    → v ≡ account_loading b owner (slots_here (b.fast.shared_slots owner)).word slot_count
-    → AreWords words (slots_here (b.fast.shared_slots owner)).word → c ≡ account_unsharing_fast v owner
+    → IsUnlocked a → 0 < groups → groups ≤ most_groups → count ≡ group_size * groups
+    → (read : Reads groups own a owner shown b)
+    → v ≡ account_loading b owner (λ k. k) (slots_here (b.fast.shared_slots owner)).word count
+    → AreWords count words (slots_here (b.fast.shared_slots owner)).word → c ≡ account_unsharing_fast v owner
     → database ≡ database_in shown
-    → OnOk result (new ≡ old ++ rows_of_session owner database (word_of words)) → ListsSession own a owner old result new c
-lists-session own a b v c owner shown database words old new result unlocked read loaded are put same listed =
+    → OnOk result (new ≡ old ++ rows_below count (λ place. rows_of_slot owner database place (word_of words place)))
+    → ListsSession groups own a owner old result new c
+lists-session groups own a b v c owner shown database count words old new result unlocked some few all read loaded are put
+    same listed =
     record {
       shown = shown;
       word = read.slots.word;
-      shared = reads-slots own a b owner shown read;
+      shared = reads-slots groups own a b owner shown read;
       own = λ its. remembered ∙ remembered-own own a owner read.slots its;
       of_another = λ other. remembered ∙ remembered-other own a owner read.slots other;
       listed = at result listed;
@@ -127,24 +176,28 @@ lists-session own a b v c owner shown database words old new result unlocked rea
     } where
       is : c ≡ record a {
         fast = record (a.fast) { remembered = remembered_then own a owner read.slots };
-        trace = a.trace ++ its_loads own a b owner shown read;
+        trace = a.trace ++ its_loads groups own a b owner shown read;
       }
-      is = read-unshared own a b owner shown read v loaded c unlocked.no_shared_slots put
+      is = read-unshared groups own a b owner shown read v count all loaded c unlocked.no_shared_slots put
 
       remembered : c.fast.remembered ≡ remembered_then own a owner read.slots
       remembered = ap (λ (x : Account). x.fast.remembered) is
 
-      after : IsAfterScan a a.fast.counted (its_loads own a b owner shown read) c
+      after : IsAfterScan a a.fast.counted (its_loads groups own a b owner shown read) c
       after = after-from a c (remembered_then own a owner read.slots) a.fast.counted
-          (its_loads own a b owner shown read) (remembered-no_more own a owner read.slots read.knows) is
+          (its_loads groups own a b owner shown read) (remembered-no_more groups own a owner read.slots read.knows) is
 
-      rows : rows_of_session owner database (word_of words) ≡ rows_of_session owner (database_in shown) read.slots.word
-      rows = rows_below-same slot_count (λ place. rows_of_slot owner database place (word_of words place))
+      rows : rows_below count (λ place. rows_of_slot owner database place (word_of words place))
+          ≡ rows_of_session owner (database_in shown) read.slots.word
+      rows = rows_below-same count (λ place. rows_of_slot owner database place (word_of words place))
           (λ place. rows_of_slot owner (database_in shown) place (read.slots.word place))
           (λ place within. (λ i. rows_of_slot owner (same i) place
-          ((are place within ∙ (λ j. (slots_here (slots-shared own a b owner shown read j)).word place)) i)))
+          ((are place within ∙ (λ j. (slots_here (slots-shared groups own a b owner shown read j)).word place)) i)))
+          ∙ ap (λ n. rows_below n (λ place. rows_of_slot owner (database_in shown) place (read.slots.word place))) all
+          ∙ rows-of_groups groups owner (database_in shown) read.slots.word some few read.knows.in_groups
 
-      at : (r : Result (Unit {0}) NoMemory) → OnOk r (new ≡ old ++ rows_of_session owner database (word_of words))
+      at : (r : Result (Unit {0}) NoMemory)
+          → OnOk r (new ≡ old ++ rows_below count (λ place. rows_of_slot owner database place (word_of words place)))
           → OnOk r (new ≡ old ++ rows_of_session owner (database_in shown) read.slots.word)
       at (Ok done) is = is ∙ (λ i. old ++ rows i)
       at (Err refusal) is = tt
@@ -153,15 +206,16 @@ lists-session own a b v c owner shown database words old new result unlocked rea
 
 -- What it reads by an account with more steps, it reads by the earlier one.
 has-before :
-    (own : ℕ) (a b : Account) (session database : ℕ) (word : ℕ → ℕ) → b.own ≡ a.own → b.fast.database ≡ a.fast.database
-    → ShowsNoMore b.fast.remembered a.fast.remembered → ReadsSlots own b session database word
-    → ReadsSlots own a session database word
-has-before own a b session database word same_own same_database no_more has = record {
+    (groups own : ℕ) (a b : Account) (session database : ℕ) (word : ℕ → ℕ) → b.own ≡ a.own → b.fast.database ≡ a.fast.database
+    → ShowsNoMore b.fast.remembered a.fast.remembered → ReadsSlots groups own b session database word
+    → ReadsSlots groups own a session database word
+has-before groups own a b session database word same_own same_database no_more has = record {
   slots = has.slots;
   knows = record {
     database = has.knows.database;
     holds = has.knows.holds;
     one_each = has.knows.one_each;
+    in_groups = has.knows.in_groups;
     in_use = has.knows.in_use;
     own_database = λ its. has.knows.own_database its ∙ same_database;
     own = λ its tag mode shown. ap (λ holds. holds tag mode) (sym same_own) ∙ has.knows.own its tag mode shown;
@@ -175,27 +229,27 @@ has-before own a b session database word same_own same_database no_more has = re
 
 -- With one more session.
 has-next :
-    (own : ℕ) (a : Account) (limit : ℕ) (database : ℕ → ℕ) (word : ℕ → ℕ → ℕ) (shown : ℕ) (its : ℕ → ℕ)
-    → ((session : ℕ) → session < limit → ReadsSlots own a session (database session) (word session))
-    → ReadsSlots own a limit shown its
+    (groups own : ℕ) (a : Account) (limit : ℕ) (database : ℕ → ℕ) (word : ℕ → ℕ → ℕ) (shown : ℕ) (its : ℕ → ℕ)
+    → ((session : ℕ) → session < limit → ReadsSlots groups own a session (database session) (word session))
+    → ReadsSlots groups own a limit shown its
     → (session : ℕ) → session < limit + 1
-    → ReadsSlots own a session (set_at database limit shown session) (set_at word limit its session)
-has-next own a limit database word shown its so_far has session below = elim (cases_eq session limit) [
+    → ReadsSlots groups own a session (set_at database limit shown session) (set_at word limit its session)
+has-next groups own a limit database word shown its so_far has session below = elim (cases_eq session limit) [
   | inl same ↦
-      subst (λ (d : ℕ). ReadsSlots own a session d (set_at word limit its session))
+      subst (λ (d : ℕ). ReadsSlots groups own a session d (set_at word limit its session))
       (sym (set_at-here database limit shown session same))
-      (subst (λ (w : ℕ → ℕ). ReadsSlots own a session shown w) (sym (set_at-here word limit its session same))
-      (subst (λ (k : ℕ). ReadsSlots own a k shown its) (sym same) has))
+      (subst (λ (w : ℕ → ℕ). ReadsSlots groups own a session shown w) (sym (set_at-here word limit its session same))
+      (subst (λ (k : ℕ). ReadsSlots groups own a k shown its) (sym same) has))
   | inr other ↦
-      subst (λ (d : ℕ). ReadsSlots own a session d (set_at word limit its session))
+      subst (λ (d : ℕ). ReadsSlots groups own a session d (set_at word limit its session))
       (sym (set_at-else database limit shown session other))
-      (subst (λ (w : ℕ → ℕ). ReadsSlots own a session (database session) w) (sym (set_at-else word limit its session other))
+      (subst (λ (w : ℕ → ℕ). ReadsSlots groups own a session (database session) w) (sym (set_at-else word limit its session other))
       (so_far session (omega (arith, below, other))))
 ]
 
-pub listing-begun : (own : ℕ) (a : Account) (old : List SlotRow) → ListsSlots own 0 a old (Ok tt) old a
+pub listing-begun : (groups own : ℕ) (a : Account) (old : List SlotRow) → ListsSlots groups own 0 a old (Ok tt) old a
 unfolding loads_of_all
-listing-begun own a old = record {
+listing-begun groups own a old = record {
   database = λ _. 0;
   word = λ _ _. 0;
   listed = rows_below-start old (λ session. rows_of_session session 0 (λ _. 0));
@@ -209,14 +263,14 @@ listing-begun own a old = record {
   account = (λ i. record a { trace = sym (append-nil a.trace) i });
 }
 
-module _ (own k : ℕ) (a b c : Account) (old mid new : List SlotRow) (so_far : ListsSlots own k a old (Ok tt) mid b) where
+module _ (groups own k : ℕ) (a b c : Account) (old mid new : List SlotRow) (so_far : ListsSlots groups own k a old (Ok tt) mid b) where
   has-so_far :
-      (shown : ℕ) (its : ℕ → ℕ) → ReadsSlots own b k shown its → (session : ℕ) → session < k + 1
-      → ReadsSlots own a session (set_at so_far.database k shown session) (set_at so_far.word k its session)
+      (shown : ℕ) (its : ℕ → ℕ) → ReadsSlots groups own b k shown its → (session : ℕ) → session < k + 1
+      → ReadsSlots groups own a session (set_at so_far.database k shown session) (set_at so_far.word k its session)
   has-so_far shown its has =
-      has-next own a k so_far.database so_far.word shown its
+      has-next groups own a k so_far.database so_far.word shown its
       (λ session below. so_far.shared session (omega (arith, below, so_far.all_loaded)))
-      (has-before own a b k shown its (ap (λ (x : Account). x.own) so_far.account)
+      (has-before groups own a b k shown its (ap (λ (x : Account). x.own) so_far.account)
       (ap (λ (x : Account). x.fast.database) so_far.account) so_far.no_more has)
 
   -- What it remembers of its own slots, once their turn has come.
@@ -236,37 +290,37 @@ module _ (own k : ℕ) (a b c : Account) (old mid new : List SlotRow) (so_far : 
       → c ≡ record b {
         fast = record (b.fast) { remembered = c.fast.remembered };
         trace =
-            b.trace ++ Loaded (Database k) shown ∷ slot_loads k its slot_count;
+            b.trace ++ Loaded (Database k) shown ∷ all_loads groups k its;
       }
       → c ≡ record a {
         fast = record (a.fast) { remembered = c.fast.remembered };
-        trace = a.trace ++ loads_of_all (k + 1) (set_at so_far.database k shown) (set_at so_far.word k its);
+        trace = a.trace ++ loads_of_all groups (k + 1) (set_at so_far.database k shown) (set_at so_far.word k its);
       }
   account-next shown its is =
       let one : suc k ≡ k + 1 = omega arith in
-      let loads : List TraceEntry = Loaded (Database k) shown ∷ slot_loads k its slot_count in
+      let loads : List TraceEntry = Loaded (Database k) shown ∷ all_loads groups k its in
       is
       ∙ ap (λ (x : Account).
       record x { fast = record (x.fast) { remembered = c.fast.remembered }; trace = x.trace ++ loads })
       so_far.account
       ∙ (λ i. record a {
         fast = record (a.fast) { remembered = c.fast.remembered };
-        trace = (a.trace ++ loads_of_all (so_far.all_loaded i) so_far.database so_far.word) ++ loads;
+        trace = (a.trace ++ loads_of_all groups (so_far.all_loaded i) so_far.database so_far.word) ++ loads;
       })
       ∙ (λ i. record a {
         fast = record (a.fast) { remembered = c.fast.remembered };
-        trace = append_assoc a.trace (loads_of_all k so_far.database so_far.word) loads i;
+        trace = append_assoc a.trace (loads_of_all groups k so_far.database so_far.word) loads i;
       })
       ∙ (λ i. record a {
         fast = record (a.fast) { remembered = c.fast.remembered };
-        trace = a.trace ++ loads-more k so_far.database so_far.word shown its i;
+        trace = a.trace ++ loads-more groups k so_far.database so_far.word shown its i;
       })
       ∙ (λ i. record a {
         fast = record (a.fast) { remembered = c.fast.remembered };
-        trace = a.trace ++ loads_of_all (one i) (set_at so_far.database k shown) (set_at so_far.word k its);
+        trace = a.trace ++ loads_of_all groups (one i) (set_at so_far.database k shown) (set_at so_far.word k its);
       })
 
-  pub listing-next : (done : Unit {0}) → ListsSession own b k mid (Ok done) new c → ListsSlots own (k + 1) a old (Ok tt) new c
+  pub listing-next : (done : Unit {0}) → ListsSession groups own b k mid (Ok done) new c → ListsSlots groups own (k + 1) a old (Ok tt) new c
   listing-next done session =
       let one : suc k ≡ k + 1 = omega arith in
       record {
@@ -291,9 +345,9 @@ module _ (own k : ℕ) (a b c : Account) (old mid new : List SlotRow) (so_far : 
       }
 
   pub listing-stops :
-      (limit : ℕ) (refusal : NoMemory) (cut : List SlotRow) → k < limit → ListsSession own b k mid (Err refusal) new c
+      (limit : ℕ) (refusal : NoMemory) (cut : List SlotRow) → k < limit → ListsSession groups own b k mid (Err refusal) new c
       → cut ≡ old
-      → ListsSlots own limit a old (Err refusal) cut c
+      → ListsSlots groups own limit a old (Err refusal) cut c
   listing-stops limit refusal cut exists session same = record {
     database = set_at so_far.database k session.shown;
     word = set_at so_far.word k session.word;

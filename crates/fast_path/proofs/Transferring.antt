@@ -16,13 +16,14 @@ use Rattle.fast_path.proofs.Passing.{after-from}
 
 -- It goes on past one more session,
 pub transfer-next :
-    (position : ℕ) (a b c : Account) (tag : Tag) (mode : Mode) → is_counted a.fast.counted tag mode ≡ false
-    → Transfers position a tag mode b → Passes b position tag mode c → Transfers (position + 1) a tag mode c
-transfer-next position a b c tag mode new so_far passes =
+    (groups position : ℕ) (a b c : Account) (tag : Tag) (mode : Mode) → is_counted a.fast.counted tag mode ≡ false
+    → Transfers groups position a tag mode b → Passes groups b position tag mode c
+    → Transfers groups (position + 1) a tag mode c
+transfer-next groups position a b c tag mode new so_far passes =
     let next : position + 1 ≡ suc position = omega arith in
     record {
       steps = so_far.steps ++ passes.steps;
-      turns = subst (λ (k : ℕ). AreTurns k tag (so_far.steps ++ passes.steps)) (sym next)
+      turns = subst (λ (k : ℕ). AreTurns groups k tag (so_far.steps ++ passes.steps)) (sym next)
           (so_far.steps, passes.steps, so_far.turns, passes.turn, refl);
       after = record {
         no_more = λ place relation its within shown.
@@ -43,8 +44,8 @@ transfer-next position a b c tag mode new so_far passes =
     }
 
 -- Where it stops the strong lock may be counted no more,
-module _ (position : ℕ) (a b c : Account) (tag : Tag) (mode : Mode) (so_far : Transfers position a tag mode b)
-    (stops : StopsAt b position tag c) where
+module _ (groups position : ℕ) (a b c : Account) (tag : Tag) (mode : Mode)
+    (so_far : Transfers groups position a tag mode b) (stops : StopsAt groups b position tag c) where
   stopped : c ≡ record a {
     fast = record (a.fast)
         { remembered = c.fast.remembered; counted = a.fast.counted ++ counted_at tag mode position ∷ [] };
@@ -71,7 +72,7 @@ module _ (position : ℕ) (a b c : Account) (tag : Tag) (mode : Mode) (so_far : 
   -- and then it isn't.
   pub transfer-stops :
       (limit : ℕ) (d : Account) → position < limit → is_counted a.fast.counted tag mode ≡ false
-      → d ≡ account_uncounting c tag mode → IsCutShort limit a tag d
+      → d ≡ account_uncounting c tag mode → IsCutShort groups limit a tag d
   transfer-stops limit d exists new uncounted = record {
     steps = so_far.steps ++ stops.steps;
     cut = record {

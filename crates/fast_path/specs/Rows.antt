@@ -13,7 +13,7 @@ use Rattle.lock_world.specs.SlotHolds.{slot_count, slot_holds, ShowsNoMore}
 use Rattle.lock_world.specs.World.{TraceEntry, Loaded}
 use Rattle.lock_world.specs.Account.{Account, SlotsInHand}
 use Rattle.lock_world.specs.AccountFacts.{KnowsSlots}
-use Rattle.fast_path.specs.Slots.{slot_loads}
+use Rattle.fast_path.specs.Slots.{all_loads}
 
 -- What sessions' slots show, as rows of a listing: by session, by slot, by mode.
 
@@ -39,7 +39,7 @@ unfoldable pub rows_below : ℕ → (ℕ → List SlotRow) → List SlotRow
 rows_below zero rows = []
 rows_below (suc limit) rows = rows_below limit rows ++ rows limit
 
--- the rows of a session's slots, with this database and these words
+-- the rows of a session's slots, with this database and these words: those past its groups are never in use
 abbrev pub rows_of_session : ℕ → ℕ → (ℕ → ℕ) → List SlotRow
 rows_of_session session database word =
     rows_below slot_count (λ place. rows_of_slot session database place (word place))
@@ -54,18 +54,18 @@ abbrev pub times_shown : List SlotRow → ℕ → Tag → Mode → ℕ
 times_shown rows session tag mode =
     count_by (λ row. (row.session == session) && (tag_eq row.tag tag && mode_eq row.mode mode)) rows
 
--- the loads by which that is found: of each session below the limit the database, and then the words of its slots
-unfoldable pub loads_of_all : ℕ → (ℕ → ℕ) → (ℕ → ℕ → ℕ) → List TraceEntry
-loads_of_all zero database word = []
-loads_of_all (suc session) database word =
-    loads_of_all session database word
-    ++ Loaded (Database session) (database session) ∷ slot_loads session (word session) slot_count
+-- the loads by which that is found: of each session below the limit the database, and then the words of its groups' slots
+unfoldable pub loads_of_all : ℕ → ℕ → (ℕ → ℕ) → (ℕ → ℕ → ℕ) → List TraceEntry
+loads_of_all groups zero database word = []
+loads_of_all groups (suc session) database word =
+    loads_of_all groups session database word
+    ++ Loaded (Database session) (database session) ∷ all_loads groups session (word session)
 
 -- A session's slots as the session of this number, which shares their lock, loads them: these are their words, and with
 -- this database, which of its own slots is its own, they show what is held by them.
-pub record ReadsSlots (number : ℕ) (a : Account) (session database : ℕ) (word : ℕ → ℕ) : Type 0 where
+pub record ReadsSlots (groups number : ℕ) (a : Account) (session database : ℕ) (word : ℕ → ℕ) : Type 0 where
   pub slots : SlotsInHand
-  pub knows : KnowsSlots number a session slots
+  pub knows : KnowsSlots groups number a session slots
   pub words : slots.word ≡ word
   pub holds : slots.holds ≡ slot_holds database word
   pub own_database : session ≡ number → database ≡ a.fast.database
@@ -74,8 +74,8 @@ pub record ReadsSlots (number : ℕ) (a : Account) (session database : ℕ) (wor
 -- that they tell of, and what the session remembers of its own slots: from its own turn on that is what it loaded there, which
 -- is no more than before. The lock of each session's slots is shared while they are loaded. Where memory was wanting the list
 -- is as before, and sessions were loaded up to some number.
-pub record ListsSlots (number limit : ℕ) (a : Account) (before : List SlotRow) (result : Result (Unit {0}) NoMemory)
-    (after : List SlotRow) (b : Account) : Type 0 where
+pub record ListsSlots (groups number limit : ℕ) (a : Account) (before : List SlotRow)
+    (result : Result (Unit {0}) NoMemory) (after : List SlotRow) (b : Account) : Type 0 where
   pub database : ℕ → ℕ
   pub word : ℕ → ℕ → ℕ
   pub listed : OnOk result (after ≡ before ++ rows_of_all limit database word)
@@ -83,27 +83,27 @@ pub record ListsSlots (number limit : ℕ) (a : Account) (before : List SlotRow)
   pub loaded : ℕ
   pub within : loaded ≤ limit
   pub all_loaded : OnOk result (loaded ≡ limit)
-  pub shared : (session : ℕ) → session < loaded → ReadsSlots number a session (database session) (word session)
+  pub shared : (session : ℕ) → session < loaded → ReadsSlots groups number a session (database session) (word session)
   pub own : number < loaded → b.fast.remembered ≡ word number
   pub no_more : ShowsNoMore b.fast.remembered a.fast.remembered
   pub account : b ≡ record a {
     fast = record (a.fast) { remembered = b.fast.remembered };
-    trace = a.trace ++ loads_of_all loaded database word;
+    trace = a.trace ++ loads_of_all groups loaded database word;
   }
 
 -- The same of one session: what was loaded joins the list as far as memory goes.
-pub record ListsSession (number : ℕ) (a : Account) (owner : ℕ) (before : List SlotRow) (result : Result (Unit {0}) NoMemory)
-    (after : List SlotRow) (b : Account) : Type 0 where
+pub record ListsSession (groups number : ℕ) (a : Account) (owner : ℕ) (before : List SlotRow)
+    (result : Result (Unit {0}) NoMemory) (after : List SlotRow) (b : Account) : Type 0 where
   pub shown : ℕ
   pub word : ℕ → ℕ
-  pub shared : ReadsSlots number a owner shown word
+  pub shared : ReadsSlots groups number a owner shown word
   pub own : owner ≡ number → b.fast.remembered ≡ word
   pub of_another : owner ≢ number → b.fast.remembered ≡ a.fast.remembered
   pub listed : OnOk result (after ≡ before ++ rows_of_session owner (database_in shown) word)
   pub no_more : ShowsNoMore b.fast.remembered a.fast.remembered
   pub account : b ≡ record a {
     fast = record (a.fast) { remembered = b.fast.remembered };
-    trace = a.trace ++ Loaded (Database owner) shown ∷ slot_loads owner word slot_count;
+    trace = a.trace ++ Loaded (Database owner) shown ∷ all_loads groups owner word;
   }
 
 -- The one list begins with the other.

@@ -1,15 +1,17 @@
-use Rattle.std.specs.Prelude.{◌≡◌, ℕ, ◌<◌, ◌≤◌, zero, suc, false, true, List, [], ◌∷◌, ◌++◌, slice_index_or}
+use Rattle.std.specs.Prelude.{◌≡◌, ℕ, ◌+◌, ◌*◌, ◌/◌, ◌<◌, ◌≤◌, zero, suc, false, true, List, [], ◌∷◌, ◌++◌, slice_index_or}
 use Rattle.std.specs.Prelude.{None, IfSome, IfNone}
 use Rattle.modes_core.specs.declared.modes.Mode.{Mode}
 use Rattle.modes_core.specs.declared.tags.Tag.{Tag}
 use Rattle.modes_core.specs.Tag.{is_eligible_for}
 use Rattle.lw_word.specs.SlotWord.{in_use}
+use Rattle.lock_table.specs.Put.{set_at}
 use Rattle.lock_world.specs.declared.events.Word.TheVariants.{Slot}
-use Rattle.lock_world.specs.SlotHolds.{slot_count, is_slot_of, used}
+use Rattle.lock_world.specs.SlotHolds.{group_size, most_groups, place_in_group, relation_of, group_of_relation, is_slot_of, used_in, AreInGroups}
 use Rattle.lock_world.specs.World.{TraceEntry, Loaded}
 use Rattle.lock_world.specs.Account.{Account}
 use Rattle.fast_path.specs.declared.slot_words.SeenSlot.{SeenSlot}
 use Rattle.fast_path.specs.declared.slot_words.Sighting.{Sighting}
+use Rattle.fast_path.specs.declared.use_counts.UseCounts.{UseCounts}
 
 -- A session's slots, as the fast path reads them.
 
@@ -17,52 +19,94 @@ use Rattle.fast_path.specs.declared.slot_words.Sighting.{Sighting}
 abbrev pub word_of : List ℕ → ℕ → ℕ
 word_of words place = slice_index_or words place 0
 
--- These are the words of the sixteen slots.
-abbrev pub AreWords : List ℕ → (ℕ → ℕ) → Type 0
-AreWords words word = (place : ℕ) → place < slot_count → word_of words place ≡ word place
+-- These are the words of the first so many slots.
+abbrev pub AreWords : ℕ → List ℕ → (ℕ → ℕ) → Type 0
+AreWords count words word = (place : ℕ) → place < count → word_of words place ≡ word place
 
--- The slot is the highest-numbered one that is not in use.
-pub record IsHighestUnused (word : ℕ → ℕ) (place : ℕ) : Type 0 where
-  pub within : place < slot_count
+-- The slot at this place is one of the group.
+abbrev pub IsOfGroup : ℕ → ℕ → Type 0
+IsOfGroup group place = place / group_size ≡ group
+
+-- the group of the object's relation, of so many
+abbrev pub group_of_tag : ℕ → Tag → ℕ
+group_of_tag groups tag = group_of_relation groups (relation_of tag)
+
+-- The slot is the highest-numbered one of the group that is not in use.
+pub record IsHighestUnused (group : ℕ) (word : ℕ → ℕ) (place : ℕ) : Type 0 where
+  pub within : IsOfGroup group place
   pub unused : in_use (word place) ≡ false
-  pub higher : (other : ℕ) → place < other → other < slot_count → in_use (word other) ≡ true
+  pub higher : (other : ℕ) → place < other → IsOfGroup group other → in_use (word other) ≡ true
 
--- The slot was seen among those with these words: it is in use for the relation,
-pub record IsSeenOf (word : ℕ → ℕ) (relation : ℕ) (slot : SeenSlot) : Type 0 where
-  pub within : slot.place < slot_count
+-- The slot was seen among those of the group with these words: it is in use for the relation,
+pub record IsSeenOf (group : ℕ) (word : ℕ → ℕ) (relation : ℕ) (slot : SeenSlot) : Type 0 where
+  pub within : IsOfGroup group slot.place
   pub shown : slot.word ≡ word slot.place
   pub its : is_slot_of slot.word relation ≡ true
 
 -- or it is the highest-numbered one that is not in use.
-pub record IsSeenUnused (word : ℕ → ℕ) (slot : SeenSlot) : Type 0 where
+pub record IsSeenUnused (group : ℕ) (word : ℕ → ℕ) (slot : SeenSlot) : Type 0 where
   pub shown : slot.word ≡ word slot.place
-  pub highest : IsHighestUnused word slot.place
+  pub highest : IsHighestUnused group word slot.place
 
--- What a look through the slots with these words finds for a relation.
-pub record Sights (word : ℕ → ℕ) (relation : ℕ) (seen : Sighting) : Type 0 where
-  pub found : IfSome seen.of_relation (IsSeenOf word relation)
-  pub none : IfNone seen.of_relation ((place : ℕ) → place < slot_count → is_slot_of (word place) relation ≡ false)
-  pub unused : IfSome seen.highest_unused (IsSeenUnused word)
-  pub full : IfNone seen.highest_unused ((place : ℕ) → place < slot_count → in_use (word place) ≡ true)
-  pub counted : seen.used_count ≡ used word
+-- No slot of the group is in use for the relation.
+abbrev pub NoneInGroup : ℕ → (ℕ → ℕ) → ℕ → Type 0
+NoneInGroup group word relation = (place : ℕ) → IsOfGroup group place → is_slot_of (word place) relation ≡ false
 
--- the loads of the first so many of a session's slots, which show these words
-unfoldable pub slot_loads : ℕ → (ℕ → ℕ) → ℕ → List TraceEntry
-slot_loads owner word zero = []
-slot_loads owner word (suc place) = slot_loads owner word place ++ Loaded (Slot owner place) (word place) ∷ []
+-- What a look through a group's slots with these words finds for a relation.
+pub record Sights (group : ℕ) (word : ℕ → ℕ) (relation : ℕ) (seen : Sighting) : Type 0 where
+  pub found : IfSome seen.of_relation (IsSeenOf group word relation)
+  pub none : IfNone seen.of_relation (NoneInGroup group word relation)
+  pub unused : IfSome seen.highest_unused (IsSeenUnused group word)
+  pub full : IfNone seen.highest_unused ((place : ℕ) → IsOfGroup group place → in_use (word place) ≡ true)
+  pub counted : seen.used_count ≡ used_in group word
 
--- the account after them
-abbrev pub account_loading : Account → ℕ → (ℕ → ℕ) → ℕ → Account
-account_loading a owner word count = record a { trace = a.trace ++ slot_loads owner word count }
+-- the loads of a session's slots at the first so many of these places, which show these words
+unfoldable pub slot_loads : ℕ → (ℕ → ℕ) → (ℕ → ℕ) → ℕ → List TraceEntry
+slot_loads owner places word zero = []
+slot_loads owner places word (suc k) =
+    slot_loads owner places word k ++ Loaded (Slot owner (places k)) (word (places k)) ∷ []
 
--- Between two calls on the fast path the session has the lock of nobody's slots, nor shares it, and its use count is not
--- below the number of its slots in use (FastPathLocalUseCount in lock.c).
-pub record IsReady (a : Account) (uses : ℕ) : Type 0 where
+-- those of all slots of a group,
+abbrev pub group_loads : ℕ → ℕ → (ℕ → ℕ) → List TraceEntry
+group_loads owner group word = slot_loads owner (place_in_group group) word group_size
+
+-- and those of all slots of so many groups
+abbrev pub all_loads : ℕ → ℕ → (ℕ → ℕ) → List TraceEntry
+all_loads groups owner word = slot_loads owner (λ place. place) word (group_size * groups)
+
+-- the account after so many of them
+abbrev pub account_loading : Account → ℕ → (ℕ → ℕ) → (ℕ → ℕ) → ℕ → Account
+account_loading a owner places word count = record a { trace = a.trace ++ slot_loads owner places word count }
+
+-- how many slots of the group are counted as in use
+abbrev pub count_in : UseCounts → ℕ → ℕ
+count_in uses group = slice_index_or uses.counts group 0
+
+-- so many in this group, and in others as before
+abbrev pub counting : UseCounts → ℕ → ℕ → ℕ → ℕ
+counting uses group count = set_at (count_in uses) group count
+
+-- one more in this group
+abbrev pub one_more_in : UseCounts → ℕ → ℕ → ℕ
+one_more_in uses group = counting uses group (count_in uses group + 1)
+
+-- In no group more slots with these words are in use than are counted.
+abbrev pub AreCounted : (ℕ → ℕ) → (ℕ → ℕ) → Type 0
+AreCounted word counts = (group : ℕ) → group < most_groups → used_in group word ≤ counts group
+
+-- In no group more are counted than it has.
+abbrev pub AreUseCounts : (ℕ → ℕ) → Type 0
+AreUseCounts counts = (group : ℕ) → group < most_groups → counts group ≤ group_size
+
+-- Between two calls on the fast path the session has the lock of nobody's slots, nor shares it, and in each group its use
+-- count is not below the number of its slots in use (FastPathLocalUseCount in lock.c, in version 18 FastPathLocalUseCounts).
+pub record IsReady (groups : ℕ) (a : Account) (uses : UseCounts) : Type 0 where
   pub no_slots : a.fast.slots ≡ (λ _. None)
   pub no_shared_slots : a.fast.shared_slots ≡ (λ _. None)
   pub no_zero : a.fast.zero ≡ None
-  pub enough : used a.fast.remembered ≤ uses
-  pub within : uses ≤ slot_count
+  pub in_groups : AreInGroups groups a.fast.remembered
+  pub enough : AreCounted a.fast.remembered (count_in uses)
+  pub within : AreUseCounts (count_in uses)
 
 -- The session may take the mode on the object by the fast path.
 pub record MayTry (a : Account) (tag : Tag) (mode : Mode) : Type 0 where

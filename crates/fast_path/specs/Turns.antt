@@ -11,7 +11,7 @@ use Rattle.lock_table.specs.Content.{Content}
 use Rattle.lock_table.specs.Put.{set_at}
 use Rattle.lock_table.specs.Queue.{awaits_mode}
 use Rattle.lock_world.specs.declared.events.Word.TheVariants.{Database}
-use Rattle.lock_world.specs.SlotHolds.{slot_count, relation_of, slot_holds, is_slot_of, OneSlotEach, ShowsNoMore}
+use Rattle.lock_world.specs.SlotHolds.{slot_count, relation_of, slot_holds, is_slot_of, OneSlotEach, AreInGroups, ShowsNoMore}
 use Rattle.lock_world.specs.World.{TraceEntry, Took, Episode, Loaded}
 use Rattle.lock_world.specs.Account.{Account, InHand, SlotsInHand}
 use Rattle.lock_world.specs.Happens.Transfers.{MayAdopt}
@@ -34,18 +34,19 @@ account_holding a owner slots remembered steps = record a {
 }
 
 -- The lock of a session's slots was taken, and then its database was loaded.
-pub record Looks (a : Account) (owner shown : ℕ) (b : Account) : Type 0 where
+pub record Looks (groups : ℕ) (a : Account) (owner shown : ℕ) (b : Account) : Type 0 where
   pub slots : SlotsInHand
   pub remembered : ℕ → ℕ
   pub no_more : ShowsNoMore remembered a.fast.remembered
   pub one_each : OneSlotEach slots.word
+  pub in_groups : AreInGroups groups slots.word
   pub holds : slots.holds ≡ slot_holds shown slots.word
   pub account : b ≡ account_holding a owner slots remembered (Loaded (Database owner) shown ∷ [])
 
 -- So a turn begins that goes past a session of the tag's database.
-pub record BeginsTurn (a : Account) (owner : ℕ) (tag : Tag) (b : Account) : Type 0 where
+pub record BeginsTurn (groups : ℕ) (a : Account) (owner : ℕ) (tag : Tag) (b : Account) : Type 0 where
   pub unlocked : IsUnlocked a
-  pub looked : Looks a owner (database_of tag) b
+  pub looked : Looks groups a owner (database_of tag) b
 
 -- In the tag's database these slots have the relation at this place, by this word.
 pub record HasRelation (slots : SlotsInHand) (place word : ℕ) (tag : Tag) : Type 0 where

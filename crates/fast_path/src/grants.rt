@@ -1,12 +1,13 @@
 //! Grants by the fast path (`FastPathGrantRelationLock` in lock.c).
 
-ghost use Rattle.std.specs.Prelude.{◌≡◌, ◌<◌, Some};
-ghost use Rattle.lock_world.specs.SlotHolds.{slot_count};
+ghost use Rattle.std.specs.Prelude.{◌≡◌, ◌<◌, ◌≤◌, Some};
+ghost use Rattle.lock_world.specs.SlotHolds.{most_groups};
 ghost use Rattle.shared_rule.specs.Boards.{nothing_due};
-ghost use Rattle.fast_path.specs.Slots.{IsReady, MayTry};
-ghost use Rattle.fast_path.specs.Grants.{Grants, TriesGrant, GrantsHeld, HasOwnSlots};
+ghost use Rattle.fast_path.specs.Slots.{group_of_tag, IsReady, MayTry};
+ghost use Rattle.fast_path.specs.Grants.{HasRoom, Grants, TriesGrant, GrantsHeld, HasOwnSlots};
 
 use crate::slot_words::{SLOTS, Sighting, look_through};
+use crate::use_counts::{UseCounts, group_of};
 use lock_table::PartTable;
 use modes_core::{Mode, Refusal, Tag};
 use shared_rule::Board;
@@ -14,54 +15,57 @@ use std::sync::Wait;
 
 /// Grants a mode that the session hasn't, on a relation of its database, in one of its slots
 /// (`FastPathGrantRelationLock` in lock.c, and the look at `FastPathStrongRelationLocks` before it in
-/// `LockAcquireExtended`). It waits until the lock of its own slots is free. Refused with `SlotsFull` where the use count is
-/// sixteen, which costs no step, and with `StrongCounted` where a strong lock is counted at the object's counter.
+/// `LockAcquireExtended`). It waits until the lock of its own slots is free. Refused with `SlotsFull` where the use count of
+/// the relation's group is sixteen, which costs no step, and with `StrongCounted` where a strong lock is counted at the
+/// object's counter.
 pub fn grant<T: PartTable, B: Board<T>, R: Wait>(
     rt: &R,
     board: &mut B,
-    uses: &mut u8,
+    uses: &mut UseCounts,
     tag: &Tag,
     mode: Mode,
 ) -> Result<(), Refusal>
-    requires ready { IsReady (B.view board.old) uses.old }
+    requires ready { IsReady (B.seat board.old).groups (B.view board.old) uses.old }
     requires nothing_due { B.stack board.old ≡ nothing_due }
     requires may_try { MayTry (B.view board.old) tag.now mode }
-    ensures granted { Grants (B.seat board.old).number (B.view board.old) uses.old tag.now mode result
-        (B.view board.new) uses.new }
-    ensures ready { IsReady (B.view board.new) uses.new }
+    ensures granted { Grants (B.seat board.old).groups (B.seat board.old).number (B.view board.old) uses.old
+        tag.now mode result (B.view board.new) uses.new }
+    ensures ready { IsReady (B.seat board.old).groups (B.view board.new) uses.new }
     ensures seat { B.seat board.new ≡ B.seat board.old }
     ensures stack { B.stack board.new ≡ B.stack board.old }
 {
-    if *uses == SLOTS {
+    let group = group_of(tag.relation_number(), board.groups());
+    if uses.of(group) == SLOTS {
         return Err(Refusal::SlotsFull);
     }
     let own = board.number();
     board.take_fast(rt, own);
-    grant_with_slots(board, uses, tag, mode)
+    grant_with_slots(board, uses, group, tag, mode)
 }
 
 /// The same without waiting: one attempt to take the lock of its own slots, and `Busy` where that fails
 /// (`LWLockConditionalAcquire` instead of `LWLockAcquire`).
 pub fn try_grant<T: PartTable, B: Board<T>>(
     board: &mut B,
-    uses: &mut u8,
+    uses: &mut UseCounts,
     tag: &Tag,
     mode: Mode,
 ) -> Result<(), Refusal>
-    requires ready { IsReady (B.view board.old) uses.old }
+    requires ready { IsReady (B.seat board.old).groups (B.view board.old) uses.old }
     requires nothing_due { B.stack board.old ≡ nothing_due }
     requires may_try { MayTry (B.view board.old) tag.now mode }
-    ensures granted { TriesGrant (B.seat board.old).number (B.view board.old) uses.old tag.now mode result
-        (B.view board.new) uses.new }
-    ensures ready { IsReady (B.view board.new) uses.new }
+    ensures granted { TriesGrant (B.seat board.old).groups (B.seat board.old).number (B.view board.old) uses.old
+        tag.now mode result (B.view board.new) uses.new }
+    ensures ready { IsReady (B.seat board.old).groups (B.view board.new) uses.new }
     ensures seat { B.seat board.new ≡ B.seat board.old }
     ensures stack { B.stack board.new ≡ B.stack board.old }
 {
-    if *uses == SLOTS {
+    let group = group_of(tag.relation_number(), board.groups());
+    if uses.of(group) == SLOTS {
         return Err(Refusal::SlotsFull);
     }
     match board.try_take_fast() {
-        Ok(()) => grant_with_slots(board, uses, tag, mode),
+        Ok(()) => grant_with_slots(board, uses, group, tag, mode),
         Err(_) => Err(Refusal::Busy),
     }
 }
@@ -69,16 +73,20 @@ pub fn try_grant<T: PartTable, B: Board<T>>(
 /// Grants it with the lock of its own slots in hand, and puts that lock.
 fn grant_with_slots<T: PartTable, B: Board<T>>(
     board: &mut B,
-    uses: &mut u8,
+    uses: &mut UseCounts,
+    group: u8,
     tag: &Tag,
     mode: Mode,
 ) -> Result<(), Refusal>
-    requires not_full { uses.old < slot_count }
+    requires few { (B.seat board.old).groups ≤ most_groups }
+    requires there { group < (B.seat board.old).groups }
+    requires its_group { group ≡ group_of_tag (B.seat board.old).groups tag.now }
+    requires has_room { HasRoom (B.seat board.old).groups uses.old tag.now }
     requires may_try { MayTry (B.view board.old) tag.now mode }
-    requires in_hand { HasOwnSlots (B.seat board.old).number (B.view board.old) uses.old }
-    ensures granted { GrantsHeld (B.seat board.old).number (B.view board.old) uses.old tag.now mode result
-        (B.view board.new) uses.new }
-    ensures ready { IsReady (B.view board.new) uses.new }
+    requires in_hand { HasOwnSlots (B.seat board.old).groups (B.seat board.old).number (B.view board.old) uses.old }
+    ensures granted { GrantsHeld (B.seat board.old).groups (B.seat board.old).number (B.view board.old) uses.old
+        tag.now mode result (B.view board.new) uses.new }
+    ensures ready { IsReady (B.seat board.old).groups (B.view board.new) uses.new }
     ensures seat { B.seat board.new ≡ B.seat board.old }
     ensures stack { B.stack board.new ≡ B.stack board.old }
 {
@@ -91,7 +99,7 @@ fn grant_with_slots<T: PartTable, B: Board<T>>(
         of_relation,
         highest_unused,
         ..
-    } = look_through(board, own, tag.relation_number());
+    } = look_through(board, own, group, tag.relation_number());
     if let Some(slot) = of_relation {
         board.set_slot(slot.place, slot.word, tag, mode);
         board.put_fast(own);
@@ -99,7 +107,7 @@ fn grant_with_slots<T: PartTable, B: Board<T>>(
     }
     let slot = highest_unused.unwrap();
     board.set_slot(slot.place, slot.word, tag, mode);
-    *uses += 1;
+    uses.set(group, uses.of(group) + 1);
     board.put_fast(own);
     Ok(())
 }

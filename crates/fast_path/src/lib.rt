@@ -8,9 +8,11 @@ mod listing;
 mod releases;
 mod slot_words;
 mod transfers;
+mod use_counts;
 
 pub use grants::{grant, try_grant};
 pub use listing::slot_rows;
 pub use releases::ungrant;
 pub use slot_words::SLOTS;
 pub use transfers::transfer;
+pub use use_counts::UseCounts;

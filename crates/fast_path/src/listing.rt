@@ -1,11 +1,12 @@
 //! What all sessions' slots show (the first part of `GetLockStatusData` in lock.c).
 
 ghost use Rattle.std.specs.Prelude.{◌≡◌, ◌<◌, ◌≤◌, ◌++◌, OnOk};
+ghost use Rattle.lock_world.specs.SlotHolds.{slot_count};
 ghost use Rattle.shared_rule.specs.Boards.{nothing_due};
 ghost use Rattle.fast_path.specs.Slots.{word_of};
 ghost use Rattle.fast_path.specs.Turns.{IsUnlocked};
 ghost use Rattle.fast_path.specs.Rows.{ListsSlots, ListsSession, BeginsWith};
-ghost use Rattle.fast_path.specs.Rows.{mode_row, rows_of_slot, rows_of_session, database_in};
+ghost use Rattle.fast_path.specs.Rows.{mode_row, rows_of_slot, rows_below, database_in};
 
 use crate::slot_words::{SLOTS, load_slots};
 use lock_table::{NoMemory, PartTable, SlotRow};
@@ -25,8 +26,8 @@ pub fn slot_rows<T: PartTable, B: Board<T>, R: Wait>(
     requires few { (B.seat board.old).limit ≤ 64 }
     requires unlocked { IsUnlocked (B.view board.old) }
     requires nothing_due { B.stack board.old ≡ nothing_due }
-    ensures listed { ListsSlots (B.seat board.old).number (B.seat board.old).limit (B.view board.old)
-        rows.old.items result rows.new.items (B.view board.new) }
+    ensures listed { ListsSlots (B.seat board.old).groups (B.seat board.old).number (B.seat board.old).limit
+        (B.view board.old) rows.old.items result rows.new.items (B.view board.new) }
     ensures stack { B.stack board.new ≡ B.stack board.old }
     ensures seat { B.seat board.new ≡ B.seat board.old }
 {
@@ -54,17 +55,18 @@ fn session_rows<T: PartTable, B: Board<T>, R: Wait>(
     requires exists { owner < (B.seat board.old).limit }
     requires unlocked { IsUnlocked (B.view board.old) }
     requires nothing_due { B.stack board.old ≡ nothing_due }
-    ensures listed { ListsSession (B.seat board.old).number (B.view board.old) owner
+    ensures listed { ListsSession (B.seat board.old).groups (B.seat board.old).number (B.view board.old) owner
         rows.old.items result rows.new.items (B.view board.new) }
     ensures behind { BeginsWith rows.old.items rows.new.items }
     ensures stack { B.stack board.new ≡ B.stack board.old }
     ensures seat { B.seat board.new ≡ B.seat board.old }
 {
+    let count = SLOTS * board.groups();
     board.share_fast(rt, owner);
     let shown = board.load_database(owner);
-    let words = load_slots(board, owner);
+    let words = load_slots(board, owner, count);
     board.unshare_fast(owner);
-    append_session(owner, database_in(shown), &words, rows)
+    append_session(owner, database_in(shown), &words, count, rows)
 }
 
 /// The database that a session's word shows.
@@ -74,18 +76,20 @@ fn database_in(shown: u64) -> u32
     (shown & 0xFFFF_FFFF) as u32
 }
 
-/// Appends the rows of a session's slots with these words.
+/// Appends the rows of the first so many of a session's slots, with these words.
 fn append_session(
     session: SessionId,
     database: u32,
-    words: &[SlotWord; 16],
+    words: &[SlotWord; 128],
+    count: u8,
     rows: &mut Vec<SlotRow>,
 ) -> Result<(), NoMemory>
-    ensures listed { OnOk result (rows.new.items
-        ≡ rows.old.items ++ rows_of_session session database (word_of words.now)) }
+    requires few { count ≤ slot_count }
+    ensures listed { OnOk result (rows.new.items ≡ rows.old.items
+        ++ rows_below count (λ place. rows_of_slot session database place (word_of words.now place))) }
     ensures behind { BeginsWith rows.old.items rows.new.items }
 {
-    for place in 0..SLOTS {
+    for place in 0..count {
         append_slot(session, database, place, words[usize::from(place)], rows)?;
     }
     Ok(())

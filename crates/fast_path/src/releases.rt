@@ -8,33 +8,37 @@ ghost use Rattle.fast_path.specs.Slots.{IsReady};
 ghost use Rattle.fast_path.specs.Releases.{Ungrants};
 
 use crate::slot_words::{Sighting, look_through};
+use crate::use_counts::{UseCounts, group_of};
 use lock_table::PartTable;
 use modes_core::{Mode, Tag};
 use shared_rule::Board;
 use std::sync::Wait;
 
 /// Releases a mode on a relation of the session's database, where one of its slots has it, and says whether one did
-/// (`FastPathUnGrantRelationLock` in lock.c). It isn't tried where the use count is 0; where it is tried the use count is
-/// afterwards the number of slots in use. Where no slot has it, it is in the lock table.
+/// (`FastPathUnGrantRelationLock` in lock.c). It isn't tried where the use count of the relation's group is 0;
+/// where it is tried the use count is afterwards the number of that group's slots in use. Where no slot has it, it is in the
+/// lock table.
 pub fn ungrant<T: PartTable, B: Board<T>, R: Wait>(
     rt: &R,
     board: &mut B,
-    uses: &mut u8,
+    uses: &mut UseCounts,
     tag: &Tag,
     mode: Mode,
 ) -> bool
-    requires ready { IsReady (B.view board.old) uses.old }
+    requires ready { IsReady (B.seat board.old).groups (B.view board.old) uses.old }
     requires nothing_due { B.stack board.old ≡ nothing_due }
     requires eligible { is_eligible_for (B.view board.old).fast.database tag.now mode ≡ true }
-    ensures ungranted { Ungrants (B.seat board.old).number (B.view board.old) uses.old tag.now mode result
-        (B.view board.new) uses.new }
+    ensures ungranted { Ungrants (B.seat board.old).groups (B.seat board.old).number (B.view board.old) uses.old
+        tag.now mode result (B.view board.new) uses.new }
     ensures in_no_slot { result ≡ false →
         slot_holds (B.view board.new).fast.database (B.view board.new).fast.remembered tag.now mode ≡ false }
-    ensures ready { IsReady (B.view board.new) uses.new }
+    ensures ready { IsReady (B.seat board.old).groups (B.view board.new) uses.new }
     ensures seat { B.seat board.new ≡ B.seat board.old }
     ensures stack { B.stack board.new ≡ B.stack board.old }
 {
-    if *uses == 0 {
+    let relation = tag.relation_number();
+    let group = group_of(relation, board.groups());
+    if uses.of(group) == 0 {
         return false;
     }
     let own = board.number();
@@ -43,20 +47,21 @@ pub fn ungrant<T: PartTable, B: Board<T>, R: Wait>(
         of_relation,
         used_count,
         ..
-    } = look_through(board, own, tag.relation_number());
+    } = look_through(board, own, group, relation);
     if let Some(slot) = of_relation {
         if slot.word.has(mode) {
             board.clear_slot(slot.place, slot.word, tag, mode);
             board.put_fast(own);
-            *uses = if slot.word.without(mode).in_use() {
+            let left = if slot.word.without(mode).in_use() {
                 used_count
             } else {
                 used_count - 1
             };
+            uses.set(group, left);
             return true;
         }
     }
     board.put_fast(own);
-    *uses = used_count;
+    uses.set(group, used_count);
     false
 }

@@ -1,7 +1,7 @@
-//! The words of a session's sixteen slots, as one who has their lock in hand, or shares it, loads them.
+//! The words of a session's slots, as one who has their lock in hand, or shares it, loads them.
 
-ghost use Rattle.std.specs.Prelude.{◌≡◌, ◌<◌, Some};
-ghost use Rattle.lock_world.specs.SlotHolds.{slot_count};
+ghost use Rattle.std.specs.Prelude.{◌≡◌, ◌*◌, ◌<◌, ◌≤◌, Some};
+ghost use Rattle.lock_world.specs.SlotHolds.{group_size, most_groups, slot_count, place_in_group};
 ghost use Rattle.lock_world.specs.Account.{SlotsInHand};
 ghost use Rattle.shared_rule.specs.History.{slots_here};
 ghost use Rattle.fast_path.specs.Slots.{account_loading, AreWords, Sights};
@@ -11,23 +11,26 @@ use lw_word::SlotWord;
 use modes_core::SessionId;
 use shared_rule::Board;
 
-/// How many fast-path slots a session has (`FP_LOCK_SLOTS_PER_BACKEND` in proc.h).
+/// How many fast-path slots a group has (`FP_LOCK_SLOTS_PER_BACKEND` in proc.h, in version 18 `FP_LOCK_SLOTS_PER_GROUP`).
 pub const SLOTS: u8 = 16;
 
-/// Loads the words of a session's slots, whose lock is shared.
+/// Loads the words of the first so many of a session's slots, whose lock is shared.
 pub(crate) fn load_slots<T: PartTable, B: Board<T>>(
     board: &mut B,
     owner: SessionId,
-) -> [SlotWord; 16]
+    count: u8,
+) -> [SlotWord; 128]
+    requires few { count ≤ slot_count }
+    requires there { count ≤ group_size * (B.seat board.old).groups }
     requires shared { (slots : SlotsInHand) × ((B.view board.old).fast.shared_slots owner ≡ Some slots) }
-    ensures loaded { B.view board.new ≡ account_loading (B.view board.old) owner
-        (slots_here ((B.view board.old).fast.shared_slots owner)).word slot_count }
-    ensures words { AreWords result (slots_here ((B.view board.old).fast.shared_slots owner)).word }
+    ensures loaded { B.view board.new ≡ account_loading (B.view board.old) owner (λ place. place)
+        (slots_here ((B.view board.old).fast.shared_slots owner)).word count }
+    ensures words { AreWords count result (slots_here ((B.view board.old).fast.shared_slots owner)).word }
     ensures seat { B.seat board.new ≡ B.seat board.old }
     ensures stack { B.stack board.new ≡ B.stack board.old }
 {
-    let mut words = [SlotWord::from_number(0); 16];
-    for place in 0..SLOTS {
+    let mut words = [SlotWord::from_number(0); 128];
+    for place in 0..count {
         words[usize::from(place)] = board.load_slot(owner, place);
     }
     words
@@ -40,7 +43,7 @@ pub(crate) struct SeenSlot {
     pub(crate) word: SlotWord,
 }
 
-/// What one look through a session's slots finds for a relation.
+/// What one look through a group of a session's slots finds for a relation.
 #[derive(Clone, Copy)]
 pub(crate) struct Sighting {
     /// The slot in use for the relation, if one is.
@@ -51,25 +54,30 @@ pub(crate) struct Sighting {
     pub(crate) used_count: u8,
 }
 
-/// Loads the words of a session's slots, whose lock is in hand, one after another, and keeps of them only what a grant,
-/// a release or a transfer of a lock on the relation asks for.
+/// Loads the words of a group's slots of a session, the lock of whose slots is in hand, one after another, and keeps of
+/// them only what a grant, a release or a transfer of a lock on the relation asks for.
 #[inline(always)]
 pub(crate) fn look_through<T: PartTable, B: Board<T>>(
     board: &mut B,
     owner: SessionId,
+    group: u8,
     relation: u32,
 ) -> Sighting
+    requires few { group < most_groups }
+    requires there { group < (B.seat board.old).groups }
     requires in_hand { (slots : SlotsInHand) × ((B.view board.old).fast.slots owner ≡ Some slots) }
     ensures loaded { B.view board.new ≡
-        account_loading (B.view board.old) owner (slots_here ((B.view board.old).fast.slots owner)).word slot_count }
-    ensures sighted { Sights (slots_here ((B.view board.old).fast.slots owner)).word relation result }
+        account_loading (B.view board.old) owner (place_in_group group)
+        (slots_here ((B.view board.old).fast.slots owner)).word group_size }
+    ensures sighted { Sights group (slots_here ((B.view board.old).fast.slots owner)).word relation result }
     ensures seat { B.seat board.new ≡ B.seat board.old }
     ensures stack { B.stack board.new ≡ B.stack board.old }
 {
     let mut of_relation = None;
     let mut highest_unused = None;
     let mut used_count = 0;
-    for place in 0..SLOTS {
+    for index in 0..SLOTS {
+        let place = SLOTS * group + index;
         let word = board.load_slot(owner, place);
         if word.in_use() {
             used_count += 1;

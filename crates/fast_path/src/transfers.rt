@@ -1,7 +1,8 @@
 //! The transfer of fast-path locks that stand in a strong lock's way (`FastPathTransferRelationLocks` in lock.c).
 
-ghost use Rattle.std.specs.Prelude.{◌≡◌, ◌<◌, ◌≤◌, false, true, None, length};
+ghost use Rattle.std.specs.Prelude.{◌≡◌, ◌<◌, ◌≤◌, ◌*◌, false, true, None, length};
 ghost use Rattle.modes_core.specs.Tag.{is_strong_on};
+ghost use Rattle.lock_world.specs.SlotHolds.{group_size};
 ghost use Rattle.lock_world.specs.Account.{Account};
 ghost use Rattle.lock_world.specs.Counted.{is_counted, is_at};
 ghost use Rattle.lock_world.specs.Happens.Counters.{most_counted};
@@ -10,6 +11,7 @@ ghost use Rattle.fast_path.specs.Turns.{IsUnlocked, BeginsTurn, HasSlots, HasSlo
 ghost use Rattle.fast_path.specs.Transfers.{TransfersOrNot, PassesOrNot};
 
 use crate::slot_words::{Sighting, look_through};
+use crate::use_counts::group_of;
 use lock_table::{Move, NoMemory, PartTable};
 use lw_word::SlotWord;
 use modes_core::{Mode, SessionId, Tag};
@@ -19,7 +21,8 @@ use std::sync::Wait;
 /// Counts a strong lock, and goes past every session there can be, issued or not and its own too, once its locks on
 /// the object are out of its slots and in the lock table (`BeginStrongLockAcquire` and `FastPathTransferRelationLocks` in
 /// lock.c). Where memory for the lock table is missing it is counted no more; what was moved until then stays moved. Its
-/// cost is two atomic steps and a load for each session, and sixteen loads more for each of the object's database.
+/// cost is two atomic steps and a load for each session, and sixteen loads more, of the slots of the relation's group, for
+/// each of the object's database.
 pub fn transfer<T: PartTable, B: Board<T>, R: Wait>(
     rt: &R,
     board: &mut B,
@@ -34,8 +37,8 @@ pub fn transfer<T: PartTable, B: Board<T>, R: Wait>(
     requires no_wait { (B.view board.old).awaited ≡ None }
     requires not_own { (B.view board.old).own tag.now mode ≡ false }
     requires countable { length (B.view board.old).fast.counted < most_counted }
-    ensures transferred { TransfersOrNot (B.seat board.old).limit (B.view board.old) tag.now mode result
-        (B.view board.new) }
+    ensures transferred { TransfersOrNot (B.seat board.old).groups (B.seat board.old).limit (B.view board.old) tag.now
+        mode result (B.view board.new) }
     ensures stack { B.stack board.new ≡ B.stack board.old }
     ensures seat { B.seat board.new ≡ B.seat board.old }
 {
@@ -67,7 +70,7 @@ fn pass<T: PartTable, B: Board<T>, R: Wait>(
     requires unlocked { IsUnlocked (B.view board.old) }
     requires nothing_due { B.stack board.old ≡ nothing_due }
     requires next { is_at owner (B.view board.old).fast.counted tag.now mode ≡ true }
-    ensures passed { PassesOrNot (B.view board.old) owner tag.now mode result (B.view board.new) }
+    ensures passed { PassesOrNot (B.seat board.old).groups (B.view board.old) owner tag.now mode result (B.view board.new) }
     ensures stack { B.stack board.new ≡ B.stack board.old }
     ensures seat { B.seat board.new ≡ B.seat board.old }
 {
@@ -92,14 +95,16 @@ fn pass_in_database<T: PartTable, B: Board<T>, R: Wait>(
     requires exists { owner < (B.seat board.old).limit }
     requires strong { is_strong_on tag.now mode ≡ true }
     requires next { is_at owner (B.view board.old).fast.counted tag.now mode ≡ true }
-    requires begun { (before : Account) × BeginsTurn before owner tag.now (B.view board.old) }
+    requires begun { (before : Account) × BeginsTurn (B.seat board.old).groups before owner tag.now (B.view board.old) }
     requires nothing_due { B.stack board.old ≡ nothing_due }
-    ensures passed { (before : Account) → BeginsTurn before owner tag.now (B.view board.old)
-        → PassesOrNot before owner tag.now mode result (B.view board.new) }
+    ensures passed { (before : Account) → BeginsTurn (B.seat board.old).groups before owner tag.now (B.view board.old)
+        → PassesOrNot (B.seat board.old).groups before owner tag.now mode result (B.view board.new) }
     ensures stack { B.stack board.new ≡ B.stack board.old }
     ensures seat { B.seat board.new ≡ B.seat board.old }
 {
-    let Sighting { of_relation, .. } = look_through(board, owner, tag.relation_number());
+    let relation = tag.relation_number();
+    let group = group_of(relation, board.groups());
+    let Sighting { of_relation, .. } = look_through(board, owner, group, relation);
     let Some(slot) = of_relation else {
         board.pass_fast(owner, tag, mode);
         return Ok(());
@@ -128,6 +133,7 @@ fn adopt<T: PartTable, B: Board<T>, R: Wait>(
     strong: Mode,
 ) -> Result<(), NoMemory>
     requires exists { owner < (B.seat board.old).limit }
+    requires there { place < group_size * (B.seat board.old).groups }
     requires strong { is_strong_on tag.now strong ≡ true }
     requires next { is_at owner (B.view board.old).fast.counted tag.now strong ≡ true }
     requires in_hand { HasSlots (B.view board.old) owner place word tag.now }
@@ -154,6 +160,7 @@ fn move_modes<T: PartTable, B: Board<T>>(
     strong: Mode,
 ) -> Result<(), NoMemory>
     requires exists { owner < (B.seat board.old).limit }
+    requires there { place < group_size * (B.seat board.old).groups }
     requires strong { is_strong_on tag.now strong ≡ true }
     requires next { is_at owner (B.view board.old).fast.counted tag.now strong ≡ true }
     requires none_begun { T.begun content.old ≡ None }

@@ -8,18 +8,20 @@ ghost use Rattle.shared_rule.specs.Opening.{AreNew};
 use lock_table::{PartTable, PlainPart, empty_parts};
 use modes_core::SessionId;
 use shared_rule::{
-    Board, CONTENT_SLOTS, Kept, OneThread, TABLE_SLOTS, TABLE_WORDS, content_slot, database_word,
-    fast_word, in_slots, partition_word, sleep_word, slot_word, strong_word, wait_word,
+    Board, CONTENT_SLOTS, Kept, OneThread, Sizes, TABLE_SLOTS, TABLE_WORDS, content_slot,
+    database_word, fast_word, in_slots, partition_word, sleep_word, slot_word, strong_word,
+    table_words, wait_word,
 };
 use std::alloc::Global;
 use std::process::Abort;
 use std::test::Fail;
 
 mod boards;
+mod latecomers;
 mod slots;
 
 // The indexes in these tests are worked by hand: 16 times 16 words for partitions, 1,024 for counters, 16 unused,
-// and 36 for each session.
+// and 36 for each session, and again for each group of slots behind the first.
 
 fn session(number: u8) -> Result<SessionId, Fail> {
     Ok(SessionId::new(number).ok_or("no session")?)
@@ -52,6 +54,19 @@ fn a_session_has_twenty_words_in_a_row(rt: HostRuntime) -> Result<(), Fail> {
 fn the_table_ends_with_the_gap_after_the_last_session(rt: HostRuntime) -> Result<(), Fail> {
     assert_eq!(rt; sleep_word(session(63)?), 3583);
     assert_eq!(rt; TABLE_WORDS, 3600);
+    assert_eq!(rt; table_words(1), 3600);
+    Ok(())
+}
+
+#[test]
+fn each_further_group_of_slots_has_a_block_for_each_session(rt: HostRuntime) -> Result<(), Fail> {
+    let third = session(2)?;
+    assert_eq!(rt; slot_word(third, 16), 3674);
+    assert_eq!(rt; slot_word(third, 31), 3689);
+    assert_eq!(rt; slot_word(third, 32), 5978);
+    assert_eq!(rt; slot_word(session(63)?, 127), 19709);
+    assert_eq!(rt; table_words(2), 5904);
+    assert_eq!(rt; table_words(8), 19728);
     Ok(())
 }
 
@@ -60,6 +75,9 @@ fn the_table_ends_with_the_gap_after_the_last_session(rt: HostRuntime) -> Result
 fn neighbours_are_128_bytes_apart(rt: HostRuntime) -> Result<(), Fail> {
     assert!(rt; sleep_word(session(0)?) + 16 <= fast_word(session(1)?));
     assert!(rt; sleep_word(session(62)?) + 16 <= fast_word(session(63)?));
+    assert!(rt; sleep_word(session(63)?) + 16 <= slot_word(session(0)?, 16));
+    assert!(rt; slot_word(session(0)?, 31) + 16 <= slot_word(session(1)?, 16));
+    assert!(rt; slot_word(session(63)?, 31) + 16 <= slot_word(session(0)?, 32));
     assert!(rt; strong_word(1023) + 16 <= fast_word(session(0)?));
     assert!(rt; partition_word(15) + 16 <= strong_word(0));
     Ok(())
@@ -74,6 +92,12 @@ fn each_content_has_eight_slots_to_itself(rt: HostRuntime) -> Result<(), Fail> {
     assert_eq!(rt; TABLE_SLOTS, 1152);
     Ok(())
 }
+
+/// Two sessions with one group of slots each.
+const SIZES: Sizes = Sizes {
+    sessions: 2,
+    groups: 1,
+};
 
 /// Sixteen empty partitions, each in its slot.
 fn empty_slots(alloc: Global) -> Result<Vec<Kept<PlainPart>>, Fail>
@@ -92,8 +116,10 @@ fn one_thread(alloc: Global) -> Result<OneThread<PlainPart>, Fail>
         IfOk result (λ board. (B.seat board).number ≡ 0) }
     ensures limit { let B = ⟦<OneThread<PlainPart> as Board<PlainPart>>⟧ in
         IfOk result (λ board. (B.seat board).limit ≡ 2) }
+    ensures groups { let B = ⟦<OneThread<PlainPart> as Board<PlainPart>>⟧ in
+        IfOk result (λ board. (B.seat board).groups ≡ 1) }
 {
-    match OneThread::new(alloc, 2, empty_slots(alloc)?) {
+    match OneThread::new(alloc, &SIZES, empty_slots(alloc)?) {
         Ok(board) => Ok(board),
         Err(_) => Err("out of memory".into()),
     }

@@ -4,12 +4,13 @@ use clap::{Arg, ArgAction, Command, Error};
 use std::alloc::{AllocError, Global};
 
 /// The names of the pages, as the command line has them.
-static PAGES: [&str; 6] = [
+static PAGES: [&str; 7] = [
     "local",
     "manager",
     "fast",
     "threads",
     "handover",
+    "contended",
     "workloads",
 ];
 
@@ -20,6 +21,8 @@ const EACH_PAGE: &str = "Pages, all of which are printed where none is named:
   fast       its fast path on one thread, beside the atomic steps of each row
   threads    the lock manager in one, two and four threads
   handover   an exclusive lock that two threads pass back and forth
+  contended  up to 64 threads on one object, on one partition, and at listings,
+             and the same work under a mutex
   workloads  each workload beside its atomic steps and the same work on a map
              in a mutex, and a table of them all
 
@@ -38,6 +41,7 @@ pub enum Page {
     Fast,
     Threads,
     Handover,
+    Contended,
     Workloads,
 }
 
@@ -50,6 +54,7 @@ impl Page {
             Page::Fast => "fast",
             Page::Threads => "threads",
             Page::Handover => "handover",
+            Page::Contended => "contended",
             Page::Workloads => "workloads",
         }
     }

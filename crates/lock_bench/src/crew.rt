@@ -87,6 +87,7 @@ impl<'a> Crew<SeatBoard<'a, Part>> {
         ensures live { opener.new.live ≡ opener.old.live - 4 }
         ensures table { opener.new.table ≡ opener.old.table }
         ensures limit { opener.new.limit ≡ opener.old.limit }
+        ensures groups { opener.new.groups ≡ opener.old.groups }
     {
         let Crew { left, right } = self;
         left.close(rt, opener);

@@ -13,12 +13,14 @@ const FEW: u32 = 10;
 static SIZES: [Size; 2] = [
     Size {
         sessions: 8,
+        groups: 1,
         held: 0,
         crowd: 0,
         few: FEW,
     },
     Size {
         sessions: 64,
+        groups: 1,
         held: 0,
         crowd: 0,
         few: FEW,
@@ -34,6 +36,76 @@ const PAIR_FLOOR: &str = "floor: atomic steps of a pair by a slot";
 const REFUSED_FLOOR: &str = "floor: atomic steps of a refused try";
 
 const STRONG_FLOOR: &str = "floor: atomic steps of a strong pair";
+
+/// Managers with one group of slots a session, and with eight.
+static GROUP_SIZES: [Size; 2] = [
+    Size {
+        sessions: 64,
+        groups: 1,
+        held: 0,
+        crowd: 0,
+        few: FEW,
+    },
+    Size {
+        sessions: 64,
+        groups: 8,
+        held: 0,
+        crowd: 0,
+        few: FEW,
+    },
+];
+
+/// With eight groups all of them stand in slots, with one the first sixteen.
+static GROUP_ROWS: [Row<Work>; 6] = [
+    Row {
+        name: ONE_CALL,
+        work: Work::OneEmptyCall,
+        list: KeyList::Weak,
+        steps: STEPS,
+        empty: None,
+        beside: None,
+    },
+    Row {
+        name: TWO_CALLS,
+        work: Work::TwoEmptyCalls,
+        list: KeyList::Weak,
+        steps: STEPS,
+        empty: None,
+        beside: None,
+    },
+    Row {
+        name: "10 relations and a commit, for each",
+        work: Work::TakeAndCommit,
+        list: KeyList::Ten,
+        steps: STEPS,
+        empty: Some(ONE_CALL),
+        beside: Some(PAIR_FLOOR),
+    },
+    Row {
+        name: "100 relations and a commit, for each",
+        work: Work::TakeAndCommit,
+        list: KeyList::Hundred,
+        steps: STEPS,
+        empty: Some(ONE_CALL),
+        beside: Some(PAIR_FLOOR),
+    },
+    Row {
+        name: "128 relations and a commit, for each",
+        work: Work::TakeAndCommit,
+        list: KeyList::AllSlots,
+        steps: STEPS,
+        empty: Some(ONE_CALL),
+        beside: Some(PAIR_FLOOR),
+    },
+    Row {
+        name: PAIR_FLOOR,
+        work: Work::PairFloor,
+        list: KeyList::Weak,
+        steps: STEPS,
+        empty: Some(TWO_CALLS),
+        beside: None,
+    },
+];
 
 /// Each row is compared with its atomic steps. A held pair has none, and is compared with those of a new one.
 static ROWS: [Row<Work>; 10] = [
@@ -119,7 +191,7 @@ static ROWS: [Row<Work>; 10] = [
     },
 ];
 
-/// Prints the table of times, or with `check` what fewer of the same steps leave.
+/// Prints the tables of times, or with `check` what fewer of the same steps leave.
 pub fn print<R: Wait + CpuClock + AllocGlobal + Print>(rt: &R, asked: Asked) -> Result<()> {
     let page = Page {
         name: "fast path on one thread",
@@ -127,5 +199,11 @@ pub fn print<R: Wait + CpuClock + AllocGlobal + Print>(rt: &R, asked: Asked) -> 
         beside: "to the floor",
         asked,
     };
-    print_page(rt, &page, SIZES.as_slice())
+    print_page(rt, &page, SIZES.as_slice())?;
+    let groups = Page {
+        name: "groups of slots on one thread",
+        rows: GROUP_ROWS.as_slice(),
+        ..page
+    };
+    print_page(rt, &groups, GROUP_SIZES.as_slice())
 }

@@ -41,6 +41,7 @@ fn play<R: Threads + Wait + Clock + AllocGlobal + Sync>(
     let config = Config {
         sessions: 2,
         max_local: 16,
+        slot_groups: 1,
     };
     let (manager, mut opener) = Manager::new(rt.alloc(), config)?;
     let pair = Pair::open(rt, &manager, &mut opener, database)?;

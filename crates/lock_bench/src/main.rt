@@ -3,6 +3,8 @@
 #![tactic(auto)]
 
 mod arguments;
+mod contended_page;
+mod contention;
 mod crew;
 mod fast_page;
 mod figure_files;
@@ -143,7 +145,7 @@ fn print_on_one_thread<R: Wait + CpuClock + AllocGlobal + Print + Eprint>(
 }
 
 /// Prints those of what several do.
-fn print_in_threads<R: Threads + Wait + Clock + AllocGlobal + Print + Eprint + Sync>(
+fn print_in_threads<R: Threads + Wait + Clock + CpuClock + AllocGlobal + Print + Eprint + Sync>(
     rt: &R,
     wanted: &Wanted<'_>,
     asked: Asked,
@@ -161,6 +163,10 @@ fn print_in_threads<R: Threads + Wait + Clock + AllocGlobal + Print + Eprint + S
     if wanted.has(Page::Handover) {
         progress.note(rt, "a lock handed over");
         handover_page::print(rt, database, owner, check)?;
+    }
+    if wanted.has(Page::Contended) {
+        progress.note(rt, "many threads on one lock");
+        contended_page::print(rt, asked)?;
     }
     Ok(())
 }

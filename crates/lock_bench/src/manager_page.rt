@@ -13,18 +13,21 @@ const HELD: u32 = 16;
 static SIZES: [Size; 3] = [
     Size {
         sessions: 2,
+        groups: 1,
         held: 16,
         crowd: 0,
         few: HELD,
     },
     Size {
         sessions: 64,
+        groups: 1,
         held: 16,
         crowd: 0,
         few: HELD,
     },
     Size {
         sessions: 64,
+        groups: 1,
         held: 1600,
         crowd: 0,
         few: HELD,

@@ -59,6 +59,7 @@ impl<'a> Pair<Part, SeatBoard<'a, Part>> {
         ensures live { opener.new.live ≡ opener.old.live - 2 }
         ensures table { opener.new.table ≡ opener.old.table }
         ensures limit { opener.new.limit ≡ opener.old.limit }
+        ensures groups { opener.new.groups ≡ opener.old.groups }
     {
         let Pair { first, second } = self;
         first.close(rt, opener);

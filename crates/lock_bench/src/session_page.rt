@@ -78,11 +78,18 @@ fn print_size<R: Wait + CpuClock + AllocGlobal + Print>(
 }
 
 fn print_size_header<R: Print>(rt: &R, size: Size) -> io::Result<()> {
-    let Size { sessions, held, .. } = size;
-    if held == 0 {
-        println!(rt; "{sessions} sessions")
-    } else {
+    let Size {
+        sessions,
+        groups,
+        held,
+        ..
+    } = size;
+    if held > 0 {
         println!(rt; "{sessions} sessions, {held} holds of another")
+    } else if groups > 1 {
+        println!(rt; "{sessions} sessions, {groups} groups of slots")
+    } else {
+        println!(rt; "{sessions} sessions")
     }
 }
 
@@ -96,6 +103,7 @@ pub fn run_lines<R: Wait + CpuClock + AllocGlobal + Print>(
     let config = Config {
         sessions: size.sessions,
         max_local: 65536,
+        slot_groups: size.groups,
     };
     let (manager, mut opener) = Manager::new(rt.alloc(), config)?;
     let mut pair = Pair::open(rt, &manager, &mut opener, asked.database)?;

@@ -274,6 +274,7 @@ fn print_with_crew<R: Threads + Wait + Clock + AllocGlobal + Print + Sync>(
     let config = Config {
         sessions: 4,
         max_local: 1_024,
+        slot_groups: 1,
     };
     let (manager, mut opener) = Manager::new(rt.alloc(), config)?;
     let mut crew = Crew::open(rt, &manager, &mut opener, database)?;

@@ -143,6 +143,7 @@ impl Workload {
     fn size(&self) -> Size {
         Size {
             sessions: self.sessions,
+            groups: 1,
             held: 0,
             crowd: self.crowd,
             few: FEW,

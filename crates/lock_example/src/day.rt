@@ -32,6 +32,7 @@ pub fn live_through<R: Threads + Wait + Clock + Sync>(
     let config = Config {
         sessions: MOST_SESSIONS,
         max_local: 16,
+        slot_groups: 1,
     };
     let (manager, opener) = Manager::new(alloc, config)?;
     let mut desk = ManagerDesk::new(&manager, opener);

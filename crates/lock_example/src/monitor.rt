@@ -108,6 +108,7 @@ pub fn show<R: Threads + Wait + Clock + Print + Sync>(rt: &R, alloc: Global) -> 
     let config = Config {
         sessions: 5,
         max_local: 16,
+        slot_groups: 1,
     };
     let (manager, opener) = Manager::new(alloc, config)?;
     let mut desk = ManagerDesk::new(&manager, opener);

@@ -63,6 +63,7 @@ fn tell<R: Threads + Wait + Sync>(rt: &R, alloc: Global) -> Result<Story, Refusa
     let config = Config {
         sessions: 2,
         max_local: 16,
+        slot_groups: 1,
     };
     let (manager, mut opener) = Manager::new(alloc, config)?;
     let mut worker = opener.session(&manager, 5)?;

@@ -12,6 +12,7 @@ use Rattle.wait_queue.specs.declared.requests.Kind.{Kind}
 use Rattle.wait_queue.specs.declared.requests.Kind.TheVariants.{Conditional}
 use Rattle.wait_queue.specs.declared.requests.Decision.TheVariants as decision
 use Rattle.lock_world.specs.Account.{Account}
+use Rattle.fast_path.specs.declared.use_counts.UseCounts.{UseCounts}
 use Rattle.fast_path.specs.Grants.{TriesGrant}
 use Rattle.shared_rule.specs.Boards.{Seated}
 use Rattle.lock_manager.specs.declared.requests.Begun.{Begun}
@@ -19,7 +20,7 @@ use Rattle.lock_manager.specs.declared.requests.Begun.TheVariants.{Granted, Alre
 use Rattle.lock_manager.specs.Requests.{Requests}
 
 -- An acquire: what it is answered by what the session owns, and what joins its trace. `a` and `uses` are the account and the
--- use count before it, `b` and `left` those after it.
+-- use counts before it, `b` and `left` those after it.
 
 -- A mode that the session has is counted once more for the owner, unless his count is full. One that it has not, and that may
 -- be had this way, is refused where the session has as many entries as it may have.
@@ -40,7 +41,8 @@ entries_begun Queued entries tag mode owner = entries
 
 -- What joins the trace of an acquire of either kind, by its answer. One of a mode with an entry makes no step, nor does one that
 -- its own limits refuse, or want of memory for its entry. Every other one is a request.
-abbrev pub Begins : Kind → Seated → Owned → Account → ℕ → Tag → Mode → Result Begun Refusal → Account → ℕ → Type 0
+abbrev pub Begins :
+    Kind → Seated → Owned → Account → UseCounts → Tag → Mode → Result Begun Refusal → Account → UseCounts → Type 0
 Begins kind seat owned a uses tag mode (Ok AlreadyHeld) b left = (b ≡ a) × (left ≡ uses)
 Begins kind seat owned a uses tag mode (Ok Granted) b left =
     Requests kind seat a uses tag mode (Ok decision.Granted) b left
@@ -59,21 +61,23 @@ begun_at_once (Ok acquired.Granted) = Ok Granted
 begun_at_once (Ok acquired.AlreadyHeld) = Ok AlreadyHeld
 begun_at_once (Err refusal) = Err refusal
 
-abbrev pub Acquires : Seated → Owned → Account → ℕ → Tag → Mode → Result Acquired Refusal → Account → ℕ → Type 0
+abbrev pub Acquires :
+    Seated → Owned → Account → UseCounts → Tag → Mode → Result Acquired Refusal → Account → UseCounts → Type 0
 Acquires seat owned a uses tag mode result b left =
     Begins Conditional seat owned a uses tag mode (begun_at_once result) b left
 
 -- What joins the trace of an acquire by the fast path alone, by its answer. One of a mode with an entry makes no
 -- step, nor does one that may not go by a slot, nor one that its own limits refuse, or want of memory for its entry.
 -- Every other one is tried once, and waits for nobody.
-abbrev pub AcquiresBySlot : ℕ → Owned → Account → ℕ → Tag → Mode → Result Acquired Refusal → Account → ℕ → Type 0
-AcquiresBySlot number owned a uses tag mode (Ok acquired.AlreadyHeld) b left = (b ≡ a) × (left ≡ uses)
-AcquiresBySlot number owned a uses tag mode (Ok acquired.Granted) b left =
-    TriesGrant number a uses tag mode (Ok tt) b left
-AcquiresBySlot number owned a uses tag mode (Err CountFull) b left = (b ≡ a) × (left ≡ uses)
-AcquiresBySlot number owned a uses tag mode (Err NotEligible) b left = (b ≡ a) × (left ≡ uses)
-AcquiresBySlot number owned a uses tag mode (Err LocalFull) b left = (b ≡ a) × (left ≡ uses)
-AcquiresBySlot number owned a uses tag mode (Err NoMemory) b left =
+abbrev pub AcquiresBySlot :
+    ℕ → ℕ → Owned → Account → UseCounts → Tag → Mode → Result Acquired Refusal → Account → UseCounts → Type 0
+AcquiresBySlot groups number owned a uses tag mode (Ok acquired.AlreadyHeld) b left = (b ≡ a) × (left ≡ uses)
+AcquiresBySlot groups number owned a uses tag mode (Ok acquired.Granted) b left =
+    TriesGrant groups number a uses tag mode (Ok tt) b left
+AcquiresBySlot groups number owned a uses tag mode (Err CountFull) b left = (b ≡ a) × (left ≡ uses)
+AcquiresBySlot groups number owned a uses tag mode (Err NotEligible) b left = (b ≡ a) × (left ≡ uses)
+AcquiresBySlot groups number owned a uses tag mode (Err LocalFull) b left = (b ≡ a) × (left ≡ uses)
+AcquiresBySlot groups number owned a uses tag mode (Err NoMemory) b left =
     (has_entry owned.entries tag mode ≡ false) × (owned.room ≡ 0) × (b ≡ a) × (left ≡ uses)
-AcquiresBySlot number owned a uses tag mode (Err refusal) b left =
-    TriesGrant number a uses tag mode (Err refusal) b left
+AcquiresBySlot groups number owned a uses tag mode (Err refusal) b left =
+    TriesGrant groups number a uses tag mode (Err refusal) b left

@@ -47,20 +47,20 @@ module _ {B : Type 0} (seat : B → Seated) (view : B → Account) (stack : B �
   -- An audit by the first session. All else of it is as before, and the others are as before altogether. It counts what its own
   -- loads and the contents taken together show. Modes in slots and rows of holds are as many as all have local entries, and the
   -- counters' sum is how many of these are strong.
-  pub record AuditsBy {E : Type 0} (limit : ℕ) (first : SessionView B) (others new : List (SessionView B)) (result : Result Audit E) : Type 0 where
+  pub record AuditsBy {E : Type 0} (limit groups : ℕ) (first : SessionView B) (others new : List (SessionView B)) (result : Result Audit E) : Type 0 where
     pub first_after : SessionView B
     pub others_after : List (SessionView B)
     pub sessions : new ≡ first_after ∷ others_after
     pub traced : HasTraced first first_after
     pub unchanged : AllZip (IsUnchanged seat view stack) others others_after
-    pub counts : Counts limit (view first.board).trace result (view first_after.board).trace
+    pub counts : Counts limit groups (view first.board).trace result (view first_after.board).trace
     pub holds : IfOk result (λ audit. audit.fast + audit.table ≡ entries_owned (first ∷ others))
     pub strong : IfOk result (λ audit. audit.strong ≡ strong_owned (first ∷ others))
 
   -- With no session there is no step, and nothing to count.
-  abbrev pub Audits : {E : Type 0} → ℕ → List (SessionView B) → List (SessionView B) → Result Audit E → Type 0
-  Audits {E} limit [] new result = (new ≡ []) × (result ≡ Ok (record { fast = 0; table = 0; strong = 0 }))
-  Audits {E} limit (first ∷ others) new result = AuditsBy limit first others new result
+  abbrev pub Audits : {E : Type 0} → ℕ → ℕ → List (SessionView B) → List (SessionView B) → Result Audit E → Type 0
+  Audits {E} limit groups [] new result = (new ≡ []) × (result ≡ Ok (record { fast = 0; table = 0; strong = 0 }))
+  Audits {E} limit groups (first ∷ others) new result = AuditsBy limit groups first others new result
 
   -- ---- the sessions gathered one after another, the last one of a list first
 
@@ -74,7 +74,7 @@ module _ {B : Type 0} (seat : B → Seated) (view : B → Account) (stack : B �
   -- With these gathered behind those that were, the first of all has counted; then they are back as they were.
   pub record CountsWith (old : OpenerState PartView) (sessions : List (SessionView B)) (result : Result Audit NoMemory)
       (new : OpenerState PartView) (after : List (SessionView B)) : Type 0 where
-    pub counts : Counts old.limit (first_account content_of old.gathered).trace result (first_account content_of new.gathered).trace
+    pub counts : Counts old.limit old.groups (first_account content_of old.gathered).trace result (first_account content_of new.gathered).trace
     pub adds_up : IfOk result (AddsUp (gathered_in content_of old.gathered ++ map gathered_of (reverse sessions)))
     pub opener : new ≡ record old { gathered = new.gathered }
     pub first : History PartView

@@ -1,4 +1,4 @@
-use Rattle.std.specs.Prelude.{◌≡◌, ◌⊎◌, ℕ, ◌<◌, ◌≤◌, ◌+◌, ◌^◌, ◌==◌, ◌&&◌, Bool, true, false, List, [], ◌∷◌, ◌++◌, length, count_by}
+use Rattle.std.specs.Prelude.{◌*◌, ◌≡◌, ◌⊎◌, ℕ, ◌<◌, ◌≤◌, ◌+◌, ◌^◌, ◌==◌, ◌&&◌, Bool, true, false, List, [], ◌∷◌, ◌++◌, length, count_by}
 use Rattle.std.specs.Prelude.{if◌then◌else◌, slice_get, Option, Some, None, Result, Err, IfOk, OnOk}
 use Rattle.modes_core.specs.declared.modes.Mode.{Mode}
 use Rattle.modes_core.specs.declared.tags.Tag.{Tag}
@@ -18,7 +18,7 @@ use Rattle.lock_world.specs.AccountFacts.{OwnHoldsStand}
 use Rattle.lock_world.specs.Happens.{RunsThrough, last_of}
 use Rattle.lock_world.specs.Listing.{StandsThereOrInContent}
 use Rattle.lock_world.specs.SafeWorld.{SafeWorld}
-use Rattle.lock_world.specs.SlotHolds.{slot_count, slot_holds, ShowsNoMore, OneSlotEach}
+use Rattle.lock_world.specs.SlotHolds.{group_size, slot_count, slot_holds, ShowsNoMore, OneSlotEach}
 use Rattle.lock_world.specs.World.{World, TraceEntry, Took, Episode}
 use Rattle.fast_path.specs.Rows.{rows_of_all, loads_of_all, times_shown}
 use Rattle.lock_manager.specs.declared.listing.Listing.{Listing}
@@ -94,42 +94,43 @@ HasWords tag = (database relation : ℕ) → tag ≡ Relation database relation 
 
 -- A hold that stands throughout the listing is not missed. Let any events lead from a World in which the caller's trace is
 -- the one before the listing, through these Worlds, to one in which it is the one after: a hold of any session that in each of
--- them stands in one and the same slot or in a content has a row.
-abbrev pub MissesNone : ℕ → ℕ → List TraceEntry → List TraceEntry → Listing → Type 0
-MissesNone limit number before after listing =
+-- them stands in one and the same slot, one of its groups, or in a content has a row.
+abbrev pub MissesNone : ℕ → ℕ → ℕ → List TraceEntry → List TraceEntry → Listing → Type 0
+MissesNone groups limit number before after listing =
     (first : World) (events : List Event) (worlds : List World) → SafeWorld first → RunsThrough first events worlds
     → first.sessions.trace number ≡ before → (last_of first worlds).sessions.trace number ≡ after
-    → (session place : ℕ) (tag : Tag) (mode : Mode) → session < limit → place < slot_count → HasWords tag
+    → (session place : ℕ) (tag : Tag) (mode : Mode) → session < limit → place < slot_count
+    → place < group_size * groups → HasWords tag
     → ((at : ℕ) (w : World) → slice_get (first ∷ worlds) at ≡ Some w → StandsThereOrInContent w session tag mode place)
     → 1 ≤ times_listed listing session tag mode
 
 -- A whole listing. The database and the slots of each session that there can be are loaded, in rising order, and the slot
 -- rows are those of what these loads showed. The lock of a session's slots is shared while they are loaded, so that they stand
 -- so at one moment, and no relation has two of them. After that the partitions are taken, and the table's rows list their contents.
-pub record ListsAll (limit number : ℕ) (a : Account) (result : Result Listing Refusal) (b : Account) : Type 0 where
+pub record ListsAll (groups limit number : ℕ) (a : Account) (result : Result Listing Refusal) (b : Account) : Type 0 where
   pub database : ℕ → ℕ
   pub word : ℕ → ℕ → ℕ
   pub one_each : (session : ℕ) → session < limit → OneSlotEach (word session)
   pub fast : IfOk result (λ listing. listing.fast.items ≡ rows_of_all limit database word)
   pub contents : List Content
   pub sixteen : length contents ≡ 16
-  pub trace : b.trace ≡ (a.trace ++ loads_of_all limit database word) ++ listing_steps 0 contents
+  pub trace : b.trace ≡ (a.trace ++ loads_of_all groups limit database word) ++ listing_steps 0 contents
   pub table : IfOk result (λ listing. IsListing (whole_of (content_at contents)) listing.table.items)
   -- of the caller's holds none is missed and none invented, and of others' none that stands throughout is missed
   pub own : IfOk result (ListsOwn number a.own a.fast.database (word number))
-  pub misses_none : IfOk result (MissesNone limit number a.trace b.trace)
+  pub misses_none : IfOk result (MissesNone groups limit number a.trace b.trace)
 
 -- One for whose slot rows memory was wanting: no partition is taken.
-pub record StopsAtSlots (limit : ℕ) (a : Account) (result : Result Listing Refusal) (b : Account) : Type 0 where
+pub record StopsAtSlots (groups limit : ℕ) (a : Account) (result : Result Listing Refusal) (b : Account) : Type 0 where
   pub refused : result ≡ Err NoMemory
   pub database : ℕ → ℕ
   pub word : ℕ → ℕ → ℕ
   pub loaded : ℕ
   pub within : loaded ≤ limit
-  pub trace : b.trace ≡ a.trace ++ loads_of_all loaded database word
+  pub trace : b.trace ≡ a.trace ++ loads_of_all groups loaded database word
 
-abbrev pub Lists : ℕ → ℕ → Account → Result Listing Refusal → Account → Type 0
-Lists limit number a result b = ListsAll limit number a result b ⊎ StopsAtSlots limit a result b
+abbrev pub Lists : ℕ → ℕ → ℕ → Account → Result Listing Refusal → Account → Type 0
+Lists groups limit number a result b = ListsAll groups limit number a result b ⊎ StopsAtSlots groups limit a result b
 
 -- The same, of the partitions from one on.
 

@@ -1,10 +1,13 @@
 use Rattle.std.specs.Prelude.{◌≡◌, ℕ, ◌+◌, ◌-◌, ◌<◌, ◌≤◌, ◌&&◌, nat_le, Bool, List, [], ◌∷◌, length}
 use Rattle.atomic_table.specs.Seated.{TableId}
+use Rattle.lock_world.specs.SlotHolds.{most_groups}
 use Rattle.lock_world.specs.Account.{Account}
 use Rattle.lock_world.specs.World.{TraceEntry}
 use Rattle.shared_rule.specs.Boards.{Seated, Stack}
 use Rattle.shared_rule.specs.declared.history.History.{History}
 use Rattle.shared_rule.specs.Openers.{HaveClosed, trace_told}
+use Rattle.fast_path.specs.declared.use_counts.UseCounts.{UseCounts}
+use Rattle.fast_path.specs.Slots.{count_in}
 use Rattle.local_locks.specs.declared.ends.End.TheVariants as end_
 use Rattle.local_locks.specs.Owned.{ended_by}
 use Rattle.lock_manager.specs.declared.config.Config.{Config}
@@ -16,34 +19,39 @@ use Rattle.lock_manager.specs.Sessions.{SessionView, IsResting}
 
 pub record ManagerView : Type 0 where
   pub table : TableId
-  -- how many sessions it may open, and how many local entries each may have
+  -- how many sessions it may open, how many groups of fast-path slots each has, and how many local entries each may have
   pub limit : ℕ
+  pub groups : ℕ
   pub max_local : ℕ
 
 pub record OpenerView : Type 0 where
   pub table : TableId
   pub limit : ℕ
+  pub groups : ℕ
   -- how many sessions it has given out, how many of these are open, and the histories of those that have closed, the
   -- last one first
   pub issued : ℕ
   pub live : ℕ
   pub closed : List (History PartView)
 
--- whether a manager can have this many sessions and local entries
+-- whether a manager can have this many sessions, local entries and groups of slots
 abbrev pub is_in_range : Config → Bool
 is_in_range config =
     nat_le 1 config.sessions && (nat_le config.sessions 64 &&
-    (nat_le 1 config.max_local && nat_le config.max_local 65536))
+    (nat_le 1 config.max_local && (nat_le config.max_local 65536 &&
+    (nat_le 1 config.slot_groups && nat_le config.slot_groups most_groups))))
 
 -- The opener is the manager's.
 pub record IsOpenerOf (opener : OpenerView) (manager : ManagerView) : Type 0 where
   pub table : opener.table ≡ manager.table
   pub limit : opener.limit ≡ manager.limit
+  pub groups : opener.groups ≡ manager.groups
 
 -- A manager of this size with no session yet, and its opener.
 pub record IsNew (manager : ManagerView) (opener : OpenerView) (config : Config) : Type 0 where
   pub opener_of : IsOpenerOf opener manager
   pub limit : manager.limit ≡ config.sessions
+  pub groups : manager.groups ≡ config.slot_groups
   pub max_local : manager.max_local ≡ config.max_local
   pub issued : opener.issued ≡ 0
   pub live : opener.live ≡ 0
@@ -70,9 +78,10 @@ module _ {B : Type 0} (seat : B → Seated) (view : B → Account) (stack : B �
   pub record IsOpened (opener : OpenerView) (manager : ManagerView) (database : ℕ) (session : SessionView B) : Type 0 where
     pub number : (seat session.board).number ≡ opener.issued
     pub limit : (seat session.board).limit ≡ opener.limit
+    pub groups : (seat session.board).groups ≡ opener.groups
     pub table : (seat session.board).table ≡ opener.table
     pub database_ : session.database ≡ database
-    pub no_slot : session.uses ≡ 0
+    pub no_slot : (group : ℕ) → count_in session.uses group ≡ 0
     pub nothing : session.owned.entries ≡ []
     pub first_level : session.owned.outer ≡ []
     pub room : 0 < session.owned.room
@@ -84,7 +93,7 @@ module _ {B : Type 0} (seat : B → Seated) (view : B → Account) (stack : B �
   -- has its history, with its number and its trace.
   pub record HasClosed (session : SessionView B) (old new : OpenerView) : Type 0 where
     pub last : Account
-    pub left : ℕ
-    pub released : ReleasesAll (seat session.board).number (view session.board) session.uses
+    pub left : UseCounts
+    pub released : ReleasesAll (seat session.board).groups (seat session.board).number (view session.board) session.uses
         (ended_by end_.Close session.owned.entries) last left
     pub opener : TakesBack (seat session.board).number last.trace old new

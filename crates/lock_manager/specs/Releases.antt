@@ -15,9 +15,10 @@ use Rattle.lock_world.specs.AccountLaw.{MayMoveBy}
 use Rattle.lock_world.specs.AccountSteps.{own_with, account_marking, account_putting}
 use Rattle.lock_world.specs.Counted.{Counted, uncounting}
 use Rattle.lock_world.specs.World.{TraceEntry, Took, Episode}
-use Rattle.lock_world.specs.SlotHolds.{slot_count, slot_holds, used}
-use Rattle.fast_path.specs.Slots.{slot_loads}
-use Rattle.fast_path.specs.Releases.{ClearsSlot}
+use Rattle.lock_world.specs.SlotHolds.{slot_holds, used_in}
+use Rattle.fast_path.specs.declared.use_counts.UseCounts.{UseCounts}
+use Rattle.fast_path.specs.Slots.{group_of_tag, group_loads, count_in, counting}
+use Rattle.fast_path.specs.Releases.{IsUnused, ClearsSlot}
 use Rattle.shared_rule.specs.Boards.{Seated}
 use Rattle.shared_rule.specs.Episodes.{account_episode}
 use Rattle.shared_rule.specs.Lawful.{MayPutPart}
@@ -77,7 +78,7 @@ pub record ReleasesInPart (number : ℕ) (a : Account) (tag : Tag) (mode : Mode)
   pub moved : Moves taken number (Release tag mode) granted put
   pub account : b ≡ account_episode a (partition_of tag) taken put (Release tag mode)
 
--- ---- the whole release: `a` and `uses` are the account and the use count before it, `b` and `left` those after it
+-- ---- the whole release: `a` and `uses` are the account and the use counts before it, `b` and `left` those after it
 
 -- what is counted once the mode is released
 abbrev pub counted_released : List Counted → Tag → Mode → List Counted
@@ -101,40 +102,41 @@ pub record ReleasesHold (number : ℕ) (a : Account) (tag : Tag) (mode : Mode) (
   pub account : b ≡ account_released a tag mode a.fast.remembered
       (a.trace ++ Took (partition_of tag) taken ∷ Episode (partition_of tag) taken put ∷ [])
 
--- The session looks in its slots: the mode on the object may be in one of them, and by its use count one is in use.
-pub record LooksInSlots (a : Account) (uses : ℕ) (tag : Tag) (mode : Mode) : Type 0 where
+-- The session looks in its slots: the mode on the object may be in one of them, and by the use count of the relation's group
+-- one of it is in use.
+pub record LooksInSlots (groups : ℕ) (a : Account) (uses : UseCounts) (tag : Tag) (mode : Mode) : Type 0 where
   pub eligible : is_eligible_for a.fast.database tag mode ≡ true
-  pub some : uses ≢ 0
+  pub some : count_in uses (group_of_tag groups tag) ≢ 0
 
 -- It looks, and clears the mode in the slot that has it. There is no episode, nor any other step.
-pub record ReleasesSlot (number : ℕ) (a : Account) (uses : ℕ) (tag : Tag) (mode : Mode) (b : Account) (left : ℕ) :
-    Type 0 where
-  pub looks : LooksInSlots a uses tag mode
-  pub cleared : ClearsSlot number a tag mode b left
+pub record ReleasesSlot (groups number : ℕ) (a : Account) (uses : UseCounts) (tag : Tag) (mode : Mode) (b : Account)
+    (left : UseCounts) : Type 0 where
+  pub looks : LooksInSlots groups a uses tag mode
+  pub cleared : ClearsSlot groups number a uses tag mode b left
 
--- It looks, and finds the hold in none of the sixteen: it was moved to the table, or granted there.
-pub record FindsNone (number : ℕ) (a : Account) (uses : ℕ) (tag : Tag) (mode : Mode) (loads : List TraceEntry)
-    (left : ℕ) : Type 0 where
-  pub looks : LooksInSlots a uses tag mode
+-- It looks, and finds the hold in none of the group's sixteen: it was moved to the table, or granted there.
+pub record FindsNone (groups number : ℕ) (a : Account) (uses : UseCounts) (tag : Tag) (mode : Mode)
+    (loads : List TraceEntry) (left : UseCounts) : Type 0 where
+  pub looks : LooksInSlots groups a uses tag mode
   pub word : ℕ → ℕ
   pub in_none : slot_holds a.fast.database word tag mode ≡ false
-  pub loaded : loads ≡ slot_loads number word slot_count
-  pub recomputed : left ≡ used word
+  pub loaded : loads ≡ group_loads number (group_of_tag groups tag) word
+  pub recomputed : count_in left ≡ counting uses (group_of_tag groups tag) (used_in (group_of_tag groups tag) word)
 
--- It doesn't look, as the mode may not be in a slot or none is in use.
-pub record LooksNowhere (a : Account) (uses : ℕ) (tag : Tag) (mode : Mode) (loads : List TraceEntry) (left : ℕ) :
-    Type 0 where
-  pub not_tried : (is_eligible_for a.fast.database tag mode ≡ false) ⊎ (uses ≡ 0)
+-- It doesn't look, as the mode may not be in a slot or none of the group is in use.
+pub record LooksNowhere (groups : ℕ) (a : Account) (uses : UseCounts) (tag : Tag) (mode : Mode) (loads : List TraceEntry)
+    (left : UseCounts) : Type 0 where
+  pub not_tried : (is_eligible_for a.fast.database tag mode ≡ false) ⊎ IsUnused groups uses tag
   pub no_step : loads ≡ []
   pub same : left ≡ uses
 
 -- One episode in the object's partition releases the hold: it is gone, and who may go then is granted. The content taken
 -- has each own hold of the partition that is in no slot. Before it stands the look at the slots, if there was one. No
 -- other step joins the trace.
-pub record ReleasesInTable (number : ℕ) (a : Account) (uses : ℕ) (tag : Tag) (mode : Mode) (b : Account) (left : ℕ) :
-    Type 0 where
+pub record ReleasesInTable (groups number : ℕ) (a : Account) (uses : UseCounts) (tag : Tag) (mode : Mode) (b : Account)
+    (left : UseCounts) : Type 0 where
   pub loads : List TraceEntry
-  pub before : LooksNowhere a uses tag mode loads left ⊎ FindsNone number a uses tag mode loads left
+  pub before : LooksNowhere groups a uses tag mode loads left ⊎ FindsNone groups number a uses tag mode loads left
   pub taken : Content
   pub put : Content
   pub granted : List Wait
@@ -144,13 +146,13 @@ pub record ReleasesInTable (number : ℕ) (a : Account) (uses : ℕ) (tag : Tag)
   pub account : b ≡ account_released a tag mode b.fast.remembered b.trace
 
 -- The hold is released where it stands, in a slot or in the table.
-abbrev pub Releases : ℕ → Account → ℕ → Tag → Mode → Account → ℕ → Type 0
-Releases number a uses tag mode b left =
-    ReleasesSlot number a uses tag mode b left ⊎ ReleasesInTable number a uses tag mode b left
+abbrev pub Releases : ℕ → ℕ → Account → UseCounts → Tag → Mode → Account → UseCounts → Type 0
+Releases groups number a uses tag mode b left =
+    ReleasesSlot groups number a uses tag mode b left ⊎ ReleasesInTable groups number a uses tag mode b left
 
 -- These holds are released, one after another.
-abbrev pub ReleasesAll : ℕ → Account → ℕ → List (Tag × Mode) → Account → ℕ → Type 0
-ReleasesAll number a uses [] b left = (b ≡ a) × (left ≡ uses)
-ReleasesAll number a uses (key ∷ keys) b left =
-    (between : Account) × (its : ℕ) × Releases number a uses key.0 key.1 between its
-    × ReleasesAll number between its keys b left
+abbrev pub ReleasesAll : ℕ → ℕ → Account → UseCounts → List (Tag × Mode) → Account → UseCounts → Type 0
+ReleasesAll groups number a uses [] b left = (b ≡ a) × (left ≡ uses)
+ReleasesAll groups number a uses (key ∷ keys) b left =
+    (between : Account) × (its : UseCounts) × Releases groups number a uses key.0 key.1 between its
+    × ReleasesAll groups number between its keys b left

@@ -17,53 +17,56 @@ use Rattle.lock_world.specs.Account.{Account}
 use Rattle.lock_world.specs.AccountFacts.{OwnHoldsStand}
 use Rattle.lock_world.specs.AccountSteps.{own_with}
 use Rattle.lock_world.specs.Counted.{Counted}
-use Rattle.lock_world.specs.SlotHolds.{slot_count}
 use Rattle.lock_world.specs.World.{TraceEntry, Took, Episode, Loaded}
-use Rattle.fast_path.specs.Grants.{GrantsInSlot}
+use Rattle.fast_path.specs.declared.use_counts.UseCounts.{UseCounts}
+use Rattle.fast_path.specs.Grants.{GrantsInSlot, IsFull, HasRoom}
 use Rattle.fast_path.specs.Transfers.{AreTurns, CutsShort}
 use Rattle.shared_rule.specs.Boards.{Seated}
 use Rattle.shared_rule.specs.Episodes.{account_episode}
 
--- A request for a mode that the session hasn't, as its trace has it. `a` and `uses` are the account and the use count
+-- A request for a mode that the session hasn't, as its trace has it. `a` and `uses` are the account and the use counts
 -- before it, `b` and `left` those after it.
 
 -- ---- by the fast path
 
--- The fast path is tried: the mode on the object may go by a slot of the session, and by its use count not all
--- sixteen are in use.
-pub record TriesSlot (a : Account) (uses : ℕ) (tag : Tag) (mode : Mode) : Type 0 where
+-- The fast path is tried: the mode on the object may go by a slot of the session, and by the use count of the relation's group
+-- not all sixteen of it are in use.
+pub record TriesSlot (groups : ℕ) (a : Account) (uses : UseCounts) (tag : Tag) (mode : Mode) : Type 0 where
   pub eligible : is_eligible_for a.fast.database tag mode ≡ true
-  pub room : uses ≢ slot_count
+  pub room : HasRoom groups uses tag
 
 -- It is tried, and grants the mode in a slot. There is no episode, nor any other step.
-pub record GoesBySlot (number : ℕ) (a : Account) (uses : ℕ) (tag : Tag) (mode : Mode) (b : Account) (left : ℕ) :
-    Type 0 where
-  pub tried : TriesSlot a uses tag mode
-  pub granted : GrantsInSlot number a a.trace uses tag mode b left
+pub record GoesBySlot (groups number : ℕ) (a : Account) (uses : UseCounts) (tag : Tag) (mode : Mode) (b : Account)
+    (left : UseCounts) : Type 0 where
+  pub tried : TriesSlot groups a uses tag mode
+  pub granted : GrantsInSlot groups number a a.trace uses tag mode b left
 
 -- ---- what goes before the episode that decides
 
 -- The fast path is tried, and its one load of the object's counter shows that a strong lock is counted there.
-pub record FindsStrong (a : Account) (uses : ℕ) (tag : Tag) (mode : Mode) (steps : List TraceEntry) : Type 0 where
-  pub tried : TriesSlot a uses tag mode
+pub record FindsStrong (groups : ℕ) (a : Account) (uses : UseCounts) (tag : Tag) (mode : Mode)
+    (steps : List TraceEntry) : Type 0 where
+  pub tried : TriesSlot groups a uses tag mode
   pub shown : ℕ
   pub counted : shown ≢ 0
   pub load : steps ≡ Loaded (Strong (index_of tag)) shown ∷ []
 
--- It isn't tried, as the mode may not go by a slot or sixteen are used, and nothing goes before.
-pub record GoesByTable (a : Account) (uses : ℕ) (tag : Tag) (mode : Mode) (steps : List TraceEntry) : Type 0 where
+-- It isn't tried, as the mode may not go by a slot or sixteen of the group are used, and nothing goes before.
+pub record GoesByTable (groups : ℕ) (a : Account) (uses : UseCounts) (tag : Tag) (mode : Mode)
+    (steps : List TraceEntry) : Type 0 where
   pub weak : is_strong_on tag mode ≡ false
-  pub not_tried : (is_eligible_for a.fast.database tag mode ≡ false) ⊎ (uses ≡ slot_count)
+  pub not_tried : (is_eligible_for a.fast.database tag mode ≡ false) ⊎ IsFull groups uses tag
   pub no_step : steps ≡ []
 
 -- The mode is strong, and goes past each session in its turn, which moves what stands in its way to the table.
-pub record MovesSlots (limit : ℕ) (tag : Tag) (mode : Mode) (steps : List TraceEntry) : Type 0 where
+pub record MovesSlots (groups limit : ℕ) (tag : Tag) (mode : Mode) (steps : List TraceEntry) : Type 0 where
   pub strong : is_strong_on tag mode ≡ true
-  pub turns : AreTurns limit tag steps
+  pub turns : AreTurns groups limit tag steps
 
-abbrev pub LeadsToTable : ℕ → Account → ℕ → Tag → Mode → List TraceEntry → Type 0
-LeadsToTable limit a uses tag mode steps =
-    GoesByTable a uses tag mode steps ⊎ (FindsStrong a uses tag mode steps ⊎ MovesSlots limit tag mode steps)
+abbrev pub LeadsToTable : ℕ → ℕ → Account → UseCounts → Tag → Mode → List TraceEntry → Type 0
+LeadsToTable groups limit a uses tag mode steps =
+    GoesByTable groups a uses tag mode steps
+    ⊎ (FindsStrong groups a uses tag mode steps ⊎ MovesSlots groups limit tag mode steps)
 
 -- ---- the episode that decides
 
@@ -98,12 +101,12 @@ pub record DecidesInPart (kind : Kind) (number : ℕ) (a : Account) (tag : Tag) 
 -- granted the content put has the hold, and where it is queued the wait; else that is put as it was, and the refusal
 -- names what is in the way there, or memory. The content taken has each own hold of the partition that is in no slot of
 -- the session. Before it stands what led to the table. No other step joins the trace.
-pub record Decides (kind : Kind) (seat : Seated) (a : Account) (uses : ℕ) (tag : Tag) (mode : Mode)
-    (result : Result Decision Refusal) (b : Account) (left : ℕ) : Type 0 where
+pub record Decides (kind : Kind) (seat : Seated) (a : Account) (uses : UseCounts) (tag : Tag) (mode : Mode)
+    (result : Result Decision Refusal) (b : Account) (left : UseCounts) : Type 0 where
   pub steps : List TraceEntry
   pub taken : Content
   pub put : Content
-  pub before : LeadsToTable seat.limit a uses tag mode steps
+  pub before : LeadsToTable seat.groups seat.limit a uses tag mode steps
   pub own_stand : OwnHoldsStand seat.number a.own a.fast.database b.fast.remembered (partition_of tag) taken
   pub decided : IfOk result (λ decision. IsDecided kind taken seat.number tag mode decision put)
   pub refused : IfErr result (RefusedFor kind taken seat.number tag mode)
@@ -113,11 +116,11 @@ pub record Decides (kind : Kind) (seat : Seated) (a : Account) (uses : ℕ) (tag
 
 -- The mode is strong, and memory runs out in the turn of a session, before all is moved that stands in its way:
 -- there is no episode that decides.
-pub record StopsMoving (limit : ℕ) (a : Account) (uses : ℕ) (tag : Tag) (mode : Mode) (b : Account) (left : ℕ) :
-    Type 0 where
+pub record StopsMoving (groups limit : ℕ) (a : Account) (uses : UseCounts) (tag : Tag) (mode : Mode) (b : Account)
+    (left : UseCounts) : Type 0 where
   pub strong : is_strong_on tag mode ≡ true
   pub steps : List TraceEntry
-  pub cut : CutsShort limit tag steps
+  pub cut : CutsShort groups limit tag steps
   pub trace : b.trace ≡ a.trace ++ steps
   pub same : left ≡ uses
 
@@ -125,13 +128,16 @@ pub record StopsMoving (limit : ℕ) (a : Account) (uses : ℕ) (tag : Tag) (mod
 
 -- What joins the trace of a request, by its answer: it is granted in a slot, or decided in the table, or stopped on
 -- the way.
-abbrev pub Requests : Kind → Seated → Account → ℕ → Tag → Mode → Result Decision Refusal → Account → ℕ → Type 0
+abbrev pub Requests :
+    Kind → Seated → Account → UseCounts → Tag → Mode → Result Decision Refusal → Account → UseCounts → Type 0
 Requests kind seat a uses tag mode (Ok decision.Granted) b left =
-    GoesBySlot seat.number a uses tag mode b left ⊎ Decides kind seat a uses tag mode (Ok decision.Granted) b left
+    GoesBySlot seat.groups seat.number a uses tag mode b left
+    ⊎ Decides kind seat a uses tag mode (Ok decision.Granted) b left
 Requests kind seat a uses tag mode (Ok decision.Queued) b left =
     Decides kind seat a uses tag mode (Ok decision.Queued) b left
 Requests kind seat a uses tag mode (Err NoMemory) b left =
-    StopsMoving seat.limit a uses tag mode b left ⊎ Decides kind seat a uses tag mode (Err NoMemory) b left
+    StopsMoving seat.groups seat.limit a uses tag mode b left
+    ⊎ Decides kind seat a uses tag mode (Err NoMemory) b left
 Requests kind seat a uses tag mode (Err refusal) b left = Decides kind seat a uses tag mode (Err refusal) b left
 
 -- what is counted once the mode is granted or awaited

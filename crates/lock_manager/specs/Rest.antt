@@ -4,9 +4,11 @@ use Rattle.local_locks.specs.declared.records.Entry.{Entry}
 use Rattle.local_locks.specs.Owned.{has_entry}
 use Rattle.lock_world.specs.Account.{Account}
 use Rattle.lock_world.specs.Counted.{Counted}
-use Rattle.lock_world.specs.SlotHolds.{slot_count, used}
+use Rattle.lock_world.specs.SlotHolds.{AreInGroups}
 use Rattle.lock_world.specs.World.{TraceEntry}
 use Rattle.shared_rule.specs.Boards.{Stack, nothing_due}
+use Rattle.fast_path.specs.declared.use_counts.UseCounts.{UseCounts}
+use Rattle.fast_path.specs.Slots.{count_in, AreCounted, AreUseCounts}
 
 -- What a session has between two of its calls.
 
@@ -38,16 +40,18 @@ account_at_rest limit database remembered entries trace = record {
   trace = trace;
 }
 
--- The use count is not below the number of slots in use, as the session remembers them, and not above how many there
--- are.
-pub record IsUseCount (a : Account) (uses : ℕ) : Type 0 where
-  pub enough : used a.fast.remembered ≤ uses
-  pub within : uses ≤ slot_count
+-- As the session remembers its slots, each in use is of its relation's group, and each group's use count is not below the
+-- number of its slots in use, and not above how many it has.
+pub record IsUseCount (groups : ℕ) (a : Account) (uses : UseCounts) : Type 0 where
+  pub in_groups : AreInGroups groups a.fast.remembered
+  pub enough : AreCounted a.fast.remembered (count_in uses)
+  pub within : AreUseCounts (count_in uses)
 
 -- Nor has it a partition to put, or anybody to wake.
-pub record IsAtRest (limit database uses : ℕ) (a : Account) (stack : Stack) (entries : List Entry) : Type 0 where
+pub record IsAtRest (groups limit database : ℕ) (uses : UseCounts) (a : Account) (stack : Stack)
+    (entries : List Entry) : Type 0 where
   pub account : a ≡ account_at_rest limit database a.fast.remembered entries a.trace
-  pub use_count : IsUseCount a uses
+  pub use_count : IsUseCount groups a uses
   pub nothing_left : stack ≡ nothing_due
 
 -- What of it a step in the middle of a call may count on: it has no word in hand, shares none of slots, owes nobody a

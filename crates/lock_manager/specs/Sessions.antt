@@ -6,14 +6,15 @@ use Rattle.local_locks.specs.declared.records.Entry.{Entry}
 use Rattle.local_locks.specs.Owned.{Owned, has_entry, IsWellOwned}
 use Rattle.lock_world.specs.Account.{Account}
 use Rattle.shared_rule.specs.Boards.{Seated, Stack}
+use Rattle.fast_path.specs.declared.use_counts.UseCounts.{UseCounts}
 use Rattle.lock_manager.specs.declared.sessions.Own.{Own}
 use Rattle.lock_manager.specs.Rest.{IsAtRest}
 
--- What contracts see of a session: its board, its database, its use count of its fast-path slots, and what it owns.
+-- What contracts see of a session: its board, its database, the use counts of its fast-path slots, and what it owns.
 pub record SessionView (B : Type 0) : Type 0 where
   pub board : B
   pub database : ℕ
-  pub uses : ℕ
+  pub uses : UseCounts
   pub owned : Owned
 
 -- A call keeps whose session it is made on: its seat, its database, and how many entries it may have. What it owns is well owned after it.
@@ -34,7 +35,7 @@ module _ {B : Type 0} (seat : B → Seated) (view : B → Account) (stack : B �
   -- The session is in no call.
   abbrev pub IsResting : SessionView B → Type 0
   IsResting session =
-      IsAtRest (seat session.board).limit session.database session.uses
+      IsAtRest (seat session.board).groups (seat session.board).limit session.database session.uses
       (view session.board) (stack session.board) session.owned.entries
 
   -- It is the same session after a call, and in no other.

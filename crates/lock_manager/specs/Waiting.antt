@@ -19,6 +19,7 @@ use Rattle.lock_world.specs.World.{TraceEntry, Took, Episode, AskedToCancel, Loa
 use Rattle.lock_world.specs.Account.{Account}
 use Rattle.lock_world.specs.AccountSteps.{account_tracing, own_with}
 use Rattle.shared_rule.specs.Boards.{Stack, nothing_due}
+use Rattle.fast_path.specs.declared.use_counts.UseCounts.{UseCounts}
 use Rattle.lock_manager.specs.declared.waiting.Asked.{Asked}
 use Rattle.lock_manager.specs.declared.waiting.Asked.TheVariants as asked
 use Rattle.lock_manager.specs.declared.waiting.Looked.{Looked}
@@ -41,22 +42,22 @@ account_in_wait limit database remembered entries tag mode held trace =
       };
     }
 
-pub record IsWaiting (limit database uses : ℕ) (a : Account) (stack : Stack) (entries : List Entry) (tag : Tag)
-    (mode : Mode) : Type 0 where
+pub record IsWaiting (groups limit database : ℕ) (uses : UseCounts) (a : Account) (stack : Stack) (entries : List Entry)
+    (tag : Tag) (mode : Mode) : Type 0 where
   pub held : Mode → Bool
   pub account : a ≡ account_in_wait limit database a.fast.remembered entries tag mode held a.trace
-  pub use_count : IsUseCount a uses
+  pub use_count : IsUseCount groups a uses
   pub no_entry : has_entry entries tag mode ≡ false
   pub nothing_left : stack ≡ nothing_due
 
 -- The same once it has loaded its wait word, which showed this: it has seen whether it was granted.
-pub record HasLooked (limit database uses : ℕ) (a : Account) (stack : Stack) (entries : List Entry) (tag : Tag)
-    (mode : Mode) (shown : ℕ) : Type 0 where
+pub record HasLooked (groups limit database : ℕ) (uses : UseCounts) (a : Account) (stack : Stack) (entries : List Entry)
+    (tag : Tag) (mode : Mode) (shown : ℕ) : Type 0 where
   pub held : Mode → Bool
   pub account : a ≡ record (account_in_wait limit database a.fast.remembered entries tag mode held a.trace) {
     seen = wait_state shown == 2;
   }
-  pub use_count : IsUseCount a uses
+  pub use_count : IsUseCount groups a uses
   pub no_entry : has_entry entries tag mode ≡ false
   pub nothing_left : stack ≡ nothing_due
 

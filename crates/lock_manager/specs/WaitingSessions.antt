@@ -9,6 +9,7 @@ use Rattle.local_locks.specs.declared.answers.Acquired.TheVariants as acquired
 use Rattle.local_locks.specs.Owned.{Owned}
 use Rattle.lock_world.specs.Account.{Account}
 use Rattle.shared_rule.specs.Boards.{Seated, Stack}
+use Rattle.fast_path.specs.declared.use_counts.UseCounts.{UseCounts}
 use Rattle.wait_queue.specs.declared.requests.Kind.TheVariants.{Waiting}
 use Rattle.lock_manager.specs.declared.requests.Begun.{Begun}
 use Rattle.lock_manager.specs.declared.requests.Begun.TheVariants as begun
@@ -30,12 +31,12 @@ use Rattle.lock_manager.specs.Waiting.{IsWaiting, Waits}
 
 -- Sessions that wait, and answers with which a session comes back.
 
--- What contracts see of a session that waits: its board, its database, its use count of its fast-path slots, what it
+-- What contracts see of a session that waits: its board, its database, the use counts of its fast-path slots, what it
 -- owns, and what it waits for.
 pub record WaitingView (B : Type 0) : Type 0 where
   pub board : B
   pub database : ℕ
-  pub uses : ℕ
+  pub uses : UseCounts
   pub owned : Owned
   pub tag : Tag
   pub mode : Mode
@@ -56,7 +57,7 @@ board_started (started.AlreadyHeld session) = session.board
 board_started (started.Queued waiting) = waiting.board
 board_started (started.Refused session refusal) = session.board
 
-abbrev pub uses_started : {B : Type 0} → Started (SessionView B) (WaitingView B) → ℕ
+abbrev pub uses_started : {B : Type 0} → Started (SessionView B) (WaitingView B) → UseCounts
 uses_started (started.Granted session) = session.uses
 uses_started (started.AlreadyHeld session) = session.uses
 uses_started (started.Queued waiting) = waiting.uses
@@ -148,14 +149,15 @@ session_locked (locked.AlreadyHeld session) = session
 session_locked (locked.Refused session refusal) = session
 
 -- The request was queued, and its wait ended so.
-pub record QueuesAndWaits (seat : Seated) (owned : Owned) (a : Account) (uses : ℕ) (tag : Tag) (mode : Mode)
-    (result : Result (Unit {0}) Refusal) (b : Account) (left : ℕ) : Type 0 where
+pub record QueuesAndWaits (seat : Seated) (owned : Owned) (a : Account) (uses : UseCounts) (tag : Tag) (mode : Mode)
+    (result : Result (Unit {0}) Refusal) (b : Account) (left : UseCounts) : Type 0 where
   pub queued : Account
   pub starts : Begins Waiting seat owned a uses tag mode (Ok begun.Queued) queued left
   pub waits : Waits seat.number queued.trace tag mode result b.trace
 
 -- What joins its trace, by its answer: it is answered at once as one that may wait, or after its wait.
-abbrev pub Locks : Seated → Owned → Account → ℕ → Tag → Mode → Result Acquired Refusal → Account → ℕ → Type 0
+abbrev pub Locks :
+    Seated → Owned → Account → UseCounts → Tag → Mode → Result Acquired Refusal → Account → UseCounts → Type 0
 Locks seat owned a uses tag mode (Ok acquired.AlreadyHeld) b left =
     Begins Waiting seat owned a uses tag mode (Ok begun.AlreadyHeld) b left
 Locks seat owned a uses tag mode (Ok acquired.Granted) b left =
@@ -171,7 +173,7 @@ module _ {B : Type 0} (seat : B → Seated) (view : B → Account) (stack : B �
   -- The session waits, and is in no call.
   abbrev pub IsInQueue : WaitingView B → Type 0
   IsInQueue waiting =
-      IsWaiting (seat waiting.board).limit waiting.database waiting.uses
+      IsWaiting (seat waiting.board).groups (seat waiting.board).limit waiting.database waiting.uses
       (view waiting.board) (stack waiting.board) waiting.owned.entries waiting.tag waiting.mode
 
   -- It is the same session, which has begun to wait for this.

@@ -5,6 +5,7 @@ ghost use Rattle.local_locks.specs.Owned.{ended_by};
 ghost use Rattle.shared_rule.specs.Boards.{nothing_due};
 ghost use Rattle.shared_rule.specs.History.{blank_account};
 ghost use Rattle.shared_rule.specs.Seats.{MayCloseBy};
+ghost use Rattle.fast_path.specs.declared.use_counts.UseCounts.{UseCounts};
 ghost use Rattle.lock_manager.specs.Releases.{ReleasesAll};
 
 use crate::releases::end_all;
@@ -45,8 +46,8 @@ impl<T: PartTable, B: Board<T>> OwnSession<T, B> {
         ensures seat { B.seat result ≡ B.seat self.board }
         ensures stack { B.stack result ≡ nothing_due }
         ensures closable { MayCloseBy (B.view result) }
-        ensures released { (uses : ℕ) × ReleasesAll (B.seat self.board).number (B.view self.board) self.uses
-            (ended_by End.Close self.owned.entries) (B.view result) uses }
+        ensures released { (uses : UseCounts) × ReleasesAll (B.seat self.board).groups (B.seat self.board).number
+            (B.view self.board) self.uses (ended_by End.Close self.owned.entries) (B.view result) uses }
     {
         let OwnSession {
             mut board,

@@ -42,7 +42,8 @@ impl Manager {
             All (λ session. (B.seat session.board).table ≡ self.now.table) sessions.old.items }
         requires all { length sessions.old.items ≡ opener.old.live }
         ensures counted { let B = ⟦<SeatBoard<'a, Part> as Board<Part>>⟧ in
-            Audits B.seat B.view B.stack opener.old.limit sessions.old.items sessions.new.items result }
+            Audits B.seat B.view B.stack opener.old.limit opener.old.groups sessions.old.items
+            sessions.new.items result }
         ensures opener { opener.new ≡ opener.old }
         ensures same_manager_still { let B = ⟦<SeatBoard<'a, Part> as Board<Part>>⟧ in
             All (λ session. (B.seat session.board).table ≡ self.now.table) sessions.new.items }
@@ -74,14 +75,16 @@ fn audit_all<'a, R: Wait>(
     sessions: &mut Vec<Session<'a>>,
     rows: &mut Vec<TableRow>,
 ) -> Result<Audit, NoMemory>
-    requires table { (numbers.old.table ≡ table.now.table_id) × (numbers.old.limit ≡ table.now.key) }
+    requires table { (numbers.old.table ≡ table.now.table_id) × (numbers.old.limit ≡ table.now.key.sessions)
+        × (numbers.old.groups ≡ table.now.key.groups) }
     requires same_manager { let B = ⟦<SeatBoard<'a, Part> as Board<Part>>⟧ in
         AllByRecursion (λ session. (B.seat session.board).table ≡ numbers.old.table) sessions.old.items }
     requires none_gathered { numbers.old.gathered ≡ [] }
     requires all { length sessions.old.items + length numbers.old.closed ≡ numbers.old.issued }
     requires empty { rows.old.items ≡ [] }
     ensures audited { let B = ⟦<SeatBoard<'a, Part> as Board<Part>>⟧ in
-        Audits B.seat B.view B.stack numbers.old.limit (reverse sessions.old.items) (reverse sessions.new.items) result }
+        Audits B.seat B.view B.stack numbers.old.limit numbers.old.groups (reverse sessions.old.items)
+        (reverse sessions.new.items) result }
     ensures numbers { numbers.new ≡ numbers.old }
 {
     let Some(session) = sessions.pop() else {
@@ -106,7 +109,8 @@ fn gather_next<'a>(
     board: SeatBoard<'a, Part>,
     left: &Vec<Session<'a>>,
 ) -> Absent<'a, Part>
-    requires table { (numbers.old.table ≡ table.now.table_id) × (numbers.old.limit ≡ table.now.key) }
+    requires table { (numbers.old.table ≡ table.now.table_id) × (numbers.old.limit ≡ table.now.key.sessions)
+        × (numbers.old.groups ≡ table.now.key.groups) }
     requires own { (⟦<SeatBoard<'a, Part> as Board<Part>>⟧.seat board).table ≡ numbers.old.table }
     requires stack { ⟦<SeatBoard<'a, Part> as Board<Part>>⟧.stack board ≡ nothing_due }
     requires no_word { MayBeKeptApartBy (⟦<SeatBoard<'a, Part> as Board<Part>>⟧.view board) }
@@ -117,7 +121,8 @@ fn gather_next<'a>(
     ensures absent { result ≡ ⟦<SeatBoard<'a, Part> as Board<Part>>⟧.seat board.entry }
     ensures gathered { let B = ⟦<SeatBoard<'a, Part> as Board<Part>>⟧ in
         HasGathered content_of (B.seat board.entry).number (B.view board.entry) numbers.old numbers.new }
-    ensures table { (numbers.new.table ≡ table.now.table_id) × (numbers.new.limit ≡ table.now.key) }
+    ensures table { (numbers.new.table ≡ table.now.table_id) × (numbers.new.limit ≡ table.now.key.sessions)
+        × (numbers.new.groups ≡ table.now.key.groups) }
     ensures left_own { let B = ⟦<SeatBoard<'a, Part> as Board<Part>>⟧ in
         AllByRecursion (λ session. (B.seat session.board).table ≡ numbers.new.table) left.now.items }
     ensures ready { MayCount (length left.now.items) numbers.new }
@@ -133,7 +138,8 @@ fn audit_others<'a, R: Wait>(
     sessions: &mut Vec<Session<'a>>,
     rows: &mut Vec<TableRow>,
 ) -> Result<Audit, NoMemory>
-    requires table { (numbers.old.table ≡ table.now.table_id) × (numbers.old.limit ≡ table.now.key) }
+    requires table { (numbers.old.table ≡ table.now.table_id) × (numbers.old.limit ≡ table.now.key.sessions)
+        × (numbers.old.groups ≡ table.now.key.groups) }
     requires same_manager { let B = ⟦<SeatBoard<'a, Part> as Board<Part>>⟧ in
         AllByRecursion (λ session. (B.seat session.board).table ≡ numbers.old.table) sessions.old.items }
     requires ready { MayCount (length sessions.old.items) numbers.old }

@@ -7,6 +7,9 @@ use modes_core::SESSIONS;
 /// How many sessions a manager may open over its life at most.
 pub const MOST_SESSIONS: u32 = SESSIONS as u32;
 
+/// How many groups of fast-path slots a session may have at most.
+pub const MOST_GROUPS: u32 = 8;
+
 /// How large a manager is.
 #[derive(Clone, Copy, Debug, PartialEq, Eq)]
 pub struct Config {
@@ -14,10 +17,13 @@ pub struct Config {
     pub sessions: u32,
     /// How many local entries each may have, 1 to 65,536.
     pub max_local: u32,
+    /// How many groups of sixteen fast-path slots each has, 1 to 8 (`FastPathLockGroupsPerBackend` in proc.h of version 18;
+    /// version 16 has one).
+    pub slot_groups: u32,
 }
 
 impl Config {
-    /// Whether both numbers are in their ranges.
+    /// Whether all numbers are in their ranges.
     pub(crate) fn is_in_range(self) -> bool
         ensures { result ≡ is_in_range self }
     {
@@ -25,5 +31,7 @@ impl Config {
             && self.sessions <= MOST_SESSIONS
             && self.max_local >= 1
             && self.max_local <= MOST_LOCAL
+            && self.slot_groups >= 1
+            && self.slot_groups <= MOST_GROUPS
     }
 }

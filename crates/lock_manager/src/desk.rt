@@ -66,6 +66,7 @@ pub struct ManagerDesk<'a> {
     opener: Opener,
     ghost own: { opener.table ≡ manager.now.table },
     ghost size: { opener.limit ≡ manager.now.limit },
+    ghost groups: { opener.groups ≡ manager.now.groups },
 }
 
 impl<'a> ManagerDesk<'a> {
@@ -94,7 +95,8 @@ impl<'a> Desk<Session<'a>> for ManagerDesk<'a> {
 
     ghost seat = { λ session. record {
       number = session.board.number;
-      limit = session.board.sessions;
+      limit = session.board.sizes.sessions;
+      groups = session.board.sizes.groups;
       table = session.board.table.now.table_id;
     } };
 

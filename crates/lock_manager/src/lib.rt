@@ -15,7 +15,7 @@ mod sessions;
 mod waiting;
 mod waiting_sessions;
 
-pub use config::{Config, MOST_SESSIONS};
+pub use config::{Config, MOST_GROUPS, MOST_SESSIONS};
 pub use desk::{Desk, ManagerDesk};
 pub use keeper::Part;
 pub use listing::Listing;

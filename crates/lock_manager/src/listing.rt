@@ -29,12 +29,13 @@ pub fn list<T: PartTable, B: Board<T>, R: Wait>(
     own: &Own,
 ) -> Result<Listing, Refusal>
     requires few { (B.seat board.old).limit ≤ 64 }
-    requires rest { IsAtRest (B.seat board.old).limit own.now.database own.now.uses
+    requires rest { IsAtRest (B.seat board.old).groups (B.seat board.old).limit own.now.database own.now.uses
         (B.view board.old) (B.stack board.old) own.now.locals.entries }
-    ensures listed { Lists (B.seat board.old).limit (B.seat board.old).number (B.view board.old) result
+    ensures listed { Lists (B.seat board.old).groups (B.seat board.old).limit (B.seat board.old).number
+        (B.view board.old) result
         (B.view board.new) }
     ensures no_memory { IsOkUnless result Refusal.NoMemory }
-    ensures rest { IsAtRest (B.seat board.old).limit own.now.database own.now.uses
+    ensures rest { IsAtRest (B.seat board.old).groups (B.seat board.old).limit own.now.database own.now.uses
         (B.view board.new) (B.stack board.new) own.now.locals.entries }
     ensures seat { B.seat board.new ≡ B.seat board.old }
 {

@@ -10,7 +10,7 @@ use crate::keeper::Part;
 use crate::sessions::{Own, OwnSession, Session};
 use lock_table::empty_parts;
 use modes_core::Refusal;
-use shared_rule::{Board, Opener as NumberOpener, SeatBoard, SharedTable, in_slots, open};
+use shared_rule::{Board, Opener as NumberOpener, SeatBoard, SharedTable, Sizes, in_slots, open};
 use std::alloc::Global;
 use std::marker::Model;
 
@@ -24,7 +24,8 @@ pub struct Final {
 }
 
 /// The lock manager: what all sessions share (the shared memory that `InitLocks` in lock.c sets up). Its sessions borrow
-/// it. Contracts see its table, how many sessions it may open, and how many local entries each may have.
+/// it. Contracts see its table, how many sessions it may open, and how many groups of fast-path slots and how many local
+/// entries each may have.
 #[derive(Drop)]
 pub struct Manager {
     pub(crate) table: SharedTable<Part>,
@@ -40,11 +41,13 @@ impl Model for Manager {
 
     ghost view = { λ manager. record {
       table = manager.table.shared.table_id;
-      limit = manager.table.shared.key;
+      limit = manager.table.shared.key.sessions;
+      groups = manager.table.shared.key.groups;
       max_local = manager.max_local;
     } };
 
-    ghost invariant = { λ manager. (manager.table.shared.key ≤ 64) × (1 ≤ manager.max_local) × (manager.max_local ≤ 65536) };
+    ghost invariant = { λ manager. (manager.table.shared.key.sessions ≤ 64) × (1 ≤ manager.max_local)
+        × (manager.max_local ≤ 65536) };
 }
 
 /// Gives the sessions of a manager out and takes them back. Contracts see at which table, how many sessions it has given
@@ -66,6 +69,7 @@ impl Model for Opener {
     ghost view = { λ opener. record {
       table = opener.numbers.table;
       limit = opener.sessions;
+      groups = opener.numbers.groups;
       issued = opener.issued;
       live = opener.live;
       closed = opener.numbers.closed;
@@ -93,8 +97,11 @@ impl Manager {
         let Ok(slots) = in_slots(alloc, parts) else {
             return Err(Refusal::NoMemory);
         };
-        let sessions = config.sessions as u8;
-        let Ok((table, numbers)) = open(alloc, sessions, slots) else {
+        let sizes = Sizes {
+            sessions: config.sessions as u8,
+            groups: config.slot_groups as u8,
+        };
+        let Ok((table, numbers)) = open(alloc, &sizes, slots) else {
             return Err(Refusal::NoMemory);
         };
         let manager = Manager {
@@ -105,7 +112,7 @@ impl Manager {
         let opener = Opener {
             numbers,
             issued: 0,
-            sessions,
+            sessions: sizes.sessions,
             live: 0,
         };
         Ok((manager, opener))

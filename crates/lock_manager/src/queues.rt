@@ -22,12 +22,12 @@ fn queue<T: PartTable, B: Board<T>, R: Wait>(
     own: &Own,
     tag: Tag,
 ) -> Result<Vec<QueueRow>, Refusal>
-    requires rest { IsAtRest (B.seat board.old).limit own.now.database own.now.uses
+    requires rest { IsAtRest (B.seat board.old).groups (B.seat board.old).limit own.now.database own.now.uses
         (B.view board.old) (B.stack board.old) own.now.locals.entries }
     ensures looked { LooksAt (λ taken. IfOk result (λ rows. IsQueue tag rows.items taken))
         (B.view board.old).trace tag (B.view board.new).trace }
     ensures no_memory { IsOkUnless result Refusal.NoMemory }
-    ensures rest { IsAtRest (B.seat board.old).limit own.now.database own.now.uses
+    ensures rest { IsAtRest (B.seat board.old).groups (B.seat board.old).limit own.now.database own.now.uses
         (B.view board.new) (B.stack board.new) own.now.locals.entries }
     ensures seat { B.seat board.new ≡ B.seat board.old }
 {
@@ -49,12 +49,12 @@ fn blockers<T: PartTable, B: Board<T>, R: Wait>(
     tag: Tag,
     session: SessionId,
 ) -> Result<Vec<Blocker>, Refusal>
-    requires rest { IsAtRest (B.seat board.old).limit own.now.database own.now.uses
+    requires rest { IsAtRest (B.seat board.old).groups (B.seat board.old).limit own.now.database own.now.uses
         (B.view board.old) (B.stack board.old) own.now.locals.entries }
     ensures looked { LooksAt (λ taken. IfOk result (λ found. AreBlockers tag session found.items taken))
         (B.view board.old).trace tag (B.view board.new).trace }
     ensures no_memory { IsOkUnless result Refusal.NoMemory }
-    ensures rest { IsAtRest (B.seat board.old).limit own.now.database own.now.uses
+    ensures rest { IsAtRest (B.seat board.old).groups (B.seat board.old).limit own.now.database own.now.uses
         (B.view board.new) (B.stack board.new) own.now.locals.entries }
     ensures seat { B.seat board.new ≡ B.seat board.old }
 {

@@ -16,7 +16,7 @@ ghost use Rattle.lock_manager.specs.Releases.{Tells, MayWake, WakesAndPuts, Rele
 ghost use Rattle.lock_manager.specs.Releases.{account_released};
 
 use crate::sessions::Own;
-use fast_path::ungrant;
+use fast_path::{UseCounts, ungrant};
 use local_locks::End;
 use lock_table::{Move, PartTable, Woken};
 use modes_core::{Mode, Tag, is_eligible, is_strong};
@@ -27,13 +27,13 @@ use wait_queue::take_hold_out;
 /// Releases all that the end of a transaction, of its innermost level or of the session takes away, in the order of making
 /// (`LockReleaseAll` in lock.c, and `LockReleaseCurrentOwner` there).
 pub fn end_all<T: PartTable, B: Board<T>, R: Wait>(rt: &R, board: &mut B, own: &mut Own, end: End)
-    requires rest { IsAtRest (B.seat board.old).limit own.old.database own.old.uses
+    requires rest { IsAtRest (B.seat board.old).groups (B.seat board.old).limit own.old.database own.old.uses
         (B.view board.old) (B.stack board.old) own.old.locals.entries }
     requires well_owned { IsWellOwned own.old.locals }
     requires nested { end ≡ End.Inner → 1 < level_of own.old.locals }
-    ensures rest { IsAtRest (B.seat board.old).limit own.old.database own.new.uses
+    ensures rest { IsAtRest (B.seat board.old).groups (B.seat board.old).limit own.old.database own.new.uses
         (B.view board.new) (B.stack board.new) own.new.locals.entries }
-    ensures steps { ReleasesAll (B.seat board.old).number (B.view board.old) own.old.uses
+    ensures steps { ReleasesAll (B.seat board.old).groups (B.seat board.old).number (B.view board.old) own.old.uses
         (ended_by end (found_by end own.old.locals)) (B.view board.new) own.new.uses }
     ensures entries { own.new.locals.entries ≡ left_by end (found_by end own.old.locals) }
     ensures levels { own.new.locals.outer ≡ outer_after end own.old.locals.outer }
@@ -49,21 +49,21 @@ pub fn release_hold<T: PartTable, B: Board<T>, R: Wait>(
     rt: &R,
     board: &mut B,
     database: u32,
-    uses: &mut u8,
+    uses: &mut UseCounts,
     tag: &Tag,
     mode: Mode,
 )
     requires idle { IsIdle (B.view board.old) (B.stack board.old) }
-    requires use_count { IsUseCount (B.view board.old) uses.old }
+    requires use_count { IsUseCount (B.seat board.old).groups (B.view board.old) uses.old }
     requires database { (B.view board.old).fast.database ≡ database }
     requires held { (B.view board.old).own tag.now mode ≡ true }
     requires counted { is_strong_on tag.now mode ≡ true →
         is_counted (B.view board.old).fast.counted tag.now mode ≡ true }
-    ensures steps { Releases (B.seat board.old).number (B.view board.old) uses.old tag.now mode
-        (B.view board.new) uses.new }
+    ensures steps { Releases (B.seat board.old).groups (B.seat board.old).number (B.view board.old) uses.old
+        tag.now mode (B.view board.new) uses.new }
     ensures account { B.view board.new ≡ account_released (B.view board.old) tag.now mode
         (B.view board.new).fast.remembered (B.view board.new).trace }
-    ensures use_count { IsUseCount (B.view board.new) uses.new }
+    ensures use_count { IsUseCount (B.seat board.old).groups (B.view board.new) uses.new }
     ensures stack { B.stack board.new ≡ B.stack board.old }
     ensures seat { B.seat board.new ≡ B.seat board.old }
 {

@@ -12,7 +12,7 @@ ghost use Rattle.lock_manager.specs.Acquires.{AnswersByOwned, entries_begun, Beg
 ghost use Rattle.lock_manager.specs.Waiting.{IsWaiting};
 
 use crate::sessions::Own;
-use fast_path::{grant, transfer, try_grant};
+use fast_path::{UseCounts, grant, transfer, try_grant};
 use local_locks::Acquired;
 use lock_table::{Move, PartTable};
 use modes_core::{Mode, Owner, Refusal, Tag, is_eligible, is_strong};
@@ -46,7 +46,7 @@ pub fn acquire<T: PartTable, B: Board<T>, R: Wait>(
 ) -> Result<Begun, Refusal>
     requires few { (B.seat board.old).limit ≤ 64 }
     requires few_entries { own.old.locals.max_local ≤ 65536 }
-    requires rest { IsAtRest (B.seat board.old).limit own.old.database own.old.uses
+    requires rest { IsAtRest (B.seat board.old).groups (B.seat board.old).limit own.old.database own.old.uses
         (B.view board.old) (B.stack board.old) own.old.locals.entries }
     ensures answers { AnswersByOwned own.old.locals tag mode owner Begun.AlreadyHeld true result }
     ensures at_once { kind ≡ Kind.Conditional → result ≢ Ok Begun.Queued }
@@ -55,9 +55,11 @@ pub fn acquire<T: PartTable, B: Board<T>, R: Wait>(
     ensures entries { IfOk result (λ begun.
         own.new.locals.entries ≡ entries_begun begun own.old.locals.entries tag mode owner) }
     ensures same_entries { OnErr result (own.new.locals.entries ≡ own.old.locals.entries) }
-    ensures rest { result ≢ Ok Begun.Queued → IsAtRest (B.seat board.old).limit own.old.database own.new.uses
+    ensures rest { result ≢ Ok Begun.Queued →
+        IsAtRest (B.seat board.old).groups (B.seat board.old).limit own.old.database own.new.uses
         (B.view board.new) (B.stack board.new) own.new.locals.entries }
-    ensures waiting { result ≡ Ok Begun.Queued → IsWaiting (B.seat board.old).limit own.old.database own.new.uses
+    ensures waiting { result ≡ Ok Begun.Queued →
+        IsWaiting (B.seat board.old).groups (B.seat board.old).limit own.old.database own.new.uses
         (B.view board.new) (B.stack board.new) own.new.locals.entries tag mode }
     ensures reserved { result ≡ Ok Begun.Queued → IsReserved own.new.locals tag mode owner }
     ensures levels { own.new.locals.outer ≡ own.old.locals.outer }
@@ -87,17 +89,17 @@ pub fn acquire_by_slot<T: PartTable, B: Board<T>>(
     mode: Mode,
     owner: Owner,
 ) -> Result<Acquired, Refusal>
-    requires rest { IsAtRest (B.seat board.old).limit own.old.database own.old.uses
+    requires rest { IsAtRest (B.seat board.old).groups (B.seat board.old).limit own.old.database own.old.uses
         (B.view board.old) (B.stack board.old) own.old.locals.entries }
     ensures answers { AnswersByOwned own.old.locals tag mode owner Acquired.AlreadyHeld
         (is_eligible_for own.old.database tag mode) result }
     ensures not_eligible { IsErrOf result Refusal.NotEligible ↔ ((has_entry own.old.locals.entries tag mode ≡ false)
         × (is_eligible_for own.old.database tag mode ≡ false)) }
-    ensures steps { AcquiresBySlot (B.seat board.old).number own.old.locals (B.view board.old) own.old.uses
-        tag mode result (B.view board.new) own.new.uses }
+    ensures steps { AcquiresBySlot (B.seat board.old).groups (B.seat board.old).number own.old.locals
+        (B.view board.old) own.old.uses tag mode result (B.view board.new) own.new.uses }
     ensures entries { OnOk result (own.new.locals.entries ≡ with_one_more own.old.locals.entries tag mode owner) }
     ensures same_entries { OnErr result (own.new.locals.entries ≡ own.old.locals.entries) }
-    ensures rest { IsAtRest (B.seat board.old).limit own.old.database own.new.uses
+    ensures rest { IsAtRest (B.seat board.old).groups (B.seat board.old).limit own.old.database own.new.uses
         (B.view board.new) (B.stack board.new) own.new.locals.entries }
     ensures levels { own.new.locals.outer ≡ own.old.locals.outer }
     ensures kept { KeepsOwn (B.seat board.old) own.old (B.seat board.new) own.new }
@@ -125,14 +127,14 @@ pub fn request<T: PartTable, B: Board<T>, R: Wait>(
     rt: &R,
     board: &mut B,
     database: u32,
-    uses: &mut u8,
+    uses: &mut UseCounts,
     tag: &Tag,
     mode: Mode,
     kind: Kind,
 ) -> Result<Decision, Refusal>
     requires few { (B.seat board.old).limit ≤ 64 }
     requires idle { IsIdle (B.view board.old) (B.stack board.old) }
-    requires use_count { IsUseCount (B.view board.old) uses.old }
+    requires use_count { IsUseCount (B.seat board.old).groups (B.view board.old) uses.old }
     requires database { (B.view board.old).fast.database ≡ database }
     requires new { (B.view board.old).own tag.now mode ≡ false }
     requires not_counted { is_counted (B.view board.old).fast.counted tag.now mode ≡ false }
@@ -140,7 +142,7 @@ pub fn request<T: PartTable, B: Board<T>, R: Wait>(
     ensures steps { Requests kind (B.seat board.old) (B.view board.old) uses.old tag.now mode result
         (B.view board.new) uses.new }
     ensures account { IsRequested (B.seat board.old).limit (B.view board.old) tag.now mode result (B.view board.new) }
-    ensures use_count { IsUseCount (B.view board.new) uses.new }
+    ensures use_count { IsUseCount (B.seat board.old).groups (B.view board.new) uses.new }
     ensures stack { B.stack board.new ≡ B.stack board.old }
     ensures seat { B.seat board.new ≡ B.seat board.old }
 {
@@ -172,10 +174,11 @@ fn request_strong<T: PartTable, B: Board<T>, R: Wait>(
     requires new { (B.view board.old).own tag.now mode ≡ false }
     requires not_counted { is_counted (B.view board.old).fast.counted tag.now mode ≡ false }
     requires countable { length (B.view board.old).fast.counted < most_counted }
-    ensures steps { (uses : ℕ) →
+    ensures steps { (uses : UseCounts) →
         Requests kind (B.seat board.old) (B.view board.old) uses tag.now mode result (B.view board.new) uses }
     ensures account { IsRequested (B.seat board.old).limit (B.view board.old) tag.now mode result (B.view board.new) }
-    ensures use_count { (uses : ℕ) → IsUseCount (B.view board.old) uses → IsUseCount (B.view board.new) uses }
+    ensures use_count { (uses : UseCounts) → IsUseCount (B.seat board.old).groups (B.view board.old) uses
+        → IsUseCount (B.seat board.old).groups (B.view board.new) uses }
     ensures stack { B.stack board.new ≡ B.stack board.old }
     ensures seat { B.seat board.new ≡ B.seat board.old }
 {

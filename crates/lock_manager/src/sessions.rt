@@ -1,6 +1,6 @@
 //! Sessions: the calls that a server's thread makes.
 
-ghost use Rattle.std.specs.Prelude.{◌≡◌, ◌≢◌, ◌<◌, ◌≤◌, ◌-◌, ◌↔◌, [], ◌∷◌, ◌++◌, true, false};
+ghost use Rattle.std.specs.Prelude.{ℕ, ◌≡◌, ◌≢◌, ◌<◌, ◌≤◌, ◌-◌, ◌↔◌, [], ◌∷◌, ◌++◌, true, false};
 ghost use Rattle.std.specs.Prelude.{IsErrOf, IsOkUnless, IfOk, OnOk, OnErr};
 ghost use Rattle.modes_core.specs.ModeSet.{set_has};
 ghost use Rattle.modes_core.specs.Tag.{is_eligible_for};
@@ -10,6 +10,7 @@ ghost use Rattle.lock_world.specs.AccountSteps.{account_storing};
 ghost use Rattle.lock_world.specs.World.{Loaded};
 ghost use Rattle.shared_rule.specs.History.{blank_account};
 ghost use Rattle.shared_rule.specs.Boards.{nothing_due};
+ghost use Rattle.fast_path.specs.Slots.{count_in};
 ghost use Rattle.lock_manager.specs.Sessions.{IsSame, IsUnchanged, DontConflict};
 ghost use Rattle.lock_manager.specs.Listings.{Lists};
 ghost use Rattle.lock_manager.specs.Managers.{HasClosed};
@@ -22,6 +23,7 @@ use crate::manager::Opener;
 use crate::releases::{end_all, release_hold};
 use crate::requests::{Begun, acquire, acquire_by_slot};
 use crossbeam_utils::CachePadded;
+use fast_path::UseCounts;
 use local_locks::{Acquired, End, LocalTable, Unlocked};
 use lock_table::PartTable;
 use modes_core::{Mode, ModeSet, Owner, Refusal, SessionId, Tag};
@@ -43,8 +45,9 @@ pub struct Own {
     pub(crate) locals: LocalTable,
     // Its database (`MyDatabaseId` in globals.c).
     pub(crate) database: u32,
-    // No less than how many of its fast-path slots are in use (`FastPathLocalUseCount` in lock.c).
-    pub(crate) uses: u8,
+    // No less than how many of its fast-path slots are in use, by group (`FastPathLocalUseCount` in lock.c, in version 18
+    // `FastPathLocalUseCounts`).
+    pub(crate) uses: UseCounts,
     pub(crate) alloc: Global,
     pub(crate) after: CachePadded<()>,
 }
@@ -55,7 +58,7 @@ impl Own {
         requires from { 1 ≤ max_local }
         requires to { max_local ≤ 65536 }
         ensures database { IfOk result (λ own. own.value.database ≡ database) }
-        ensures no_slot { IfOk result (λ own. own.value.uses ≡ 0) }
+        ensures no_slot { IfOk result (λ own. (group : ℕ) → count_in own.value.uses group ≡ 0) }
         ensures nothing { IfOk result (λ own. own.value.locals.entries ≡ []) }
         ensures first_level { IfOk result (λ own. own.value.locals.outer ≡ []) }
         ensures room { IfOk result (λ own. 0 < own.value.locals.room) }
@@ -68,7 +71,7 @@ impl Own {
             before: CachePadded::new(()),
             locals,
             database,
-            uses: 0,
+            uses: UseCounts::new(),
             alloc,
             after: CachePadded::new(()),
         };
@@ -105,7 +108,7 @@ impl<T: PartTable, B: Board<T>> Model for OwnSession<T, B> {
     } };
 
     ghost invariant = { λ session.
-        IsAtRest (B.seat session.board).limit session.own.value.database session.own.value.uses
+        IsAtRest (B.seat session.board).groups (B.seat session.board).limit session.own.value.database session.own.value.uses
         (B.view session.board) (B.stack session.board) session.own.value.locals.entries
         × ((B.seat session.board).limit ≤ 64) × (session.own.value.locals.max_local ≤ 65536)
         × IsWellOwned session.own.value.locals };
@@ -117,7 +120,7 @@ impl<T: PartTable, B: Board<T>> OwnSession<T, B> {
         requires limit { (B.seat board).limit ≤ 64 }
         requires blank { B.view board ≡ account_storing blank_account own.value.database }
         requires stack { B.stack board ≡ nothing_due }
-        requires no_slot { own.value.uses ≡ 0 }
+        requires no_slot { (group : ℕ) → count_in own.value.uses group ≡ 0 }
         requires nothing { own.value.locals.entries ≡ [] }
         requires max_local { own.value.locals.max_local ≤ 65536 }
         requires well_owned { IsWellOwned own.value.locals }
@@ -217,7 +220,7 @@ impl<T: PartTable, B: Board<T>> OwnSession<T, B> {
     /// nobody (`FastPathGrantRelationLock` in lock.c, where the lock of its own slots is free). What the session has
     /// already is counted once more, wherever it stands, unless the owner's count is full. It is refused, in this
     /// order, where the mode on the object may not go by a slot, the local table is full, memory runs out, all
-    /// sixteen slots are in use, somebody has the lock of its own slots, or a strong lock is counted. After a refusal
+    /// sixteen slots of the relation's group are in use, somebody has the lock of its own slots, or a strong lock is counted. After a refusal
     /// the session holds what it held.
     pub fn try_fast(&mut self, tag: Tag, mode: Mode, owner: Owner) -> Result<Acquired, Refusal>
         // What it is answered.
@@ -225,8 +228,8 @@ impl<T: PartTable, B: Board<T>> OwnSession<T, B> {
             (is_eligible_for self.old.database tag mode) result }
         ensures not_eligible { IsErrOf result Refusal.NotEligible ↔ ((has_entry self.old.owned.entries tag mode ≡ false)
             × (is_eligible_for self.old.database tag mode ≡ false)) }
-        ensures steps { AcquiresBySlot (B.seat self.old.board).number self.old.owned (B.view self.old.board)
-            self.old.uses tag mode result (B.view self.new.board) self.new.uses }
+        ensures steps { AcquiresBySlot (B.seat self.old.board).groups (B.seat self.old.board).number
+            self.old.owned (B.view self.old.board) self.old.uses tag mode result (B.view self.new.board) self.new.uses }
 
         // What stands after it.
         ensures entries { OnOk result (self.new.owned.entries
@@ -254,8 +257,8 @@ impl<T: PartTable, B: Board<T>> OwnSession<T, B> {
         ensures still_held { (result ≡ Ok Unlocked.StillHeld)
             ↔ ((0 < own_count_of self.old.owned tag mode owner)
             × (0 < total_of self.new.owned.entries tag mode)) }
-        ensures released { result ≡ Ok Unlocked.Released → Releases (B.seat self.old.board).number
-            (B.view self.old.board) self.old.uses tag mode (B.view self.new.board) self.new.uses }
+        ensures released { result ≡ Ok Unlocked.Released →
+            Releases (B.seat self.old.board).groups (B.seat self.old.board).number (B.view self.old.board) self.old.uses tag mode (B.view self.new.board) self.new.uses }
         ensures no_step { result ≢ Ok Unlocked.Released →
             (B.view self.new.board).trace ≡ (B.view self.old.board).trace }
         ensures same_uses { result ≢ Ok Unlocked.Released → self.new.uses ≡ self.old.uses }
@@ -281,8 +284,8 @@ impl<T: PartTable, B: Board<T>> OwnSession<T, B> {
     /// without `allLocks`). Holds are released in the order of making.
     pub fn commit<R: Wait>(&mut self, rt: &R)
         ensures entries { self.new.owned.entries ≡ left_by End.Commit self.old.owned.entries }
-        ensures released { ReleasesAll (B.seat self.old.board).number (B.view self.old.board) self.old.uses
-            (ended_by End.Commit self.old.owned.entries) (B.view self.new.board) self.new.uses }
+        ensures released { ReleasesAll (B.seat self.old.board).groups (B.seat self.old.board).number
+            (B.view self.old.board) self.old.uses (ended_by End.Commit self.old.owned.entries) (B.view self.new.board) self.new.uses }
         ensures first_level { self.new.owned.outer ≡ [] }
         ensures same { IsSame B.seat B.view B.stack self.old self.new }
     {
@@ -293,8 +296,8 @@ impl<T: PartTable, B: Board<T>> OwnSession<T, B> {
     /// (`LockReleaseAll` in lock.c, with `allLocks` for the default lock method and without for the user method).
     pub fn abort<R: Wait>(&mut self, rt: &R)
         ensures entries { self.new.owned.entries ≡ left_by End.Abort self.old.owned.entries }
-        ensures released { ReleasesAll (B.seat self.old.board).number (B.view self.old.board) self.old.uses
-            (ended_by End.Abort self.old.owned.entries) (B.view self.new.board) self.new.uses }
+        ensures released { ReleasesAll (B.seat self.old.board).groups (B.seat self.old.board).number
+            (B.view self.old.board) self.old.uses (ended_by End.Abort self.old.owned.entries) (B.view self.new.board) self.new.uses }
         ensures first_level { self.new.owned.outer ≡ [] }
         ensures same { IsSame B.seat B.view B.stack self.old self.new }
     {
@@ -345,8 +348,8 @@ impl<T: PartTable, B: Board<T>> OwnSession<T, B> {
         ensures level { IfOk result (λ level. level ≡ level_of self.new.owned) }
         ensures entries { OnOk result
             (self.new.owned.entries ≡ left_by End.Inner (without_innermost self.old.owned)) }
-        ensures released { OnOk result (ReleasesAll (B.seat self.old.board).number (B.view self.old.board) self.old.uses
-            (ended_by End.Inner (without_innermost self.old.owned)) (B.view self.new.board) self.new.uses) }
+        ensures released { OnOk result (ReleasesAll (B.seat self.old.board).groups (B.seat self.old.board).number
+            (B.view self.old.board) self.old.uses (ended_by End.Inner (without_innermost self.old.owned)) (B.view self.new.board) self.new.uses) }
         ensures levels { OnOk result (self.new.owned.outer ≡ outer_after End.Inner self.old.owned.outer) }
         ensures refused { OnErr result (self.new.owned ≡ self.old.owned) }
         ensures no_step { OnErr result (B.view self.new.board ≡ B.view self.old.board) }
@@ -381,8 +384,8 @@ impl<T: PartTable, B: Board<T>> OwnSession<T, B> {
     /// meanwhile may be in both; one that stands all the while is in one of them. Only the lists of the answer take memory; where
     /// that is missing it is refused.
     pub fn list<R: Wait>(&mut self, rt: &R) -> Result<Listing, Refusal>
-        ensures listed { Lists (B.seat self.old.board).limit (B.seat self.old.board).number (B.view self.old.board)
-            result (B.view self.new.board) }
+        ensures listed { Lists (B.seat self.old.board).groups (B.seat self.old.board).limit
+            (B.seat self.old.board).number (B.view self.old.board) result (B.view self.new.board) }
         ensures no_memory { IsOkUnless result Refusal.NoMemory }
         ensures owned { self.new.owned ≡ self.old.owned }
         ensures uses { self.new.uses ≡ self.old.uses }

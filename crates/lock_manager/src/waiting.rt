@@ -67,14 +67,14 @@ pub fn has_waiters<T: PartTable, B: Board<T>, R: Wait>(
     tag: Tag,
     mode: Mode,
 ) -> Result<bool, Refusal>
-    requires rest { IsAtRest (B.seat board.old).limit own.now.database own.now.uses
+    requires rest { IsAtRest (B.seat board.old).groups (B.seat board.old).limit own.now.database own.now.uses
         (B.view board.old) (B.stack board.old) own.now.locals.entries }
     ensures not_held { IsErrOf result Refusal.NotHeld ↔ (has_entry own.now.locals.entries tag mode ≡ false) }
     ensures no_other { IsOkUnless result Refusal.NotHeld }
     ensures no_step { OnErr result (B.view board.new ≡ B.view board.old) }
     ensures looked { IfOk result (λ is_awaited.
         LooksForWaiters (B.view board.old).trace tag mode is_awaited (B.view board.new).trace) }
-    ensures rest { IsAtRest (B.seat board.old).limit own.now.database own.now.uses
+    ensures rest { IsAtRest (B.seat board.old).groups (B.seat board.old).limit own.now.database own.now.uses
         (B.view board.new) (B.stack board.new) own.now.locals.entries }
     ensures seat { B.seat board.new ≡ B.seat board.old }
 {
@@ -97,12 +97,12 @@ pub fn poll<T: PartTable, B: Board<T>>(
     mode: Mode,
     owner: Owner,
 ) -> Looked
-    requires waiting { IsWaiting (B.seat board.old).limit own.old.database own.old.uses
+    requires waiting { IsWaiting (B.seat board.old).groups (B.seat board.old).limit own.old.database own.old.uses
         (B.view board.old) (B.stack board.old) own.old.locals.entries tag mode }
     requires reserved { IsReserved own.old.locals tag mode owner }
     ensures polled { Polls (B.seat board.old).number (B.view board.old).trace result (B.view board.new).trace }
     ensures rest { result ≡ Looked.Granted →
-        IsAtRest (B.seat board.old).limit own.old.database own.old.uses
+        IsAtRest (B.seat board.old).groups (B.seat board.old).limit own.old.database own.old.uses
         (B.view board.new) (B.stack board.new) own.new.locals.entries }
     ensures entries { result ≡ Looked.Granted →
         own.new.locals.entries ≡ with_one_more own.old.locals.entries tag mode owner }
@@ -110,7 +110,7 @@ pub fn poll<T: PartTable, B: Board<T>>(
     ensures levels { result ≡ Looked.Granted → own.new.locals.outer ≡ own.old.locals.outer }
     ensures well_owned { result ≡ Looked.Granted → IsWellOwned own.new.locals }
     ensures waiting { result ≢ Looked.Granted →
-        IsWaiting (B.seat board.old).limit own.old.database own.old.uses
+        IsWaiting (B.seat board.old).groups (B.seat board.old).limit own.old.database own.old.uses
         (B.view board.new) (B.stack board.new) own.new.locals.entries tag mode }
     ensures same_own { result ≢ Looked.Granted → own.new ≡ own.old }
     ensures seat { B.seat board.new ≡ B.seat board.old }
@@ -130,13 +130,13 @@ fn take_up<T: PartTable, B: Board<T>>(
     owner: Owner,
     shown: u64,
 ) -> Looked
-    requires looked { HasLooked (B.seat board.old).limit own.old.database own.old.uses
+    requires looked { HasLooked (B.seat board.old).groups (B.seat board.old).limit own.old.database own.old.uses
         (B.view board.old) (B.stack board.old) own.old.locals.entries tag mode shown }
     requires reserved { IsReserved own.old.locals tag mode owner }
     ensures answer { result ≡ polled_as shown }
     ensures no_step { (B.view board.new).trace ≡ (B.view board.old).trace }
     ensures rest { result ≡ Looked.Granted →
-        IsAtRest (B.seat board.old).limit own.old.database own.old.uses
+        IsAtRest (B.seat board.old).groups (B.seat board.old).limit own.old.database own.old.uses
         (B.view board.new) (B.stack board.new) own.new.locals.entries }
     ensures entries { result ≡ Looked.Granted →
         own.new.locals.entries ≡ with_one_more own.old.locals.entries tag mode owner }
@@ -144,7 +144,7 @@ fn take_up<T: PartTable, B: Board<T>>(
     ensures levels { result ≡ Looked.Granted → own.new.locals.outer ≡ own.old.locals.outer }
     ensures well_owned { result ≡ Looked.Granted → IsWellOwned own.new.locals }
     ensures waiting { result ≢ Looked.Granted →
-        IsWaiting (B.seat board.old).limit own.old.database own.old.uses
+        IsWaiting (B.seat board.old).groups (B.seat board.old).limit own.old.database own.old.uses
         (B.view board.new) (B.stack board.new) own.new.locals.entries tag mode }
     ensures same_own { result ≢ Looked.Granted → own.new ≡ own.old }
     ensures seat { B.seat board.new ≡ B.seat board.old }
@@ -173,12 +173,12 @@ pub fn cancel<T: PartTable, B: Board<T>, R: Wait>(
     mode: Mode,
     owner: Owner,
 ) -> bool
-    requires waiting { IsWaiting (B.seat board.old).limit own.old.database own.old.uses
+    requires waiting { IsWaiting (B.seat board.old).groups (B.seat board.old).limit own.old.database own.old.uses
         (B.view board.old) (B.stack board.old) own.old.locals.entries tag mode }
     requires reserved { IsReserved own.old.locals tag mode owner }
     ensures steps { Cancels (B.seat board.old).number (B.view board.old).trace tag mode result
         (B.view board.new).trace }
-    ensures rest { IsAtRest (B.seat board.old).limit own.old.database own.old.uses
+    ensures rest { IsAtRest (B.seat board.old).groups (B.seat board.old).limit own.old.database own.old.uses
         (B.view board.new) (B.stack board.new) own.new.locals.entries }
     ensures entries { result ≡ true →
         own.new.locals.entries ≡ with_one_more own.old.locals.entries tag mode owner }
@@ -212,12 +212,12 @@ pub fn wait<T: PartTable, B: Board<T>, R: Wait>(
     mode: Mode,
     owner: Owner,
 ) -> Result<(), Refusal>
-    requires waiting { IsWaiting (B.seat board.old).limit own.old.database own.old.uses
+    requires waiting { IsWaiting (B.seat board.old).groups (B.seat board.old).limit own.old.database own.old.uses
         (B.view board.old) (B.stack board.old) own.old.locals.entries tag mode }
     requires reserved { IsReserved own.old.locals tag mode owner }
     ensures cancelled { IsOkUnless result Refusal.Cancelled }
     ensures steps { Waits (B.seat board.old).number (B.view board.old).trace tag mode result (B.view board.new).trace }
-    ensures rest { IsAtRest (B.seat board.old).limit own.old.database own.old.uses
+    ensures rest { IsAtRest (B.seat board.old).groups (B.seat board.old).limit own.old.database own.old.uses
         (B.view board.new) (B.stack board.new) own.new.locals.entries }
     ensures entries { OnOk result (own.new.locals.entries ≡ with_one_more own.old.locals.entries tag mode owner) }
     ensures max_local { OnOk result (own.new.locals.max_local ≡ own.old.locals.max_local) }
@@ -256,14 +256,14 @@ pub fn lock<T: PartTable, B: Board<T>, R: Wait>(
 ) -> Result<Acquired, Refusal>
     requires few { (B.seat board.old).limit ≤ 64 }
     requires few_entries { own.old.locals.max_local ≤ 65536 }
-    requires rest { IsAtRest (B.seat board.old).limit own.old.database own.old.uses
+    requires rest { IsAtRest (B.seat board.old).groups (B.seat board.old).limit own.old.database own.old.uses
         (B.view board.old) (B.stack board.old) own.old.locals.entries }
     ensures answers { AnswersByOwned own.old.locals tag mode owner Acquired.AlreadyHeld true result }
     ensures steps { Locks (B.seat board.old) own.old.locals (B.view board.old) own.old.uses tag mode result
         (B.view board.new) own.new.uses }
     ensures entries { OnOk result (own.new.locals.entries ≡ with_one_more own.old.locals.entries tag mode owner) }
     ensures same_entries { OnErr result (own.new.locals.entries ≡ own.old.locals.entries) }
-    ensures rest { IsAtRest (B.seat board.old).limit own.old.database own.new.uses
+    ensures rest { IsAtRest (B.seat board.old).groups (B.seat board.old).limit own.old.database own.new.uses
         (B.view board.new) (B.stack board.new) own.new.locals.entries }
     ensures levels { own.new.locals.outer ≡ own.old.locals.outer }
     ensures kept { KeepsOwn (B.seat board.old) own.old (B.seat board.new) own.new }

@@ -59,7 +59,7 @@ impl<T: PartTable, B: Board<T>> Model for OwnWaiting<T, B> {
     } };
 
     ghost invariant = { λ waiting.
-        IsWaiting (B.seat waiting.board).limit waiting.own.value.database waiting.own.value.uses
+        IsWaiting (B.seat waiting.board).groups (B.seat waiting.board).limit waiting.own.value.database waiting.own.value.uses
         (B.view waiting.board) (B.stack waiting.board) waiting.own.value.locals.entries waiting.tag waiting.mode
         × ((B.seat waiting.board).limit ≤ 64) × (waiting.own.value.locals.max_local ≤ 65536)
         × IsWellOwned waiting.own.value.locals

@@ -187,12 +187,12 @@ session-count s database slots one_each o m =
     elim (cases_Bool (slot_holds database slot o m)) [
       | inl held ↦
           let found = held-is_in database slot o m held in
-          lists_below-one (is_hold s o m) 16 rows found.0 found.1.within (λ k below apart. slot-count s database k (slot k) o m ∙ cond-false _ 1 0 (elsewhere found.0 found.1 k below apart))
+          lists_below-one (is_hold s o m) 128 rows found.0 found.1.within (λ k below apart. slot-count s database k (slot k) o m ∙ cond-false _ 1 0 (elsewhere found.0 found.1 k below apart))
           ∙ slot-count s database found.0 (slot found.0) o m
           ∙ cond-true (slot_shows database (slot found.0) o m) 1 0 (and_from (is_eligible_for database o m) (shows (slot found.0) (relation_of o) m) found.1.eligible found.1.shown)
           ∙ sym (cond-true (slot_holds database slot o m) 1 0 held)
       | inr not_held ↦
-          lists_below-none (is_hold s o m) 16 rows (λ k below.
+          lists_below-none (is_hold s o m) 128 rows (λ k below.
           slot-count s database k (slot k) o m ∙ cond-false _ 1 0 (false_from_ne_true (slot_shows database (slot k) o m) (λ shown.
           both_ways (slot_holds database slot o m) not_held (is_in-held database slot o m k (held_in k below shown)))))
           ∙ sym (cond-false (slot_holds database slot o m) 1 0 not_held)
@@ -203,12 +203,12 @@ session-count s database slots one_each o m =
       rows : ℕ → List Hold
       rows place = slot_rows s database place (get_or slots place 0)
 
-      held_in : (k : ℕ) → k < 16 → slot_shows database (slot k) o m ≡ true → IsHeldIn database slot o m k
+      held_in : (k : ℕ) → k < 128 → slot_shows database (slot k) o m ≡ true → IsHeldIn database slot o m k
       held_in k below shown =
           let both = and_parts (is_eligible_for database o m) (shows (slot k) (relation_of o) m) shown in
           record { eligible = both.0; within = below; shown = both.1 }
 
-      elsewhere : (place : ℕ) → IsHeldIn database slot o m place → (k : ℕ) → k < 16 → k ≢ place → slot_shows database (slot k) o m ≡ false
+      elsewhere : (place : ℕ) → IsHeldIn database slot o m place → (k : ℕ) → k < 128 → k ≢ place → slot_shows database (slot k) o m ≡ false
       elsewhere place held k below apart =
           false_from_ne_true (slot_shows database (slot k) o m) (λ shown.
           apart (one_each (relation_of o) k place below held.within (shown-in_use (slot k) (relation_of o) m (held_in k below shown).shown)
@@ -216,7 +216,7 @@ session-count s database slots one_each o m =
 
 session-count_other : (s database : ℕ) (slots : List ℕ) (k : ℕ) (o : Tag) (m : Mode) → s ≢ k → count_by (is_hold k o m) (session_rows s database slots) ≡ 0
 session-count_other s database slots k o m apart =
-    lists_below-none (is_hold k o m) 16 (λ place. slot_rows s database place (get_or slots place 0))
+    lists_below-none (is_hold k o m) 128 (λ place. slot_rows s database place (get_or slots place 0))
     (λ place below. slot-count_other s database place (get_or slots place 0) k o m apart)
 
 -- All rows have each hold that the session's slots show once.
@@ -247,17 +247,17 @@ fast_path-count databases slots s sixty_four one_each o m =
 -- What holds of each hold that a slot shows holds of all rows.
 pub fast_path-all :
     (P : Hold → Type 0) (databases : List ℕ) (slots : List (List ℕ))
-    → ((s place : ℕ) (n : Mode) → place < 16 → is_eligible_for (get_or databases s 0) (Relation (get_or databases s 0) (relation_in (get_or (get_or slots s []) place 0))) n ≡ true
+    → ((s place : ℕ) (n : Mode) → place < 128 → is_eligible_for (get_or databases s 0) (Relation (get_or databases s 0) (relation_in (get_or (get_or slots s []) place 0))) n ≡ true
     → shows (get_or (get_or slots s []) place 0) (relation_in (get_or (get_or slots s []) place 0)) n ≡ true
     → P (record { session = s; tag = Relation (get_or databases s 0) (relation_in (get_or (get_or slots s []) place 0)); mode = n; spot = Slot place }))
     → All P (fast_path_rows databases slots)
 fast_path-all P databases slots each =
     lists_below-all P 64 (λ k. session_rows k (get_or databases k 0) (get_or slots k [])) (λ s below.
-    lists_below-all P 16 (λ place. slot_rows s (get_or databases s 0) place (get_or (get_or slots s []) place 0)) (λ place within.
+    lists_below-all P 128 (λ place. slot_rows s (get_or databases s 0) place (get_or (get_or slots s []) place 0)) (λ place within.
     All-append P (at s place AccessShare) (at s place RowShare ++ at s place RowExclusive) (there s place AccessShare within)
     (All-append P (at s place RowShare) (at s place RowExclusive) (there s place RowShare within) (there s place RowExclusive within)))) where
       at : ℕ → ℕ → Mode → List Hold
       at s place n = shown_hold s (get_or databases s 0) place (get_or (get_or slots s []) place 0) n
 
-      there : (s place : ℕ) (n : Mode) → place < 16 → All P (at s place n)
+      there : (s place : ℕ) (n : Mode) → place < 128 → All P (at s place n)
       there s place n within = shown-there s (get_or databases s 0) (get_or (get_or slots s []) place 0) n P place (each s place n within)

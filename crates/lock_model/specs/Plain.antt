@@ -36,6 +36,10 @@ listed_waits plain = plain.waits.items
 abbrev pub listed_sleepers : Plain → List Sleeper
 listed_sleepers plain = plain.lists.sleepers.items
 
+-- how many groups of slots each session had
+abbrev pub groups_of : Plain → ℕ
+groups_of plain = plain.groups
+
 abbrev pub word_of : Plain → Word → ℕ
 word_of plain (Partition p) = lock_state.word_of (slice_index_or plain.words.partitions p opening_state)
 word_of plain (Fast session) = lock_state.word_of (slice_index_or plain.words.fast session opening_state)
@@ -81,12 +85,13 @@ abbrev pub StandsThere : World → Hold → Type 0
 StandsThere w hold = StandsAt w hold.session hold.tag hold.mode hold.spot
 
 -- The answer of a run says what the World has: each hold once, of slots and of contents, and where it stands, each
--- object's waits in the order of its queue, the waits in the order of their tags, what each word shows, and who waits
--- for each lightweight lock.
+-- object's waits in the order of its queue, the waits in the order of their tags, how many groups of slots there were, what
+-- each word shows, and who waits for each lightweight lock.
 pub record IsPlainOf (plain : Plain) (w : World) : Type 0 where
   pub holds : ListsHolds (holds_of plain) (all_holds w)
   pub spots : All (λ hold. StandsThere w hold) (holds_of plain)
   pub waits : (tag : Tag) → map as_wait (filter (λ queued. tag_eq queued.tag tag) (listed_waits plain)) ≡ (w.contents.now (partition_of tag)).waits tag
   pub waits_by_tag : IsSortedByKey (λ queued. queued.tag) (on numbers_of (slice_cmp nat_cmp)) (listed_waits plain)
-  pub words : (word : Word) → WordExists word → word_of plain word ≡ word_in w.words word
+  pub groups : groups_of plain ≡ w.numbers.groups
+  pub words : (word : Word) → WordExists w.numbers.groups word → word_of plain word ≡ word_in w.words word
   pub lists : (lock : ℕ) → waiters_of lock (listed_sleepers plain) ≡ w.words.list lock

@@ -79,6 +79,8 @@ awaited_of wait = record { tag = wait.tag; mode = wait.mode }
 -- The session numbers in use are the World's.
 pub record ShowsNumbers (shown : Numbers) (numbers : world.Numbers) : Type 0 where
   pub limit : numbers.limit ≡ 64
+  pub groups : shown.groups ≡ numbers.groups
+  pub some_groups : 0 < shown.groups
   pub issued : shown.issued ≡ numbers.issued
   pub live : (session : ℕ) → slice_index_or shown.live session false ≡ numbers.live session
   pub kept_by : (session : ℕ) → slice_index_or shown.kept_by session None ≡ numbers.kept_by session
@@ -112,7 +114,7 @@ pub record ShowsLocks (shown : Locks) (holds_fast shares_fast shares_partition :
 pub record ShowsFastPath (shown : FastPath) (databases : ℕ → ℕ) (slots : ℕ → ℕ → ℕ) (zeros : ℕ → Option ℕ) : Type 0 where
   pub sixty_four_databases : length shown.databases ≡ 64
   pub sixty_four : length shown.slots ≡ 64
-  pub sixteen : (session : ℕ) → session < 64 → length (slice_index_or shown.slots session []) ≡ 16
+  pub each_slots : (session : ℕ) → session < 64 → length (slice_index_or shown.slots session []) ≡ 128
   pub sixty_four_zeros : length shown.zeros ≡ 64
   pub database : (session : ℕ) → slice_index_or shown.databases session 0 ≡ databases session
   pub slot : (session place : ℕ) → slice_index_or (slice_index_or shown.slots session []) place 0 ≡ slots session place

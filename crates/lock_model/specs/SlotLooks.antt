@@ -5,7 +5,7 @@ use Rattle.modes_core.specs.declared.tags.Tag.{Tag}
 use Rattle.modes_core.specs.Tag.{partition_of, index_of, is_eligible_for}
 use Rattle.lw_word.specs.SlotWord.{in_use, shows}
 use Rattle.lock_table.specs.Parts.{contents_in}
-use Rattle.lock_world.specs.SlotHolds.{relation_of, slot_holds, is_slot_of}
+use Rattle.lock_world.specs.SlotHolds.{relation_of, slot_holds, may_use, is_slot_of}
 use Rattle.lock_model.specs.declared.machine.state.Machine.{Machine}
 use Rattle.lock_model.specs.Shows.{makes_steps, is_number}
 
@@ -32,25 +32,27 @@ abbrev pub has_own_slots : Machine → ℕ → Bool
 has_own_slots machine session =
     makes_steps machine session && slice_index_or (slice_index_or machine.locks.fast_holders session []) session false
 
--- whether a grant for the relation takes the slot: it is in use for it, or it is not in use and none is for it
-abbrev pub is_slot_to_grant : List ℕ → ℕ → ℕ → Bool
-is_slot_to_grant slots relation place =
-    is_slot_of (slice_index_or slots place 0) relation
-    || (not (in_use (slice_index_or slots place 0)) && not (list_any (λ word. is_slot_of word relation) slots))
+-- whether a grant for the relation takes the slot, with so many groups: it is of the relation's group, and in use for the
+-- relation, or not in use and none is for it
+abbrev pub is_slot_to_grant : ℕ → List ℕ → ℕ → ℕ → Bool
+is_slot_to_grant groups slots relation place =
+    may_use groups relation place
+    && (is_slot_of (slice_index_or slots place 0) relation
+    || (not (in_use (slice_index_or slots place 0)) && not (list_any (λ word. is_slot_of word relation) slots)))
 
 -- whether the session may set the mode in the slot
 abbrev pub may_set_slot : Machine → ℕ → ℕ → Tag → Mode → Bool
 may_set_slot machine session place tag mode =
-    ((((nat_lt place 16 && has_own_slots machine session)
+    ((((nat_lt place 128 && has_own_slots machine session)
     && is_eligible_for (slice_index_or machine.fast_path.databases session 0) tag mode)
     && is_number (index_of tag) (slice_index_or machine.fast_path.zeros session None))
     && may_ask machine session tag mode)
-    && is_slot_to_grant (slots_at machine session) (relation_of tag) place
+    && is_slot_to_grant machine.numbers.groups (slots_at machine session) (relation_of tag) place
 
 -- whether the session may clear the mode in the slot
 abbrev pub may_clear_slot : Machine → ℕ → ℕ → Tag → Mode → Bool
 may_clear_slot machine session place tag mode =
-    ((nat_lt place 16 && has_own_slots machine session)
+    ((nat_lt place 128 && has_own_slots machine session)
     && is_eligible_for (slice_index_or machine.fast_path.databases session 0) tag mode)
     && shows (slice_index_or (slots_at machine session) place 0) (relation_of tag) mode
 

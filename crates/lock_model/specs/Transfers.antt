@@ -22,7 +22,7 @@ may_adopt (Some done) owner slot = move_eq done (Adopt owner slot)
 -- whether the owner's slot shows that it holds the mode on the object
 abbrev pub is_in_slot : Machine → ℕ → ℕ → Tag → Mode → Bool
 is_in_slot machine owner place tag mode =
-    (nat_lt place 16 && is_eligible_for (slice_index_or machine.fast_path.databases owner 0) tag mode)
+    (nat_lt place 128 && is_eligible_for (slice_index_or machine.fast_path.databases owner 0) tag mode)
     && shows (slice_index_or (slots_at machine owner) place 0) (relation_of tag) mode
 
 -- whether the session may move the mode out of the owner's slot, where it has the partition in hand

@@ -1,7 +1,8 @@
 //! The plain machine: events on a World, and the laws of every run.
 
-ghost use Rattle.std.specs.Prelude.{IfOk};
+ghost use Rattle.std.specs.Prelude.{◌≤◌, IfOk};
 ghost use Rattle.std.specs.List.Sorted.{IsSorted};
+ghost use Rattle.lock_world.specs.SlotHolds.{most_groups};
 ghost use Rattle.lock_world.specs.World.{World, opening};
 ghost use Rattle.lock_world.specs.Happens.{Runs};
 ghost use Rattle.lock_world.specs.SafeWorld.{SafeWorld};
@@ -33,14 +34,17 @@ use state::Machine;
 pub use state::Sleeper;
 use std::alloc::Global;
 
-/// Runs the events of up to 64 sessions from the opening World, one after another. An event that is not
-/// lawful where it comes is skipped. The World after them, and each one on the way, is safe.
-pub fn run_events(alloc: Global, events: &[Event]) -> Result<Plain, NoMemory>
+/// Runs the events of up to 64 sessions from the opening World, one after another. Each session has so many groups of
+/// fast-path slots, 1 to 8. An event that is not lawful where it comes is skipped. The World after them, and each one on
+/// the way, is safe.
+pub fn run_events(alloc: Global, groups: u8, events: &[Event]) -> Result<Plain, NoMemory>
+    requires some { 1 ≤ groups }
+    requires few { groups ≤ most_groups }
     ensures ran { IfOk result (λ plain.
-        (w : World) × Runs (opening 64) events.now w × SafeWorld w × IsPlainOf plain w) }
+        (w : World) × Runs (opening 64 groups) events.now w × SafeWorld w × IsPlainOf plain w) }
     ensures in_order { IfOk result (λ plain. IsSorted hold_cmp (holds_of plain)) }
 {
-    let mut machine = Machine::new(alloc)?;
+    let mut machine = Machine::new(alloc, groups)?;
     for event in events {
         machine.step(*event)?;
     }

@@ -263,8 +263,8 @@ module _ (w : World) (safe : SafeWorld w) (k : ℕ) (dead : w.numbers.live k ≡
   }
 
 -- So in each World of a run from the opening one a number that is not live has an account with nothing in it.
-pub closed-empty : (limit : ℕ) (events : List Event) (w : World) (k : ℕ) → limit < 2 ^ 24 → Runs (opening limit) events w → w.numbers.live k ≡ false
+pub closed-empty : (limit groups : ℕ) (events : List Event) (w : World) (k : ℕ) → limit < 2 ^ 24 → Runs (opening limit groups) events w → w.numbers.live k ≡ false
     → account w k ≡ empty_account (w.words.database k)
-closed-empty limit events w k few run dead =
-    let last = forgotten-through (opening limit) events run.0 (opening-safe limit few) (λ j _. record { remembered = refl; off = refl; trace = refl }) run.1 in
+closed-empty limit groups events w k few run dead =
+    let last = forgotten-through (opening limit groups) events run.0 (opening-safe limit groups few) (λ j _. record { remembered = refl; off = refl; trace = refl }) run.1 in
     account-empty w (subst SafeWorld (sym run.2) last.0) k dead (subst AreForgotten (sym run.2) last.1 k dead)

@@ -6,7 +6,7 @@ use Rattle.modes_core.specs.declared.tags.Tag.TheVariants.{Relation}
 use Rattle.modes_core.specs.Tag.{partition_of}
 use Rattle.lw_word.specs.SlotWord.{shows}
 use Rattle.lock_table.specs.OwnWait.{is_for}
-use Rattle.lock_world.specs.SlotHolds.{slot_count, relation_of, OneSlotEach}
+use Rattle.lock_world.specs.SlotHolds.{slot_count, relation_of, OneSlotEach, AreInGroups}
 use Rattle.lock_world.specs.Tallies.{left_in_slots, OwnStand, ShowsLeft}
 use Rattle.lock_world.specs.World.{World}
 use Rattle.lock_world.specs.Account.{account}
@@ -57,9 +57,11 @@ module _ (w : World) (safe : SafeWorld w) (k : ℕ) where
         | inr pending ↦ absurd (false≢true (sym (ap (λ a. is_for a t m) no_wait) ∙ pending.0))
       ]
 
-  pub own-stand : OneSlotEach (w.sessions.remembered k) → w.sessions.awaited k ≡ None → OwnStand k (account w k) w.contents.now
-  own-stand once no_wait = record {
+  pub own-stand : OneSlotEach (w.sessions.remembered k) → AreInGroups w.numbers.groups (w.sessions.remembered k) → w.sessions.awaited k ≡ None
+      → OwnStand w.numbers.groups k (account w k) w.contents.now
+  own-stand once in_groups no_wait = record {
     one_each = once;
+    in_groups = in_groups;
     in_slots = λ t m is.
         let found = held-is_in (w.words.database k) (w.words.slot k) t m (left-shown t m is) in
         is_in-held (w.words.database k) (w.sessions.remembered k) t m found.0 (record {

@@ -246,11 +246,11 @@ told-or-stood w (event ∷ events) (u ∷ worlds) s before after entry safe run 
     ]
 
 pub each-told :
-    (limit : ℕ) (events : List Event) (worlds : List World) (s : ℕ) (before after : List TraceEntry) (entry : TraceEntry) → SafeWorld (opening limit)
-    → RunsThrough (opening limit) events worlds → (last_of (opening limit) worlds).sessions.trace s ≡ before ++ entry ∷ after
-    → WasTold (opening limit) worlds s before entry
-each-told limit events worlds s before after entry safe run stands =
-    elim (told-or-stood (opening limit) events worlds s before after entry safe run stands) [
+    (limit groups : ℕ) (events : List Event) (worlds : List World) (s : ℕ) (before after : List TraceEntry) (entry : TraceEntry) → SafeWorld (opening limit groups)
+    → RunsThrough (opening limit groups) events worlds → (last_of (opening limit groups) worlds).sessions.trace s ≡ before ++ entry ∷ after
+    → WasTold (opening limit groups) worlds s before entry
+each-told limit groups events worlds s before after entry safe run stands =
+    elim (told-or-stood (opening limit groups) events worlds s before after entry safe run stands) [
       | inl stood ↦ absurd (not-none before entry stood.0 stood.1)
       | inr told ↦ told
     ]

@@ -5,7 +5,7 @@ use Rattle.modes_core.specs.Tag.{partition_of}
 use Rattle.lock_table.specs.Content.{Content}
 use Rattle.lock_table.specs.OwnWait.{OwnWait, is_for}
 use Rattle.lock_table.specs.Queue.{waits_there, awaits_mode}
-use Rattle.lock_world.specs.SlotHolds.{slot_holds, ShowsNoMore, OneSlotEach, InUseHasDatabase}
+use Rattle.lock_world.specs.SlotHolds.{slot_holds, ShowsNoMore, OneSlotEach, InUseHasDatabase, AreInGroups}
 use Rattle.lock_world.specs.Account.{Account, SlotsInHand}
 
 -- Where the holds stand of the session of this number, which has this database and remembers its slots so, as a partition has this
@@ -51,14 +51,16 @@ pub record KnowsContent (number : ℕ) (a : Account) (p : ℕ) (content : Conten
       (wait : OwnWait) → a.awaited ≡ Some wait → partition_of wait.tag ≡ p → waits_there (content.waits wait.tag) number ≡ false
       → content.holds number wait.tag wait.mode ≡ true
 
--- What the session of this number knows of the slots of a session, by its own account: whoever takes the lock of a
--- session's slots is told so of what they show.
-pub record KnowsSlots (number : ℕ) (a : Account) (owner : ℕ) (slots : SlotsInHand) : Type 0 where
+-- What the session of this number knows of the slots of a session, by its own account, where each has so many groups of slots:
+-- whoever takes the lock of a session's slots is told so of what they show.
+pub record KnowsSlots (groups number : ℕ) (a : Account) (owner : ℕ) (slots : SlotsInHand) : Type 0 where
   -- they show holds of the owner's database, one slot at most is for each relation, and who has one in use has a database
   pub database : ℕ
   pub holds : slots.holds ≡ slot_holds database slots.word
   pub one_each : OneSlotEach slots.word
   pub in_use : InUseHasDatabase database slots.word
+  -- each in use is of its relation's group
+  pub in_groups : AreInGroups groups slots.word
   -- of its own slots it knows the database, they show own holds alone, and no mode that it does not remember there
   pub own_database : owner ≡ number → database ≡ a.fast.database
   pub own : owner ≡ number → (tag : Tag) (mode : Mode) → slots.holds tag mode ≡ true → a.own tag mode ≡ true

@@ -18,7 +18,7 @@ use Rattle.lw_word.specs.WaitList.{stands_in}
 use Rattle.lock_world.specs.Account.{Account, InHand, SlotsInHand, ListInHand}
 
 -- Where a step is lawful, by the account of the session that makes it. That it makes steps of its own is not asked here. `number` is
--- the session's, and `limit` how many sessions there can be.
+-- the session's, `limit` how many sessions there can be, and `groups` how many groups of slots each has.
 
 -- The partition is in hand with no move recorded, and this move leads to the content and grants these waits.
 pub record MayMoveBy (limit number : ℕ) (a : Account) (p : ℕ) (mine : InHand) (done : Move) (granted : List Wait) (content : Content) : Type 0 where
@@ -83,14 +83,14 @@ pub record MayPassBy (a : Account) (owner : ℕ) (slots : SlotsInHand) (tag : Ta
   pub no_slot : (its : Mode) → slots.holds tag its ≡ false
 
 -- Setting a mode in one of one's own slots, and clearing one.
-pub record MaySetSlotBy (number : ℕ) (a : Account) (mine : SlotsInHand) (place : ℕ) (tag : Tag) (mode : Mode) : Type 0 where
+pub record MaySetSlotBy (groups number : ℕ) (a : Account) (mine : SlotsInHand) (place : ℕ) (tag : Tag) (mode : Mode) : Type 0 where
   pub in_hand : a.fast.slots number ≡ Some mine
   pub eligible : is_eligible_for a.fast.database tag mode ≡ true
   pub below : relation_of tag < 2 ^ 32
   pub read_as_zero : a.fast.zero ≡ Some (index_of tag)
   pub no_wait : a.awaited ≡ None
   pub new : a.own tag mode ≡ false
-  pub takes : IsSlotToGrant mine.word (relation_of tag) place
+  pub takes : IsSlotToGrant groups mine.word (relation_of tag) place
 
 pub record MayClearSlotBy (number : ℕ) (a : Account) (mine : SlotsInHand) (place : ℕ) (tag : Tag) (mode : Mode) : Type 0 where
   pub in_hand : a.fast.slots number ≡ Some mine

@@ -4,7 +4,7 @@ use Rattle.modes_core.specs.declared.tags.Tag.{Tag}
 use Rattle.modes_core.specs.Tag.{index_of}
 use Rattle.lock_table.specs.Content.{Holds}
 use Rattle.lock_table.specs.OwnWait.{OwnWait, is_for}
-use Rattle.lock_world.specs.SlotHolds.{slot_holds, ShowsNoMore, OneSlotEach, InUseHasDatabase}
+use Rattle.lock_world.specs.SlotHolds.{slot_holds, ShowsNoMore, OneSlotEach, InUseHasDatabase, AreInGroups}
 use Rattle.lock_world.specs.Counted.{Counted, AtMostOnce, counter, is_past, PastHasNoSlot, StrongIsDone}
 use Rattle.lock_world.specs.World.{World}
 use Rattle.lock_world.specs.WaitLists.{ListsAreSafe}
@@ -32,11 +32,12 @@ tabled w = record {
 }
 
 -- What slots show is own, and each hold is in one slot only, since a relation has one slot at most of a session; a slot in use
--- has a database.
-pub record SlotsAreOwn (database : ℕ → ℕ) (slot : ℕ → ℕ → ℕ) (own : Holds) : Type 0 where
+-- has a database, and is of its relation's group.
+pub record SlotsAreOwn (groups : ℕ) (database : ℕ → ℕ) (slot : ℕ → ℕ → ℕ) (own : Holds) : Type 0 where
   pub are_own : (session : ℕ) (tag : Tag) (mode : Mode) → slots_of database slot session tag mode ≡ true → own session tag mode ≡ true
   pub one_each : (session : ℕ) → OneSlotEach (slot session)
   pub has_database : (session : ℕ) → InUseHasDatabase (database session) (slot session)
+  pub in_groups : (session : ℕ) → AreInGroups groups (slot session)
 
 -- What a session awaits is no own hold of it, in no slot either; and a number that is not live has no hold, no slot and nothing
 -- counted.
@@ -65,7 +66,7 @@ SlotsAreRemembered slot remembered = (session : ℕ) → ShowsNoMore (slot sessi
 pub record SafeWorld (w : World) : Type 0 where
   pub but_slots : SafeButSlots (tabled w)
   pub lists : ListsAreSafe w.words.partition w.words.fast (sleepers w) w.sessions.has_list w.numbers.live
-  pub slots : SlotsAreOwn w.words.database w.words.slot w.sessions.own
+  pub slots : SlotsAreOwn w.numbers.groups w.words.database w.words.slot w.sessions.own
   pub order : OwnIsInOrder w.numbers.live w.sessions.own w.sessions.awaited w.sessions.counted
   pub counters : CountersAreCounts w.numbers.limit w.words.strong w.sessions.counted
   pub past : PastHasNoSlot w.sessions.counted (slots_of w.words.database w.words.slot)

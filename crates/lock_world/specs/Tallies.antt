@@ -1,4 +1,4 @@
-use Rattle.std.specs.Prelude.{◌≡◌, ℕ, ◌+◌, zero, suc, Bool, true, not, ◌&&◌, List, [], ◌++◌, length, count_by, if◌then◌else◌}
+use Rattle.std.specs.Prelude.{◌≡◌, ℕ, ◌+◌, ◌*◌, zero, suc, Bool, true, not, ◌&&◌, List, [], ◌++◌, length, count_by, if◌then◌else◌}
 use Rattle.modes_core.specs.declared.modes.Mode.{Mode}
 use Rattle.modes_core.specs.declared.modes.Mode.TheVariants.{AccessShare, RowShare, RowExclusive}
 use Rattle.modes_core.specs.declared.tags.Tag.{Tag}
@@ -8,7 +8,7 @@ use Rattle.modes_core.specs.Tag.{partition_of, tag_eq}
 use Rattle.lw_word.specs.SlotWord.{has_mode, shows}
 use Rattle.lock_table.specs.Content.{Content}
 use Rattle.lock_table.specs.Total.{total}
-use Rattle.lock_world.specs.SlotHolds.{slot_count, slot_holds, OneSlotEach}
+use Rattle.lock_world.specs.SlotHolds.{group_size, slot_holds, OneSlotEach, AreInGroups}
 use Rattle.lock_world.specs.Account.{Account}
 
 -- What is counted where all sessions stand still: what slots show, what contents have, and what the sessions own.
@@ -24,9 +24,9 @@ modes_shown word =
     (if has_mode word AccessShare then 1 else 0)
     + ((if has_mode word RowShare then 1 else 0) + (if has_mode word RowExclusive then 1 else 0))
 
--- how many the words of all slots show, of the sessions below the limit
-abbrev pub shown_in_slots : ℕ → (ℕ → ℕ → ℕ) → ℕ
-shown_in_slots limit word = total limit (λ session. total slot_count (λ place. modes_shown (word session place)))
+-- how many the words of all slots show, of the sessions below the limit with so many groups of slots
+abbrev pub shown_in_slots : ℕ → ℕ → (ℕ → ℕ → ℕ) → ℕ
+shown_in_slots limit groups word = total limit (λ session. total (group_size * groups) (λ place. modes_shown (word session place)))
 
 -- a mode that an object is held in
 pub record Held : Type 0 where
@@ -47,10 +47,12 @@ pub record AreSoMany (own : Tag → Mode → Bool) (many : ℕ) : Type 0 where
 abbrev pub left_in_slots : (Tag → Mode → Bool) → (ℕ → Content) → ℕ → Tag → Mode → Bool
 left_in_slots own contents number tag mode = own tag mode && not ((contents (partition_of tag)).holds number tag mode)
 
--- Where the holds of the session of this number stand, as the partitions have these contents: what contents have of it is own,
--- and what they haven't shows in its slots as it remembers them, where a relation has one slot at most.
-pub record OwnStand (number : ℕ) (a : Account) (contents : ℕ → Content) : Type 0 where
+-- Where the holds of the session of this number stand, with so many groups of slots, as the partitions have these contents: what
+-- contents have of it is own, and what they haven't shows in its slots as it remembers them, where a relation has one slot at
+-- most, in its group.
+pub record OwnStand (groups number : ℕ) (a : Account) (contents : ℕ → Content) : Type 0 where
   pub one_each : OneSlotEach a.fast.remembered
+  pub in_groups : AreInGroups groups a.fast.remembered
   pub in_slots :
       (tag : Tag) (mode : Mode) → left_in_slots a.own contents number tag mode ≡ true
       → slot_holds a.fast.database a.fast.remembered tag mode ≡ true

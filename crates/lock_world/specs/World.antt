@@ -1,4 +1,4 @@
-use Rattle.std.specs.Prelude.{◌≡◌, ℕ, ◌<◌, Bool, true, false, List, [], Option, Some, None}
+use Rattle.std.specs.Prelude.{◌≡◌, ℕ, ◌*◌, ◌<◌, Bool, true, false, List, [], Option, Some, None}
 use Rattle.lock_table.specs.declared.moves.Move.{Move}
 use Rattle.lock_world.specs.declared.events.Word.{Word}
 use Rattle.lock_world.specs.declared.events.Word.TheVariants.{Partition, Fast, Database, Slot, Wait, Strong, Sleep}
@@ -6,6 +6,7 @@ use Rattle.lock_table.specs.Content.{Holds, Content, empty_content}
 use Rattle.lw_word.specs.LightweightWord.{free_word}
 use Rattle.lw_word.specs.declared.wait_lists.LwWaiter.{LwWaiter}
 use Rattle.lock_table.specs.OwnWait.{OwnWait}
+use Rattle.lock_world.specs.SlotHolds.{group_size}
 use Rattle.lock_world.specs.Counted.{Counted}
 
 -- The World is all that there is between two atomic steps: what each word shows, each content wherever it is, what each
@@ -89,6 +90,8 @@ pub record Sessions : Type 0 where
 pub record Numbers : Type 0 where
   -- how many numbers there are
   pub limit : ℕ
+  -- how many groups of fast-path slots each session has
+  pub groups : ℕ
   -- the numbers below this one have been given out, and it is the next
   pub issued : ℕ
   -- the numbers given out and not closed
@@ -117,9 +120,9 @@ pub record MakesSteps (numbers : Numbers) (session : ℕ) : Type 0 where
   pub live : numbers.live session ≡ true
   pub by_itself : numbers.kept_by session ≡ None
 
--- The World before the first step: all is empty, and only release-ok is set, in each lightweight word.
-abbrev pub opening : ℕ → World
-opening limit = record {
+-- The World before the first step, of so many sessions with so many groups of slots: all is empty, and only release-ok is set, in each lightweight word.
+abbrev pub opening : ℕ → ℕ → World
+opening limit groups = record {
   words = record {
     partition = λ _. free_word;
     fast = λ _. free_word;
@@ -147,18 +150,18 @@ opening limit = record {
     off = λ _ _. false;
     trace = λ _. [];
   };
-  numbers = record { limit = limit; issued = 0; live = λ _. false; kept_by = λ _. None };
+  numbers = record { limit = limit; groups = groups; issued = 0; live = λ _. false; kept_by = λ _. None };
 }
 
--- There is such a word.
-abbrev pub WordExists : Word → Type 0
-WordExists (Partition p) = p < 16
-WordExists (Fast session) = Unit {0}
-WordExists (Database session) = Unit {0}
-WordExists (Slot session place) = place < 16
-WordExists (Wait session) = Unit {0}
-WordExists (Strong index) = index < 1024
-WordExists (Sleep session) = Unit {0}
+-- There is such a word, with so many groups of slots.
+abbrev pub WordExists : ℕ → Word → Type 0
+WordExists groups (Partition p) = p < 16
+WordExists groups (Fast session) = Unit {0}
+WordExists groups (Database session) = Unit {0}
+WordExists groups (Slot session place) = place < group_size * groups
+WordExists groups (Wait session) = Unit {0}
+WordExists groups (Strong index) = index < 1024
+WordExists groups (Sleep session) = Unit {0}
 
 -- what a word shows in the World
 abbrev pub word_in : Words → Word → ℕ

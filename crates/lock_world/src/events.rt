@@ -11,8 +11,8 @@ pub enum Word {
     Fast(SessionId),
     /// The database of a session (`databaseId` in proc.h).
     Database(SessionId),
-    /// A fast-path slot of a session, 0 to 15, with its relation and three bits for modes (`fpRelId`
-    /// and `fpLockBits` in proc.h).
+    /// A fast-path slot of a session, 0 to 15 in the first group of slots, and 16 more in each further one, with its
+    /// relation and three bits for modes (`fpRelId` and `fpLockBits` in proc.h).
     Slot(SessionId, u8),
     /// Whether a session waits, and whether it was asked to stop waiting (`waitStatus` in proc.h).
     Wait(SessionId),

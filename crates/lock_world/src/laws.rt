@@ -2,7 +2,7 @@
 //! proved, and its body is empty. Every World of a run is safe (`every_world_is_safe`), so what the laws say
 //! of a safe World they say of each of these. The laws that speak of runs, or of one event, say so.
 
-ghost use Rattle.std.specs.Prelude.{◌≡◌, ◌≢◌, ◌↔◌, ◌⊎◌, ◌<◌, ◌≤◌, ◌+◌, ◌^◌, ◌==◌, ℕ, List, [], ◌∷◌, ◌++◌, true, false, if◌then◌else◌, Some, None, slice_get, count_by, length};
+ghost use Rattle.std.specs.Prelude.{◌≡◌, ◌≢◌, ◌↔◌, ◌⊎◌, ◌<◌, ◌≤◌, ◌+◌, ◌*◌, ◌^◌, ◌==◌, ℕ, List, [], ◌∷◌, ◌++◌, true, false, if◌then◌else◌, Some, None, slice_get, count_by, length};
 ghost use Rattle.modes_core.specs.declared.modes.Mode.{Mode};
 ghost use Rattle.modes_core.specs.declared.tags.Tag.{Tag};
 ghost use Rattle.modes_core.specs.declared.tags.Tag.TheVariants.{Relation};
@@ -21,8 +21,9 @@ ghost use Rattle.lock_table.specs.Listing.{IsListing};
 ghost use Rattle.lock_table.specs.WholeContent.{whole_of};
 ghost use Rattle.lock_table.specs.Total.{total, how_many};
 ghost use Rattle.lock_world.specs.Tallies.{AreSoMany, OwnStand, ShowsLeft, shown_in_slots};
-ghost use Rattle.lw_word.specs.SlotWord.{shows};
-ghost use Rattle.lock_world.specs.SlotHolds.{relation_of, IsHeldIn, OneSlotEach, InUseHasDatabase, NoSlotInUse, slot_count};
+ghost use Rattle.lw_word.specs.SlotWord.{in_use, shows};
+ghost use Rattle.lock_world.specs.SlotHolds.{relation_of, IsHeldIn, OneSlotEach, InUseHasDatabase, AreInGroups, NoSlotInUse};
+ghost use Rattle.lock_world.specs.SlotHolds.{slot_count, group_size, most_groups};
 ghost use Rattle.lock_world.specs.Counted.{AtMostOnce, counter, is_done, is_past};
 ghost use Rattle.lock_world.specs.WaitLists.{partition_lock, fast_lock};
 ghost use Rattle.lock_world.specs.WaitWord.{wait_state, is_asked, asked_word, granted_word};
@@ -36,9 +37,10 @@ ghost use Rattle.lock_world.specs.Listing.{StandsThereOrInContent, TellsHold};
 ghost use Rattle.lock_world.specs.Account.{IsLeftAlone, account};
 ghost use Rattle.lock_world.specs.Closed.{empty_account};
 
-/// The World before the first event is safe, of any number of sessions that the count of a lightweight word can hold.
+/// The World before the first event is safe, of any number of sessions that the count of a lightweight word can hold, with
+/// any number of groups of slots.
 pub fn opening_is_safe()
-    ensures { (limit : ℕ) → limit < 2 ^ 24 → SafeWorld (opening limit) }
+    ensures { (limit groups : ℕ) → limit < 2 ^ 24 → SafeWorld (opening limit groups) }
 {}
 
 /// Where an event is lawful in a safe World, the World after it is safe.
@@ -49,16 +51,16 @@ pub fn each_event_is_safe()
 /// Whatever list of events comes, lawful or not, the World that it leads to is safe, and so is each World on
 /// the way.
 pub fn every_world_is_safe()
-    ensures last { (limit : ℕ) (events : List Event) (w : World) → limit < 2 ^ 24 →
-        Runs (opening limit) events w → SafeWorld w }
-    ensures on_the_way { (limit : ℕ) (events : List Event) (worlds : List World) (place : ℕ) (w : World) →
-        limit < 2 ^ 24 → RunsThrough (opening limit) events worlds → slice_get worlds place ≡ Some w → SafeWorld w }
+    ensures last { (limit groups : ℕ) (events : List Event) (w : World) → limit < 2 ^ 24 →
+        Runs (opening limit groups) events w → SafeWorld w }
+    ensures on_the_way { (limit groups : ℕ) (events : List Event) (worlds : List World) (place : ℕ) (w : World) →
+        limit < 2 ^ 24 → RunsThrough (opening limit groups) events worlds → slice_get worlds place ≡ Some w → SafeWorld w }
 {}
 
 /// A list of events leads to one World and no other.
 pub fn one_world_comes()
-    ensures { (limit : ℕ) (events : List Event) (w v : World) → limit < 2 ^ 24 →
-        Runs (opening limit) events w → Runs (opening limit) events v → w ≡ v }
+    ensures { (limit groups : ℕ) (events : List Event) (w v : World) → limit < 2 ^ 24 →
+        Runs (opening limit groups) events w → Runs (opening limit groups) events v → w ≡ v }
 {}
 
 /// Every safe World has the headline: no two sessions stand with conflicting modes on one object, wherever they
@@ -91,7 +93,8 @@ pub fn no_two_conflicting_holds()
 /// the session's own and in none of its slots, or its pending grant: what it awaits, where its wait word shows
 /// that this was granted, or that grant stands unmarked in the hand that has the partition. What a slot shows
 /// is own, and stands in no content and in no other slot; a relation has one slot of a session at most, whatever
-/// its modes. Each mode bit of a slot is such a hold, on the relation of that number in the session's database:
+/// its modes, and that one is of the relation's group, so past the groups that there are none is in use. Each mode
+/// bit of a slot is such a hold, on the relation of that number in the session's database:
 /// whoever has a slot in use has a database. What a session awaits is no own hold of it, so no hold is both.
 pub fn each_hold_in_one_place()
     ensures in_content { (w : World) → SafeWorld w →
@@ -112,6 +115,11 @@ pub fn each_hold_in_one_place()
     ensures one_slot_of_a_relation { (w : World) → SafeWorld w → (session : ℕ) → OneSlotEach (w.words.slot session) }
     ensures in_use_has_database { (w : World) → SafeWorld w →
         (session : ℕ) → InUseHasDatabase (w.words.database session) (w.words.slot session) }
+    ensures in_its_group { (w : World) → SafeWorld w →
+        (session : ℕ) → AreInGroups w.numbers.groups (w.words.slot session) }
+    ensures none_past_the_groups { (w : World) → SafeWorld w → 0 < w.numbers.groups →
+        (session place : ℕ) → group_size * w.numbers.groups ≤ place → place < slot_count →
+        in_use (w.words.slot session place) ≡ false }
     ensures each_bit_is_a_hold { (w : World) → SafeWorld w →
         (session place relation : ℕ) (mode : Mode) → place < slot_count →
         shows (w.words.slot session place) relation mode ≡ true →
@@ -291,8 +299,8 @@ pub fn spent_sessions_have_nothing()
 /// hold, no wait, nothing in hand, counted, read or remembered, nobody to tell, and no step in its trace. Its database
 /// is the one that its word shows.
 pub fn closed_numbers_are_forgotten()
-    ensures { (limit : ℕ) (events : List Event) (w : World) (session : ℕ) → limit < 2 ^ 24 →
-        Runs (opening limit) events w → w.numbers.live session ≡ false →
+    ensures { (limit groups : ℕ) (events : List Event) (w : World) (session : ℕ) → limit < 2 ^ 24 →
+        Runs (opening limit groups) events w → w.numbers.live session ≡ false →
         account w session ≡ empty_account (w.words.database session) }
 {}
 
@@ -362,11 +370,11 @@ pub fn a_trace_tells_what_was_there()
     ensures asked { (w v : World) (event : Event) (other before : ℕ) → Happens w event v →
         v.sessions.trace event.session ≡ w.sessions.trace event.session ++ AskedToCancel other before ∷ [] →
         before ≡ w.words.wait other }
-    ensures on_the_way { (limit : ℕ) (events : List Event) (worlds : List World) (session : ℕ)
+    ensures on_the_way { (limit groups : ℕ) (events : List Event) (worlds : List World) (session : ℕ)
         (before after : List TraceEntry) (entry : TraceEntry) →
-        limit < 2 ^ 24 → RunsThrough (opening limit) events worlds →
-        (last_of (opening limit) worlds).sessions.trace session ≡ before ++ entry ∷ after →
-        (place : ℕ) × (u : World) × (slice_get (opening limit ∷ worlds) place ≡ Some u)
+        limit < 2 ^ 24 → RunsThrough (opening limit groups) events worlds →
+        (last_of (opening limit groups) worlds).sessions.trace session ≡ before ++ entry ∷ after →
+        (place : ℕ) × (u : World) × (slice_get (opening limit groups ∷ worlds) place ≡ Some u)
         × (u.sessions.trace session ≡ before) × TellsWhatIs u entry }
 {}
 
@@ -393,24 +401,28 @@ pub fn others_are_untouched()
 
 /// In each World of a run the holds of a session that waits for nothing stand in its slots or in contents: what
 /// contents have of it is own, and the word of each of its slots shows just its own holds that it remembers there and that
-/// no content has. What it remembers has one slot at most for a relation.
+/// no content has. What it remembers has one slot at most for a relation, in its group, and there are as many groups all
+/// the time.
 pub fn own_holds_are_in_slots_or_contents()
-    ensures stand { (limit : ℕ) (events : List Event) (w : World) (session : ℕ) → limit < 2 ^ 24 →
-        Runs (opening limit) events w → w.sessions.awaited session ≡ None →
-        OwnStand session (account w session) w.contents.now }
-    ensures shows { (limit : ℕ) (events : List Event) (w : World) (session place : ℕ) → limit < 2 ^ 24 →
-        Runs (opening limit) events w → place < slot_count →
+    ensures stand { (limit groups : ℕ) (events : List Event) (w : World) (session : ℕ) → limit < 2 ^ 24 →
+        Runs (opening limit groups) events w → w.sessions.awaited session ≡ None →
+        OwnStand groups session (account w session) w.contents.now }
+    ensures as_many_groups { (limit groups : ℕ) (events : List Event) (w : World) →
+        Runs (opening limit groups) events w → w.numbers.groups ≡ groups }
+    ensures shows { (limit groups : ℕ) (events : List Event) (w : World) (session place : ℕ) → limit < 2 ^ 24 →
+        Runs (opening limit groups) events w → place < slot_count →
         ShowsLeft session (account w session) w.contents.now place (w.words.slot session place) }
 {}
 
 /// In each World of a run in which nobody waits, what all slots show and the granted rows of all contents together are
 /// as much as all sessions own; and in each World all strong lock counters together show how much is counted.
 pub fn what_all_sessions_own_adds_up()
-    ensures holds { (limit : ℕ) (events : List Event) (w : World) (rows : List TableRow) (many : ℕ → ℕ) →
-        limit < 2 ^ 24 → Runs (opening limit) events w → ((session : ℕ) → w.sessions.awaited session ≡ None) →
+    ensures holds { (limit groups : ℕ) (events : List Event) (w : World) (rows : List TableRow) (many : ℕ → ℕ) →
+        limit < 2 ^ 24 → 0 < groups → groups ≤ most_groups → Runs (opening limit groups) events w →
+        ((session : ℕ) → w.sessions.awaited session ≡ None) →
         IsListing (whole_of w.contents.now) rows →
         ((session : ℕ) → AreSoMany (w.sessions.own session) (many session)) →
-        shown_in_slots w.numbers.limit w.words.slot + count_by (λ (row : TableRow). row.granted) rows
+        shown_in_slots w.numbers.limit groups w.words.slot + count_by (λ (row : TableRow). row.granted) rows
         ≡ total w.numbers.limit many }
     ensures counters { (w : World) → SafeWorld w →
         total 1024 w.words.strong ≡ total w.numbers.limit (λ session. length (w.sessions.counted session)) }

@@ -152,17 +152,22 @@ fn expect_nothing<R: Abort>(rt: &R, stood: Final) {
     assert_eq!(rt; stood, nothing);
 }
 
-/// How many sessions, with how many entries each, and whether a manager has a range for both.
-static CONFIGURATIONS: [(u32, u32, bool); 9] = [
-    (0, 8, false),
-    (65, 8, false),
-    (8, 0, false),
-    (8, 65_537, false),
-    (0, 0, false),
-    (1, 8, true),
-    (64, 8, true),
-    (8, 1, true),
-    (8, 65_536, true),
+/// How many sessions, with how many entries and groups of slots each, and whether a manager has a range for all of them.
+static CONFIGURATIONS: [(u32, u32, u32, bool); 14] = [
+    (0, 8, 1, false),
+    (65, 8, 1, false),
+    (8, 0, 1, false),
+    (8, 65_537, 1, false),
+    (0, 0, 1, false),
+    (8, 8, 0, false),
+    (8, 8, 9, false),
+    (0, 0, 0, false),
+    (1, 8, 1, true),
+    (64, 8, 1, true),
+    (8, 1, 1, true),
+    (8, 65_536, 1, true),
+    (8, 8, 8, true),
+    (64, 65_536, 8, true),
 ];
 
 /// A manager was refused if a number of its configuration is out of its range, and else made.
@@ -175,18 +180,20 @@ fn expect_made<R: Abort>(rt: &R, refusal: Option<Refusal>, config: Config, is_in
     let Config {
         sessions,
         max_local,
+        slot_groups,
     } = config;
-    assert_eq!(rt; refusal, expected, "{sessions} and {max_local}");
+    assert_eq!(rt; refusal, expected, "{sessions}, {max_local} and {slot_groups}");
 }
 
 #[test]
 fn a_manager_is_made_within_the_ranges_of_its_configuration_alone(
     rt: HostRuntime,
 ) -> Result<(), Fail> {
-    for (sessions, max_local, is_in_range) in &CONFIGURATIONS {
+    for (sessions, max_local, slot_groups, is_in_range) in &CONFIGURATIONS {
         let config = Config {
             sessions: *sessions,
             max_local: *max_local,
+            slot_groups: *slot_groups,
         };
         let refusal = Manager::new(rt.alloc(), config).err();
         expect_made(&rt, refusal, config, *is_in_range);
@@ -199,6 +206,7 @@ fn two(max_local: u32) -> Config {
     Config {
         sessions: 2,
         max_local,
+        slot_groups: 1,
     }
 }
 
@@ -209,6 +217,7 @@ fn turns_are_answered_as_the_lists_say(rt: HostRuntime) -> Result<(), Fail> {
         let config = Config {
             sessions: list.sessions,
             max_local: list.max_local,
+            slot_groups: 1,
         };
         let story = Story::OfTwo(Scene::Turns(list.turns, list.rounds));
         run(&rt, rt.alloc(), config, story)?;
@@ -294,6 +303,7 @@ fn many_sessions_do_as_the_stories_say(rt: HostRuntime) -> Result<(), Fail> {
         let config = Config {
             sessions,
             max_local: 8,
+            slot_groups: 1,
         };
         run(&rt, rt.alloc(), config, story)?;
     }
@@ -318,6 +328,7 @@ fn all_local_entries_can_be_held_at_once(rt: HostRuntime) -> Result<(), Fail> {
         let config = Config {
             sessions: limits.sessions,
             max_local: limits.entries,
+            slot_groups: 1,
         };
         run(&rt, rt.alloc(), config, Story::Holds(*limits))?;
     }
@@ -330,14 +341,22 @@ fn sessions_go_on_where_memory_ran_out_once(rt: HostRuntime) -> Result<(), Fail>
     let one = Config {
         sessions: 1,
         max_local: memory::MANY,
+        slot_groups: 1,
     };
     let three = Config {
         sessions: audits::SESSIONS,
         max_local: 8,
+        slot_groups: 1,
+    };
+    // Each relation of theirs is of a group of its own, and none of the first one.
+    let three_in_groups = Config {
+        slot_groups: 8,
+        ..three
     };
     for (config, story) in [
         (one, Story::GoesOn),
         (three, Story::Audits),
+        (three_in_groups, Story::Audits),
         (two(memory::MOVED), Story::OfTwo(Scene::MovesAtLast)),
     ] {
         run(&rt, rt.alloc(), config, story)?;

@@ -61,11 +61,11 @@ pub fn run(alloc: Global, growth: u16) -> Told {
     };
     let events = events(session);
     refuse(alloc, growth);
-    let ran = run_events(alloc, &events);
+    let ran = run_events(alloc, 1, &events);
     let refused = was_refused(alloc);
     match ran {
         Ok(plain) => Told::of(refused, false, is_right(&plain)),
-        Err(_) => match run_events(alloc, &events) {
+        Err(_) => match run_events(alloc, 1, &events) {
             Ok(plain) => Told::of(refused, true, is_right(&plain)),
             Err(_) => Told::Otherwise,
         },

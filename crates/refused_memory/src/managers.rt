@@ -14,6 +14,7 @@ use std::sync::Wait;
 const CONFIG: Config = Config {
     sessions: 8,
     max_local: 64,
+    slot_groups: 1,
 };
 
 const DATABASE: u32 = 5;

@@ -6,6 +6,7 @@ use crate::style::{DRAWINGS, Drawing, Style};
 use clap::error::ErrorKind;
 use clap::{Arg, ArgAction, ArgMatches, Command, Error, value_parser};
 use local_locks::MOST_LOCAL;
+use lock_manager::MOST_GROUPS;
 use modes_core::SESSIONS;
 use std::alloc::{AllocError, Global};
 
@@ -21,6 +22,11 @@ const USUAL_SESSIONS_SHOWN: &str = "8";
 const USUAL_LOCAL: u32 = 1024;
 
 const USUAL_LOCAL_SHOWN: &str = "1024";
+
+/// How many groups of fast-path slots a session has, where the command line doesn't say, and as `--help` shows it.
+const USUAL_GROUPS: u32 = 1;
+
+const USUAL_GROUPS_SHOWN: &str = "1";
 
 /// The program's name, and the version that `--version` shows.
 pub const PROGRAM: &str = "lock_scenario";
@@ -189,10 +195,16 @@ fn with_limits<'a>(alloc: Global, command: Command<'a>) -> Result<Command<'a>, A
         .help("How many different locks a session may have")
         .value_parser(value_parser!(u32).range(1..=i64::from(MOST_LOCAL)))
         .default_value(USUAL_LOCAL_SHOWN);
-    command.arg(sessions)?.arg(max_local)
+    let slot_groups = Arg::new(alloc, "slot-groups")
+        .long("slot-groups")
+        .value_name("G")
+        .help("How many groups of sixteen fast-path slots a session has")
+        .value_parser(value_parser!(u32).range(1..=i64::from(MOST_GROUPS)))
+        .default_value(USUAL_GROUPS_SHOWN);
+    command.arg(sessions)?.arg(max_local)?.arg(slot_groups)
 }
 
-/// The subcommand `orders [--sessions N] [--max-local M] [--limit K]`.
+/// The subcommand `orders [--sessions N] [--max-local M] [--slot-groups G] [--limit K]`.
 fn orders_command<'a>(alloc: Global) -> Result<Command<'a>, AllocError> {
     let limit = Arg::new(alloc, "limit")
         .long("limit")
@@ -206,9 +218,9 @@ fn orders_command<'a>(alloc: Global) -> Result<Command<'a>, AllocError> {
     with_limits(alloc, orders)?.arg(limit)
 }
 
-/// The command line: `run [--sessions N] [--max-local M] [--echo] [--json] [--graph LANGUAGE]`,
-/// `orders [--sessions N] [--max-local M] [--limit K]`, `shell [--sessions N] [--max-local M]`, `modes`,
-/// `hammer --sessions N --rounds K`, or `--man`.
+/// The command line: `run [--sessions N] [--max-local M] [--slot-groups G] [--echo] [--json] [--graph LANGUAGE]`,
+/// `orders [--sessions N] [--max-local M] [--slot-groups G] [--limit K]`,
+/// `shell [--sessions N] [--max-local M] [--slot-groups G]`, `modes`, `hammer --sessions N --rounds K`, or `--man`.
 fn command<'a>(alloc: Global) -> Result<Command<'a>, AllocError> {
     let run = Command::new(alloc, "run")
         .about("Run the script on standard input")
@@ -245,6 +257,8 @@ pub struct Limits {
     pub sessions: u32,
     /// How many local entries each may have.
     pub max_local: u32,
+    /// How many groups of fast-path slots each has.
+    pub slot_groups: u32,
 }
 
 /// How long a hammer the words ask for.
@@ -298,12 +312,14 @@ impl NoRun {
     }
 }
 
-/// What the words ask for, with each limit in its range: 1 to 64 sessions, 1 to 65,536 local entries, 1 to 1,000,000 rounds. The first word is the
-/// program's name.
+/// What the words ask for, with each limit in its range: 1 to 64 sessions, 1 to 65,536 local entries, 1 to 8 groups of slots,
+/// 1 to 1,000,000 rounds. The first word is the program's name.
 pub fn parse_arguments(alloc: Global, words: &[String]) -> Result<Task, NoRun>
     ensures sessions { IfOk result (λ task. OfRun task (λ limits. (1 ≤ limits.sessions) × (limits.sessions ≤ 64))) }
     ensures max_local { IfOk result (λ task. OfRun task
         (λ limits. (1 ≤ limits.max_local) × (limits.max_local ≤ 65536))) }
+    ensures slot_groups { IfOk result (λ task. OfRun task
+        (λ limits. (1 ≤ limits.slot_groups) × (limits.slot_groups ≤ 8))) }
     ensures hammer { IfOk result (λ task. OfHammer task
         (λ hammer. (1 ≤ hammer.sessions) × (hammer.sessions ≤ 64))) }
     ensures rounds { IfOk result (λ task. OfHammer task
@@ -340,6 +356,8 @@ fn task_of<'a>(alloc: Global, words: &'a [String]) -> Result<Task, Error>
     ensures sessions { IfOk result (λ task. OfRun task (λ limits. (1 ≤ limits.sessions) × (limits.sessions ≤ 64))) }
     ensures max_local { IfOk result (λ task. OfRun task
         (λ limits. (1 ≤ limits.max_local) × (limits.max_local ≤ 65536))) }
+    ensures slot_groups { IfOk result (λ task. OfRun task
+        (λ limits. (1 ≤ limits.slot_groups) × (limits.slot_groups ≤ 8))) }
     ensures hammer { IfOk result (λ task. OfHammer task
         (λ hammer. (1 ≤ hammer.sessions) × (hammer.sessions ≤ 64))) }
     ensures rounds { IfOk result (λ task. OfHammer task
@@ -363,12 +381,15 @@ fn task_of<'a>(alloc: Global, words: &'a [String]) -> Result<Task, Error>
 fn limits_of(words: &ArgMatches) -> Limits
     ensures sessions { (1 ≤ result.sessions) × (result.sessions ≤ 64) }
     ensures max_local { (1 ≤ result.max_local) × (result.max_local ≤ 65536) }
+    ensures slot_groups { (1 ≤ result.slot_groups) × (result.slot_groups ≤ 8) }
 {
     let sessions = words.get_one::<u32>("sessions").unwrap_or(USUAL_SESSIONS);
     let max_local = words.get_one::<u32>("max-local").unwrap_or(USUAL_LOCAL);
+    let slot_groups = words.get_one::<u32>("slot-groups").unwrap_or(USUAL_GROUPS);
     Limits {
         sessions: sessions.clamp(1, MOST_SESSIONS),
         max_local: max_local.clamp(1, MOST_LOCAL),
+        slot_groups: slot_groups.clamp(1, MOST_GROUPS),
     }
 }
 

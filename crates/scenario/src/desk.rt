@@ -39,7 +39,8 @@ pub struct SharedDesk;
 impl<'a> Desk<'a, Session<'a>> for SharedDesk {
     ghost seat = { λ session. record {
       number = session.board.number;
-      limit = session.board.sessions;
+      limit = session.board.sizes.sessions;
+      groups = session.board.sizes.groups;
       table = session.board.table.now.table_id;
     } };
 

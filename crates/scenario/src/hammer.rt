@@ -50,6 +50,7 @@ pub fn run_watched_hammer<
     let config = Config {
         sessions: size.sessions,
         max_local: MAX_LOCAL,
+        slot_groups: 1,
     };
     let Ok((manager, opener)) = Manager::new(alloc, config) else {
         return Err(Fault::NoMemory);

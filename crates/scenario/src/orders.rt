@@ -28,6 +28,7 @@ impl Player for OnManagers {
         let config = Config {
             sessions: self.limits.sessions,
             max_local: self.limits.max_local,
+            slot_groups: self.limits.slot_groups,
         };
         let style = Style {
             echo: true,

@@ -97,6 +97,7 @@ fn run_words<
             let config = Config {
                 sessions: limits.sessions,
                 max_local: limits.max_local,
+                slot_groups: limits.slot_groups,
             };
             if input.is_terminal {
                 invite(errors.writer);
@@ -178,6 +179,7 @@ fn talk<H: AllocGlobal + Wait, R: Read + Drop, W: Write + Drop>(
     let config = Config {
         sessions: limits.sessions,
         max_local: limits.max_local,
+        slot_groups: limits.slot_groups,
     };
     run_shell(rt, input.reader, output, config, input.is_terminal)
 }

@@ -44,6 +44,7 @@ pub struct Stage<'a, T: PartTable, B: Board<T>> {
     pub sessions: OpenSessions<OwnSession<T, B>, OwnWaiting<T, B>>,
     ghost own: { opener.table ≡ manager.now.table },
     ghost size: { opener.limit ≡ manager.now.limit },
+    ghost groups: { opener.groups ≡ manager.now.groups },
     ghost named: { length names ≡ opener.issued },
     ghost few: { opener.issued ≤ 64 },
     ghost within: { opener.live ≤ opener.issued },

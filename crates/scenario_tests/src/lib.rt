@@ -5,6 +5,8 @@
 #[cfg(test)]
 mod advisory;
 #[cfg(test)]
+mod groups;
+#[cfg(test)]
 mod hammers;
 #[cfg(test)]
 mod inputs;

@@ -231,6 +231,7 @@ fn count(rt: &(impl Abort + AllocGlobal + Wait), script: &str, counts: &mut Coun
     let config = Config {
         sessions: 8,
         max_local: 16,
+        slot_groups: 1,
     };
     let mut printed = Vec::new(rt.alloc());
     match run_script(rt, script.as_bytes(), &mut printed, config) {

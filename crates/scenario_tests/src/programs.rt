@@ -34,11 +34,16 @@ pub fn words_of(alloc: Global, line: &str) -> Result<Vec<String>, Fail> {
 }
 
 /// Words, and how many sessions and local entries or rounds they ask for, where they aren't refused.
-static WORDS: [(&str, Option<(u32, u32)>); 33] = [
+static WORDS: [(&str, Option<(u32, u32)>); 37] = [
     ("lock_scenario run", Some((8, 1024))),
     ("lock_scenario run --sessions 1", Some((1, 1024))),
     ("lock_scenario run --sessions=64", Some((64, 1024))),
     ("lock_scenario run --max-local 1", Some((8, 1))),
+    ("lock_scenario run --slot-groups 1", Some((8, 1024))),
+    (
+        "lock_scenario run --slot-groups 8 --sessions 2",
+        Some((2, 1024)),
+    ),
     (
         "lock_scenario run --max-local 65536 --sessions 2",
         Some((2, 65_536)),
@@ -68,7 +73,9 @@ static WORDS: [(&str, Option<(u32, u32)>); 33] = [
     ("lock_scenario run --sessions 1 --sessions 2", None),
     ("lock_scenario run --max-local 0", None),
     ("lock_scenario run --max-local 65537", None),
-    ("lock_scenario run --slot-groups 1", None),
+    ("lock_scenario run --slot-groups 0", None),
+    ("lock_scenario run --slot-groups 9", None),
+    ("lock_scenario run --slot-groups x", None),
     ("lock_scenario run more", None),
     ("lock_scenario --man", Some((0, 0))),
     ("lock_scenario run --man", None),
@@ -140,6 +147,7 @@ Usage: lock_scenario run [OPTIONS]
 Options:
       --sessions <N>      How many sessions the script may open [default: 8]
       --max-local <M>     How many different locks a session may have [default: 1024]
+      --slot-groups <G>   How many groups of sixteen fast-path slots a session has [default: 1]
       --echo              Print each line of the script before its answers
       --json              Print an object of JSON for each line, instead of its text
       --graph <LANGUAGE>  Draw who waits for whom behind the rows of each list [possible values: mermaid, dot]
@@ -241,7 +249,7 @@ const RUN: &str = "lock_scenario run";
 const OPENED: &str = "a: session 0 database 5\n";
 
 /// Words with a run of the program on them.
-static RUNS: [(&str, Run); 15] = [
+static RUNS: [(&str, Run); 18] = [
     ("lock_scenario modes", ("frob", false, 0, MODES, "")),
     ("lock_scenario modes --help", ("", false, 0, MODES_HELP, "")),
     (RUN, ("session a 5\n", false, 0, OPENED, "")),
@@ -290,6 +298,39 @@ static RUNS: [(&str, Run); 15] = [
             2,
             "",
             "error: invalid value '65' for '--sessions <N>': 65 is not in 1..=64\n\n\
+             For more information, try '--help'.\n",
+        ),
+    ),
+    (
+        "lock_scenario run --slot-groups 2",
+        (
+            "session a 5\ntry a 5/16384 AccessShareLock\ntry a 5/16385 AccessShareLock\nlist a\n",
+            false,
+            0,
+            "a: session 0 database 5\na: granted\na: granted\n\
+             fast a 15 5/16384 AccessShareLock\nfast a 31 5/16385 AccessShareLock\nrows 2\n",
+            "",
+        ),
+    ),
+    (
+        "lock_scenario run --slot-groups 0",
+        (
+            "session a 5\n",
+            false,
+            2,
+            "",
+            "error: invalid value '0' for '--slot-groups <G>': 0 is not in 1..=8\n\n\
+             For more information, try '--help'.\n",
+        ),
+    ),
+    (
+        "lock_scenario run --slot-groups 9",
+        (
+            "session a 5\n",
+            false,
+            2,
+            "",
+            "error: invalid value '9' for '--slot-groups <G>': 9 is not in 1..=8\n\n\
              For more information, try '--help'.\n",
         ),
     ),

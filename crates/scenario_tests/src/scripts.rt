@@ -3,11 +3,11 @@ use crate::inputs::INPUTS;
 use crate::pipes::Pipe;
 use crate::rows::{self, BadRow, Copies, Row};
 use crate::scenarios::{deadlocks, owners, the_fast_path, the_queue};
-use crate::{advisory, nested, queues, waiting};
-use lock_manager::{Config, MOST_LOCAL, MOST_SESSIONS};
+use crate::{advisory, groups, nested, queues, waiting};
+use lock_manager::{Config, MOST_GROUPS, MOST_LOCAL, MOST_SESSIONS};
 use lock_script::{Defect, Fault};
 use scenario::run_script;
-use std::alloc::Global;
+use std::alloc::{AllocError, Global};
 use std::io::{self, ErrorKind, Read};
 use std::process::Abort;
 use std::sync::Wait;
@@ -35,21 +35,38 @@ impl Read for Script<'_> {
 const EIGHT: Config = Config {
     sessions: 8,
     max_local: 1024,
+    slot_groups: 1,
 };
 
 const TWO_LOCKS: Config = Config {
     sessions: 8,
     max_local: 2,
+    slot_groups: 1,
 };
 
 const ONE_SESSION: Config = Config {
     sessions: 1,
     max_local: 1024,
+    slot_groups: 1,
 };
 
 pub const ALL_SESSIONS: Config = Config {
     sessions: 64,
     max_local: 1024,
+    slot_groups: 1,
+};
+
+const TWO_GROUPS: Config = Config {
+    sessions: 8,
+    max_local: 1024,
+    slot_groups: 2,
+};
+
+/// As many groups as there can be.
+const ALL_GROUPS: Config = Config {
+    sessions: 2,
+    max_local: 1024,
+    slot_groups: 8,
 };
 
 /// Runs a script that is read so many bytes at a time, and checks what it prints and the fault that ends it, both as
@@ -71,6 +88,7 @@ fn expect_read(
     let within = Config {
         sessions: config.sessions.clamp(1, MOST_SESSIONS),
         max_local: config.max_local.clamp(1, MOST_LOCAL),
+        slot_groups: config.slot_groups.clamp(1, MOST_GROUPS),
     };
     let mut output = Vec::new(alloc);
     let ended = match run_script(rt, reader, &mut output, within) {
@@ -224,6 +242,91 @@ fn a_cancel_takes_a_wait_back(rt: HostRuntime) -> Result<(), Fail> {
 #[test]
 fn a_release_passes_the_queue(rt: HostRuntime) -> Result<(), Fail> {
     expect_rows(&rt, ALL_SESSIONS, &waiting::PASSES)
+}
+
+#[test]
+fn scripts_of_two_groups_of_slots_print_what_the_rows_say(rt: HostRuntime) -> Result<(), Fail> {
+    expect_rows(&rt, TWO_GROUPS, &groups::TWO_GROUPS)
+}
+
+/// Lines that lock 128 relations and one more, and those of their listing: the first 128 are in as many slots.
+fn fill_all_groups(alloc: Global) -> Result<(String, String), Fail> {
+    let mut script = String::from_str(alloc, "session a 5\nsession b 5\n")?;
+    let mut printed = String::from_str(
+        alloc,
+        "a: session 0 database 5\nb: session 1 database 5\n",
+    )?;
+    for number in 0..129u32 {
+        let line = format!(in alloc; "lock a 5/{} AccessShareLock\n", number.wrapping_add(16384))?;
+        script.push_str(line.as_str())?;
+        printed.push_str("a: granted\n")?;
+    }
+    script.push_str("fast a 5/16513 AccessShareLock\nlist b\n")?;
+    printed.push_str("a: refused 9 slots full\n")?;
+    for slot in 0..128u32 {
+        let relation = (15 - slot % 16) * 8 + slot / 16;
+        let line = format!(in alloc;
+            "fast a {slot} 5/{} AccessShareLock\n",
+            relation.wrapping_add(16384)
+        )?;
+        printed.push_str(line.as_str())?;
+    }
+    printed.push_str("table a 5/16512 AccessShareLock granted\nrows 129\n")?;
+    Ok((script, printed))
+}
+
+/// Lines by which a strong lock of another session moves each of 128 relations, and those of the listing behind them: all stand in the
+/// table then.
+fn move_all_slots(
+    alloc: Global,
+    script: &mut String,
+    printed: &mut String,
+) -> Result<(), AllocError> {
+    for number in 0..128u32 {
+        let line = format!(in alloc;
+            "try b 5/{} AccessExclusiveLock\n",
+            number.wrapping_add(16384)
+        )?;
+        script.push_str(line.as_str())?;
+        printed.push_str("b: refused 1 conflict a AccessShareLock held\n")?;
+    }
+    script.push_str("list b\n")?;
+    for number in 0..129u32 {
+        let line = format!(in alloc;
+            "table a 5/{} AccessShareLock granted\n",
+            number.wrapping_add(16384)
+        )?;
+        printed.push_str(line.as_str())?;
+    }
+    printed.push_str("rows 129\n")
+}
+
+/// What is released in the table leaves its group's slots free to be counted anew, and those of other groups as they are.
+const AFTER_MOVES: &str = "fast a 5/16520 AccessShareLock\n\
+    unlock a 5/16384 AccessShareLock\n\
+    fast a 5/16520 AccessShareLock\n\
+    fast a 5/16513 AccessShareLock\n\
+    commit a\n\
+    fast a 5/16513 AccessShareLock\n\
+    list b\n";
+
+const AFTER_MOVES_PRINTED: &str = "a: refused 9 slots full\n\
+    a: released\n\
+    a: granted\n\
+    a: refused 9 slots full\n\
+    a: committed\n\
+    a: granted\n\
+    fast a 31 5/16513 AccessShareLock\n\
+    rows 1\n";
+
+#[test]
+fn eight_groups_have_128_slots(rt: HostRuntime) -> Result<(), Fail> {
+    let alloc = rt.alloc();
+    let (mut script, mut printed) = fill_all_groups(alloc)?;
+    move_all_slots(alloc, &mut script, &mut printed)?;
+    script.push_str(AFTER_MOVES)?;
+    printed.push_str(AFTER_MOVES_PRINTED)?;
+    expect_run(&rt, ALL_GROUPS, script.as_str(), printed.as_str(), "")
 }
 
 /// Checks that each of these lines is a fault behind the others, and the end of the script.

@@ -1,4 +1,4 @@
-use Rattle.std.specs.Prelude.{◌≡◌, ℕ, ◌<◌, List, length, slice_index}
+use Rattle.std.specs.Prelude.{◌≡◌, ℕ, ◌<◌, ◌≤◌, ◌+◌, List, length, slice_index}
 
 -- The first place at which two merges differ has the later session in the second one.
 pub record ComesLater (old new : List ℕ) : Type 0 where
@@ -6,3 +6,7 @@ pub record ComesLater (old new : List ℕ) : Type 0 where
   pub within : place < length old
   pub front : (k : ℕ) → k < place → slice_index new k ≡ slice_index old k
   pub later : slice_index old place < slice_index new place
+
+-- No session stands before a later one. So of all merges of these sessions it is the last: none comes later.
+abbrev pub IsInDescendingOrder : List ℕ → Type 0
+IsInDescendingOrder merge = (k : ℕ) → k + 1 < length merge → slice_index merge (k + 1) ≤ slice_index merge k

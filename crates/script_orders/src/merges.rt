@@ -1,16 +1,17 @@
 //! The merges of several sessions' lines. A merge is a list of sessions, each as often as it has lines: whose line comes when. So
 //! each session's lines keep their order in every merge.
 
-ghost use Rattle.std.specs.Prelude.{◌≡◌, ◌<◌, ◌≤◌, ◌+◌, true, false, length, take, slice_index, IfSome};
+ghost use Rattle.std.specs.Prelude.{◌≡◌, ◌<◌, ◌≤◌, ◌+◌, true, false, length, take, slice_index, IfSome, IfNone};
 ghost use Rattle.std.specs.List.Sorted.{IsPermutation};
-ghost use Rattle.script_orders.specs.Merges.{ComesLater};
+ghost use Rattle.script_orders.specs.Merges.{ComesLater, IsInDescendingOrder};
 
 /// Goes on to the next merge of the same sessions, or answers that there is none. The first merge of all has the sessions in
 /// ascending order. Each merge comes later than the one before, so none comes twice.
 pub fn next_merge(merge: &mut [usize]) -> bool
     ensures same { IsPermutation merge.old merge.new }
     ensures later { result ≡ true → ComesLater merge.old merge.new }
-    ensures last { result ≡ false → merge.new ≡ merge.old }
+    ensures last { result ≡ false → IsInDescendingOrder merge.old }
+    ensures unchanged { result ≡ false → merge.new ≡ merge.old }
 {
     let Some(place) = last_ascent(merge) else {
         return false;
@@ -25,6 +26,7 @@ pub fn next_merge(merge: &mut [usize]) -> bool
 fn last_ascent(merge: &[usize]) -> Option<usize>
     ensures ascent { IfSome result (λ place. (place + 1 < length merge.now)
         × (slice_index merge.now place < slice_index merge.now (place + 1))) }
+    ensures none { IfNone result (IsInDescendingOrder merge.now) }
 {
     let mut found = None;
     'places: for place in 0..merge.len().saturating_sub(1) {

@@ -47,12 +47,13 @@ knows-content number a lists p content knows = record {
   granted_hold = knows.granted_hold;
 }
 
-knows-slots : (number : ℕ) (a : Account) (lists : ListAccount) (owner : ℕ) (slots : SlotsInHand) → KnowsSlots number (with_lists a lists) owner slots → KnowsSlots number a owner slots
-knows-slots number a lists owner slots knows = record {
+knows-slots : (groups number : ℕ) (a : Account) (lists : ListAccount) (owner : ℕ) (slots : SlotsInHand) → KnowsSlots groups number (with_lists a lists) owner slots → KnowsSlots groups number a owner slots
+knows-slots groups number a lists owner slots knows = record {
   database = knows.database;
   holds = knows.holds;
   one_each = knows.one_each;
   in_use = knows.in_use;
+  in_groups = knows.in_groups;
   own_database = knows.own_database;
   own = knows.own;
   as_remembered = knows.as_remembered;
@@ -92,9 +93,9 @@ where-none (Some x) P Q f p = p
 
 module _ {T : Type 0} (content : T → Content) where
   -- A step that took the lock of a session's slots,
-  pub took-slots : (owner : ℕ) (before after : Seat (Kept T) (View T)) → HasSession before.me.0 → IsSameSeat before after
-      → TookSlots content owner before.me after.me → GetsSlots content Exclusive owner before after
-  took-slots owner before after has same took = record {
+  pub took-slots : (groups owner : ℕ) (before after : Seat (Kept T) (View T)) → HasSession before.me.0 → IsSameSeat before after
+      → TookSlots content groups owner before.me after.me → GetsSlots content groups Exclusive owner before after
+  took-slots groups owner before after has same took = record {
     shown = slots_shown took.database took.words;
     knows = took.knows;
     led = led-noted content before after (TookFast owner took.database took.words) has same (ap (λ (side : Side T). side.0) took.side);
@@ -102,9 +103,9 @@ module _ {T : Type 0} (content : T → Content) where
   }
 
   -- or shared it.
-  pub shared-slots : (owner : ℕ) (before after : Seat (Kept T) (View T)) → HasSession before.me.0 → IsSameSeat before after
-      → SharedSlots content owner before.me after.me → GetsSlots content Shared owner before after
-  shared-slots owner before after has same shares = record {
+  pub shared-slots : (groups owner : ℕ) (before after : Seat (Kept T) (View T)) → HasSession before.me.0 → IsSameSeat before after
+      → SharedSlots content groups owner before.me after.me → GetsSlots content groups Shared owner before after
+  shared-slots groups owner before after has same shares = record {
     shown = slots_shown shares.database shares.words;
     knows = shares.knows;
     led = led-noted content before after (SharedFast owner shares.database shares.words) has same (ap (λ (side : Side T). side.0) shares.side);
@@ -120,11 +121,11 @@ module _ {T : Type 0} (content : T → Content) where
     }
 
     -- or one that got the lock of a session's slots,
-    pub nothing-then_slots : (mode : LwMode) (owner : ℕ) → GetsSlots content mode owner middle after → GetsSlots content mode owner before after
-    nothing-then_slots mode owner takes = record {
+    pub nothing-then_slots : (groups : ℕ) (mode : LwMode) (owner : ℕ) → GetsSlots content groups mode owner middle after → GetsSlots content groups mode owner before after
+    nothing-then_slots groups mode owner takes = record {
       shown = takes.shown;
-      knows = subst (λ n. KnowsSlots n (account_at content before) owner takes.shown) first.led.number
-          (subst (λ a. KnowsSlots (number_at middle) a owner takes.shown) first.led.account takes.knows);
+      knows = subst (λ n. KnowsSlots groups n (account_at content before) owner takes.shown) first.led.number
+          (subst (λ a. KnowsSlots groups (number_at middle) a owner takes.shown) first.led.account takes.knows);
       led = subst (λ n. Led content before after (account_getting mode n (account_at content before) owner takes.shown)) first.led.number
           (led-then content before middle after (account_at content before) (λ a. account_getting mode (number_at middle) a owner takes.shown) first.led takes.led);
       slots = takes.slots ∙ first.slots;
@@ -167,10 +168,10 @@ module _ {T : Type 0} (content : T → Content) where
 
     -- or the lock of a session's slots,
     pub got_slots-between :
-        (mode : LwMode) (owner : ℕ) → GetsSlots content mode owner queued attempted
+        (groups : ℕ) (mode : LwMode) (owner : ℕ) → GetsSlots content groups mode owner queued attempted
         → Led content attempted after (with_lists (account_at content attempted) no_lists) → after.me.1 ≡ attempted.me.1
-        → GetsSlots content mode owner before after
-    got_slots-between mode owner takes leaves rest =
+        → GetsSlots content groups mode owner before after
+    got_slots-between groups mode owner takes leaves rest =
         let a : Account = account_at content before in
         let n : ℕ = number_at queued in
         let twice = led-then content before queued attempted (with_lists a (queued_for lock)) (λ b. account_getting mode n b owner takes.shown) queues takes.led in
@@ -180,9 +181,9 @@ module _ {T : Type 0} (content : T → Content) where
         (getting-with mode n a (queued_for lock) no_lists owner takes.shown ∙ ap (λ b. account_getting mode n b owner takes.shown) (idle-same a idle)) in
         record {
           shown = takes.shown;
-          knows = knows-slots (number_at before) a (queued_for lock) owner takes.shown
-              (subst (λ n. KnowsSlots n (with_lists a (queued_for lock)) owner takes.shown) queues.number
-              (subst (λ b. KnowsSlots (number_at queued) b owner takes.shown) queues.account takes.knows));
+          knows = knows-slots groups (number_at before) a (queued_for lock) owner takes.shown
+              (subst (λ n. KnowsSlots groups n (with_lists a (queued_for lock)) owner takes.shown) queues.number
+              (subst (λ b. KnowsSlots groups (number_at queued) b owner takes.shown) queues.account takes.knows));
           led = subst (λ n. Led content before after (account_getting mode n a owner takes.shown)) queues.number fourth;
           slots = rest ∙ takes.slots ∙ same;
         }
@@ -207,7 +208,7 @@ module _ {T : Type 0} (content : T → Content) where
           slots = last ∙ rest ∙ lost.slots ∙ same;
         }
 
-    pub queued-slots : (mode : LwMode) (owner : ℕ) → GetsSlots content mode owner queued attempted → (account_at content attempted).lists ≡ queued_for lock
-    queued-slots mode owner takes =
+    pub queued-slots : (groups : ℕ) (mode : LwMode) (owner : ℕ) → GetsSlots content groups mode owner queued attempted → (account_at content attempted).lists ≡ queued_for lock
+    queued-slots groups mode owner takes =
         ap (λ (b : Account). b.lists) takes.led.account ∙ getting-lists mode (number_at queued) (account_at content queued) owner takes.shown
         ∙ ap (λ (b : Account). b.lists) queues.account

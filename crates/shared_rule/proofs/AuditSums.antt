@@ -1,4 +1,4 @@
-use Rattle.std.proofs.Common.{◌≡◌, ◌≢◌, ℕ, zero, suc, ◌+◌, ◌<◌, ◌≤◌, true, false, List, [], ◌∷◌, map, length, Some, refl, sym, ap, ◌∙◌, subst, inl, inr, arith}
+use Rattle.std.proofs.Common.{◌≡◌, ◌≢◌, ℕ, zero, suc, ◌+◌, ◌*◌, ◌<◌, ◌≤◌, true, false, List, [], ◌∷◌, map, length, Some, refl, sym, ap, ◌∙◌, subst, inl, inr, arith}
 use Rattle.std.specs.Prelude.{◌==◌, sum, sum_by, count_by, if◌then◌else◌, Result, Ok, Err, IfOk, OnOk}
 use Rattle.std.proofs.lemmas.Bool.{cases_eq, cond-true, cond-false, eq-eqb, ne_eqb}
 use Rattle.std.proofs.lemmas.List.Sums.{sum_by-cons}
@@ -14,7 +14,7 @@ use Rattle.lock_table.proofs.PutLemmas.{set_at-here, set_at-else}
 use Rattle.lock_table.proofs.Totals.{total-same, total-nothing, total-change}
 use Rattle.lock_world.specs.Account.{Account}
 use Rattle.lock_world.specs.Counted.{count_at}
-use Rattle.lock_world.specs.SlotHolds.{slot_count}
+use Rattle.lock_world.specs.SlotHolds.{group_size, most_groups}
 use Rattle.lock_world.specs.Tallies.{AreSoMany, OwnStand, ShowsLeft, shown_in_slots}
 use Rattle.lock_world.proofs.Tallies.Sums.{total-add}
 use Rattle.lock_world.proofs.Tallies.Counters.{all-counted}
@@ -96,13 +96,13 @@ within-among limit (one ∷ others) distinct k tag mode own =
     ]
 
 -- Slots and rows,
-pub held-sum : (limit : ℕ) (gathered : List Gathered) (contents : ℕ → Content) (word : ℕ → ℕ → ℕ) (rows : List TableRow) (many : List ℕ) → AreDistinct limit gathered
-    → ((k : ℕ) → OwnStand k (account_among gathered k) contents)
-    → ((k place : ℕ) → k < limit → place < slot_count → ShowsLeft k (account_among gathered k) contents place (word k place))
+pub held-sum : (limit groups : ℕ) → 0 < groups → groups ≤ most_groups → (gathered : List Gathered) (contents : ℕ → Content) (word : ℕ → ℕ → ℕ) (rows : List TableRow) (many : List ℕ) → AreDistinct limit gathered
+    → ((k : ℕ) → OwnStand groups k (account_among gathered k) contents)
+    → ((k place : ℕ) → k < limit → place < group_size * groups → ShowsLeft k (account_among gathered k) contents place (word k place))
     → HasEachRow (whole_of contents) rows → OwnSoMany gathered many
-    → shown_in_slots limit word + count_by (λ (row : TableRow). row.granted) rows ≡ sum many
-held-sum limit gathered contents word rows many distinct stand left each own =
-    all-sum limit (account_among gathered) contents word (many_among gathered many) stand left (owned-among gathered many own) (within-among limit gathered distinct) rows each
+    → shown_in_slots limit groups word + count_by (λ (row : TableRow). row.granted) rows ≡ sum many
+held-sum limit groups some few gathered contents word rows many distinct stand left each own =
+    all-sum limit groups some few (account_among gathered) contents word (many_among gathered many) stand left (owned-among gathered many own) (within-among limit gathered distinct) rows each
     ∙ sum-many limit gathered many distinct own
 
 -- and counters.
@@ -125,14 +125,14 @@ pub are-all : {T : Type 0} (view : View T) (issued : ℕ) → view.next ≡ Some
 are-all view issued next all = record { next = next; all = all }
 
 -- All that an audit of those gathered does and finds.
-module _ {T : Type 0} (content : T → Content) (table later : TableId) (limit issued strong fast : ℕ) (v0 v1 v2 : View T) (rows : List TableRow) (r : Result (Unit {0}) NoMemory)
+module _ {T : Type 0} (content : T → Content) (table later : TableId) (limit groups issued strong fast : ℕ) (some_groups : 0 < groups) (few_groups : groups ≤ most_groups) (v0 v1 v2 : View T) (rows : List TableRow) (r : Result (Unit {0}) NoMemory)
     (same_table : later ≡ table) (has : HasSession v0) (are : AreAll issued v0) (within : issued ≤ limit) (nobody : NoneWaits (gathered_in content v0.sessions))
-    (seen : CountersSeen content 1024 v0 v1 strong) (counts : CountsFrom content 0 limit v1 [] r fast v2 rows) where
+    (seen : CountersSeen content 1024 v0 v1 strong) (counts : CountsFrom content groups 0 limit v1 [] r fast v2 rows) where
   abbrev before : OpenerState T
-  before = record { table = table; issued = issued; limit = limit; closed = v0.closed; gathered = v0.sessions }
+  before = record { table = table; issued = issued; limit = limit; groups = groups; closed = v0.closed; gathered = v0.sessions }
 
   abbrev after : OpenerState T
-  after = record { table = later; issued = issued; limit = limit; closed = v2.closed; gathered = v2.sessions }
+  after = record { table = later; issued = issued; limit = limit; groups = groups; closed = v2.closed; gathered = v2.sessions }
 
   abbrev gathered : List Gathered
   gathered = gathered_in content v0.sessions
@@ -146,16 +146,16 @@ module _ {T : Type 0} (content : T → Content) (table later : TableId) (limit i
   sixteen : length counts.contents ≡ 16
   sixteen = let last = counts.last in omega (arith, last)
 
-  account : first_account content v2.sessions ≡ account_after (first_account content v0.sessions) (audit_steps limit shown counts.word counts.contents)
+  account : first_account content v2.sessions ≡ account_after (first_account content v0.sessions) (audit_steps limit groups shown counts.word counts.contents)
   account =
       after-both (first_account content v0.sessions) (first_account content v1.sessions) (first_account content v2.sessions)
-      (counter_loads 1024 shown) (holding_steps 0 counts.contents (all_slot_loads limit counts.word)) seen.account counts.account
+      (counter_loads 1024 shown) (holding_steps 0 counts.contents (all_slot_loads limit groups counts.word)) seen.account counts.account
 
-  made : (result : Result Audit NoMemory) → IfOk result (CountsTo limit shown counts.word counts.contents) → IfOk result (AddsUp gathered) → CountsAll content before after result
+  made : (result : Result Audit NoMemory) → IfOk result (CountsTo limit groups shown counts.word counts.contents) → IfOk result (AddsUp gathered) → CountsAll content before after result
   made result counted adds_up = record {
     counts = record { counters = shown; word = counts.word; contents = counts.contents; sixteen = sixteen; trace = ap (λ (a : Account). a.trace) account; counted = counted };
     adds_up = adds_up;
-    opener = λ i. record { table = same_table i; issued = issued; limit = limit; closed = further.closed i; gathered = v2.sessions };
+    opener = λ i. record { table = same_table i; issued = issued; limit = limit; groups = groups; closed = further.closed i; gathered = v2.sessions };
     first = further.some.history;
     gathered = sessions-split v2 further.some ∙ ap (λ xs. further.some.history ∷ xs) further.behind;
     number = sym (ap first_number further.some.sessions) ∙ further.number;
@@ -167,9 +167,9 @@ module _ {T : Type 0} (content : T → Content) (table later : TableId) (limit i
   pub counts-refused : (e : NoMemory) → CountsAll content before after (Err e)
   counts-refused e = made (Err e) tt tt
 
-  found : Finds content issued limit v0 (content_at counts.contents) counts.word
+  found : Finds content groups issued limit v0 (content_at counts.contents) counts.word
   found =
-      finds-traced content issued limit v0 v1 (counter_loads 1024 shown) has seen.further seen.account (content_at counts.contents) counts.word
+      finds-traced content groups issued limit v0 v1 (counter_loads 1024 shown) has seen.further seen.account (content_at counts.contents) counts.word
       (counts.finds issued (further-all v0 v1 issued has seen.further are) (content_at counts.contents) (λ p below. absurd (omega (arith, below)))
       (λ k below. let same : 0 + k ≡ k = omega arith in ap (content_at counts.contents) same))
 
@@ -183,7 +183,7 @@ module _ {T : Type 0} (content : T → Content) (table later : TableId) (limit i
       (record {
         held = λ many own.
             let sum_of =
-            held-sum limit gathered (content_at counts.contents) counts.word rows many (distinct-more issued limit gathered within found.distinct) (found.stand nobody) found.left each own in
+            held-sum limit groups some_groups few_groups gathered (content_at counts.contents) counts.word rows many (distinct-more issued limit gathered within found.distinct) (found.stand nobody) found.left each own in
             let shown_as = counts.fast_ in
             omega (arith, sum_of, shown_as, granted);
         strong = seen.sum_ ∙ strong-sum gathered;

@@ -21,7 +21,7 @@ use Rattle.lock_world.specs.Account.{Account, FastAccount, InHand}
 use Rattle.lock_world.specs.AccountSteps.{account_taking, account_putting, account_tracing, account_reading}
 use Rattle.lock_world.specs.AccountFacts.{KnowsContent}
 use Rattle.lock_world.specs.Counted.{Counted, count_at}
-use Rattle.lock_world.specs.SlotHolds.{slot_count, slot_holds, OneSlotEach}
+use Rattle.lock_world.specs.SlotHolds.{group_size, slot_holds, OneSlotEach, AreInGroups}
 use Rattle.lock_world.specs.Tallies.{joined, modes_shown, shown_in_slots, left_in_slots, OwnStand, ShowsLeft}
 use Rattle.lock_world.specs.World.{TraceEntry, Loaded}
 use Rattle.lock_world.proofs.Tallies.Lists.{joined-more, joined-same}
@@ -107,9 +107,10 @@ module _ {T : Type 0} (content : T → Content) where
 
 -- ---- what is known of the first by another account of it that owns the same and knows the same of slots
 
-stand-as : (k : ℕ) (a b : Account) (contents : ℕ → Content) → a.own ≡ b.own → a.fast ≡ b.fast → OwnStand k a contents → OwnStand k b contents
-stand-as k a b contents own fast stand = record {
+stand-as : (groups k : ℕ) (a b : Account) (contents : ℕ → Content) → a.own ≡ b.own → a.fast ≡ b.fast → OwnStand groups k a contents → OwnStand groups k b contents
+stand-as groups k a b contents own fast stand = record {
   one_each = subst (λ (f : FastAccount). OneSlotEach f.remembered) fast stand.one_each;
+  in_groups = subst (λ (f : FastAccount). AreInGroups groups f.remembered) fast stand.in_groups;
   in_slots = λ t m is.
       subst (λ (f : FastAccount). slot_holds f.database f.remembered t m ≡ true) fast
       (stand.in_slots t m (ap (λ (o : Tag → Mode → Bool). left_in_slots o contents k t m) own ∙ is));
@@ -163,12 +164,12 @@ module _ {T : Type 0} (content : T → Content) (a b : View T) (has : HasSession
       let split : NoneWaits (record { number = number; account = mine } ∷ rest) = subst NoneWaits before-is nobody in
       subst NoneWaits (sym after-is) (sym same ∙ split.0, split.1)
 
-  pub stand-before : its.own ≡ mine.own → its.fast ≡ mine.fast → (k : ℕ) (contents : ℕ → Content)
-      → OwnStand k (account_among (gathered_in content b.sessions) k) contents → OwnStand k (account_among (gathered_in content a.sessions) k) contents
-  stand-before own fast k contents stand =
-      subst (λ xs. OwnStand k (account_among xs k) contents) (sym before-is)
-      (among-as (λ c. OwnStand k c contents) number its mine rest k (stand-as k its mine contents own fast)
-      (subst (λ xs. OwnStand k (account_among xs k) contents) after-is stand))
+  pub stand-before : its.own ≡ mine.own → its.fast ≡ mine.fast → (groups k : ℕ) (contents : ℕ → Content)
+      → OwnStand groups k (account_among (gathered_in content b.sessions) k) contents → OwnStand groups k (account_among (gathered_in content a.sessions) k) contents
+  stand-before own fast groups k contents stand =
+      subst (λ xs. OwnStand groups k (account_among xs k) contents) (sym before-is)
+      (among-as (λ c. OwnStand groups k c contents) number its mine rest k (stand-as groups k its mine contents own fast)
+      (subst (λ xs. OwnStand groups k (account_among xs k) contents) after-is stand))
 
   pub left-before : its.own ≡ mine.own → its.fast ≡ mine.fast → (k : ℕ) (contents : ℕ → Content) (place word : ℕ)
       → ShowsLeft k (account_among (gathered_in content b.sessions) k) contents place word → ShowsLeft k (account_among (gathered_in content a.sessions) k) contents place word
@@ -266,18 +267,18 @@ module _ {T : Type 0} (content : T → Content) where
       (ap (λ (v : View T). first_account content v.sessions) is ∙ account-noting content mid (LoadedSlot owner count shown) so_far.further.some)
       knows added
 
-  pub sees-no_session : (view : View T) → HasSession view → SeesAllSlots content 0 view view 0
-  sees-no_session view has = record {
+  pub sees-no_session : (groups : ℕ) (view : View T) → HasSession view → SeesAllSlots content groups 0 view view 0
+  sees-no_session groups view has = record {
     word = λ _ _. 0;
     further = further-itself view has;
-    account = after-none (first_account content view.sessions) (all_slot_loads 0 (λ _ _. 0)) (joined-none (λ owner. slot_loads_of owner slot_count (λ _. 0)));
-    sum_ = sym (total-none (λ owner. total slot_count (λ place. modes_shown 0)));
+    account = after-none (first_account content view.sessions) (all_slot_loads 0 groups (λ _ _. 0)) (joined-none (λ owner. slot_loads_of owner (group_size * groups) (λ _. 0)));
+    sum_ = sym (total-none (λ owner. total (group_size * groups) (λ place. modes_shown 0)));
     left = λ issued are contents in_hand owner place below within. absurd (omega (arith, below));
   }
 
-  pub sees-session : (count : ℕ) (before mid after : View T) (sum more one : ℕ) → HasSession before → SeesAllSlots content count before mid sum → SeesSlots content count slot_count mid after one
-      → more ≡ sum + one → SeesAllSlots content (count + 1) before after more
-  sees-session count before mid after sum more one has so_far sees added =
+  pub sees-session : (groups count : ℕ) (before mid after : View T) (sum more one : ℕ) → HasSession before → SeesAllSlots content groups count before mid sum → SeesSlots content count (group_size * groups) mid after one
+      → more ≡ sum + one → SeesAllSlots content groups (count + 1) before after more
+  sees-session groups count before mid after sum more one has so_far sees added =
       let word : ℕ → ℕ → ℕ = set_at so_far.word count sees.word in
       let here : word count ≡ sees.word = set_at-here so_far.word count sees.word count refl in
       let old : (k : ℕ) → k < count → word k ≡ so_far.word k = λ k below.
@@ -287,17 +288,17 @@ module _ {T : Type 0} (content : T → Content) where
         further = further-then before mid after so_far.further sees.further;
         account =
             after-both (first_account content before.sessions) (first_account content mid.sessions) (first_account content after.sessions)
-            (all_slot_loads count so_far.word) (slot_loads_of count slot_count sees.word) so_far.account sees.account
+            (all_slot_loads count groups so_far.word) (slot_loads_of count (group_size * groups) sees.word) so_far.account sees.account
             ∙ ap (account_after (first_account content before.sessions))
-            ((λ i. joined-same count (λ k. slot_loads_of k slot_count (so_far.word k)) (λ k. slot_loads_of k slot_count (word k))
-            (λ k below. ap (slot_loads_of k slot_count) (sym (old k below))) i ++ slot_loads_of count slot_count (sym here i))
-            ∙ sym (joined-more count (λ k. slot_loads_of k slot_count (word k))));
+            ((λ i. joined-same count (λ k. slot_loads_of k (group_size * groups) (so_far.word k)) (λ k. slot_loads_of k (group_size * groups) (word k))
+            (λ k below. ap (slot_loads_of k (group_size * groups)) (sym (old k below))) i ++ slot_loads_of count (group_size * groups) (sym here i))
+            ∙ sym (joined-more count (λ k. slot_loads_of k (group_size * groups) (word k))));
         sum_ =
-            let total_more = total-more count (λ k. total slot_count (λ place. modes_shown (word k place))) in
-            let same : shown_in_slots count word ≡ shown_in_slots count so_far.word =
-            total-same count _ _ (λ k below. ap (λ (row : ℕ → ℕ). total slot_count (λ place. modes_shown (row place))) (old k below)) in
-            let last : total slot_count (λ place. modes_shown (word count place)) ≡ total slot_count (λ place. modes_shown (sees.word place)) =
-            ap (λ (row : ℕ → ℕ). total slot_count (λ place. modes_shown (row place))) here in
+            let total_more = total-more count (λ k. total (group_size * groups) (λ place. modes_shown (word k place))) in
+            let same : shown_in_slots count groups word ≡ shown_in_slots count groups so_far.word =
+            total-same count _ _ (λ k below. ap (λ (row : ℕ → ℕ). total (group_size * groups) (λ place. modes_shown (row place))) (old k below)) in
+            let last : total (group_size * groups) (λ place. modes_shown (word count place)) ≡ total (group_size * groups) (λ place. modes_shown (sees.word place)) =
+            ap (λ (row : ℕ → ℕ). total (group_size * groups) (λ place. modes_shown (row place))) here in
             let sum_before = so_far.sum_ in
             let sum_here = sees.sum_ in
             omega (arith, added, total_more, same, last, sum_before, sum_here);
@@ -379,22 +380,22 @@ module _ {T : Type 0} (content : T → Content) where
 
 -- With all in hand, what is told is what was found.
 module _ {T : Type 0} (content : T → Content) where
-  pub finds-all : (issued limit sum : ℕ) (before after : View T) (contents : ℕ → Content) (sees : SeesAllSlots content limit before after sum) → AreAll issued before → KnowsAll content issued before
-      → HasAllInHand (first_account content before.sessions) contents → Finds content issued limit before contents sees.word
-  finds-all issued limit sum before after contents sees are known in_hand = record {
+  pub finds-all : (groups issued limit sum : ℕ) (before after : View T) (contents : ℕ → Content) (sees : SeesAllSlots content groups limit before after sum) → AreAll issued before → KnowsAll content groups issued before
+      → HasAllInHand (first_account content before.sessions) contents → Finds content groups issued limit before contents sees.word
+  finds-all groups issued limit sum before after contents sees are known in_hand = record {
     distinct = known.distinct;
     stand = λ nobody number. known.stand contents nobody in_hand number;
     left = λ owner place below within. sees.left issued are contents in_hand owner place below within;
   }
 
 -- What was found with one partition more in hand was found.
-module _ {T : Type 0} (content : T → Content) (issued limit p : ℕ) (before mid : View T) (has : HasSession before) (further : IsFurther before mid) (taken : Content)
+module _ {T : Type 0} (content : T → Content) (groups issued limit p : ℕ) (before mid : View T) (has : HasSession before) (further : IsFurther before mid) (taken : Content)
     (took : first_account content mid.sessions ≡ account_taking (first_account content before.sessions) p taken) (all : ℕ → Content) (word : ℕ → ℕ → ℕ) where
-  pub finds-before : Finds content issued limit mid all word → Finds content issued limit before all word
+  pub finds-before : Finds content groups issued limit mid all word → Finds content groups issued limit before all word
   finds-before found = record {
     distinct = distinct-before content before mid has further issued found.distinct;
     stand = λ nobody number.
-        stand-before content before mid has further (ap (λ (a : Account). a.own) took) (ap (λ (a : Account). a.fast) took) number all
+        stand-before content before mid has further (ap (λ (a : Account). a.own) took) (ap (λ (a : Account). a.fast) took) groups number all
         (found.stand (none_waits-after content before mid has further (sym (ap (λ (a : Account). a.awaited) took)) nobody) number);
     left = λ owner place below within.
         left-before content before mid has further (ap (λ (a : Account). a.own) took) (ap (λ (a : Account). a.fast) took) owner all place (word owner place)
@@ -439,8 +440,8 @@ module _ {T : Type 0} (content : T → Content) (limit p : ℕ) (before mid : Vi
   pub mid-account : first_account content mid.sessions ≡ account_taking (first_account content before.sessions) p taken
   mid-account = ap (λ (v : View T). first_account content v.sessions) took ∙ account-noting content before (TookPart p part) has
 
-module _ {T : Type 0} (content : T → Content) (limit p : ℕ) (before mid later after : View T) (old new most : List TableRow) (first result : Result (Unit {0}) NoMemory) (fast : ℕ)
-    (has : HasSession before) (part : T) (took : mid ≡ noting before (TookPart p part)) (counts : CountsFrom content (p + 1) limit mid old first fast later new)
+module _ {T : Type 0} (content : T → Content) (groups limit p : ℕ) (before mid later after : View T) (old new most : List TableRow) (first result : Result (Unit {0}) NoMemory) (fast : ℕ)
+    (has : HasSession before) (part : T) (took : mid ≡ noting before (TookPart p part)) (counts : CountsFrom content groups (p + 1) limit mid old first fast later new)
     (put : after ≡ noting later (PutPart p Keep part)) (none : (first_account content before.sessions).hand p ≡ None) where
   last-account : first_account content after.sessions
       ≡ account_putting (first_account content later.sessions) p (taken_of ((first_account content later.sessions).hand p)) (content part) Keep
@@ -449,7 +450,7 @@ module _ {T : Type 0} (content : T → Content) (limit p : ℕ) (before mid late
   pub counts-more :
       KnowsContent (first_number before.sessions) (first_account content before.sessions) p (content part)
       → OnOk result ((row : TableRow) → count_by (row_eq row) most ≡ count_by (row_eq row) old + times_had (content part ∷ counts.contents) row)
-      → CountsFrom content p limit before old result fast after most
+      → CountsFrom content groups p limit before old result fast after most
   counts-more knows rows = record {
     contents = content part ∷ counts.contents;
     last = let last = counts.last in omega (arith, last);
@@ -460,7 +461,7 @@ module _ {T : Type 0} (content : T → Content) (limit p : ℕ) (before mid late
         (further-then mid later after counts.further (subst (IsFurther later) (sym put) (noting-further later (PutPart p Keep part) counts.further.some)));
     account =
         kept-since (first_account content before.sessions) (first_account content mid.sessions) (first_account content later.sessions) (first_account content after.sessions) p (content part)
-        (holding_steps (p + 1) counts.contents (all_slot_loads limit counts.word)) none (mid-account content limit p before mid has part took) counts.account last-account;
+        (holding_steps (p + 1) counts.contents (all_slot_loads limit groups counts.word)) none (mid-account content limit p before mid has part took) counts.account last-account;
     fast_ = counts.fast_;
     rows = rows;
     finds = λ issued are all in_hand is.
@@ -468,9 +469,9 @@ module _ {T : Type 0} (content : T → Content) (limit p : ℕ) (before mid late
         let taken_account = mid-account content limit p before mid has part took in
         let zeroth : p ≡ p + 0 = omega arith in
         let here : all p ≡ content part = ap all zeroth ∙ is 0 (omega arith) in
-        finds-before content issued limit p before mid has taken_further (content part) taken_account all counts.word
+        finds-before content groups issued limit p before mid has taken_further (content part) taken_account all counts.word
         (counts.finds issued (further-all before mid issued has taken_further are) all
-        (in_hand-more content issued limit p before mid has taken_further (content part) taken_account all counts.word in_hand here)
+        (in_hand-more content groups issued limit p before mid has taken_further (content part) taken_account all counts.word in_hand here)
         (λ k below.
         let next : p + 1 + k ≡ p + suc k = omega arith in
         ap all next ∙ is (suc k) (omega (arith, below))));
@@ -478,10 +479,10 @@ module _ {T : Type 0} (content : T → Content) (limit p : ℕ) (before mid late
 
 -- With all sixteen in hand the slots are loaded.
 module _ {T : Type 0} (content : T → Content) where
-  pub counts-slots : (limit p : ℕ) (before told_ after : View T) (rows : List TableRow) (fast : ℕ) → p ≡ 16 → told_ ≡ before
-      → ((issued : ℕ) → AreAll issued before → KnowsAll content issued before) → SeesAllSlots content limit told_ after fast → CountsFrom content p limit before rows (Ok tt) fast after rows
-  counts-slots limit p before told_ after rows fast all same knows sees_ =
-      let sees : SeesAllSlots content limit before after fast = subst (λ (v : View T). SeesAllSlots content limit v after fast) same sees_ in
+  pub counts-slots : (groups limit p : ℕ) (before told_ after : View T) (rows : List TableRow) (fast : ℕ) → p ≡ 16 → told_ ≡ before
+      → ((issued : ℕ) → AreAll issued before → KnowsAll content groups issued before) → SeesAllSlots content groups limit told_ after fast → CountsFrom content groups p limit before rows (Ok tt) fast after rows
+  counts-slots groups limit p before told_ after rows fast all same knows sees_ =
+      let sees : SeesAllSlots content groups limit before after fast = subst (λ (v : View T). SeesAllSlots content groups limit v after fast) same sees_ in
       record {
         contents = [];
         last = omega (arith, all);
@@ -492,17 +493,17 @@ module _ {T : Type 0} (content : T → Content) where
         fast_ = sees.sum_;
         rows = λ row. omega arith;
         finds = λ issued are contents in_hand is.
-            finds-all content issued limit fast before after contents sees are (knows issued are) (λ q below. in_hand q (omega (arith, below, all)));
+            finds-all content groups issued limit fast before after contents sees are (knows issued are) (λ q below. in_hand q (omega (arith, below, all)));
       }
 
 -- What was found after steps that only joined the trace was found.
-pub finds-traced : {T : Type 0} (content : T → Content) (issued limit : ℕ) (before mid : View T) (steps : List TraceEntry) (has : HasSession before) (further : IsFurther before mid)
+pub finds-traced : {T : Type 0} (content : T → Content) (groups issued limit : ℕ) (before mid : View T) (steps : List TraceEntry) (has : HasSession before) (further : IsFurther before mid)
     → first_account content mid.sessions ≡ account_after (first_account content before.sessions) steps → (contents : ℕ → Content) (word : ℕ → ℕ → ℕ)
-    → Finds content issued limit mid contents word → Finds content issued limit before contents word
-finds-traced {T} content issued limit before mid steps has further account contents word found = record {
+    → Finds content groups issued limit mid contents word → Finds content groups issued limit before contents word
+finds-traced {T} content groups issued limit before mid steps has further account contents word found = record {
   distinct = distinct-before content before mid has further issued found.distinct;
   stand = λ nobody number.
-      stand-before content before mid has further (ap (λ (a : Account). a.own) account) (ap (λ (a : Account). a.fast) account) number contents
+      stand-before content before mid has further (ap (λ (a : Account). a.own) account) (ap (λ (a : Account). a.fast) account) groups number contents
       (found.stand (none_waits-after content before mid has further (sym (ap (λ (a : Account). a.awaited) account)) nobody) number);
   left = λ owner place below within.
       left-before content before mid has further (ap (λ (a : Account). a.own) account) (ap (λ (a : Account). a.fast) account) owner contents place (word owner place)

@@ -22,35 +22,34 @@ use Rattle.lock_world.proofs.Slots.Eligible.{shown-in_use}
 use Rattle.lock_world.proofs.Slots.Remembered.{no_hold-no_slot}
 use Rattle.shared_rule.specs.History.{blank_account, slots_here}
 
--- A session that has nothing may set two modes of a relation in its first slot.
+-- A session that has nothing may set two modes of a relation in its first slot, where each has one group of slots.
 
 -- a relation of its database
 abbrev pub table : Tag
 table = Relation 5 16384
 
 -- The slots of a session that has no hold are not in use.
-pub none-in_use : (n : ℕ) (a : Account) (slots : SlotsInHand) → KnowsSlots n a n slots → a.own ≡ (λ _ _. false)
+pub none-in_use : (n : ℕ) (a : Account) (slots : SlotsInHand) → KnowsSlots 1 n a n slots → a.own ≡ (λ _ _. false)
     → NoSlotInUse slots.word
 none-in_use n a slots knows blank = no_hold-no_slot knows.database slots.word knows.in_use (λ tag mode.
     false_from_ne_true (slot_holds knows.database slots.word tag mode) (λ held.
     let shown : slots.holds tag mode ≡ true = ap (λ holds. holds tag mode) knows.holds ∙ held in
     both_ways (a.own tag mode) (ap (λ own. own tag mode) blank) (knows.own refl tag mode shown)))
 
--- The first of them is free for any relation.
-pub first-free : (slot : ℕ → ℕ) (relation : ℕ) → NoSlotInUse slot → IsSlotToGrant slot relation 0
-first-free slot relation unused = record {
+-- The first of them is free for the relation.
+pub first-free : (slot : ℕ → ℕ) → NoSlotInUse slot → IsSlotToGrant 1 slot 16384 0
+first-free slot unused = record {
   within = omega arith;
   usable = refl;
   its_or_unused = inr (
     unused 0 (omega arith),
-    λ other within. ap (λ used. used && relation_in (slot other) ==
-        relation) (unused other within),
+    λ other within usable. ap (λ used. used && relation_in (slot other) == 16384) (unused other within),
   );
 }
 
 -- Once a mode is set there it is the relation's.
 pub first-its : (slot : ℕ → ℕ) → in_use (slot 0) ≡ false
-    → IsSlotToGrant (set_at slot 0 (word_with (slot 0) 16384 AccessShare)) 16384 0
+    → IsSlotToGrant 1 (set_at slot 0 (word_with (slot 0) 16384 AccessShare)) 16384 0
 first-its slot unused = record {
   within = omega arith;
   usable = refl;
@@ -73,7 +72,7 @@ pub record IsReady (n : ℕ) (a : Account) (slots : SlotsInHand) : Type 0 where
 
 may_set : (n : ℕ) (a : Account) (slots : SlotsInHand) (mode : Mode) → IsReady n a slots
     → is_eligible_for 5 table mode ≡ true → a.own table mode ≡ false
-    → IsSlotToGrant slots.word 16384 0 → MaySetSlotBy n a slots 0 table mode
+    → IsSlotToGrant 1 slots.word 16384 0 → MaySetSlotBy 1 n a slots 0 table mode
 may_set n a slots mode is eligible new takes = record {
   in_hand = is.in_hand;
   eligible = ap (λ d. is_eligible_for d table mode) is.database ∙ eligible;
@@ -108,11 +107,11 @@ module _ (n index shown : ℕ) (slots : SlotsInHand) (is : index ≡ index_of ta
 
   -- It may set the first mode,
   pub first-set : (entry : TraceEntry) → NoSlotInUse slots.word
-      → MaySetSlotBy n (account_tracing (ready_account n index shown slots) entry) slots 0 table AccessShare
+      → MaySetSlotBy 1 n (account_tracing (ready_account n index shown slots) entry) slots 0 table AccessShare
   first-set entry unused =
       may_set n (account_tracing (ready_account n index shown slots) entry) slots AccessShare
       (record { in_hand = ready.in_hand; database = ready.database; zero = ready.zero; awaited = ready.awaited }) refl
-      refl (first-free slots.word 16384 unused)
+      refl (first-free slots.word unused)
 
   -- and then the second.
   abbrev pub set_account : TraceEntry → Account
@@ -120,7 +119,7 @@ module _ (n index shown : ℕ) (slots : SlotsInHand) (is : index ≡ index_of ta
       (slots_here (set_at (λ (k : ℕ). None) n (Some slots) n)) 0 table AccessShare
 
   pub second-set : (entry later : TraceEntry) → NoSlotInUse slots.word
-      → MaySetSlotBy n (account_tracing (set_account entry) later) (after_first slots) 0 table RowExclusive
+      → MaySetSlotBy 1 n (account_tracing (set_account entry) later) (after_first slots) 0 table RowExclusive
   second-set entry later unused =
       may_set n (account_tracing (set_account entry) later) (after_first slots) RowExclusive
       (record {

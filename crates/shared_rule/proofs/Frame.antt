@@ -12,6 +12,7 @@ use Rattle.lock_world.specs.declared.events.Event.{Event}
 use Rattle.lock_world.specs.declared.events.Step.{Step}
 use Rattle.lock_world.specs.World.{World, Words, Numbers, MakesSteps, opening}
 use Rattle.lock_world.specs.SafeWorld.{SafeWorld}
+use Rattle.lock_world.specs.SlotHolds.{most_groups}
 use Rattle.lock_world.specs.Account.{Account, account}
 use Rattle.lock_world.specs.Happens.{HappensStep}
 use Rattle.lock_world.specs.Happens.Counters.{most_counted}
@@ -19,6 +20,7 @@ use Rattle.lock_world.proofs.SafeWorld.Runs.{event-safe, Runs-push}
 use Rattle.lock_world.proofs.Others.Events.{event-others}
 use Rattle.shared_rule.specs.declared.history.Mark.{Mark}
 use Rattle.shared_rule.specs.declared.history.History.{History}
+use Rattle.shared_rule.specs.declared.rule.Sizes.{Sizes}
 use Rattle.shared_rule.specs.declared.history.View.{View}
 use Rattle.shared_rule.specs.declared.kept.Kept.{Kept}
 use Rattle.shared_rule.specs.Shown.{WordsAreShown}
@@ -172,36 +174,42 @@ module _ {T : Type 0} (content : T → Content) (w v : World) (views : List (Vie
   }
 
 -- What the session that goes on by itself at a seat knows of the World, and what holds there.
-pub record Stepper (limit : ℕ) (w : World) (number : ℕ) (a : Account) : Type 0 where
+pub record Stepper (sizes : Sizes) (w : World) (number : ℕ) (a : Account) : Type 0 where
   pub safe : SafeWorld w
-  pub is_limit : w.numbers.limit ≡ limit
-  pub few : limit ≤ 64
+  pub is_limit : w.numbers.limit ≡ sizes.sessions
+  pub are_groups : w.numbers.groups ≡ sizes.groups
+  pub few : sizes.sessions ≤ 64
+  pub some_groups : 0 < sizes.groups
+  pub few_groups : sizes.groups ≤ most_groups
   pub makes : MakesSteps w.numbers number
   pub account : a ≡ account w number
-  pub none_beyond : NoneBeyondSlots w.words
+  pub none_beyond : NoneBeyondSlots sizes.groups w.words
   pub few_counted : (session : ℕ) → length (w.sessions.counted session) ≤ most_counted
 
 -- A step of it, and what it makes of the World.
-pub record IsNoted {T : Type 0} (content : T → Content) (w : World) (number : ℕ) (a : Account) (mark : Mark T) (next : Words) : Type 0 where
+pub record IsNoted {T : Type 0} (content : T → Content) (groups : ℕ) (w : World) (number : ℕ) (a : Account) (mark : Mark T) (next : Words) : Type 0 where
   pub step : Step
   pub after : World
   pub happens : HappensStep w number step after
   pub numbers : after.numbers ≡ w.numbers
   pub account : noted content number a mark ≡ account after number
   pub words : after.words ≡ next
-  pub none_beyond : NoneBeyondSlots next
+  pub none_beyond : NoneBeyondSlots groups next
   pub few_counted : length (after.sessions.counted number) ≤ most_counted
 
-module _ {T : Type 0} (content : T → Content) (begun : T → Option Request) (limit : ℕ) (s : State (Kept T) (View T)) (r : Ruled content begun limit s)
+module _ {T : Type 0} (content : T → Content) (begun : T → Option Request) (sizes : Sizes) (s : State (Kept T) (View T)) (r : Ruled content begun sizes s)
     (id : ℕ) (view : View T) (x : History T) (others : List (History T)) (at : get_elem? s.views id ≡ some view) (is : view.sessions ≡ x ∷ others) where
   pub history_of : HistoryIsShown content r.world r.seats.seat_of r.seats.place_in id 0 view.sessions x
   history_of = r.seats.history id 0 view x at (ap (λ sessions. slice_get sessions 0) is)
 
-  pub ruled-steps : Stepper limit r.world x.number (told content x.number x.marks)
+  pub ruled-steps : Stepper sizes r.world x.number (told content x.number x.marks)
   ruled-steps = record {
     safe = r.safe;
     is_limit = r.is_limit;
+    are_groups = r.are_groups;
     few = r.few;
+    some_groups = r.some_groups;
+    few_groups = r.few_groups;
     makes = record { live = history_of.live; by_itself = history_of.kept_by ∙ ap (λ sessions. keeper sessions 0) is };
     account = history_of.account;
     none_beyond = r.none_beyond;
@@ -209,22 +217,25 @@ module _ {T : Type 0} (content : T → Content) (begun : T → Option Request) (
   }
 
   pub ruled-noted :
-      (mark : Mark T) (words : Words) (table : List ℕ) (homes : List (maybe.Option (Kept T))) (noted : IsNoted content r.world x.number (told content x.number x.marks) mark words)
-      → WordsAreShown table words → ContentsAreHome content begun homes noted.after.contents
+      (mark : Mark T) (words : Words) (table : List ℕ) (homes : List (maybe.Option (Kept T))) (noted : IsNoted content sizes.groups r.world x.number (told content x.number x.marks) mark words)
+      → WordsAreShown sizes.groups table words → ContentsAreHome content begun homes noted.after.contents
       → ListsAreHome homes noted.after.sessions.has_list noted.after.words.list
-      → Ruled content begun limit (record { words = table; homes = homes; views = slice_set s.views id (noting view mark) })
+      → Ruled content begun sizes (record { words = table; homes = homes; views = slice_set s.views id (noting view mark) })
   ruled-noted mark words table homes noted shown home lists =
       let event : Event = record { session = x.number; step = noted.step } in
       let left : (k : ℕ) → k ≢ x.number → account noted.after k ≡ account r.world k = λ k other. (event-others r.world noted.after event k r.safe noted.happens other).account in
       record {
         world = noted.after;
         events = r.events ++ event ∷ [];
-        run = Runs-push (opening limit) r.events event r.world noted.after r.run (inl noted.happens);
+        run = Runs-push (opening sizes.sessions sizes.groups) r.events event r.world noted.after r.run (inl noted.happens);
         safe = event-safe r.world event noted.after r.safe noted.happens;
         is_limit = ap (λ (n : Numbers). n.limit) noted.numbers ∙ r.is_limit;
+        are_groups = ap (λ (n : Numbers). n.groups) noted.numbers ∙ r.are_groups;
         few = r.few;
-        words = subst (WordsAreShown table) (sym noted.words) shown;
-        none_beyond = subst NoneBeyondSlots (sym noted.words) noted.none_beyond;
+        some_groups = r.some_groups;
+        few_groups = r.few_groups;
+        words = subst (WordsAreShown sizes.groups table) (sym noted.words) shown;
+        none_beyond = subst (NoneBeyondSlots sizes.groups) (sym noted.words) noted.none_beyond;
         few_counted = λ k. elim (cases_eq k x.number) [
           | inl same ↦ subst (λ n. length (noted.after.sessions.counted n) ≤ most_counted) (sym same) noted.few_counted
           | inr other ↦ subst (λ (a : Account). length a.fast.counted ≤ most_counted) (sym (left k other)) (r.few_counted k)

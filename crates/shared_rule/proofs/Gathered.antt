@@ -22,8 +22,9 @@ use Rattle.lock_world.specs.SafeWorld.{SafeWorld}
 use Rattle.lock_world.specs.Account.{Account, InHand, account, own_hand}
 use Rattle.lock_world.specs.Counted.{Counted, count_at, counter}
 use Rattle.lock_world.specs.Tallies.{left_in_slots, OwnStand, ShowsLeft}
-use Rattle.lock_world.proofs.Remembered.{remembered-once, one_each-nothing}
+use Rattle.lock_world.proofs.Remembered.{nothing-remembered, remembered-once, groups-of_run}
 use Rattle.lock_world.proofs.OwnStand.{own-stand, shows-left, spent-shows_nothing, spent-in_no_content}
+use Rattle.shared_rule.specs.declared.rule.Sizes.{Sizes}
 use Rattle.shared_rule.specs.declared.history.History.{History}
 use Rattle.shared_rule.specs.declared.history.View.{View}
 use Rattle.shared_rule.specs.History.{blank_account, told, first_account}
@@ -166,22 +167,24 @@ hand-now (Some h) now k mine has =
     ]
 
 -- One with nothing in it, and contents that have nothing of it.
-blank-stands : (k : ℕ) (contents : ℕ → Content) → ((t : Tag) (m : Mode) → (contents (partition_of t)).holds k t m ≡ false) → OwnStand k blank_account contents
-blank-stands k contents none = record {
-  one_each = one_each-nothing;
+blank-stands : (groups k : ℕ) (contents : ℕ → Content) → ((t : Tag) (m : Mode) → (contents (partition_of t)).holds k t m ≡ false) → OwnStand groups k blank_account contents
+blank-stands groups k contents none = record {
+  one_each = (nothing-remembered groups).0;
+  in_groups = (nothing-remembered groups).1;
   in_slots = λ t m is. absurd (cc (is));
   in_contents = λ t m has. absurd (both_ways ((contents (partition_of t)).holds k t m) (none t m) has);
 }
 
 -- What is said of contents is said of others that are the same.
-stands-as : (k : ℕ) (a : Account) (contents others : ℕ → Content) → ((t : Tag) → contents (partition_of t) ≡ others (partition_of t)) → OwnStand k a contents → OwnStand k a others
-stands-as k a contents others same stand = record {
+stands-as : (groups k : ℕ) (a : Account) (contents others : ℕ → Content) → ((t : Tag) → contents (partition_of t) ≡ others (partition_of t)) → OwnStand groups k a contents → OwnStand groups k a others
+stands-as groups k a contents others same stand = record {
   one_each = stand.one_each;
+  in_groups = stand.in_groups;
   in_slots = λ t m is. stand.in_slots t m (ap (λ (c : Content). a.own t m && not (c.holds k t m)) (same t) ∙ is);
   in_contents = λ t m has. stand.in_contents t m (ap (λ (c : Content). c.holds k t m) (same t) ∙ has);
 }
 
-module _ {T : Type 0} (content : T → Content) (w : World) (limit : ℕ) (events : List Event) (few : limit < 2 ^ 24) (run : Runs (opening limit) events w) (safe : SafeWorld w) (views : List (View T)) (id issued : ℕ) (view : View T)
+module _ {T : Type 0} (content : T → Content) (w : World) (sizes : Sizes) (events : List Event) (few : sizes.sessions < 2 ^ 24) (run : Runs (opening sizes.sessions sizes.groups) events w) (safe : SafeWorld w) (views : List (View T)) (id issued : ℕ) (view : View T)
     (at : get_elem? views id ≡ some view) (seats : SeatsAreShown content views w) (closed : OpenerHasClosed views w.numbers) (are : AreAll issued view) where
   abbrev gathered : List Gathered
   gathered = gathered_in content view.sessions
@@ -258,14 +261,16 @@ module _ {T : Type 0} (content : T → Content) (w : World) (limit : ℕ) (event
 
   -- Where each one's own holds stand,
   pub stands-among : (first : History T) → slice_get view.sessions 0 ≡ Some first → (contents : ℕ → Content) → NoneWaits gathered → HasAllInHand (told content first.number first.marks) contents
-      → (k : ℕ) → OwnStand k (account_among gathered k) contents
+      → (k : ℕ) → OwnStand sizes.groups k (account_among gathered k) contents
   stands-among first get contents none has k =
-      stands-as k (account_among gathered k) w.contents.now contents (contents-now first get contents has)
+      stands-as sizes.groups k (account_among gathered k) w.contents.now contents (contents-now first get contents has)
       (elim (cases_Bool (w.numbers.live k)) [
         | inl alive ↦
-            subst (λ a. OwnStand k a w.contents.now) (sym (live-among k alive))
-            (own-stand w safe k (remembered-once limit events w few run k) (waits-for_nothing none k alive))
-        | inr dead ↦ subst (λ a. OwnStand k a w.contents.now) (sym (spent-among k dead)) (blank-stands k w.contents.now (spent-in_no_content w safe k dead))
+            let remembered = remembered-once sizes.sessions sizes.groups events w few run k in
+            subst (λ a. OwnStand sizes.groups k a w.contents.now) (sym (live-among k alive))
+            (subst (λ n. OwnStand n k (account w k) w.contents.now) (groups-of_run sizes.sessions sizes.groups events w run)
+            (own-stand w safe k remembered.0 remembered.1 (waits-for_nothing none k alive)))
+        | inr dead ↦ subst (λ a. OwnStand sizes.groups k a w.contents.now) (sym (spent-among k dead)) (blank-stands sizes.groups k w.contents.now (spent-in_no_content w safe k dead))
       ])
 
   -- and what the words of their slots show.
@@ -276,7 +281,7 @@ module _ {T : Type 0} (content : T → Content) (w : World) (limit : ℕ) (event
         | inl alive ↦
             subst (λ (a : Account). shows (w.words.slot k place) relation mode ≡ (shows (a.fast.remembered place) relation mode && left_in_slots a.own contents k (tag a) mode))
             (sym (live-among k alive))
-            (shows-left w safe k (remembered-once limit events w few run k) place within relation mode
+            (shows-left w safe k (remembered-once sizes.sessions sizes.groups events w few run k).0 place within relation mode
             ∙ ap (λ (c : Content). shows (w.sessions.remembered k place) relation mode && (w.sessions.own k (tag (account w k)) mode && not (c.holds k (tag (account w k)) mode)))
             (contents-now first get contents has (tag (account w k))))
         | inr dead ↦

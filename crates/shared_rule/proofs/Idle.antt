@@ -96,10 +96,10 @@ idle-still content sessions after same idle = record {
 }
 
 -- Trying for the lock of its own slots leaves them.
-pub tries-lists : {R E : Type 0} (number : ℕ) (a : Account) (result : Result R E) (b : Account) → TriesFast number a result b → b.lists ≡ a.lists
-tries-lists number a (Ok unit) b took = ap (λ (c : Account). c.lists) took.takes.account
-tries-lists number a (Err error) b (inl held) = ap (λ (c : Account). c.lists) held.account
-tries-lists number a (Err error) b (inr changed) = ap (λ (c : Account). c.lists) changed.account
+pub tries-lists : {R E : Type 0} (groups number : ℕ) (a : Account) (result : Result R E) (b : Account) → TriesFast groups number a result b → b.lists ≡ a.lists
+tries-lists groups number a (Ok unit) b took = ap (λ (c : Account). c.lists) took.takes.account
+tries-lists groups number a (Err error) b (inl held) = ap (λ (c : Account). c.lists) held.account
+tries-lists groups number a (Err error) b (inr changed) = ap (λ (c : Account). c.lists) changed.account
 
 -- Sessions gathered at a seat: each is idle there,
 module _ {T : Type 0} where

@@ -1,4 +1,4 @@
-use Rattle.std.proofs.Common.{◌≡◌, ℕ, zero, suc, ◌≤◌, List, [], ◌∷◌, ◌++◌, length, Option, Some, None, IsSome, refl, sym, ap, ◌∙◌, subst, arith}
+use Rattle.std.proofs.Common.{◌≡◌, ℕ, zero, suc, ◌<◌, ◌≤◌, List, [], ◌∷◌, ◌++◌, length, Option, Some, None, IsSome, refl, sym, ap, ◌∙◌, subst, arith}
 use Rattle.std.specs.Prelude.{slice_get, option_to_list}
 use Rattle.std.proofs.lemmas.Bool.{false≢true}
 use mathlib.Core.Option.{some, some-injective, some-ne-none}
@@ -8,11 +8,13 @@ use Rattle.atomic_table.proofs.Lists.{at_map}
 use Rattle.lock_table.specs.declared.request.Request.{Request}
 use Rattle.lock_table.specs.Content.{Content}
 use Rattle.lock_table.specs.Parts.{AreEmptyParts}
+use Rattle.lock_world.specs.SlotHolds.{most_groups}
 use Rattle.lock_world.specs.World.{opening}
 use Rattle.lock_table.specs.Total.{total}
 use Rattle.lock_world.proofs.SafeWorld.Opening.{opening-safe}
 use Rattle.lock_world.proofs.SafeWorld.Runs.{Runs-none}
 use Rattle.shared_rule.specs.declared.history.History.{History}
+use Rattle.shared_rule.specs.declared.rule.Sizes.{Sizes}
 use Rattle.shared_rule.specs.declared.history.View.{View}
 use Rattle.shared_rule.specs.declared.kept.Kept.{Kept}
 use Rattle.shared_rule.specs.declared.kept.Kept.TheVariants as kept
@@ -30,13 +32,13 @@ get-there [] i a get = absurd (cc (get))
 get-there (x ∷ xs) zero a get = let same : x ≡ a = cc (get) in ap some same
 get-there (x ∷ xs) (suc i) a get = get-there xs i a get
 
-module _ {T : Type 0} (content : T → Content) (begun : T → Option Request) (limit : ℕ) where
+module _ {T : Type 0} (content : T → Content) (begun : T → Option Request) (sizes : Sizes) where
   -- the opener's seat is the only one
   only-one : (seat : ℕ) (view : View T) → get_elem? (opening_view ∷ []) seat ≡ some view → (seat ≡ 0) × (opening_view ≡ view)
   only-one zero view there = (refl, some-injective opening_view view there)
   only-one (suc seat) view there = absurd (some-ne-none view (sym there))
 
-  opening-seats : SeatsAreShown content (opening_view ∷ []) (opening limit)
+  opening-seats : SeatsAreShown content (opening_view ∷ []) (opening sizes.sessions sizes.groups)
   opening-seats = record {
     seat_of = λ _. 0;
     place_in = λ _. 0;
@@ -55,19 +57,22 @@ module _ {T : Type 0} (content : T → Content) (begun : T → Option Request) (
   }
 
   -- nobody was given out, and nobody has closed
-  none-closed : ClosedAreCounted {T = T} (opening limit).numbers []
+  none-closed : ClosedAreCounted {T = T} (opening sizes.sessions sizes.groups).numbers []
   unfolding total
   none-closed = record { once = λ number. omega arith; all = refl }
 
-  pub opening-ruled : limit ≤ 64 → (words : List ℕ) → WordsAreShown words (opening 0).words → (slots : List (Kept T)) → AreNew content begun slots
-      → Ruled content begun limit (table.opening words slots opening_view)
-  opening-ruled few words shown slots new = record {
-    world = opening limit;
+  pub opening-ruled : sizes.sessions ≤ 64 → 0 < sizes.groups → sizes.groups ≤ most_groups → (words : List ℕ) → WordsAreShown sizes.groups words (opening 0 0).words → (slots : List (Kept T)) → AreNew content begun slots
+      → Ruled content begun sizes (table.opening words slots opening_view)
+  opening-ruled few some_groups few_groups words shown slots new = record {
+    world = opening sizes.sessions sizes.groups;
     events = [];
-    run = Runs-none (opening limit);
-    safe = opening-safe limit (omega (arith, few));
+    run = Runs-none (opening sizes.sessions sizes.groups);
+    safe = opening-safe sizes.sessions sizes.groups (omega (arith, few));
     is_limit = refl;
+    are_groups = refl;
     few = few;
+    some_groups = some_groups;
+    few_groups = few_groups;
     words = shown;
     none_beyond = λ _ _ _. refl;
     few_counted = λ session. omega arith;
@@ -87,7 +92,7 @@ module _ {T : Type 0} (content : T → Content) (begun : T → Option Request) (
           is_list = there.empty;
         };
     seats = opening-seats;
-    closed = λ seat view number there says. subst (λ (z : View T). ClosedAreCounted (opening limit).numbers z.closed) (only-one seat view there).1 none-closed;
+    closed = λ seat view number there says. subst (λ (z : View T). ClosedAreCounted (opening sizes.sessions sizes.groups).numbers z.closed) (only-one seat view there).1 none-closed;
   }
 
 -- The last of parts with nothing in them, and the others.

@@ -1,4 +1,4 @@
-use Rattle.std.proofs.Common.{◌≡◌, ◌≢◌, ℕ, ◌<◌, List, refl, sym, ap, ◌∙◌, subst, inl, inr, arith}
+use Rattle.std.proofs.Common.{◌≡◌, ◌≢◌, ℕ, ◌<◌, ◌≤◌, List, refl, sym, ap, ◌∙◌, subst, inl, inr, arith}
 use Rattle.std.specs.Prelude.{slice_index, slice_set}
 use Rattle.std.proofs.Math.ListN.{length-set}
 use Rattle.std.proofs.lemmas.Bool.{cases_eq}
@@ -7,8 +7,8 @@ use Rattle.lock_world.specs.declared.events.Word.{Word}
 use Rattle.lock_world.specs.declared.events.Word.TheVariants.{Partition, Fast, Database, Slot, Wait, Strong, Sleep}
 use Rattle.lock_table.proofs.PutLemmas.{set_at-here, set_at-else}
 use Rattle.lock_world.specs.World.{Words, word_in}
-use Rattle.shared_rule.specs.Layout.{index_of_word, IsInTable}
-use Rattle.shared_rule.specs.declared.layout.TheConstants.{TABLE_WORDS}
+use Rattle.lock_world.specs.SlotHolds.{most_groups}
+use Rattle.shared_rule.specs.Layout.{words_of_groups, index_of_word, IsInTable, MayBeInTable}
 use Rattle.shared_rule.specs.Shown.{WordsAreShown, set_word}
 
 -- Setting one word of the table sets just that word of the World.
@@ -83,17 +83,27 @@ word_in-else words (Sleep k) n (Strong l) other = refl
 word_in-else words (Sleep k) n (Sleep j) other = set_at-else words.sleep k n j (λ e. other (ap Sleep e))
 
 -- Each word of the table is within it.
-pub within : (word : Word) → IsInTable word → index_of_word word < TABLE_WORDS
-within (Partition p) exists = omega (arith, exists.0)
-within (Fast k) exists = omega (arith, exists.1)
-within (Database k) exists = omega (arith, exists.1)
-within (Slot k i) exists = omega (arith, exists.0, exists.1)
-within (Wait k) exists = omega (arith, exists.1)
-within (Strong i) exists = omega (arith, exists.0)
-within (Sleep k) exists = omega (arith, exists.1)
+pub within : (groups : ℕ) → 0 < groups → (word : Word) → IsInTable groups word → index_of_word word < words_of_groups groups
+within groups some (Partition p) exists = omega (arith, some, exists.0)
+within groups some (Fast k) exists = omega (arith, some, exists.1)
+within groups some (Database k) exists = omega (arith, some, exists.1)
+within groups some (Slot k i) exists = omega (arith, exists.0, exists.1)
+within groups some (Wait k) exists = omega (arith, some, exists.1)
+within groups some (Strong i) exists = omega (arith, some, exists.0)
+within groups some (Sleep k) exists = omega (arith, some, exists.1)
+
+-- A word of the table is one of those of a table for more groups.
+pub may_be : (groups : ℕ) → groups ≤ most_groups → (word : Word) → IsInTable groups word → MayBeInTable word
+may_be groups few (Partition p) exists = exists
+may_be groups few (Fast k) exists = exists
+may_be groups few (Database k) exists = exists
+may_be groups few (Slot k i) exists = (omega (arith, few, exists.0), exists.1)
+may_be groups few (Wait k) exists = exists
+may_be groups few (Strong i) exists = exists
+may_be groups few (Sleep k) exists = exists
 
 -- Two words of the table with one index are one word.
-pub one_index : (word o : Word) → IsInTable word → IsInTable o → index_of_word word ≡ index_of_word o → word ≡ o
+pub one_index : (word o : Word) → MayBeInTable word → MayBeInTable o → index_of_word word ≡ index_of_word o → word ≡ o
 one_index (Partition p) (Partition q) here there same = ap Partition (let e : p ≡ q = omega (arith, same) in e)
 one_index (Partition p) (Fast j) here there same = absurd (omega (arith, same, here.0, there.1))
 one_index (Partition p) (Database j) here there same = absurd (omega (arith, same, here.0, there.1))
@@ -149,15 +159,15 @@ one_index (Sleep k) (Sleep j) here there same = ap Sleep (let e : k ≡ j = omeg
 
 -- A table that shows the words of a World shows them still where a word is set in both.
 pub words-set :
-    (table : List ℕ) (words : Words) (word : Word) (n : ℕ) → WordsAreShown table words → IsInTable word
-    → WordsAreShown (slice_set table (index_of_word word) n) (set_word words word n)
-words-set table words word n shown exists = record {
+    (groups : ℕ) → 0 < groups → groups ≤ most_groups → (table : List ℕ) (words : Words) (word : Word) (n : ℕ) → WordsAreShown groups table words → IsInTable groups word
+    → WordsAreShown groups (slice_set table (index_of_word word) n) (set_word words word n)
+words-set groups some few table words word n shown exists = record {
   as_many = length-set table (index_of_word word) n ∙ shown.as_many;
   word = λ o there. elim (cases_eq (index_of_word o) (index_of_word word)) [
     | inl same ↦
-        let one : o ≡ word = one_index o word there exists same in
+        let one : o ≡ word = one_index o word there (may_be groups few word exists) same in
         ap (λ w. slice_index (slice_set table (index_of_word word) n) (index_of_word w)) one
-        ∙ get_or-set_same table (index_of_word word) n 0 (subst (λ many. index_of_word word < many) (sym shown.as_many) (within word exists))
+        ∙ get_or-set_same table (index_of_word word) n 0 (subst (λ many. index_of_word word < many) (sym shown.as_many) (within groups some word exists))
         ∙ sym (ap (word_in (set_word words word n)) one ∙ word_in-here words word n)
     | inr other ↦
         get_or-set_other table (index_of_word word) (index_of_word o) n 0 other

@@ -5,7 +5,7 @@ use Rattle.std.proofs.lemmas.Nat.Bits.{bit_at_above}
 use Rattle.modes_core.specs.declared.modes.Mode.{Mode}
 use Rattle.modes_core.specs.Mode.{number_of}
 use Rattle.lw_word.specs.SlotWord.{relation_in, mode_bits, in_use, shows}
-use Rattle.lock_world.specs.SlotHolds.{slot_count, is_slot_of, IsSlotToGrant}
+use Rattle.lock_world.specs.SlotHolds.{slot_count, may_use, is_slot_of, IsSlotToGrant}
 
 -- What a slot shows, as those ask who make its next word.
 
@@ -22,11 +22,11 @@ shown-weak word relation mode shown =
     ]
 
 -- The slot that a grant takes is the relation's, if it is in use.
-pub its-slot : (word : ℕ → ℕ) (relation place shown : ℕ) → IsSlotToGrant word relation place → shown ≡ word place
+pub its-slot : (groups : ℕ) (word : ℕ → ℕ) (relation place shown : ℕ) → IsSlotToGrant groups word relation place → shown ≡ word place
     → in_use shown ≡ true → relation_in shown ≡ relation
-its-slot word relation place shown takes is used = at takes.its_or_unused where
+its-slot groups word relation place shown takes is used = at takes.its_or_unused where
   at : (is_slot_of (word place) relation ≡ true) ⊎ ((in_use (word place) ≡ false) × ((other : ℕ) → other < slot_count
-      → is_slot_of (word other) relation ≡ false)) → relation_in shown ≡ relation
+      → may_use groups relation other ≡ true → is_slot_of (word other) relation ≡ false)) → relation_in shown ≡ relation
   at (inl its) = ap relation_in is ∙ eqb-true (relation_in (word place)) relation
       (and_parts (in_use (word place)) (nat_eq (relation_in (word place)) relation) its).1
   at (inr unused) = absurd (false≢true (sym unused.0 ∙ ap in_use (sym is) ∙ used))

@@ -18,9 +18,11 @@ use Rattle.lock_world.specs.SafeWorld.{SafeWorld}
 use Rattle.lock_world.specs.Account.{Account, fast_account, list_account, account}
 use Rattle.lock_world.specs.Happens.{Happens}
 use Rattle.lock_world.specs.Happens.Seats.{MayClose, after_issuing, after_closing}
+use Rattle.lock_world.proofs.Remembered.{groups-stay}
 use Rattle.lock_world.proofs.SafeWorld.Runs.{Runs-push}
 use Rattle.shared_rule.specs.declared.history.Mark.{Mark}
 use Rattle.shared_rule.specs.declared.history.History.{History}
+use Rattle.shared_rule.specs.declared.rule.Sizes.{Sizes}
 use Rattle.shared_rule.specs.declared.history.View.{View}
 use Rattle.shared_rule.specs.declared.kept.Kept.{Kept}
 use Rattle.shared_rule.specs.History.{blank_account, keeper, lone, spent_view}
@@ -377,19 +379,22 @@ module _ {T : Type 0} (content : T → Content) (w : World) (views : List (View 
       (seats-with_closed content (after_closing w k) (slice_set views other spent_view) id opener closing
       (set_else views other id spent_view (λ e. apart (sym e)) ∙ stands) (order.live_is_issued k history-alone.live, set_at-here w.numbers.live k false k refl) left-closed)
 
-module _ {T : Type 0} (content : T → Content) (begun : T → Option Request) (limit : ℕ) (s : State (Kept T) (View T)) (r : Ruled content begun limit s) where
+module _ {T : Type 0} (content : T → Content) (begun : T → Option Request) (sizes : Sizes) (s : State (Kept T) (View T)) (r : Ruled content begun sizes s) where
   -- The rule holds in the World with other numbers,
   pub ruled-numbered :
       (event : Event) (numbers : Numbers) (views : List (View T)) → Happens r.world event (with_numbers r.world numbers) → numbers.limit ≡ r.world.numbers.limit
       → SafeWorld (with_numbers r.world numbers) → SeatsAreShown content views (with_numbers r.world numbers) → OpenerHasClosed views numbers
-      → Ruled content begun limit (record { words = s.words; homes = s.homes; views = views })
+      → Ruled content begun sizes (record { words = s.words; homes = s.homes; views = views })
   ruled-numbered event numbers views happens same safe seats closed = record {
     world = with_numbers r.world numbers;
     events = r.events ++ event ∷ [];
-    run = Runs-push (opening limit) r.events event r.world (with_numbers r.world numbers) r.run (inl happens);
+    run = Runs-push (opening sizes.sessions sizes.groups) r.events event r.world (with_numbers r.world numbers) r.run (inl happens);
     safe = safe;
     is_limit = same ∙ r.is_limit;
+    are_groups = groups-stay r.world (with_numbers r.world numbers) event happens ∙ r.are_groups;
     few = r.few;
+    some_groups = r.some_groups;
+    few_groups = r.few_groups;
     words = r.words;
     none_beyond = r.none_beyond;
     few_counted = r.few_counted;
@@ -402,14 +407,17 @@ module _ {T : Type 0} (content : T → Content) (begun : T → Option Request) (
   -- and in the World in which a session has closed.
   pub ruled-closed :
       (k : ℕ) (views : List (View T)) → MayClose r.world k → SafeWorld (after_closing r.world k) → SeatsAreShown content views (after_closing r.world k)
-      → OpenerHasClosed views (after_closing r.world k).numbers → Ruled content begun limit (record { words = s.words; homes = s.homes; views = views })
+      → OpenerHasClosed views (after_closing r.world k).numbers → Ruled content begun sizes (record { words = s.words; homes = s.homes; views = views })
   ruled-closed k views may safe seats closed = record {
     world = after_closing r.world k;
     events = r.events ++ record { session = k; step = JoinSeat None } ∷ [];
-    run = Runs-push (opening limit) r.events (record { session = k; step = JoinSeat None }) r.world (after_closing r.world k) r.run (inl (may, refl));
+    run = Runs-push (opening sizes.sessions sizes.groups) r.events (record { session = k; step = JoinSeat None }) r.world (after_closing r.world k) r.run (inl (may, refl));
     safe = safe;
     is_limit = r.is_limit;
+    are_groups = r.are_groups;
     few = r.few;
+    some_groups = r.some_groups;
+    few_groups = r.few_groups;
     words = r.words;
     none_beyond = r.none_beyond;
     few_counted = r.few_counted;

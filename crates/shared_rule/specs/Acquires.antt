@@ -33,10 +33,10 @@ module _ {T : Type 0} (content : T → Content) where
     pub led : Led content before after (account_at content before)
     pub slots : after.me.1 ≡ before.me.1
 
-  -- It got the lock of a session's slots in this mode, with what they show.
-  pub record GetsSlots (mode : LwMode) (owner : ℕ) (before after : Seat (Kept T) (View T)) : Type 0 where
+  -- It got the lock of a session's slots, of so many groups, in this mode, with what they show.
+  pub record GetsSlots (groups : ℕ) (mode : LwMode) (owner : ℕ) (before after : Seat (Kept T) (View T)) : Type 0 where
     pub shown : SlotsInHand
-    pub knows : KnowsSlots (number_at before) (account_at content before) owner shown
+    pub knows : KnowsSlots groups (number_at before) (account_at content before) owner shown
     pub led :
         Led content before after
         (account_getting mode (number_at before) (account_at content before) owner shown)

@@ -7,7 +7,7 @@ use Rattle.lock_table.specs.Total.{total}
 use Rattle.lock_table.specs.WholeContent.{whole_of, content_at, times_had, AreOfPartitions}
 use Rattle.lock_world.specs.declared.events.Word.TheVariants.{Slot, Strong}
 use Rattle.lock_world.specs.Account.{Account, InHand}
-use Rattle.lock_world.specs.SlotHolds.{slot_count}
+use Rattle.lock_world.specs.SlotHolds.{group_size}
 use Rattle.lock_world.specs.Tallies.{joined, shown_in_slots, modes_shown, AreSoMany, OwnStand, ShowsLeft}
 use Rattle.lock_world.specs.World.{TraceEntry, Took, Episode, Loaded}
 use Rattle.shared_rule.specs.declared.audits.Audit.{Audit}
@@ -29,12 +29,13 @@ account_after a steps = record a { trace = a.trace ++ steps }
 abbrev pub counter_loads : ℕ → (ℕ → ℕ) → List TraceEntry
 counter_loads count shown = joined count (λ index. Loaded (Strong index) (shown index) ∷ [])
 
--- the loads of the first so many of a session's slots, which show these words, and of all slots of all sessions below the limit
+-- the loads of the first so many of a session's slots, which show these words, and of all slots of all sessions below the limit,
+-- each with so many groups of slots
 abbrev pub slot_loads_of : ℕ → ℕ → (ℕ → ℕ) → List TraceEntry
 slot_loads_of owner count word = joined count (λ place. Loaded (Slot owner place) (word place) ∷ [])
 
-abbrev pub all_slot_loads : ℕ → (ℕ → ℕ → ℕ) → List TraceEntry
-all_slot_loads limit word = joined limit (λ owner. slot_loads_of owner slot_count (word owner))
+abbrev pub all_slot_loads : ℕ → ℕ → (ℕ → ℕ → ℕ) → List TraceEntry
+all_slot_loads limit groups word = joined limit (λ owner. slot_loads_of owner (group_size * groups) (word owner))
 
 -- the steps of taking the partitions from this one on, in rising order, and of putting them back as they were, in the opposite order,
 -- with these steps between
@@ -44,8 +45,8 @@ holding_steps partition (content ∷ contents) inner =
     Took partition content ∷ holding_steps (partition + 1) contents inner ++ Episode partition content content ∷ []
 
 -- the steps of an audit: all counters are loaded, and then, with all partitions in hand, all slots
-abbrev pub audit_steps : ℕ → (ℕ → ℕ) → (ℕ → ℕ → ℕ) → List Content → List TraceEntry
-audit_steps limit counters word contents = counter_loads 1024 counters ++ holding_steps 0 contents (all_slot_loads limit word)
+abbrev pub audit_steps : ℕ → ℕ → (ℕ → ℕ) → (ℕ → ℕ → ℕ) → List Content → List TraceEntry
+audit_steps limit groups counters word contents = counter_loads 1024 counters ++ holding_steps 0 contents (all_slot_loads limit groups word)
 
 -- It is the same seat after steps of its first session.
 module _ {T : Type 0} where
@@ -84,30 +85,30 @@ module _ {T : Type 0} (content : T → Content) where
         → ShowsLeft owner (account_among (gathered_in content before.sessions) owner) contents place (word place)
 
   -- The same of all slots of the sessions below a number.
-  pub record SeesAllSlots (limit : ℕ) (before after : View T) (sum : ℕ) : Type 0 where
+  pub record SeesAllSlots (groups limit : ℕ) (before after : View T) (sum : ℕ) : Type 0 where
     pub word : ℕ → ℕ → ℕ
     pub further : IsFurther before after
     pub account :
         first_account content after.sessions
-        ≡ account_after (first_account content before.sessions) (all_slot_loads limit word)
-    pub sum_ : sum ≡ shown_in_slots limit word
+        ≡ account_after (first_account content before.sessions) (all_slot_loads limit groups word)
+    pub sum_ : sum ≡ shown_in_slots limit groups word
     pub left :
         (issued : ℕ) → AreAll issued before → (contents : ℕ → Content) → HasAllInHand (first_account content before.sessions) contents
-        → (owner place : ℕ) → owner < limit → place < slot_count
+        → (owner place : ℕ) → owner < limit → place < group_size * groups
         → ShowsLeft owner (account_among (gathered_in content before.sessions) owner) contents place (word owner place)
 
   -- What was found of all, as the partitions have these contents.
-  pub record Finds (issued limit : ℕ) (view : View T) (contents : ℕ → Content) (word : ℕ → ℕ → ℕ) : Type 0 where
+  pub record Finds (groups issued limit : ℕ) (view : View T) (contents : ℕ → Content) (word : ℕ → ℕ → ℕ) : Type 0 where
     pub distinct : AreDistinct issued (gathered_in content view.sessions)
     pub stand :
         NoneWaits (gathered_in content view.sessions) → (number : ℕ)
-        → OwnStand number (account_among (gathered_in content view.sessions) number) contents
+        → OwnStand groups number (account_among (gathered_in content view.sessions) number) contents
     pub left :
-        (owner place : ℕ) → owner < limit → place < slot_count
+        (owner place : ℕ) → owner < limit → place < group_size * groups
         → ShowsLeft owner (account_among (gathered_in content view.sessions) owner) contents place (word owner place)
 
   -- The partitions from one on were taken and put back, and all slots were loaded with all in hand.
-  pub record CountsFrom (partition limit : ℕ) (before : View T) (old : List TableRow) (result : Result (Unit {0}) NoMemory) (fast : ℕ)
+  pub record CountsFrom (groups partition limit : ℕ) (before : View T) (old : List TableRow) (result : Result (Unit {0}) NoMemory) (fast : ℕ)
       (after : View T) (new : List TableRow) : Type 0 where
     pub contents : List Content
     pub last : partition + length contents ≡ 16
@@ -116,14 +117,14 @@ module _ {T : Type 0} (content : T → Content) where
     pub further : IsFurther before after
     pub account :
         first_account content after.sessions
-        ≡ account_after (first_account content before.sessions) (holding_steps partition contents (all_slot_loads limit word))
-    pub fast_ : fast ≡ shown_in_slots limit word
+        ≡ account_after (first_account content before.sessions) (holding_steps partition contents (all_slot_loads limit groups word))
+    pub fast_ : fast ≡ shown_in_slots limit groups word
     pub rows : OnOk result ((row : TableRow) → count_by (row_eq row) new ≡ count_by (row_eq row) old + times_had contents row)
     pub finds :
         (issued : ℕ) → AreAll issued before → (all : ℕ → Content)
         → ((p : ℕ) → p < partition → HasPartInHand (first_account content before.sessions) p (all p))
         → ((k : ℕ) → k < length contents → all (partition + k) ≡ content_at contents k)
-        → Finds issued limit before all word
+        → Finds groups issued limit before all word
 
 -- Each owns so many.
 abbrev pub OwnSoMany : List Gathered → List ℕ → Type 0
@@ -134,8 +135,8 @@ OwnSoMany (one ∷ rest) (many ∷ others) = AreSoMany one.account.own many × O
 
 -- What was counted: the modes in what the slot loads show, the granted rows of the contents taken together, and what the counter loads
 -- show.
-pub record CountsTo (limit : ℕ) (counters : ℕ → ℕ) (word : ℕ → ℕ → ℕ) (contents : List Content) (audit : Audit) : Type 0 where
-  pub fast : audit.fast ≡ shown_in_slots limit word
+pub record CountsTo (limit groups : ℕ) (counters : ℕ → ℕ) (word : ℕ → ℕ → ℕ) (contents : List Content) (audit : Audit) : Type 0 where
+  pub fast : audit.fast ≡ shown_in_slots limit groups word
   pub rows : List TableRow
   pub each_once : HasEachRow (whole_of (content_at contents)) rows
   pub table : audit.table ≡ count_by (λ (row : TableRow). row.granted) rows
@@ -143,13 +144,13 @@ pub record CountsTo (limit : ℕ) (counters : ℕ → ℕ) (word : ℕ → ℕ �
 
 -- An audit of those gathered, by the trace of the first. Where memory runs out for the rows it counts nothing, and has made the same
 -- steps.
-pub record Counts {E : Type 0} (limit : ℕ) (before : List TraceEntry) (result : Result Audit E) (after : List TraceEntry) : Type 0 where
+pub record Counts {E : Type 0} (limit groups : ℕ) (before : List TraceEntry) (result : Result Audit E) (after : List TraceEntry) : Type 0 where
   pub counters : ℕ → ℕ
   pub word : ℕ → ℕ → ℕ
   pub contents : List Content
   pub sixteen : length contents ≡ 16
-  pub trace : after ≡ before ++ audit_steps limit counters word contents
-  pub counted : IfOk result (CountsTo limit counters word contents)
+  pub trace : after ≡ before ++ audit_steps limit groups counters word contents
+  pub counted : IfOk result (CountsTo limit groups counters word contents)
 
 -- What was counted adds up: modes in slots and rows to what those gathered own, however that is listed, and counters to what they have
 -- counted.
@@ -159,7 +160,7 @@ pub record AddsUp (gathered : List Gathered) (audit : Audit) : Type 0 where
 
 -- The opener's seat counts what stands, with all sessions gathered there: the first one makes the steps, and all else is as before.
 pub record CountsAll {T : Type 0} (content : T → Content) (old new : OpenerState T) (result : Result Audit NoMemory) : Type 0 where
-  pub counts : Counts old.limit (first_account content old.gathered).trace result (first_account content new.gathered).trace
+  pub counts : Counts old.limit old.groups (first_account content old.gathered).trace result (first_account content new.gathered).trace
   pub adds_up : IfOk result (AddsUp (gathered_in content old.gathered))
   pub opener : new ≡ record old { gathered = new.gathered }
   pub first : History T

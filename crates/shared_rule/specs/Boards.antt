@@ -14,10 +14,11 @@ use Rattle.shared_rule.specs.Owed.{owing, asking, waking}
 
 -- What a board is: shared state as one session sees it.
 
--- whose it is, how many sessions there can be, and at which table
+-- whose it is, how many sessions there can be, how many groups of slots each has, and at which table
 pub record Seated : Type 0 where
   pub number : ℕ
   pub limit : ℕ
+  pub groups : ℕ
   pub table : TableId
 
 -- What a session has to do yet: the partitions that it has to put, the last one taken first, and those whom it has to

@@ -11,7 +11,7 @@ use Rattle.shared_rule.specs.declared.history.Mark.{Mark}
 use Rattle.shared_rule.specs.declared.history.View.{View}
 use Rattle.shared_rule.specs.declared.kept.Kept.{Kept}
 use Rattle.shared_rule.specs.History.{blank_account, told, first_account}
-use Rattle.shared_rule.specs.Layout.{index_of_word, IsInTable}
+use Rattle.shared_rule.specs.Layout.{index_of_word, MayBeInTable}
 use Rattle.shared_rule.specs.Plays.{Side, Marked}
 
 -- Sessions gathered at the opener's seat: the first makes steps with it, and keeps the others apart.
@@ -81,18 +81,19 @@ module _ {T : Type 0} (content : T → Content) where
   abbrev pub LookedOver : (ℕ → Mark T) → Step (Kept T) → Side T → ℕ → Side T → Type 0
   LookedOver mark step before found after =
       Marked mark step before found after
-      × ((word : Word) (issued : ℕ) → IsInTable word → step.word ≡ index_of_word word → AreAll issued before.0
+      × ((word : Word) (issued : ℕ) → MayBeInTable word → step.word ≡ index_of_word word → AreAll issued before.0
       → KnowsOfAll before.0 word found)
 
-  -- What the seat knows where they are all that there are: who they are, and, with all partitions in hand and nobody waiting, where
+  -- What the seat knows where they are all that there are, each with so many groups of slots: who they are, and, with all partitions in hand and nobody waiting, where
   -- each one's own holds stand.
-  pub record KnowsAll (issued : ℕ) (view : View T) : Type 0 where
+  pub record KnowsAll (groups issued : ℕ) (view : View T) : Type 0 where
     pub distinct : AreDistinct issued (gathered_in view.sessions)
     pub stand :
         (contents : ℕ → Content) → NoneWaits (gathered_in view.sessions)
         → HasAllInHand (first_account content view.sessions) contents → (number : ℕ)
-        → OwnStand number (account_among (gathered_in view.sessions) number) contents
+        → OwnStand groups number (account_among (gathered_in view.sessions) number) contents
 
   -- Nothing changed, and it is told that.
-  abbrev pub ToldAll : Step (Kept T) → Side T → ℕ → Side T → Type 0
-  ToldAll step before found after = (after ≡ before) × ((issued : ℕ) → AreAll issued before.0 → KnowsAll issued before.0)
+  abbrev pub ToldAll : ℕ → Step (Kept T) → Side T → ℕ → Side T → Type 0
+  ToldAll groups step before found after =
+      (after ≡ before) × ((issued : ℕ) → AreAll issued before.0 → KnowsAll groups issued before.0)

@@ -6,6 +6,7 @@ use Rattle.lock_world.specs.declared.events.Event.{Event}
 use Rattle.lock_world.specs.World.{World, opening}
 use Rattle.lock_world.specs.Happens.{Runs}
 use Rattle.lock_world.specs.Headline.{Headline}
+use Rattle.shared_rule.specs.declared.rule.Sizes.{Sizes}
 use Rattle.shared_rule.specs.declared.history.View.{View}
 use Rattle.shared_rule.specs.declared.kept.Kept.{Kept}
 use Rattle.shared_rule.specs.Shown.{WordsAreShown}
@@ -13,11 +14,11 @@ use Rattle.shared_rule.specs.Ruled.{ContentsAreHome, SeatsAreShown}
 
 -- The headline of the table: its words, its contents at home and the histories of all sessions show a World to which events have led
 -- from the opening one, and which has it.
-pub record ShowsHeadline {T : Type 0} (content : T → Content) (begun : T → Option Request) (limit : ℕ) (state : State (Kept T) (View T)) : Type 0 where
+pub record ShowsHeadline {T : Type 0} (content : T → Content) (begun : T → Option Request) (sizes : Sizes) (state : State (Kept T) (View T)) : Type 0 where
   pub world : World
   pub events : List Event
-  pub run : Runs (opening limit) events world
-  pub words : WordsAreShown state.words world.words
+  pub run : Runs (opening sizes.sessions sizes.groups) events world
+  pub words : WordsAreShown sizes.groups state.words world.words
   pub contents : ContentsAreHome content begun state.homes world.contents
   pub seats : SeatsAreShown content state.views world
   pub headline : Headline world

@@ -1,21 +1,30 @@
-use Rattle.std.specs.Prelude.{ℕ, ◌+◌, ◌*◌, ◌<◌, ◌≤◌, ◌⊎◌}
+use Rattle.std.specs.Prelude.{ℕ, ◌+◌, ◌*◌, ◌/◌, ◌%◌, ◌<◌, ◌≤◌, ◌⊎◌}
 use Rattle.lock_world.specs.declared.events.Word.{Word}
 use Rattle.lock_world.specs.declared.events.Word.TheVariants.{Partition, Fast, Database, Slot, Wait, Strong, Sleep}
+use Rattle.lock_world.specs.SlotHolds.{group_size, most_groups}
 use Rattle.lock_world.specs.World.{WordExists}
 
 -- Where each word stands in the table: its index, in words of 8 bytes. First come the partitions, then the strong lock
--- counters, then a block for each session.
+-- counters, then a block for each session, with the slots of its first group. The slots of each further group have an area
+-- of blocks behind that, one for each session.
 
 -- where a session's block begins
 abbrev pub block_start : ℕ → ℕ
 block_start session = 1296 + 36 * session
+
+-- how long an area of blocks is, and how many words the table has for so many groups of slots
+abbrev pub area_words : ℕ
+area_words = 2304
+
+abbrev pub words_of_groups : ℕ → ℕ
+words_of_groups groups = 1296 + area_words * groups
 
 abbrev pub index_of_word : Word → ℕ
 index_of_word (Partition p) = 16 * p
 index_of_word (Strong index) = 256 + index
 index_of_word (Fast session) = block_start session
 index_of_word (Database session) = block_start session + 1
-index_of_word (Slot session place) = block_start session + 2 + place
+index_of_word (Slot session place) = block_start session + 2 + area_words * (place / group_size) + place % group_size
 index_of_word (Wait session) = block_start session + 18
 index_of_word (Sleep session) = block_start session + 19
 
@@ -29,9 +38,13 @@ SessionHasWords (Slot session place) = session < 64
 SessionHasWords (Wait session) = session < 64
 SessionHasWords (Sleep session) = session < 64
 
--- The table has this word.
-abbrev pub IsInTable : Word → Type 0
-IsInTable word = WordExists word × SessionHasWords word
+-- The table for so many groups of slots has this word.
+abbrev pub IsInTable : ℕ → Word → Type 0
+IsInTable groups word = WordExists groups word × SessionHasWords word
+
+-- A table has this word, whatever number of groups it is for.
+abbrev pub MayBeInTable : Word → Type 0
+MayBeInTable word = IsInTable most_groups word
 
 -- Words of one group may share a cache line: each partition's word is a group, all counters together are one, and a
 -- session's words are one.

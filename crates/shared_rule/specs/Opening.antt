@@ -9,14 +9,14 @@ use Rattle.lock_table.specs.Parts.{IsBlank}
 use Rattle.lock_world.specs.declared.events.Word.{Word}
 use Rattle.lock_world.specs.World.{opening, word_in}
 use Rattle.shared_rule.specs.declared.layout.TheConstants.{TABLE_SLOTS}
-use Rattle.shared_rule.specs.Layout.{index_of_word, IsInTable, content_slot_of, list_slot_of, lock_count}
+use Rattle.shared_rule.specs.Layout.{index_of_word, MayBeInTable, content_slot_of, list_slot_of, lock_count}
 
 -- The table before the first step.
 
 -- The number is what the word at this index shows then.
 abbrev pub IsFirst : ℕ → ℕ → Type 0
 IsFirst index number =
-    (word : Word) → IsInTable word → index_of_word word ≡ index → number ≡ word_in (opening 0).words word
+    (word : Word) → MayBeInTable word → index_of_word word ≡ index → number ≡ word_in (opening 0 0).words word
 
 -- So are the numbers of these words.
 abbrev pub AreFirst : List ℕ → Type 0

@@ -1,4 +1,4 @@
-use Rattle.std.specs.Prelude.{◌≡◌, ◌≢◌, ℕ, ◌<◌, ◌/◌, ◌%◌, ◌^◌, true, List, ◌∷◌, Option, Some, None}
+use Rattle.std.specs.Prelude.{◌≡◌, ◌≢◌, ℕ, ◌<◌, ◌≤◌, ◌/◌, ◌%◌, ◌^◌, true, List, ◌∷◌, Option, Some, None}
 use Rattle.atomic_table.specs.Table.{Me, Step, rest}
 use Rattle.atomic_table.specs.Seated.{TableId}
 use Rattle.std.specs.Global.{Box}
@@ -8,6 +8,7 @@ use Rattle.lock_table.specs.declared.request.Request.{Request}
 use Rattle.lock_table.specs.Content.{Content}
 use Rattle.lock_world.specs.declared.events.Word.{Word}
 use Rattle.lock_world.specs.declared.events.Word.TheVariants.{Partition, Fast}
+use Rattle.lock_world.specs.SlotHolds.{most_groups}
 use Rattle.lock_world.specs.Account.{Account}
 use Rattle.lock_world.specs.AccountFacts.{KnowsContent, KnowsSlots}
 use Rattle.atomic_table.specs.declared.shared.Seat.{Seat}
@@ -21,7 +22,7 @@ use Rattle.shared_rule.specs.declared.kept.Kept.TheVariants as kept
 use Rattle.shared_rule.specs.declared.lw_lock.LwLock.{LwLock}
 use Rattle.shared_rule.specs.LwLocks.{word_of_lock, lock_number, LockIsInTable}
 use Rattle.shared_rule.specs.declared.layout.TheConstants.{TABLE_WORDS, TABLE_SLOTS}
-use Rattle.shared_rule.specs.Layout.{index_of_word, content_slot_of, list_slot_of, IsInTable}
+use Rattle.shared_rule.specs.Layout.{index_of_word, content_slot_of, list_slot_of, words_of_groups, MayBeInTable}
 use Rattle.shared_rule.specs.History.{noting, first_account, first_number, slots_shown}
 use Rattle.shared_rule.specs.Slots.{KnowsWord}
 
@@ -30,10 +31,16 @@ use Rattle.shared_rule.specs.Slots.{KnowsWord}
 abbrev pub Side : Type 0 → Type 0
 Side T = Me (Kept T) (View T)
 
--- the table has a place for each word, each content and each list
+-- the table has a place for each word, those of further groups of slots aside, each content and each list
 pub record IsSized (table : TableId) : Type 0 where
-  pub words : table.words ≡ TABLE_WORDS
+  pub words : TABLE_WORDS ≤ table.words
   pub slots : table.slots ≡ TABLE_SLOTS
+
+-- It has all words for so many groups of slots, 1 to 8.
+pub record HasGroups (table : TableId) (groups : ℕ) : Type 0 where
+  pub words : table.words ≡ words_of_groups groups
+  pub some : 0 < groups
+  pub few : groups ≤ most_groups
 
 module _ {T : Type 0} where
   -- the number of the session that makes its steps with the seat, and its account
@@ -72,38 +79,38 @@ module _ {T : Type 0} (content : T → Content) where
   abbrev pub Looked : (ℕ → Mark T) → Step (Kept T) → Side T → ℕ → Side T → Type 0
   Looked mark step before found after =
       Marked mark step before found after
-      × ((word : Word) → IsInTable word → step.word ≡ index_of_word word
+      × ((word : Word) → MayBeInTable word → step.word ≡ index_of_word word
       → KnowsWord (first_number before.0.sessions) (first_account content before.0.sessions) word found)
 
-  -- The lock of a session's slots came into hand, or is shared: what they show was noted by this mark, and the session
-  -- knows of it what its account tells.
-  pub record SeesSlots (mark : ℕ → ℕ → List ℕ → Mark T) (owner : ℕ) (before after : Side T) : Type 0 where
+  -- The lock of a session's slots, of so many groups, came into hand, or is shared: what they show was noted by this mark, and
+  -- the session knows of it what its account tells.
+  pub record SeesSlots (groups : ℕ) (mark : ℕ → ℕ → List ℕ → Mark T) (owner : ℕ) (before after : Side T) : Type 0 where
     pub database : ℕ
     pub words : List ℕ
     pub side : after ≡ (noting before.0 (mark owner database words), before.1)
     pub knows :
-        KnowsSlots (first_number before.0.sessions) (first_account content before.0.sessions) owner
+        KnowsSlots groups (first_number before.0.sessions) (first_account content before.0.sessions) owner
         (slots_shown database words)
 
-  abbrev pub TookSlots : ℕ → Side T → Side T → Type 0
-  TookSlots = SeesSlots TookFast
+  abbrev pub TookSlots : ℕ → ℕ → Side T → Side T → Type 0
+  TookSlots groups = SeesSlots groups TookFast
 
-  abbrev pub SharedSlots : ℕ → Side T → Side T → Type 0
-  SharedSlots = SeesSlots SharedFast
+  abbrev pub SharedSlots : ℕ → ℕ → Side T → Side T → Type 0
+  SharedSlots groups = SeesSlots groups SharedFast
 
   -- An exchange does so where it finds the number that it expects, and else leaves the view so.
   abbrev pub SeesSlotsOr :
-      (ℕ → ℕ → List ℕ → Mark T) → (ℕ → View T → View T) → Step (Kept T) → Side T → ℕ → Side T → Type 0
-  SeesSlotsOr mark lost step before found after =
+      ℕ → (ℕ → ℕ → List ℕ → Mark T) → (ℕ → View T → View T) → Step (Kept T) → Side T → ℕ → Side T → Type 0
+  SeesSlotsOr groups mark lost step before found after =
       (found ≡ step.first → (owner : ℕ) → owner < 64 → step.word ≡ index_of_word (Fast owner)
-      → SeesSlots mark owner before after)
+      → SeesSlots groups mark owner before after)
       × (found ≢ step.first → after ≡ (lost found before.0, before.1))
 
-  abbrev pub TookSlotsOr : (ℕ → View T → View T) → Step (Kept T) → Side T → ℕ → Side T → Type 0
-  TookSlotsOr = SeesSlotsOr TookFast
+  abbrev pub TookSlotsOr : ℕ → (ℕ → View T → View T) → Step (Kept T) → Side T → ℕ → Side T → Type 0
+  TookSlotsOr groups = SeesSlotsOr groups TookFast
 
-  abbrev pub SharedSlotsOr : (ℕ → View T → View T) → Step (Kept T) → Side T → ℕ → Side T → Type 0
-  SharedSlotsOr = SeesSlotsOr SharedFast
+  abbrev pub SharedSlotsOr : ℕ → (ℕ → View T → View T) → Step (Kept T) → Side T → ℕ → Side T → Type 0
+  SharedSlotsOr groups = SeesSlotsOr groups SharedFast
 
 module _ {T : Type 0} (content : T → Content) where
   -- The wait list of a lightweight lock came in hand, and those who stand there were noted. The session is among them

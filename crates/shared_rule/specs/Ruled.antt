@@ -1,4 +1,4 @@
-use Rattle.std.specs.Prelude.{◌≡◌, ◌≢◌, ℕ, ◌+◌, ◌<◌, ◌≤◌, ◌==◌, true, false, List, length, slice_get, count_by, Option, Some, None}
+use Rattle.std.specs.Prelude.{◌≡◌, ◌≢◌, ℕ, ◌+◌, ◌*◌, ◌<◌, ◌≤◌, ◌==◌, true, false, List, length, slice_get, count_by, Option, Some, None}
 use mathlib.Core.Option.{some}
 use mathlib.Core.Option as maybe
 use lib.ListN.{get_elem?}
@@ -11,10 +11,11 @@ use Rattle.lock_world.specs.declared.events.Event.{Event}
 use Rattle.lock_world.specs.World.{World, Words, Contents, Hand, Numbers, opening}
 use Rattle.lock_world.specs.SafeWorld.{SafeWorld}
 use Rattle.lock_table.specs.Total.{how_many}
-use Rattle.lock_world.specs.SlotHolds.{slot_count}
+use Rattle.lock_world.specs.SlotHolds.{group_size, most_groups}
 use Rattle.lock_world.specs.Account.{account}
 use Rattle.lock_world.specs.Happens.Counters.{most_counted}
 use Rattle.lock_world.specs.Happens.{Runs}
+use Rattle.shared_rule.specs.declared.rule.Sizes.{Sizes}
 use Rattle.shared_rule.specs.declared.history.History.{History}
 use Rattle.shared_rule.specs.declared.history.View.{View}
 use Rattle.shared_rule.specs.declared.kept.Kept.{Kept}
@@ -26,9 +27,9 @@ use Rattle.shared_rule.specs.History.{blank_account, told, keeper}
 -- The rule of the table: there is a World which its words, its contents at home and the histories of all sessions show,
 -- to which a list of events leads from the World before the first step, and which is safe.
 
--- A session has sixteen slots: whatever stands beyond them shows 0.
-abbrev pub NoneBeyondSlots : Words → Type 0
-NoneBeyondSlots words = (session place : ℕ) → slot_count ≤ place → words.slot session place ≡ 0
+-- A session has the slots of so many groups: whatever stands beyond them shows 0.
+abbrev pub NoneBeyondSlots : ℕ → Words → Type 0
+NoneBeyondSlots groups words = (session place : ℕ) → group_size * groups ≤ place → words.slot session place ≡ 0
 
 -- What the slots of contents show.
 module _ {T : Type 0} (content : T → Content) (begun : T → Option Request) where
@@ -126,16 +127,19 @@ module _ {T : Type 0} (content : T → Content) where
 
 -- The rule.
 module _ {T : Type 0} (content : T → Content) (begun : T → Option Request) where
-  pub record Ruled (limit : ℕ) (state : State (Kept T) (View T)) : Type 0 where
+  pub record Ruled (sizes : Sizes) (state : State (Kept T) (View T)) : Type 0 where
     pub world : World
     -- each step is its event: these lead here from the World before the first step
     pub events : List Event
-    pub run : Runs (opening limit) events world
+    pub run : Runs (opening sizes.sessions sizes.groups) events world
     pub safe : SafeWorld world
-    pub is_limit : world.numbers.limit ≡ limit
-    pub few : limit ≤ 64
-    pub words : WordsAreShown state.words world.words
-    pub none_beyond : NoneBeyondSlots world.words
+    pub is_limit : world.numbers.limit ≡ sizes.sessions
+    pub are_groups : world.numbers.groups ≡ sizes.groups
+    pub few : sizes.sessions ≤ 64
+    pub some_groups : 0 < sizes.groups
+    pub few_groups : sizes.groups ≤ most_groups
+    pub words : WordsAreShown sizes.groups state.words world.words
+    pub none_beyond : NoneBeyondSlots sizes.groups world.words
     pub few_counted : (session : ℕ) → length (world.sessions.counted session) ≤ most_counted
     pub contents : ContentsAreHome content begun state.homes world.contents
     pub lists : ListsAreHome state.homes world.sessions.has_list world.words.list

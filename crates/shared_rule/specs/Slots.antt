@@ -10,27 +10,28 @@ use Rattle.lock_world.specs.Account.{Account, SlotsInHand}
 use Rattle.lock_world.specs.AccountSteps.{account_tracing, account_taking_fast, account_sharing_fast}
 use Rattle.lock_world.specs.AccountFacts.{KnowsSlots}
 
--- What steps on slots tell the session of this number, whose account is `a` before them and `b` after them.
+-- What steps on slots tell the session of this number, whose account is `a` before them and `b` after them, where each has so many
+-- groups of slots.
 
 -- It took the lock of the owner's slots, has them in hand, and knows of them what its account tells.
-pub record TakesFast (number : ℕ) (a : Account) (owner : ℕ) (b : Account) : Type 0 where
+pub record TakesFast (groups number : ℕ) (a : Account) (owner : ℕ) (b : Account) : Type 0 where
   pub slots : SlotsInHand
-  pub knows : KnowsSlots number a owner slots
+  pub knows : KnowsSlots groups number a owner slots
   pub account : b ≡ account_taking_fast number a owner slots
 
 -- It shares that lock: the same of slots that nobody changes while it does, and others may read too.
-pub record SharesFast (number : ℕ) (a : Account) (owner : ℕ) (b : Account) : Type 0 where
+pub record SharesFast (groups number : ℕ) (a : Account) (owner : ℕ) (b : Account) : Type 0 where
   pub slots : SlotsInHand
-  pub knows : KnowsSlots number a owner slots
+  pub knows : KnowsSlots groups number a owner slots
   pub account : b ≡ account_sharing_fast number a owner slots
 
 -- An attempt to take the lock of its own slots, which first loads the lock's word:
 
 -- nobody held it, and the exchange took it;
-pub record TookItFree (number : ℕ) (a b : Account) : Type 0 where
+pub record TookItFree (groups number : ℕ) (a b : Account) : Type 0 where
   pub shown : ℕ
   pub free : IsHeldByNobody shown
-  pub takes : TakesFast number (account_tracing a (Loaded (Fast number) shown)) number b
+  pub takes : TakesFast groups number (account_tracing a (Loaded (Fast number) shown)) number b
 
 -- somebody held it;
 pub record FoundItHeld (number : ℕ) (a b : Account) : Type 0 where
@@ -46,9 +47,9 @@ pub record FoundItChanged (number : ℕ) (a b : Account) : Type 0 where
   pub changed : other ≢ shown
   pub account : b ≡ account_tracing (account_tracing a (Loaded (Fast number) shown)) (Loaded (Fast number) other)
 
-abbrev pub TriesFast : {T E : Type 0} → ℕ → Account → Result T E → Account → Type 0
-TriesFast number a result b =
-    MatchResult result (λ _. TookItFree number a b) (λ _. FoundItHeld number a b ⊎ FoundItChanged number a b)
+abbrev pub TriesFast : {T E : Type 0} → ℕ → ℕ → Account → Result T E → Account → Type 0
+TriesFast groups number a result b =
+    MatchResult result (λ _. TookItFree groups number a b) (λ _. FoundItHeld number a b ⊎ FoundItChanged number a b)
 
 -- What it knows of a number that it finds in a word: the slots that it has in hand or shares show it, its database is its own,
 -- and its own wait word shows no wait where it has none.

@@ -1,6 +1,6 @@
 //! What stands in the table, counted by a seat at which all sessions are gathered.
 
-ghost use Rattle.std.specs.Prelude.{◌≡◌, ◌<◌, ◌≤◌, ◌+◌, List, [], ◌∷◌, length, count_by, ℕ, None};
+ghost use Rattle.std.specs.Prelude.{◌≡◌, ◌<◌, ◌≤◌, ◌+◌, ◌*◌, List, [], ◌∷◌, length, count_by, ℕ, None};
 ghost use mathlib.Core.Option.{none};
 ghost use Rattle.atomic_table.specs.Table.{Allows, step, rest};
 ghost use Rattle.lock_table.specs.declared.rows.TableRow.{TableRow};
@@ -9,7 +9,7 @@ ghost use Rattle.lock_world.specs.Account.{InHand};
 ghost use Rattle.lock_world.specs.AccountFacts.{KnowsContent};
 ghost use Rattle.lock_world.specs.declared.events.Word.{Word};
 ghost use Rattle.lock_world.specs.declared.events.Word.TheVariants.{Slot, Strong};
-ghost use Rattle.lock_world.specs.SlotHolds.{slot_count};
+ghost use Rattle.lock_world.specs.SlotHolds.{group_size};
 ghost use Rattle.lock_world.specs.Tallies.{modes_shown};
 ghost use Rattle.shared_rule.specs.Marks.{LoadedSlot, LoadedStrong, TookPart, PutPart};
 ghost use Rattle.shared_rule.specs.declared.kept.Kept.TheVariants.{Nothing};
@@ -17,24 +17,24 @@ ghost use Rattle.shared_rule.specs.Audits.{CountersSeen, CountsAll, CountsFrom, 
 ghost use Rattle.shared_rule.specs.Gatherings.{AreAll, KnowsAll, KnowsOfAll, LookedOver, NoneWaits, gathered_in};
 ghost use Rattle.shared_rule.specs.declared.history.History.{History};
 ghost use Rattle.shared_rule.specs.History.{noting, first_account};
-ghost use Rattle.shared_rule.specs.Layout.{content_slot_of, index_of_word, IsInTable};
+ghost use Rattle.shared_rule.specs.Layout.{content_slot_of, index_of_word, MayBeInTable};
 ghost use Rattle.shared_rule.specs.Lawful.{IsAboveHand, MayPutPart};
-ghost use Rattle.shared_rule.specs.Plays.{account_at, number_at, FitsTable, HasSession, IsSameSeat};
+ghost use Rattle.shared_rule.specs.Plays.{account_at, number_at, FitsTable, HasGroups, HasSession, IsSameSeat};
 ghost use Rattle.shared_rule.specs.Ruled.{Ruled};
 ghost use Rattle.shared_rule.specs.Seats.{MayBeKeptApartBy};
 
 use crate::layout::{slot_word, strong_word};
 use crate::opener::Opener;
 use crate::partitions::{put_part_home, take_part_alone};
-use crate::plays::{LooksOver, Marking, TellsAll};
-use crate::rule::{Place, Top};
+use crate::plays::{Grouping, LooksOver, Marking, TellsAll};
+use crate::rule::{Place, Sizes, Top};
 use lock_table::{Move, NoMemory, PartTable, TableRow};
 use lw_word::SlotWord;
 use modes_core::{Mode, PARTITIONS, SessionId};
 use std::marker::Brand;
 use std::sync::Wait;
 
-/// How many strong lock counters there are (`FAST_PATH_STRONG_LOCK_HASH_PARTITIONS` in lock.c), and slots of a session.
+/// How many strong lock counters there are (`FAST_PATH_STRONG_LOCK_HASH_PARTITIONS` in lock.c), and slots of a group.
 const COUNTERS: u16 = 1024;
 
 const SLOTS: u8 = 16;
@@ -56,7 +56,7 @@ fn look_over_as<T: PartTable, M: Marking<T>>(top: &Top<T>, place: &mut Place<T>,
         (LookedOver T.content M.mark (step top.now.table_id.slots word 0 0 none) place.old.me) }
     ensures seat { IsSameSeat place.old place.new }
     ensures side { place.new.me ≡ (noting place.old.me.0 (M.mark result), place.old.me.1) }
-    ensures knows { (which : Word) (issued : ℕ) → IsInTable which → word ≡ index_of_word which
+    ensures knows { (which : Word) (issued : ℕ) → MayBeInTable which → word ≡ index_of_word which
         → AreAll issued place.old.me.0 → KnowsOfAll T.content place.old.me.0 which result }
 {
     top.load::<LooksOver<M>>(place, word)
@@ -71,7 +71,8 @@ fn look_over_slot<T: PartTable, M: Marking<T>>(
 ) -> SlotWord
     requires table { FitsTable place.old top.now.table_id }
     requires session { HasSession place.old.me.0 }
-    requires within { slot < 16 }
+    requires within { slot < group_size * top.now.key.groups }
+    requires grouped { HasGroups top.now.table_id top.now.key.groups }
     requires mark { M.mark ≡ LoadedSlot owner slot }
     ensures seat { IsSameSeat place.old place.new }
     ensures side { place.new.me ≡ (noting place.old.me.0 (LoadedSlot owner slot result), place.old.me.1) }
@@ -99,15 +100,30 @@ fn look_over_strong<T: PartTable, M: Marking<T>>(
     look_over_as::<T, M>(top, place, strong_word(index))
 }
 
-// Tells who is there, and where each one's own holds stand. It loads a word, and ignores what it finds.
+// Tells who is there, each with so many groups of slots, and where each one's own holds stand. It loads a word, and
+// ignores what it finds.
+fn tell_all_as<T: PartTable, G: Grouping>(top: &Top<T>, place: &mut Place<T>)
+    requires table { FitsTable place.old top.now.table_id }
+    requires session { HasSession place.old.me.0 }
+    requires groups { G.groups ≡ top.now.key.groups }
+    ensures seat { IsSameSeat place.old place.new }
+    ensures side { place.new.me ≡ place.old.me }
+    ensures knows { (issued : ℕ) → AreAll issued place.old.me.0
+        → KnowsAll T.content top.now.key.groups issued place.old.me.0 }
+{
+    top.load::<TellsAll<G>>(place, 0);
+}
+
+// The same with as many groups as there are.
 fn tell_all<T: PartTable>(top: &Top<T>, place: &mut Place<T>)
     requires table { FitsTable place.old top.now.table_id }
     requires session { HasSession place.old.me.0 }
     ensures seat { IsSameSeat place.old place.new }
     ensures side { place.new.me ≡ place.old.me }
-    ensures knows { (issued : ℕ) → AreAll issued place.old.me.0 → KnowsAll T.content issued place.old.me.0 }
+    ensures knows { (issued : ℕ) → AreAll issued place.old.me.0
+        → KnowsAll T.content top.now.key.groups issued place.old.me.0 }
 {
-    top.load::<TellsAll>(place, 0);
+    tell_all_as::<T, Brand>(top, place);
 }
 
 // How many modes a slot's word shows.
@@ -136,35 +152,44 @@ pub(crate) fn count_counters<T: PartTable>(top: &Top<T>, place: &mut Place<T>) -
     sum
 }
 
-// How many modes a session's slots show, each loaded once.
-fn count_slots_of<T: PartTable>(top: &Top<T>, place: &mut Place<T>, owner: SessionId) -> u64
+// How many modes a session's slots show, those of so many groups, each loaded once.
+fn count_slots_of<T: PartTable>(
+    top: &Top<T>,
+    place: &mut Place<T>,
+    owner: SessionId,
+    groups: u8,
+) -> u64
     requires table { FitsTable place.old top.now.table_id }
     requires session { HasSession place.old.me.0 }
+    requires groups { groups ≡ top.now.key.groups }
+    requires grouped { HasGroups top.now.table_id top.now.key.groups }
     ensures seat { IsSameSeat place.old place.new }
     ensures slots { place.new.me.1 ≡ place.old.me.1 }
-    ensures sees { SeesSlots T.content owner slot_count place.old.me.0 place.new.me.0 result }
-    ensures few { result ≤ 48 }
+    ensures sees { SeesSlots T.content owner (group_size * groups) place.old.me.0 place.new.me.0 result }
+    ensures few { result ≤ 384 }
 {
     let mut sum = 0;
-    for slot in 0..SLOTS {
+    for slot in 0..SLOTS * groups {
         sum += modes_in(look_over_slot::<T, Brand>(top, place, owner, slot));
     }
     sum
 }
 
-// How many modes all slots show, of the sessions below this number.
-fn count_slots<T: PartTable>(top: &Top<T>, place: &mut Place<T>, sessions: u8) -> u64
+// How many modes all slots show, of the sessions that there can be.
+fn count_slots<T: PartTable>(top: &Top<T>, place: &mut Place<T>, sizes: &Sizes) -> u64
     requires table { FitsTable place.old top.now.table_id }
     requires session { HasSession place.old.me.0 }
-    requires few { sessions ≤ 64 }
+    requires sizes { sizes.now ≡ top.now.key }
+    requires grouped { HasGroups top.now.table_id top.now.key.groups }
+    requires few { sizes.now.sessions ≤ 64 }
     ensures seat { IsSameSeat place.old place.new }
     ensures slots { place.new.me.1 ≡ place.old.me.1 }
-    ensures sees { SeesAllSlots T.content sessions place.old.me.0 place.new.me.0 result }
+    ensures sees { SeesAllSlots T.content sizes.now.groups sizes.now.sessions place.old.me.0 place.new.me.0 result }
 {
     let mut sum = 0;
-    for number in 0..sessions {
+    for number in 0..sizes.sessions {
         let owner = SessionId::new(number).unwrap();
-        sum += count_slots_of(top, place, owner);
+        sum += count_slots_of(top, place, owner, sizes.groups);
     }
     sum
 }
@@ -193,7 +218,7 @@ fn put_back<T: PartTable>(top: &Top<T>, place: &mut Place<T>, part: u8, content:
     requires session { HasSession place.old.me.0 }
     requires in_hand { place.old.me.1 ≡ (content_slot_of part, Nothing) ∷ rest place.old.me.1 }
     requires none_begun { T.begun content ≡ None }
-    requires lawful { (mine : InHand) × MayPutPart top.now.key (number_at place.old)
+    requires lawful { (mine : InHand) × MayPutPart top.now.key.sessions (number_at place.old)
         (account_at T.content place.old) part mine Keep (T.content content) }
     ensures seat { IsSameSeat place.old place.new }
     ensures side { place.new.me ≡ (noting place.old.me.0 (PutPart part Keep content), rest place.old.me.1) }
@@ -208,28 +233,30 @@ pub(crate) fn count_from<T: PartTable, R: Wait>(
     rt: &R,
     top: &Top<T>,
     place: &mut Place<T>,
-    sessions: u8,
+    sizes: &Sizes,
     part: u8,
     fast: &mut u64,
     rows: &mut Vec<TableRow>,
 ) -> Result<(), NoMemory>
     requires table { FitsTable place.old top.now.table_id }
     requires session { HasSession place.old.me.0 }
-    requires few { sessions ≤ 64 }
+    requires sizes { sizes.now ≡ top.now.key }
+    requires grouped { HasGroups top.now.table_id top.now.key.groups }
+    requires few { sizes.now.sessions ≤ 64 }
     requires exists { part ≤ 16 }
     requires none_in_hand { IsAboveHand (account_at T.content place.old) part }
     ensures seat { IsSameSeat place.old place.new }
     ensures slots { place.new.me.1 ≡ place.old.me.1 }
-    ensures counts { CountsFrom T.content part sessions place.old.me.0 rows.old.items result fast.new
+    ensures counts { CountsFrom T.content sizes.now.groups part sizes.now.sessions place.old.me.0 rows.old.items result fast.new
         place.new.me.0 rows.new.items }
 {
     if u32::from(part) == PARTITIONS {
         tell_all(top, place);
-        *fast = count_slots(top, place, sessions);
+        *fast = count_slots(top, place, sizes);
         return Ok(());
     }
     let content = take_next(rt, top, place, part);
-    let mut counted = count_from(rt, top, place, sessions, part + 1, fast, rows);
+    let mut counted = count_from(rt, top, place, sizes, part + 1, fast, rows);
     if counted.is_ok() {
         counted = content.rows(rows);
     }
@@ -255,7 +282,8 @@ impl<T: PartTable> Opener<T> {
         table: &Top<T>,
         rows: &mut Vec<TableRow>,
     ) -> Result<Audit, NoMemory>
-        requires table { (self.old.table ≡ table.now.table_id) × (self.old.limit ≡ table.now.key) }
+        requires table { (self.old.table ≡ table.now.table_id) × (self.old.limit ≡ table.now.key.sessions)
+            × (self.old.groups ≡ table.now.key.groups) }
         requires some { (first : History T) × (others : List (History T)) × (self.old.gathered ≡ first ∷ others) }
         requires all { length self.old.gathered + length self.old.closed ≡ self.old.issued }
         requires nobody_waits { NoneWaits (gathered_in T.content self.old.gathered) }
@@ -265,15 +293,8 @@ impl<T: PartTable> Opener<T> {
     {
         let strong = count_counters(table, &mut self.place);
         let mut fast = 0;
-        count_from(
-            rt,
-            table,
-            &mut self.place,
-            self.sessions,
-            0,
-            &mut fast,
-            rows,
-        )?;
+        let sizes = self.sizes;
+        count_from(rt, table, &mut self.place, &sizes, 0, &mut fast, rows)?;
         Ok(Audit {
             fast,
             table: granted_in(rows.as_slice()),

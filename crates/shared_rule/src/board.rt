@@ -2,7 +2,7 @@
 //! (or several attempts at one), so what is proved over any board holds for the table that threads share and for the
 //! fake that tests use.
 
-ghost use Rattle.std.specs.Prelude.{◌≡◌, ◌<◌, ◌||◌, ◌==◌, ℕ, List, [], ◌∷◌, map, Some, None};
+ghost use Rattle.std.specs.Prelude.{◌≡◌, ◌<◌, ◌≤◌, ◌*◌, ◌||◌, ◌==◌, ℕ, List, [], ◌∷◌, map, Some, None};
 ghost use Rattle.modes_core.specs.Tag.{partition_of};
 ghost use Rattle.lock_table.specs.declared.moves.Move.TheVariants.{Join};
 ghost use Rattle.lock_table.specs.Content as contents;
@@ -13,7 +13,7 @@ ghost use Rattle.lock_world.specs.declared.events.Word.TheVariants.{Database, Sl
 ghost use Rattle.lock_world.specs.WaitWord.{wait_state};
 ghost use Rattle.lock_world.specs.World.{Loaded, AskedToCancel};
 ghost use Rattle.lock_world.specs.Account.{Account, InHand, SlotsInHand};
-ghost use Rattle.lock_world.specs.SlotHolds.{slot_holds};
+ghost use Rattle.lock_world.specs.SlotHolds.{group_size, most_groups, slot_holds};
 ghost use Rattle.lock_world.specs.AccountSteps.{account_taking, account_putting};
 ghost use Rattle.lock_world.specs.AccountSteps.{account_putting_fast, account_unsharing_fast};
 ghost use Rattle.lock_world.specs.AccountSteps.{account_passing, account_counting};
@@ -44,7 +44,7 @@ use std::sync::Wait;
 /// then partitions in rising order. Partitions go home in the opposite order of their taking. Whoever lets another
 /// session go, or asks it to cancel its wait, owes it a wake, and takes no lock before.
 pub trait Board<T: PartTable> {
-    // Whose board it is, how many sessions there can be, and at which table.
+    // Whose board it is, how many sessions there can be, how many groups of slots each has, and at which table.
     ghost seat: { Self → Seated };
 
     // The session's account.
@@ -61,6 +61,13 @@ pub trait Board<T: PartTable> {
     /// How many sessions there can be.
     fn sessions(&self) -> u8
         ensures { result ≡ (seat self.now).limit };
+
+    /// How many groups of fast-path slots each session has, 1 to 8 (`FastPathLockGroupsPerBackend` in proc.h of version
+    /// 18).
+    fn groups(&self) -> u8
+        ensures value { result ≡ (seat self.now).groups }
+        ensures some { 0 < (seat self.now).groups }
+        ensures few { (seat self.now).groups ≤ most_groups };
 
     /// Takes a partition's lightweight lock exclusively, and its content in hand (`LWLockAcquire` in lwlock.c). It
     /// waits until the lock is free.
@@ -94,7 +101,7 @@ pub trait Board<T: PartTable> {
         requires no_slots { (view self.old).fast.slots ≡ (λ _. None) }
         requires no_shared_slots { (view self.old).fast.shared_slots ≡ (λ _. None) }
         ensures seat { seat self.new ≡ seat self.old }
-        ensures taken { TakesFast (seat self.old).number (view self.old) owner (view self.new) }
+        ensures taken { TakesFast (seat self.old).groups (seat self.old).number (view self.old) owner (view self.new) }
         ensures stack { stack self.new ≡ stack self.old };
 
     /// Takes the lock of its own slots if nobody holds it: a load of its word and, where bits 0 to 24 are all 0, one
@@ -105,7 +112,7 @@ pub trait Board<T: PartTable> {
         requires no_slots { (view self.old).fast.slots ≡ (λ _. None) }
         requires no_shared_slots { (view self.old).fast.shared_slots ≡ (λ _. None) }
         ensures seat { seat self.new ≡ seat self.old }
-        ensures tried { TriesFast (seat self.old).number (view self.old) result (view self.new) }
+        ensures tried { TriesFast (seat self.old).groups (seat self.old).number (view self.old) result (view self.new) }
         ensures stack { stack self.new ≡ stack self.old };
 
     /// Puts that lock.
@@ -125,7 +132,7 @@ pub trait Board<T: PartTable> {
         requires no_slots { (view self.old).fast.slots ≡ (λ _. None) }
         requires no_shared_slots { (view self.old).fast.shared_slots ≡ (λ _. None) }
         ensures seat { seat self.new ≡ seat self.old }
-        ensures shared { SharesFast (seat self.old).number (view self.old) owner (view self.new) }
+        ensures shared { SharesFast (seat self.old).groups (seat self.old).number (view self.old) owner (view self.new) }
         ensures stack { stack self.new ≡ stack self.old };
 
     /// Shares that lock no more.
@@ -177,9 +184,9 @@ pub trait Board<T: PartTable> {
         ensures view { view self.new ≡ account_storing (view self.old) database }
         ensures stack { stack self.new ≡ stack self.old };
 
-    /// Loads a fast-path slot of a session, 0 to 15 (`fpRelId` and `fpLockBits` in proc.h).
+    /// Loads a fast-path slot of a session, one of those of its groups (`fpRelId` and `fpLockBits` in proc.h).
     fn load_slot(&mut self, owner: SessionId, place: u8) -> SlotWord
-        requires within { place < 16 }
+        requires within { place < group_size * (seat self.old).groups }
         ensures seat { seat self.new ≡ seat self.old }
         ensures view { view self.new ≡ account_tracing (view self.old) (Loaded (Slot owner place) result) }
         ensures stack { stack self.new ≡ stack self.old }
@@ -198,8 +205,9 @@ pub trait Board<T: PartTable> {
 
     /// Sets a mode in the session's own slot that shows this (`FastPathGrantRelationLock` in lock.c).
     fn set_slot(&mut self, place: u8, shown: SlotWord, tag: &Tag, mode: Mode)
+        requires within { place < group_size * (seat self.old).groups }
         requires lawful { (mine : SlotsInHand)
-            × MaySetSlotBy (seat self.old).number (view self.old) mine place tag.now mode
+            × MaySetSlotBy (seat self.old).groups (seat self.old).number (view self.old) mine place tag.now mode
             × (shown ≡ mine.word place) }
         ensures seat { seat self.new ≡ seat self.old }
         ensures view { view self.new ≡ account_setting (seat self.old).number (view self.old)
@@ -208,6 +216,7 @@ pub trait Board<T: PartTable> {
 
     /// Clears a mode in the session's own slot that shows this (`FastPathUnGrantRelationLock` in lock.c).
     fn clear_slot(&mut self, place: u8, shown: SlotWord, tag: &Tag, mode: Mode)
+        requires within { place < group_size * (seat self.old).groups }
         requires lawful { (mine : SlotsInHand)
             × MayClearSlotBy (seat self.old).number (view self.old) mine place tag.now mode
             × (shown ≡ mine.word place) }
@@ -230,6 +239,7 @@ pub trait Board<T: PartTable> {
         content: &T,
     )
         requires exists { owner < (seat self.old).limit }
+        requires within { place < group_size * (seat self.old).groups }
         requires lawful { (its : SlotsInHand) × (mine : InHand)
             × MayTransferBy (seat self.old).limit (view self.old) owner place its mine tag.now mode strong
             × (shown ≡ its.word place) × (T.content content.now ≡ add_hold mine.now owner tag.now mode) }

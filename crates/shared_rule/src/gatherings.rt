@@ -10,7 +10,7 @@ ghost use Rattle.shared_rule.specs.Seats.{MayBeKeptApartBy};
 
 use crate::board::Board;
 use crate::opener::Opener;
-use crate::rule::Top;
+use crate::rule::{Sizes, Top};
 use crate::seat_board::SeatBoard;
 use crate::seats;
 use lock_table::PartTable;
@@ -22,21 +22,26 @@ use std::marker::Model;
 pub struct Absent<'a, T: PartTable> {
     table: &'a Top<T>,
     number: SessionId,
-    sessions: u8,
+    sizes: Sizes,
 }
 
 impl<'a, T: PartTable> Model for Absent<'a, T> {
     ghost use Rattle.std.specs.Prelude.{◌≡◌, ◌<◌};
     ghost use Rattle.shared_rule.specs.Boards.{Seated};
-    ghost use Rattle.shared_rule.specs.Plays.{IsSized};
+    ghost use Rattle.shared_rule.specs.Plays.{HasGroups, IsSized};
 
     ghost Value = { Seated };
 
     ghost view = { λ absent.
-        record { number = absent.number; limit = absent.sessions; table = absent.table.now.table_id } };
+        record {
+          number = absent.number;
+          limit = absent.sizes.sessions;
+          groups = absent.sizes.groups;
+          table = absent.table.now.table_id;
+        } };
 
-    ghost invariant = { λ absent. IsSized absent.table.now.table_id × (absent.sessions ≡ absent.table.now.key)
-        × (absent.number < absent.sessions) };
+    ghost invariant = { λ absent. IsSized absent.table.now.table_id × (absent.sizes ≡ absent.table.now.key)
+        × (absent.number < absent.sizes.sessions) × HasGroups absent.table.now.table_id absent.sizes.groups };
 }
 
 impl<T: PartTable> Opener<T> {
@@ -50,13 +55,13 @@ impl<T: PartTable> Opener<T> {
             HasGathered T.content (B.seat board.entry).number (B.view board.entry) self.old self.new }
     {
         let number = board.number();
-        let sessions = board.sessions();
+        let sizes = board.sizes();
         let (table, place) = board.into_place();
         seats::keep_apart(table, &mut self.place, place);
         Absent {
             table,
             number,
-            sessions,
+            sizes,
         }
     }
 
@@ -73,9 +78,9 @@ impl<T: PartTable> Opener<T> {
         let Absent {
             table,
             number,
-            sessions,
+            sizes,
         } = absent;
         let place = seats::hand_back(table, &mut self.place);
-        SeatBoard::at(table, place, number, sessions)
+        SeatBoard::at(table, place, number, sizes)
     }
 }

@@ -1,15 +1,17 @@
 //! Laws of the layout, each a clause over all words, and what the rule of the table keeps. The bodies are empty.
 
-ghost use Rattle.std.specs.Prelude.{◌≡◌, ◌≢◌, ◌<◌, ℕ, List, ◌∷◌, ◌++◌, Option, Some, slice_get, slice_set};
+ghost use Rattle.std.specs.Prelude.{◌≡◌, ◌≢◌, ◌<◌, ◌≤◌, ℕ, List, ◌∷◌, ◌++◌, Option, Some, slice_get, slice_set};
 ghost use mathlib.Core.Option.{some};
 ghost use lib.ListN.{get_elem?};
 ghost use Rattle.atomic_table.specs.Table.{State};
+ghost use Rattle.lock_world.specs.SlotHolds.{most_groups};
 ghost use Rattle.lock_world.specs.World.{World, TraceEntry};
+ghost use Rattle.shared_rule.specs.declared.rule.Sizes.{Sizes};
 ghost use Rattle.shared_rule.specs.declared.history.History.{History};
 ghost use Rattle.shared_rule.specs.History.{told};
 ghost use Rattle.shared_rule.specs.WasSo.{WasSo};
 ghost use Rattle.lock_world.specs.declared.events.Word.{Word};
-ghost use Rattle.shared_rule.specs.Layout.{index_of_word, IsInTable, IsApart, group_of};
+ghost use Rattle.shared_rule.specs.Layout.{index_of_word, words_of_groups, IsInTable, MayBeInTable, IsApart, group_of};
 ghost use Rattle.lock_world.specs.World.{Words};
 ghost use Rattle.shared_rule.specs.Shown.{WordsAreShown, set_word};
 ghost use Rattle.shared_rule.specs.declared.history.View.{View};
@@ -24,40 +26,43 @@ use lock_table::PartTable;
 /// which events have led from the opening one, and which has the headline: no two sessions stand with conflicting modes
 /// on one object, and what goes with that.
 pub fn the_table_shows_no_two_sessions_in_conflict<T: PartTable>()
-    ensures { (limit : ℕ) (state : State (Kept T) (View T)) → Ruled T.content T.begun limit state
-        → ShowsHeadline T.content T.begun limit state }
+    ensures { (sizes : Sizes) (state : State (Kept T) (View T)) → Ruled T.content T.begun sizes state
+        → ShowsHeadline T.content T.begun sizes state }
 {}
 
-/// Each word of the table stands below the table's length.
+/// Each word of a table for so many groups of slots stands below the table's length, `TABLE_WORDS` with one group.
 pub fn each_word_is_within_the_table()
-    ensures { (word : Word) → IsInTable word → index_of_word word < TABLE_WORDS }
+    ensures within { (groups : ℕ) → 0 < groups → (word : Word) → IsInTable groups word →
+        index_of_word word < words_of_groups groups }
+    ensures one_group { words_of_groups 1 ≡ TABLE_WORDS }
 {}
 
 /// Two words with one index are one word.
 pub fn no_two_words_share_an_index()
-    ensures { (word other : Word) → IsInTable word → IsInTable other →
+    ensures { (word other : Word) → MayBeInTable word → MayBeInTable other →
         index_of_word word ≡ index_of_word other → word ≡ other }
 {}
 
 /// Words of two partitions stand 128 bytes apart at least, so do words of two sessions, and so do words of a
 /// partition, of the counters and of a session from each other.
 pub fn words_of_two_groups_stand_apart()
-    ensures { (word other : Word) → IsInTable word → IsInTable other →
+    ensures { (word other : Word) → MayBeInTable word → MayBeInTable other →
         group_of word ≢ group_of other → IsApart (index_of_word word) (index_of_word other) }
 {}
 
 /// Where a table shows the words of a World, a table with one word set shows those with just that word set.
 pub fn a_word_is_set_alone()
-    ensures { (table : List ℕ) (words : Words) (word : Word) (n : ℕ) → WordsAreShown table words → IsInTable word →
-        WordsAreShown (slice_set table (index_of_word word) n) (set_word words word n) }
+    ensures { (groups : ℕ) → 0 < groups → groups ≤ most_groups → (table : List ℕ) (words : Words) (word : Word)
+        (n : ℕ) → WordsAreShown groups table words → IsInTable groups word →
+        WordsAreShown groups (slice_set table (index_of_word word) n) (set_word words word n) }
 {}
 
 /// Where the rule holds, whatever a session's account tells of what it has seen was so: each entry of its trace tells of a
 /// World on the way of events that lead from the World before the first step to the one that the table shows now.
 pub fn what_an_account_tells_was_so<T: PartTable>()
-    ensures { (limit : ℕ) (state : State (Kept T) (View T)) (rule : Ruled T.content T.begun limit state)
+    ensures { (sizes : Sizes) (state : State (Kept T) (View T)) (rule : Ruled T.content T.begun sizes state)
         (seat place : ℕ) (view : View T) (history : History T) → get_elem? state.views seat ≡ some view →
         slice_get view.sessions place ≡ Some history → (before after : List TraceEntry) (entry : TraceEntry) →
         (told T.content history.number history.marks).trace ≡ before ++ entry ∷ after →
-        WasSo limit rule.world history.number before entry }
+        WasSo sizes rule.world history.number before entry }
 {}

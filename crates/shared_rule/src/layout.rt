@@ -1,15 +1,19 @@
 //! Where each word of the shared table stands, and each partition's content. A word has 8 bytes; all indexes
-//! count words. The layout is the same whatever the configuration: 16 partitions, 1,024 strong lock counters,
-//! 64 sessions with 16 fast-path slots.
+//! count words. Where a word stands is the same whatever the configuration: 16 partitions, 1,024 strong lock counters,
+//! 64 sessions, each with a block of its own, in which the fast-path slots of its first group are, and for each further
+//! group of slots an area behind that, with a block of its own for each session. How many areas there are goes by the
+//! configuration.
 //!
 //! A processor that writes a word takes the word's cache line from all others, 64 bytes or 128. So words that
 //! different sessions write at the same time stand 128 bytes apart (`PG_CACHE_LINE_SIZE` in
 //! pg_config_manual.h), and then share no line wherever the table begins. Only the counters are packed.
 
-ghost use Rattle.std.specs.Prelude.{◌≡◌, ◌<◌, ◌≤◌, ◌+◌};
+ghost use Rattle.std.specs.Prelude.{◌≡◌, ◌<◌, ◌≤◌, ◌+◌, ◌*◌, ℕ};
+ghost use Rattle.lock_world.specs.SlotHolds.{group_size, slot_count};
 ghost use Rattle.lock_world.specs.declared.events.Word.TheVariants.{Partition, Fast, Database, Slot};
 ghost use Rattle.lock_world.specs.declared.events.Word.TheVariants.{Wait, Strong, Sleep};
-ghost use Rattle.shared_rule.specs.Layout.{index_of_word, block_start, content_slot_of, list_slot_of, lock_count};
+ghost use Rattle.shared_rule.specs.Layout.{index_of_word, block_start, words_of_groups};
+ghost use Rattle.shared_rule.specs.Layout.{content_slot_of, list_slot_of, lock_count};
 
 use modes_core::{PARTITIONS, SESSIONS, STRONG_COUNTERS, SessionId};
 
@@ -26,8 +30,21 @@ pub(crate) const SESSIONS_START: usize = COUNTERS_START + STRONG_COUNTERS as usi
 /// gap: a grant or a wakeup then does not slow down the neighbour.
 pub(crate) const BLOCK: usize = 20 + GAP;
 
-/// How many words the table has.
-pub const TABLE_WORDS: usize = SESSIONS_START + BLOCK * SESSIONS as usize;
+/// A block for each session.
+const AREA: usize = BLOCK * SESSIONS as usize;
+
+/// How many words the table has, with one group of slots.
+pub const TABLE_WORDS: usize = SESSIONS_START + AREA;
+
+/// How many slots a group has (`FP_LOCK_SLOTS_PER_GROUP` in proc.h of version 18).
+const GROUP: u8 = 16;
+
+/// How many words the table has, with so many groups of slots.
+pub fn table_words(groups: u8) -> usize
+    ensures { result ≡ words_of_groups groups }
+{
+    SESSIONS_START + AREA * groups as usize
+}
 
 /// How far apart the contents of two partitions lie, in slots: with a content behind one pointer a slot has
 /// 16 bytes, so that is 128 bytes.
@@ -81,14 +98,15 @@ pub fn database_word(session: SessionId) -> usize
     block(session) + 1
 }
 
-/// The index of a fast-path slot of a session (`fpRelId` in proc.h). The 16 slots come after the database: who
-/// has the lightweight lock reads all of them.
+/// The index of a fast-path slot of a session (`fpRelId` in proc.h). The 16 slots of the first group come after the
+/// database: who has the lightweight lock reads those of one group. Those of each further group stand the same way in a
+/// block of that group's area, so no two sessions' slots share a line.
 pub fn slot_word(session: SessionId, slot: u8) -> usize
-    requires exists { slot < 16 }
+    requires exists { slot < slot_count }
     ensures index { result ≡ index_of_word (Slot session slot) }
-    ensures within { result < TABLE_WORDS }
+    ensures within { (groups : ℕ) → slot < group_size * groups → result < words_of_groups groups }
 {
-    block(session) + 2 + slot as usize
+    block(session) + 2 + AREA * (slot / GROUP) as usize + (slot % GROUP) as usize
 }
 
 /// The index of a session's wait word (`waitStatus` in proc.h). Others write it while the session waits, or to

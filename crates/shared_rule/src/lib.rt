@@ -39,10 +39,10 @@ pub use history::{History, Mark, View, WordMark};
 pub use kept::Kept;
 pub use layout::{
     CONTENT_SLOTS, TABLE_SLOTS, TABLE_WORDS, content_slot, database_word, fast_word,
-    partition_word, sleep_word, slot_word, strong_word, wait_word,
+    partition_word, sleep_word, slot_word, strong_word, table_words, wait_word,
 };
 pub use one_thread::OneThread;
 pub use opener::Opener;
-pub use rule::{Law, Place, Top};
+pub use rule::{Law, Place, Sizes, Top};
 pub use seat_board::SeatBoard;
 pub use table::{SharedTable, in_slots, open};

@@ -37,7 +37,7 @@ pub(crate) fn try_lock_list<T: PartTable>(
     lock: &LwLock,
 ) -> Option<Box<WaitList>>
     requires table { FitsTable place.old top.now.table_id }
-    requires exists { LockExists top.now.key lock.now }
+    requires exists { LockExists top.now.key.sessions lock.now }
     requires there { LockIsInTable lock.now }
     requires session { HasSession place.old.me.0 }
     requires no_list { (account_at T.content place.old).lists.in_hand ≡ None }
@@ -177,7 +177,7 @@ pub(crate) fn set_release_ok<T: PartTable, M: Marking<T>>(
     lock: &LwLock,
 )
     requires table { FitsTable place.old top.now.table_id }
-    requires exists { LockExists top.now.key lock.now }
+    requires exists { LockExists top.now.key.sessions lock.now }
     requires there { LockIsInTable lock.now }
     requires session { HasSession place.old.me.0 }
     requires mark { M.mark ≡ (λ _. SetReleaseOk (lock_number lock.now)) }
@@ -195,7 +195,7 @@ pub(crate) fn set_has_waiters<T: PartTable, M: Marking<T>>(
     lock: &LwLock,
 )
     requires table { FitsTable place.old top.now.table_id }
-    requires exists { LockExists top.now.key lock.now }
+    requires exists { LockExists top.now.key.sessions lock.now }
     requires there { LockIsInTable lock.now }
     requires session { HasSession place.old.me.0 }
     requires lawful { (mine : ListInHand) × ((account_at T.content place.old).lists.in_hand ≡ Some mine)

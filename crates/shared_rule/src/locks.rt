@@ -19,7 +19,7 @@ ghost use Rattle.shared_rule.specs.Boards.{StaysLone};
 use crate::busy::Busy;
 use crate::layout::fast_word;
 use crate::lw_lock::LwLock;
-use crate::plays::{Marking, TakesSlots, TriesSlots};
+use crate::plays::{Grouping, Marking, TakesSlots, TriesSlots};
 use crate::rule::{Place, Top};
 use crate::slot_acquires::get_slots_held;
 use crate::wakeups::{must_wake_after, wake_waiters};
@@ -30,8 +30,9 @@ use modes_core::{Mode, SessionId, Tag};
 use std::marker::Brand;
 use std::sync::Wait;
 
-// One attempt to take the lock of a session's slots, by the number that its word may show.
-fn attempt_fast<T: PartTable>(
+// One attempt to take the lock of a session's slots, of so many groups, by the number that its word may show.
+#[inline(always)]
+fn attempt_fast<T: PartTable, G: Grouping>(
     top: &Top<T>,
     place: &mut Place<T>,
     owner: SessionId,
@@ -39,14 +40,15 @@ fn attempt_fast<T: PartTable>(
     taken: u64,
 ) -> bool
     requires table { FitsTable place.old top.now.table_id }
-    requires exists { owner < top.now.key }
+    requires exists { owner < top.now.key.sessions }
     requires session { HasSession place.old.me.0 }
     requires free { IsHeldByNobody shown × (taken ≡ taken_word shown) }
+    requires groups { G.groups ≡ top.now.key.groups }
     ensures seat { IsSameSeat place.old place.new }
-    ensures won { OnTrue result (GetsSlots T.content Exclusive owner place.old place.new) }
+    ensures won { OnTrue result (GetsSlots T.content top.now.key.groups Exclusive owner place.old place.new) }
     ensures lost { OnFalse result (IsAsBefore T.content place.old place.new) }
 {
-    if top.compare_exchange::<TakesSlots>(place, fast_word(owner), shown, taken) != shown {
+    if top.compare_exchange::<TakesSlots<G>>(place, fast_word(owner), shown, taken) != shown {
         return false;
     }
     true
@@ -60,15 +62,15 @@ pub(crate) fn attempt_free_fast<T: PartTable>(
     owner: SessionId,
 ) -> bool
     requires table { FitsTable place.old top.now.table_id }
-    requires exists { owner < top.now.key }
+    requires exists { owner < top.now.key.sessions }
     requires session { HasSession place.old.me.0 }
     ensures seat { IsSameSeat place.old place.new }
-    ensures won { OnTrue result (GetsSlots T.content Exclusive owner place.old place.new) }
+    ensures won { OnTrue result (GetsSlots T.content top.now.key.groups Exclusive owner place.old place.new) }
     ensures lost { OnFalse result (IsAsBefore T.content place.old place.new) }
 {
     let shown = top.peek(fast_word(owner));
     match taken(shown) {
-        Some(taken) => attempt_fast(top, place, owner, shown, taken),
+        Some(taken) => attempt_fast::<T, Brand>(top, place, owner, shown, taken),
         None => false,
     }
 }
@@ -84,11 +86,11 @@ pub(crate) fn take_fast<T: PartTable, R: Wait>(
     owner: SessionId,
 )
     requires table { FitsTable place.old top.now.table_id }
-    requires exists { owner < top.now.key }
+    requires exists { owner < top.now.key.sessions }
     requires session { HasSession place.old.me.0 }
     requires own { number ≡ number_at place.old }
     requires idle { (account_at T.content place.old).lists ≡ no_lists }
-    ensures { GetsSlots T.content Exclusive owner place.old place.new }
+    ensures { GetsSlots T.content top.now.key.groups Exclusive owner place.old place.new }
 {
     if !attempt_free_fast(top, place, owner) {
         get_slots_held(rt, top, place, number, owner, LwMode::Exclusive);
@@ -112,7 +114,8 @@ fn load_fast<T: PartTable, M: Marking<T>>(
 }
 
 // Takes the lock of its own slots where its word still shows this number, and tells the number that it showed.
-fn take_own_fast<T: PartTable>(
+#[inline(always)]
+fn take_own_fast<T: PartTable, G: Grouping>(
     top: &Top<T>,
     place: &mut Place<T>,
     number: SessionId,
@@ -123,11 +126,12 @@ fn take_own_fast<T: PartTable>(
     requires session { HasSession place.old.me.0 }
     requires own { number ≡ number_at place.old }
     requires free { IsHeldByNobody shown × (taken ≡ taken_word shown) }
+    requires groups { G.groups ≡ top.now.key.groups }
     ensures seat { IsSameSeat place.old place.new }
-    ensures won { result ≡ shown → TookSlots T.content number place.old.me place.new.me }
+    ensures won { result ≡ shown → TookSlots T.content top.now.key.groups number place.old.me place.new.me }
     ensures lost { result ≢ shown → place.new.me ≡ (noting place.old.me.0 (LoadedFast result), place.old.me.1) }
 {
-    top.compare_exchange::<TriesSlots>(place, fast_word(number), shown, taken)
+    top.compare_exchange::<TriesSlots<G>>(place, fast_word(number), shown, taken)
 }
 
 /// Takes the lock of its own slots if nobody holds it, by a load and one exchange that expects the very number loaded
@@ -141,7 +145,7 @@ pub(crate) fn try_take_fast<T: PartTable>(
     requires session { HasSession place.old.me.0 }
     requires own { number ≡ number_at place.old }
     ensures seat { IsSameSeat place.old place.new }
-    ensures tried { TriesFast (number_at place.old) (account_at T.content place.old) result
+    ensures tried { TriesFast top.now.key.groups (number_at place.old) (account_at T.content place.old) result
         (account_at T.content place.new) }
     ensures lone { StaysLone place.old.me.0 place.new.me.0 }
     ensures slots { place.new.me.1 ≡ place.old.me.1 }
@@ -150,7 +154,7 @@ pub(crate) fn try_take_fast<T: PartTable>(
     let Some(taken) = taken(shown) else {
         return Err(Busy);
     };
-    if take_own_fast(top, place, number, shown, taken) == shown {
+    if take_own_fast::<T, Brand>(top, place, number, shown, taken) == shown {
         Ok(())
     } else {
         Err(Busy)
@@ -164,7 +168,7 @@ fn put_fast_home<T: PartTable, M: Marking<T>>(
     owner: SessionId,
 ) -> u64
     requires table { FitsTable place.old top.now.table_id }
-    requires exists { owner < top.now.key }
+    requires exists { owner < top.now.key.sessions }
     requires session { HasSession place.old.me.0 }
     requires lawful { (slots : SlotsInHand) × MayPutFastBy (account_at T.content place.old) owner slots }
     requires mark { M.mark ≡ (λ _. PutFast owner) }
@@ -183,7 +187,7 @@ pub(crate) fn put_fast<T: PartTable, M: Marking<T>>(
     owner: SessionId,
 )
     requires table { FitsTable place.old top.now.table_id }
-    requires exists { owner < top.now.key }
+    requires exists { owner < top.now.key.sessions }
     requires session { HasSession place.old.me.0 }
     requires lawful { (slots : SlotsInHand) × MayPutFastBy (account_at T.content place.old) owner slots }
     requires idle { (account_at T.content place.old).lists ≡ no_lists }
@@ -207,7 +211,7 @@ fn pass_fast_home<T: PartTable, M: Marking<T>>(
     mode: Mode,
 ) -> u64
     requires table { FitsTable place.old top.now.table_id }
-    requires exists { owner < top.now.key }
+    requires exists { owner < top.now.key.sessions }
     requires session { HasSession place.old.me.0 }
     requires lawful { (slots : SlotsInHand) × MayPassBy (account_at T.content place.old) owner slots tag.now mode }
     requires mark { M.mark ≡ (λ _. Passed owner tag.now mode) }
@@ -229,7 +233,7 @@ pub(crate) fn pass_fast<T: PartTable, M: Marking<T>>(
     mode: Mode,
 )
     requires table { FitsTable place.old top.now.table_id }
-    requires exists { owner < top.now.key }
+    requires exists { owner < top.now.key.sessions }
     requires session { HasSession place.old.me.0 }
     requires lawful { (slots : SlotsInHand) × MayPassBy (account_at T.content place.old) owner slots tag.now mode }
     requires idle { (account_at T.content place.old).lists ≡ no_lists }

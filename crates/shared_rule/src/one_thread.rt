@@ -1,6 +1,8 @@
 //! A board for tests: one session, session 0, at a table of its own.
 
 ghost use Rattle.std.specs.Prelude.{◌≡◌, ◌<◌, ◌≤◌, ℕ, List, [], ◌∷◌, None, IfOk, IfErr};
+ghost use Rattle.lock_world.specs.SlotHolds.{most_groups};
+ghost use Rattle.shared_rule.specs.Layout.{words_of_groups};
 ghost use Rattle.shared_rule.specs.declared.layout.TheConstants.{TABLE_WORDS, TABLE_SLOTS};
 ghost use Rattle.shared_rule.specs.History.{blank_account, first_account, lone};
 ghost use Rattle.shared_rule.specs.Opening.{AreNew};
@@ -12,7 +14,7 @@ use crate::busy::Busy;
 use crate::kept::Kept;
 use crate::layout::wait_word;
 use crate::owed::{Change, Owed};
-use crate::rule::Place;
+use crate::rule::{Place, Sizes};
 use crate::table::{SharedTable, open};
 use crate::{counters, locks, partitions, sharing, slots, waits};
 use atomic_table::Refused;
@@ -29,42 +31,48 @@ pub struct OneThread<T: PartTable> {
     table: SharedTable<T>,
     place: Place<T>,
     number: SessionId,
-    sessions: u8,
+    sizes: Sizes,
     owed: Owed,
     ghost at: { place.table_id ≡ table.shared.table_id },
-    ghost words: { table.shared.table_id.words ≡ TABLE_WORDS },
+    ghost words: { TABLE_WORDS ≤ table.shared.table_id.words },
+    ghost all_words: { table.shared.table_id.words ≡ words_of_groups sizes.groups },
     ghost slots: { table.shared.table_id.slots ≡ TABLE_SLOTS },
-    ghost limit: { sessions ≡ table.shared.key },
-    ghost exists: { number < sessions },
+    ghost sized: { sizes ≡ table.shared.key },
+    ghost some: { 0 < sizes.groups },
+    ghost few: { sizes.groups ≤ most_groups },
+    ghost exists: { number < sizes.sessions },
     ghost lone: { place.me.0 ≡ lone number (first_marks place.me.0.sessions) },
     ghost out: { place.me.1 ≡ slots_out (parts_in_hand place.me.1) },
     ghost idle: { IsIdle place.me.0.sessions },
 }
 
 impl<T: PartTable> OneThread<T> {
-    /// Session 0 at a new table for so many sessions. Without memory the parts come back.
+    /// Session 0 at a new table for so many sessions, with so many groups of slots each. Without memory the parts come back.
     pub fn new(
         alloc: Global,
-        sessions: u8,
+        sizes: &Sizes,
         parts: Vec<Kept<T>>,
     ) -> Result<OneThread<T>, Refused<Kept<T>, Global>>
-        requires some { 0 < sessions }
-        requires few { sessions ≤ 64 }
+        requires some { 0 < sizes.now.sessions }
+        requires few { sizes.now.sessions ≤ 64 }
+        requires some_groups { 0 < sizes.now.groups }
+        requires few_groups { sizes.now.groups ≤ most_groups }
         requires parts { AreNew T.content T.begun parts.items }
         ensures blank { IfOk result (λ board. ⟦<OneThread<T> as Board<T>>⟧.view board ≡ blank_account) }
         ensures stack { IfOk result (λ board. ⟦<OneThread<T> as Board<T>>⟧.stack board ≡ nothing_due) }
         ensures number { IfOk result (λ board. (⟦<OneThread<T> as Board<T>>⟧.seat board).number ≡ 0) }
-        ensures limit { IfOk result (λ board. (⟦<OneThread<T> as Board<T>>⟧.seat board).limit ≡ sessions) }
+        ensures limit { IfOk result (λ board. (⟦<OneThread<T> as Board<T>>⟧.seat board).limit ≡ sizes.now.sessions) }
+        ensures groups { IfOk result (λ board. (⟦<OneThread<T> as Board<T>>⟧.seat board).groups ≡ sizes.now.groups) }
         ensures refused { IfErr result (λ refused. refused.slots.items ≡ parts.items) }
     {
         let number = SessionId::new(0).unwrap();
-        let (table, opener) = open(alloc, sessions, parts)?;
+        let (table, opener) = open(alloc, sizes, parts)?;
         let place = opener.into_first(&table.shared);
         Ok(OneThread {
             table,
             place,
             number,
-            sessions,
+            sizes: *sizes,
             owed: Owed::nobody(),
         })
     }
@@ -72,7 +80,12 @@ impl<T: PartTable> OneThread<T> {
 
 impl<T: PartTable> Board<T> for OneThread<T> {
     ghost seat = { λ board.
-        record { number = board.number; limit = board.sessions; table = board.table.shared.table_id } };
+        record {
+          number = board.number;
+          limit = board.sizes.sessions;
+          groups = board.sizes.groups;
+          table = board.table.shared.table_id;
+        } };
 
     ghost view = { λ board. first_account T.content board.place.me.0.sessions };
 
@@ -83,7 +96,11 @@ impl<T: PartTable> Board<T> for OneThread<T> {
     }
 
     fn sessions(&self) -> u8 {
-        self.sessions
+        self.sizes.sessions
+    }
+
+    fn groups(&self) -> u8 {
+        self.sizes.groups
     }
 
     fn take_part<R: Wait>(&mut self, rt: &R, part: u8) -> T {

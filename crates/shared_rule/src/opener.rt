@@ -3,12 +3,12 @@
 ghost use Rattle.std.specs.Prelude.{◌≡◌, ◌<◌, ◌≤◌, ◌+◌, ◌↔◌, [], ◌∷◌, IfSome, IfNone, IsNone, OnSome};
 ghost use Rattle.shared_rule.specs.History.{blank_account, lone, opening_view};
 ghost use Rattle.shared_rule.specs.Boards.{nothing_due};
-ghost use Rattle.shared_rule.specs.Plays.{FitsTable, IsSized};
+ghost use Rattle.shared_rule.specs.Plays.{FitsTable, HasGroups, IsSized};
 ghost use Rattle.shared_rule.specs.Openers.{HaveClosed, HasTakenBack};
 ghost use Rattle.shared_rule.specs.Seats.{MayCloseBy};
 
 use crate::board::Board;
-use crate::rule::{Place, Top};
+use crate::rule::{Place, Sizes, Top};
 use crate::seat_board::SeatBoard;
 use crate::seats;
 use lock_table::PartTable;
@@ -22,47 +22,58 @@ use std::marker::Model;
 pub struct Opener<T: PartTable> {
     pub(crate) place: Place<T>,
     issued: u8,
-    pub(crate) sessions: u8,
+    pub(crate) sizes: Sizes,
 }
 
 impl<T: PartTable> Model for Opener<T> {
     ghost use Rattle.std.specs.Prelude.{◌≡◌, ◌≤◌, Some};
     ghost use Rattle.shared_rule.specs.Boards.{AreIdle};
     ghost use Rattle.shared_rule.specs.Openers.{OpenerState};
-    ghost use Rattle.shared_rule.specs.Plays.{IsSized};
+    ghost use Rattle.shared_rule.specs.Plays.{HasGroups, IsSized};
 
     ghost Value = { OpenerState T };
 
     ghost view = { λ opener. record {
       table = opener.place.table_id;
       issued = opener.issued;
-      limit = opener.sessions;
+      limit = opener.sizes.sessions;
+      groups = opener.sizes.groups;
       closed = opener.place.me.0.closed;
       gathered = opener.place.me.0.sessions;
     } };
 
-    ghost invariant = { λ opener. (opener.place.me.0.next ≡ Some opener.issued) × (opener.issued ≤ opener.sessions)
-        × (opener.sessions ≤ 64) × IsSized opener.place.table_id × AreIdle opener.place.me.0.sessions };
+    ghost invariant = { λ opener. (opener.place.me.0.next ≡ Some opener.issued) × (opener.issued ≤ opener.sizes.sessions)
+        × (opener.sizes.sessions ≤ 64) × IsSized opener.place.table_id × AreIdle opener.place.me.0.sessions
+        × HasGroups opener.place.table_id opener.sizes.groups };
 }
 
 impl<T: PartTable> Opener<T> {
     // The opener at its seat, who has given no number out.
-    pub(crate) fn at(place: Place<T>, sessions: u8) -> Opener<T>
+    pub(crate) fn at(place: Place<T>, sizes: &Sizes) -> Opener<T>
         requires first { place.me ≡ (opening_view, []) }
         requires sized { IsSized place.table_id }
-        requires few { sessions ≤ 64 }
-        ensures { result ≡ record { table = place.table_id; issued = 0; limit = sessions; closed = []; gathered = [] } }
+        requires grouped { HasGroups place.table_id sizes.now.groups }
+        requires few { sizes.now.sessions ≤ 64 }
+        ensures { result ≡ record {
+          table = place.table_id;
+          issued = 0;
+          limit = sizes.now.sessions;
+          groups = sizes.now.groups;
+          closed = [];
+          gathered = [];
+        } }
     {
         Opener {
             place,
             issued: 0,
-            sessions,
+            sizes: *sizes,
         }
     }
 
     // The first session's seat, after which no other number is given out.
     pub(crate) fn into_first(self, table: &Top<T>) -> Place<T>
-        requires table { (self.table ≡ table.now.table_id) × (self.limit ≡ table.now.key) }
+        requires table { (self.table ≡ table.now.table_id) × (self.limit ≡ table.now.key.sessions)
+            × (self.groups ≡ table.now.key.groups) }
         requires first { self.issued ≡ 0 }
         requires some { 0 < self.limit }
         ensures table { FitsTable result table.now.table_id }
@@ -71,31 +82,37 @@ impl<T: PartTable> Opener<T> {
         let Opener {
             mut place,
             issued: _,
-            sessions: _,
+            sizes: _,
         } = self;
         seats::open(table, &mut place)
     }
 
     /// The next session's board, whose account has nothing in it, or `None` where all numbers are given out.
     pub fn session<'a>(&mut self, table: &'a Top<T>) -> Option<SeatBoard<'a, T>>
-        requires table { (self.old.table ≡ table.now.table_id) × (self.old.limit ≡ table.now.key) }
+        requires table { (self.old.table ≡ table.now.table_id) × (self.old.limit ≡ table.now.key.sessions)
+            × (self.old.groups ≡ table.now.key.groups) }
         ensures none { IsNone result ↔ (self.old.issued ≡ self.old.limit) }
         ensures unchanged { IfNone result (self.new ≡ self.old) }
-        ensures opener { (self.new.table ≡ self.old.table) × (self.new.limit ≡ self.old.limit)
+        ensures opener { (self.new.table ≡ self.old.table) × (self.new.limit ≡ self.old.limit) × (self.new.groups ≡ self.old.groups)
             × (self.new.closed ≡ self.old.closed) × (self.new.gathered ≡ self.old.gathered) }
         ensures issued { OnSome result (self.new.issued ≡ self.old.issued + 1) }
         ensures blank { IfSome result (λ board. ⟦<SeatBoard<'a, T> as Board<T>>⟧.view board ≡ blank_account) }
         ensures stack { IfSome result (λ board. ⟦<SeatBoard<'a, T> as Board<T>>⟧.stack board ≡ nothing_due) }
         ensures seat { IfSome result (λ board. ⟦<SeatBoard<'a, T> as Board<T>>⟧.seat board
-            ≡ record { number = self.old.issued; limit = self.old.limit; table = self.old.table }) }
+            ≡ record {
+              number = self.old.issued;
+              limit = self.old.limit;
+              groups = self.old.groups;
+              table = self.old.table;
+            }) }
     {
-        if self.issued == self.sessions {
+        if self.issued == self.sizes.sessions {
             return None;
         }
         let number = SessionId::new(self.issued)?;
         let place = seats::open(table, &mut self.place);
         self.issued += 1;
-        Some(SeatBoard::at(table, place, number, self.sessions))
+        Some(SeatBoard::at(table, place, number, self.sizes))
     }
 
     /// Takes a session's board back, which has nothing any more (`ProcKill` in proc.c). Its number is that of a closed

@@ -269,7 +269,7 @@ pub(crate) fn put_part_home<T: PartTable, M: Marking<T>>(
     requires session { HasSession place.old.me.0 }
     requires in_hand { place.old.me.1 ≡ (content_slot_of part, Nothing) ∷ rest place.old.me.1 }
     requires none_begun { T.begun content ≡ None }
-    requires lawful { (mine : InHand) × MayPutPart top.now.key (number_at place.old)
+    requires lawful { (mine : InHand) × MayPutPart top.now.key.sessions (number_at place.old)
         (account_at T.content place.old) part mine done.now (T.content content) }
     requires mark { M.mark ≡ (λ _. PutPart part done.now content) }
     ensures led { Led T.content place.old place.new (account_putting (account_at T.content place.old) part
@@ -296,7 +296,7 @@ pub(crate) fn put_part<T: PartTable, M: Marking<T>>(
     requires session { HasSession place.old.me.0 }
     requires in_hand { place.old.me.1 ≡ (content_slot_of part, Nothing) ∷ rest place.old.me.1 }
     requires none_begun { T.begun content ≡ None }
-    requires lawful { (mine : InHand) × MayPutPart top.now.key (number_at place.old)
+    requires lawful { (mine : InHand) × MayPutPart top.now.key.sessions (number_at place.old)
         (account_at T.content place.old) part mine done.now (T.content content) }
     requires idle { (account_at T.content place.old).lists ≡ no_lists }
     requires mark { M.mark ≡ (λ _. PutPart part done.now content) }

@@ -20,6 +20,17 @@ impl<T> Marking<T> for Brand {
     ghost mark = { λ _. PutFast 0 };
 }
 
+/// How many groups of slots each session has, as a step on slots tells of them. Each call picks it.
+pub trait Grouping {
+    ghost use Rattle.std.specs.Prelude.{ℕ};
+
+    ghost groups: { ℕ };
+}
+
+impl Grouping for Brand {
+    ghost groups = { 0 };
+}
+
 /// A step that leaves its mark.
 pub struct Marks<M> {
     of: PhantomData<M>,
@@ -64,31 +75,37 @@ impl<T: PartTable, M: Marking<T>> Play<Kept<T>, View<T>> for Looks<M> {
 
 /// An exchange that takes the lock of a session's slots where it finds the number that it expects, and else changes
 /// nothing.
-pub struct TakesSlots;
+pub struct TakesSlots<G> {
+    of: PhantomData<G>,
+}
 
-impl<T: PartTable> Play<Kept<T>, View<T>> for TakesSlots {
+impl<T: PartTable, G: Grouping> Play<Kept<T>, View<T>> for TakesSlots<G> {
     ghost use Rattle.shared_rule.specs.Plays.{TookSlotsOr, unnoted};
 
-    ghost then = { TookSlotsOr T.content unnoted };
+    ghost then = { TookSlotsOr T.content G.groups unnoted };
 }
 
 /// An exchange that shares the lock of a session's slots where it finds the number that it expects, and else changes
 /// nothing.
-pub struct SharesSlots;
+pub struct SharesSlots<G> {
+    of: PhantomData<G>,
+}
 
-impl<T: PartTable> Play<Kept<T>, View<T>> for SharesSlots {
+impl<T: PartTable, G: Grouping> Play<Kept<T>, View<T>> for SharesSlots<G> {
     ghost use Rattle.shared_rule.specs.Plays.{SharedSlotsOr, unnoted};
 
-    ghost then = { SharedSlotsOr T.content unnoted };
+    ghost then = { SharedSlotsOr T.content G.groups unnoted };
 }
 
 /// The same as `TakesSlots` of its own slots, where a lost exchange is noted as a load of the word.
-pub struct TriesSlots;
+pub struct TriesSlots<G> {
+    of: PhantomData<G>,
+}
 
-impl<T: PartTable> Play<Kept<T>, View<T>> for TriesSlots {
+impl<T: PartTable, G: Grouping> Play<Kept<T>, View<T>> for TriesSlots<G> {
     ghost use Rattle.shared_rule.specs.Plays.{TookSlotsOr, noted_load};
 
-    ghost then = { TookSlotsOr T.content noted_load };
+    ghost then = { TookSlotsOr T.content G.groups noted_load };
 }
 
 /// A fetch-or of a word's list bit that takes the wait list in hand where it finds the bit not set, and else changes
@@ -131,10 +148,12 @@ impl<T: PartTable, M: Marking<T>> Play<Kept<T>, View<T>> for LooksOver<M> {
 }
 
 /// A load that changes nothing, and tells such a seat who is there, and where each one's own holds stand.
-pub struct TellsAll;
+pub struct TellsAll<G> {
+    of: PhantomData<G>,
+}
 
-impl<T: PartTable> Play<Kept<T>, View<T>> for TellsAll {
+impl<T: PartTable, G: Grouping> Play<Kept<T>, View<T>> for TellsAll<G> {
     ghost use Rattle.shared_rule.specs.Gatherings.{ToldAll};
 
-    ghost then = { ToldAll T.content };
+    ghost then = { ToldAll T.content G.groups };
 }

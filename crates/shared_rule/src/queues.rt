@@ -41,7 +41,7 @@ fn lock_list<T: PartTable, R: Wait>(
     lock: &LwLock,
 ) -> Box<WaitList>
     requires table { FitsTable place.old top.now.table_id }
-    requires exists { LockExists top.now.key lock.now }
+    requires exists { LockExists top.now.key.sessions lock.now }
     requires there { LockIsInTable lock.now }
     requires session { HasSession place.old.me.0 }
     requires no_list { (account_at T.content place.old).lists.in_hand ≡ None }
@@ -72,7 +72,7 @@ pub(crate) fn queue_self<T: PartTable, R: Wait>(
     mode: LwMode,
 )
     requires table { FitsTable place.old top.now.table_id }
-    requires exists { LockExists top.now.key lock.now }
+    requires exists { LockExists top.now.key.sessions lock.now }
     requires there { LockIsInTable lock.now }
     requires session { HasSession place.old.me.0 }
     requires own { number ≡ number_at place.old }
@@ -126,7 +126,7 @@ pub(crate) fn dequeue_self<T: PartTable, R: Wait>(
     lock: &LwLock,
 )
     requires table { FitsTable place.old top.now.table_id }
-    requires exists { LockExists top.now.key lock.now }
+    requires exists { LockExists top.now.key.sessions lock.now }
     requires there { LockIsInTable lock.now }
     requires session { HasSession place.old.me.0 }
     requires own { number ≡ number_at place.old }

@@ -5,22 +5,30 @@ use crate::kept::Kept;
 use atomic_table::{Seat, Shared, TableRule};
 use lock_table::PartTable;
 
+/// What the table is told once: how many sessions there can be, and how many groups of fast-path slots each has
+/// (`MaxBackends` and, in version 18, `FastPathLockGroupsPerBackend`).
+#[derive(Clone, Copy, Debug, PartialEq, Eq)]
+pub struct Sizes {
+    pub sessions: u8,
+    pub groups: u8,
+}
+
 /// The rule.
 pub struct Law;
 
-/// What the table is told once is the number of sessions that there can be. A slot has a partition's content where that
+/// A slot has a partition's content where that
 /// is at home; the slots between two contents have none.
-impl<T: PartTable> TableRule<Kept<T>, View<T>, u8> for Law {
+impl<T: PartTable> TableRule<Kept<T>, View<T>, Sizes> for Law {
     ghost use Rattle.shared_rule.specs.Ruled.{Ruled};
     ghost use Rattle.shared_rule.specs.History.{opening_view};
 
-    ghost holds = { λ limit state. Ruled T.content T.begun limit state };
+    ghost holds = { λ sizes state. Ruled T.content T.begun sizes state };
 
-    ghost first = { λ limit. opening_view };
+    ghost first = { λ sizes. opening_view };
 }
 
 /// The table as sessions share it.
-pub type Top<T> = Shared<Kept<T>, View<T>, u8, Law>;
+pub type Top<T> = Shared<Kept<T>, View<T>, Sizes, Law>;
 
 /// A seat at it: one session's, or the opener's.
 pub type Place<T> = Seat<Kept<T>, View<T>>;

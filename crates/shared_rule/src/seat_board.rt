@@ -1,6 +1,8 @@
 //! The board that threads run: a seat at the shared table.
 
-ghost use Rattle.std.specs.Prelude.{◌≡◌, ◌<◌, ℕ, List, [], ◌∷◌, None};
+ghost use Rattle.std.specs.Prelude.{◌≡◌, ◌<◌, ◌≤◌, ℕ, List, [], ◌∷◌, None};
+ghost use Rattle.lock_world.specs.SlotHolds.{most_groups};
+ghost use Rattle.shared_rule.specs.Layout.{words_of_groups};
 ghost use Rattle.shared_rule.specs.History.{first_account, lone};
 ghost use Rattle.shared_rule.specs.declared.layout.TheConstants.{TABLE_WORDS, TABLE_SLOTS};
 ghost use Rattle.shared_rule.specs.Plays.{FitsTable};
@@ -12,7 +14,7 @@ use crate::board::Board;
 use crate::busy::Busy;
 use crate::layout::wait_word;
 use crate::owed::{Change, Owed};
-use crate::rule::{Place, Top};
+use crate::rule::{Place, Sizes, Top};
 use crate::{counters, locks, partitions, seats, sharing, slots, waits};
 use lock_table::{Move, PartTable, Woken};
 use lw_word::SlotWord;
@@ -26,14 +28,17 @@ pub struct SeatBoard<'a, T: PartTable> {
     table: &'a Top<T>,
     place: Place<T>,
     number: SessionId,
-    sessions: u8,
+    sizes: Sizes,
     // Whom the session has to wake yet.
     owed: Owed,
     ghost at: { place.table_id ≡ table.now.table_id },
-    ghost words: { table.now.table_id.words ≡ TABLE_WORDS },
+    ghost words: { TABLE_WORDS ≤ table.now.table_id.words },
+    ghost all_words: { table.now.table_id.words ≡ words_of_groups sizes.groups },
     ghost slots: { table.now.table_id.slots ≡ TABLE_SLOTS },
-    ghost limit: { sessions ≡ table.now.key },
-    ghost exists: { number < sessions },
+    ghost sized: { sizes ≡ table.now.key },
+    ghost some: { 0 < sizes.groups },
+    ghost few: { sizes.groups ≤ most_groups },
+    ghost exists: { number < sizes.sessions },
     ghost lone: { place.me.0 ≡ lone number (first_marks place.me.0.sessions) },
     ghost out: { place.me.1 ≡ slots_out (parts_in_hand place.me.1) },
     ghost idle: { IsIdle place.me.0.sessions },
@@ -45,22 +50,25 @@ impl<'a, T: PartTable> SeatBoard<'a, T> {
         table: &'a Top<T>,
         place: Place<T>,
         number: SessionId,
-        sessions: u8,
+        sizes: Sizes,
     ) -> SeatBoard<'a, T>
         requires table { FitsTable place table.now.table_id }
-        requires limit { sessions ≡ table.now.key }
-        requires exists { number < sessions }
+        requires all_words { table.now.table_id.words ≡ words_of_groups sizes.groups }
+        requires sized { sizes ≡ table.now.key }
+        requires some { 0 < sizes.groups }
+        requires few { sizes.groups ≤ most_groups }
+        requires exists { number < sizes.sessions }
         requires lone { place.me.0 ≡ lone number (first_marks place.me.0.sessions) }
         requires out { place.me.1 ≡ [] }
         requires idle { IsIdle place.me.0.sessions }
         ensures { (result.table.now ≡ table.now) × (result.place ≡ place) × (result.number ≡ number)
-            × (result.sessions ≡ sessions) × (result.owed.sessions ≡ []) }
+            × (result.sizes ≡ sizes) × (result.owed.sessions ≡ []) }
     {
         SeatBoard {
             table,
             place,
             number,
-            sessions,
+            sizes,
             owed: Owed::nobody(),
         }
     }
@@ -90,7 +98,7 @@ impl<'a, T: PartTable> SeatBoard<'a, T> {
             table,
             place,
             number,
-            sessions,
+            sizes,
             owed,
         } = other;
         seats::keep_apart(self.table, &mut self.place, place);
@@ -100,9 +108,16 @@ impl<'a, T: PartTable> SeatBoard<'a, T> {
             table,
             place,
             number,
-            sessions,
+            sizes,
             owed,
         }
+    }
+
+    // For how many sessions its table is, and how many groups of slots each has.
+    pub(crate) fn sizes(&self) -> Sizes
+        ensures { result ≡ self.now.sizes }
+    {
+        self.sizes
     }
 
     // Its table and its seat.
@@ -113,7 +128,7 @@ impl<'a, T: PartTable> SeatBoard<'a, T> {
             table,
             place,
             number: _,
-            sessions: _,
+            sizes: _,
             owed: _,
         } = self;
         (table, place)
@@ -122,7 +137,12 @@ impl<'a, T: PartTable> SeatBoard<'a, T> {
 
 impl<'a, T: PartTable> Board<T> for SeatBoard<'a, T> {
     ghost seat = { λ board.
-        record { number = board.number; limit = board.sessions; table = board.table.now.table_id } };
+        record {
+          number = board.number;
+          limit = board.sizes.sessions;
+          groups = board.sizes.groups;
+          table = board.table.now.table_id;
+        } };
 
     ghost view = { λ board. first_account T.content board.place.me.0.sessions };
 
@@ -133,7 +153,11 @@ impl<'a, T: PartTable> Board<T> for SeatBoard<'a, T> {
     }
 
     fn sessions(&self) -> u8 {
-        self.sessions
+        self.sizes.sessions
+    }
+
+    fn groups(&self) -> u8 {
+        self.sizes.groups
     }
 
     fn take_part<R: Wait>(&mut self, rt: &R, part: u8) -> T {

@@ -63,7 +63,7 @@ impl<T> Split<View<T>> for HandsBack {
 /// Opens a session, which gets the opener's next number (`InitProcess` in proc.c). It has made no step yet.
 pub(crate) fn open<T: PartTable>(top: &Top<T>, opener: &mut Place<T>) -> Place<T>
     requires table { FitsTable opener.old top.now.table_id }
-    requires number { HasNumber opener.old.me.0 top.now.key }
+    requires number { HasNumber opener.old.me.0 top.now.key.sessions }
     ensures seat { IsSameSeat opener.old opener.new }
     ensures opener { opener.new.me ≡ (opened opener.old.me.0, opener.old.me.1) }
     ensures table { result.table_id ≡ opener.old.table_id }

@@ -17,7 +17,7 @@ ghost use Rattle.shared_rule.specs.Plays.{account_at, number_at, FitsTable, HasS
 
 use crate::layout::fast_word;
 use crate::lw_lock::LwLock;
-use crate::plays::{Marking, SharesSlots};
+use crate::plays::{Grouping, Marking, SharesSlots};
 use crate::rule::{Place, Top};
 use crate::slot_acquires::get_slots_held;
 use crate::wakeups::{must_wake_after_sharing, wake_waiters};
@@ -25,6 +25,7 @@ use crate::words::fetch_sub_as;
 use lock_table::PartTable;
 use lw_word::LwMode;
 use modes_core::SessionId;
+use std::marker::Brand;
 use std::sync::Wait;
 
 /// What one who shares the lock makes of its word, or `None` where bit 24 says that somebody holds it exclusively
@@ -39,8 +40,9 @@ pub(crate) fn shared(shown: u64) -> Option<u64>
     }
 }
 
-// One attempt to share the lock of a session's slots, by the number that its word may show.
-fn attempt_share<T: PartTable>(
+// One attempt to share the lock of a session's slots, of so many groups, by the number that its word may show.
+#[inline(always)]
+fn attempt_share<T: PartTable, G: Grouping>(
     top: &Top<T>,
     place: &mut Place<T>,
     owner: SessionId,
@@ -48,15 +50,16 @@ fn attempt_share<T: PartTable>(
     shared: u64,
 ) -> bool
     requires table { FitsTable place.old top.now.table_id }
-    requires exists { owner < top.now.key }
+    requires exists { owner < top.now.key.sessions }
     requires session { HasSession place.old.me.0 }
     requires lawful { MayShareFastBy (account_at T.content place.old) owner }
     requires free { IsFreeToShare shown × (shared ≡ shared_word shown) }
+    requires groups { G.groups ≡ top.now.key.groups }
     ensures seat { IsSameSeat place.old place.new }
-    ensures won { OnTrue result (GetsSlots T.content Shared owner place.old place.new) }
+    ensures won { OnTrue result (GetsSlots T.content top.now.key.groups Shared owner place.old place.new) }
     ensures lost { OnFalse result (IsAsBefore T.content place.old place.new) }
 {
-    if top.compare_exchange::<SharesSlots>(place, fast_word(owner), shown, shared) != shown {
+    if top.compare_exchange::<SharesSlots<G>>(place, fast_word(owner), shown, shared) != shown {
         return false;
     }
     true
@@ -70,16 +73,16 @@ pub(crate) fn attempt_free_share<T: PartTable>(
     owner: SessionId,
 ) -> bool
     requires table { FitsTable place.old top.now.table_id }
-    requires exists { owner < top.now.key }
+    requires exists { owner < top.now.key.sessions }
     requires session { HasSession place.old.me.0 }
     requires lawful { MayShareFastBy (account_at T.content place.old) owner }
     ensures seat { IsSameSeat place.old place.new }
-    ensures won { OnTrue result (GetsSlots T.content Shared owner place.old place.new) }
+    ensures won { OnTrue result (GetsSlots T.content top.now.key.groups Shared owner place.old place.new) }
     ensures lost { OnFalse result (IsAsBefore T.content place.old place.new) }
 {
     let shown = top.peek(fast_word(owner));
     match shared(shown) {
-        Some(shared) => attempt_share(top, place, owner, shown, shared),
+        Some(shared) => attempt_share::<T, Brand>(top, place, owner, shown, shared),
         None => false,
     }
 }
@@ -95,12 +98,12 @@ pub(crate) fn share_fast<T: PartTable, R: Wait>(
     owner: SessionId,
 )
     requires table { FitsTable place.old top.now.table_id }
-    requires exists { owner < top.now.key }
+    requires exists { owner < top.now.key.sessions }
     requires session { HasSession place.old.me.0 }
     requires own { number ≡ number_at place.old }
     requires lawful { MayShareFastBy (account_at T.content place.old) owner }
     requires idle { (account_at T.content place.old).lists ≡ no_lists }
-    ensures { GetsSlots T.content Shared owner place.old place.new }
+    ensures { GetsSlots T.content top.now.key.groups Shared owner place.old place.new }
 {
     if !attempt_free_share(top, place, owner) {
         get_slots_held(rt, top, place, number, owner, LwMode::Shared);
@@ -114,7 +117,7 @@ fn unshare_fast_home<T: PartTable, M: Marking<T>>(
     owner: SessionId,
 ) -> u64
     requires table { FitsTable place.old top.now.table_id }
-    requires exists { owner < top.now.key }
+    requires exists { owner < top.now.key.sessions }
     requires session { HasSession place.old.me.0 }
     requires lawful { (slots : SlotsInHand) × MayUnshareFastBy (account_at T.content place.old) owner slots }
     requires mark { M.mark ≡ (λ _. UnsharedFast owner) }
@@ -132,7 +135,7 @@ pub(crate) fn unshare_fast<T: PartTable, M: Marking<T>>(
     owner: SessionId,
 )
     requires table { FitsTable place.old top.now.table_id }
-    requires exists { owner < top.now.key }
+    requires exists { owner < top.now.key.sessions }
     requires session { HasSession place.old.me.0 }
     requires lawful { (slots : SlotsInHand) × MayUnshareFastBy (account_at T.content place.old) owner slots }
     requires idle { (account_at T.content place.old).lists ≡ no_lists }

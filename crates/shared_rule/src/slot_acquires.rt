@@ -30,11 +30,11 @@ fn attempt_slots<T: PartTable>(
     mode: LwMode,
 ) -> bool
     requires table { FitsTable place.old top.now.table_id }
-    requires exists { owner < top.now.key }
+    requires exists { owner < top.now.key.sessions }
     requires session { HasSession place.old.me.0 }
     requires lawful { MayGetSlots mode (account_at T.content place.old) owner }
     ensures seat { IsSameSeat place.old place.new }
-    ensures won { OnTrue result (GetsSlots T.content mode owner place.old place.new) }
+    ensures won { OnTrue result (GetsSlots T.content top.now.key.groups mode owner place.old place.new) }
     ensures lost { OnFalse result (IsAsBefore T.content place.old place.new) }
 {
     match mode {
@@ -62,11 +62,11 @@ fn attempt_slots_a_while<T: PartTable>(
     mode: LwMode,
 ) -> bool
     requires table { FitsTable place.old top.now.table_id }
-    requires exists { owner < top.now.key }
+    requires exists { owner < top.now.key.sessions }
     requires session { HasSession place.old.me.0 }
     requires lawful { MayGetSlots mode (account_at T.content place.old) owner }
     ensures seat { IsSameSeat place.old place.new }
-    ensures won { OnTrue result (GetsSlots T.content mode owner place.old place.new) }
+    ensures won { OnTrue result (GetsSlots T.content top.now.key.groups mode owner place.old place.new) }
     ensures lost { OnFalse result (IsAsBefore T.content place.old place.new) }
 {
     let backoff = Backoff::new();
@@ -89,11 +89,11 @@ fn attempt_slots_unless_held<T: PartTable, R: Wait>(
     mode: LwMode,
 ) -> bool
     requires table { FitsTable place.old top.now.table_id }
-    requires exists { owner < top.now.key }
+    requires exists { owner < top.now.key.sessions }
     requires session { HasSession place.old.me.0 }
     requires lawful { MayGetSlots mode (account_at T.content place.old) owner }
     ensures seat { IsSameSeat place.old place.new }
-    ensures won { OnTrue result (GetsSlots T.content mode owner place.old place.new) }
+    ensures won { OnTrue result (GetsSlots T.content top.now.key.groups mode owner place.old place.new) }
     ensures lost { OnFalse result (IsAsBefore T.content place.old place.new) }
 {
     for _ in rt.forever() {
@@ -118,13 +118,13 @@ fn get_slots_or_sleep<T: PartTable, R: Wait>(
     mode: LwMode,
 ) -> bool
     requires table { FitsTable place.old top.now.table_id }
-    requires exists { owner < top.now.key }
+    requires exists { owner < top.now.key.sessions }
     requires session { HasSession place.old.me.0 }
     requires own { number ≡ number_at place.old }
     requires lawful { MayGetSlots mode (account_at T.content place.old) owner }
     requires idle { (account_at T.content place.old).lists ≡ no_lists }
     ensures seat { IsSameSeat place.old place.new }
-    ensures won { OnTrue result (GetsSlots T.content mode owner place.old place.new) }
+    ensures won { OnTrue result (GetsSlots T.content top.now.key.groups mode owner place.old place.new) }
     ensures lost { OnFalse result (IsAsBefore T.content place.old place.new) }
 {
     let lock = LwLock::OfSlots(owner);
@@ -149,13 +149,13 @@ fn get_slots_in_turn<T: PartTable, R: Wait>(
     mode: LwMode,
 ) -> bool
     requires table { FitsTable place.old top.now.table_id }
-    requires exists { owner < top.now.key }
+    requires exists { owner < top.now.key.sessions }
     requires session { HasSession place.old.me.0 }
     requires own { number ≡ number_at place.old }
     requires lawful { MayGetSlots mode (account_at T.content place.old) owner }
     requires idle { (account_at T.content place.old).lists ≡ no_lists }
     ensures seat { IsSameSeat place.old place.new }
-    ensures won { OnTrue result (GetsSlots T.content mode owner place.old place.new) }
+    ensures won { OnTrue result (GetsSlots T.content top.now.key.groups mode owner place.old place.new) }
     ensures lost { OnFalse result (IsAsBefore T.content place.old place.new) }
 {
     if attempt_slots_a_while(top, place, owner, mode) {
@@ -177,12 +177,12 @@ pub(crate) fn get_slots_held<T: PartTable, R: Wait>(
     mode: LwMode,
 )
     requires table { FitsTable place.old top.now.table_id }
-    requires exists { owner < top.now.key }
+    requires exists { owner < top.now.key.sessions }
     requires session { HasSession place.old.me.0 }
     requires own { number ≡ number_at place.old }
     requires lawful { MayGetSlots mode (account_at T.content place.old) owner }
     requires idle { (account_at T.content place.old).lists ≡ no_lists }
-    ensures { GetsSlots T.content mode owner place.old place.new }
+    ensures { GetsSlots T.content top.now.key.groups mode owner place.old place.new }
 {
     for _ in rt.forever() {
         if get_slots_in_turn(rt, top, place, number, owner, mode) {

@@ -1,12 +1,12 @@
 //! The steps of a session on fast-path slots and databases: with the lock of a session's slots in hand it knows what
 //! they show.
 
-ghost use Rattle.std.specs.Prelude.{◌≡◌, ◌<◌, Some};
+ghost use Rattle.std.specs.Prelude.{◌≡◌, ◌<◌, ◌*◌, Some};
 ghost use Rattle.lock_world.specs.Account.{InHand, SlotsInHand};
 ghost use Rattle.shared_rule.specs.History.{noting};
-ghost use Rattle.shared_rule.specs.Plays.{account_at, number_at, FitsTable, HasSession, IsSameSeat};
+ghost use Rattle.shared_rule.specs.Plays.{account_at, number_at, FitsTable, HasGroups, HasSession, IsSameSeat};
 ghost use Rattle.lock_table.specs.Content.{add_hold};
-ghost use Rattle.lock_world.specs.SlotHolds.{slot_holds};
+ghost use Rattle.lock_world.specs.SlotHolds.{group_size, slot_holds};
 ghost use Rattle.lock_world.specs.AccountLaw.{MaySetSlotBy, MayClearSlotBy, MayTransferBy};
 ghost use Rattle.shared_rule.specs.Marks.{LoadedDatabase, LoadedSlot, SetSlot};
 ghost use Rattle.shared_rule.specs.Marks.{ClearedSlot, TransferredSlot, StoredDatabase};
@@ -49,7 +49,8 @@ pub(crate) fn load_slot<T: PartTable, M: Marking<T>>(
 ) -> SlotWord
     requires table { FitsTable place.old top.now.table_id }
     requires session { HasSession place.old.me.0 }
-    requires within { slot < 16 }
+    requires within { slot < group_size * top.now.key.groups }
+    requires grouped { HasGroups top.now.table_id top.now.key.groups }
     requires mark { M.mark ≡ LoadedSlot owner slot }
     ensures seat { IsSameSeat place.old place.new }
     ensures side { place.new.me ≡ (noting place.old.me.0 (LoadedSlot owner slot result), place.old.me.1) }
@@ -74,7 +75,10 @@ pub(crate) fn set_slot<T: PartTable, M: Marking<T>>(
     requires table { FitsTable place.old top.now.table_id }
     requires session { HasSession place.old.me.0 }
     requires own { number ≡ number_at place.old }
-    requires lawful { (mine : SlotsInHand) × MaySetSlotBy (number_at place.old) (account_at T.content place.old)
+    requires within { slot < group_size * top.now.key.groups }
+    requires grouped { HasGroups top.now.table_id top.now.key.groups }
+    requires lawful { (mine : SlotsInHand)
+        × MaySetSlotBy top.now.key.groups (number_at place.old) (account_at T.content place.old)
         mine slot tag.now mode × (shown ≡ mine.word slot) }
     requires mark { M.mark ≡ (λ _. SetSlot slot tag.now mode) }
     ensures seat { IsSameSeat place.old place.new }
@@ -97,6 +101,8 @@ pub(crate) fn clear_slot<T: PartTable, M: Marking<T>>(
     requires table { FitsTable place.old top.now.table_id }
     requires session { HasSession place.old.me.0 }
     requires own { number ≡ number_at place.old }
+    requires within { slot < group_size * top.now.key.groups }
+    requires grouped { HasGroups top.now.table_id top.now.key.groups }
     requires lawful { (mine : SlotsInHand) × MayClearSlotBy (number_at place.old) (account_at T.content place.old)
         mine slot tag.now mode × (shown ≡ mine.word slot) }
     requires mark { M.mark ≡ (λ _. ClearedSlot slot tag.now mode) }
@@ -122,10 +128,12 @@ pub(crate) fn transfer_slot<T: PartTable, M: Marking<T>>(
 )
     requires table { FitsTable place.old top.now.table_id }
     requires session { HasSession place.old.me.0 }
+    requires within { slot < group_size * top.now.key.groups }
+    requires grouped { HasGroups top.now.table_id top.now.key.groups }
     requires lawful { (its : SlotsInHand) × (mine : InHand)
-        × MayTransferBy top.now.key (account_at T.content place.old) owner slot its mine tag.now mode strong
+        × MayTransferBy top.now.key.sessions (account_at T.content place.old) owner slot its mine tag.now mode strong
         × (shown ≡ its.word slot) × (T.content content.now ≡ add_hold mine.now owner tag.now mode) }
-    requires exists { owner < top.now.key }
+    requires exists { owner < top.now.key.sessions }
     requires mark { M.mark ≡ (λ _. TransferredSlot owner slot tag.now mode) }
     ensures seat { IsSameSeat place.old place.new }
     ensures side { place.new.me

@@ -1,6 +1,7 @@
 //! The table with its memory, before the first step.
 
 ghost use Rattle.std.specs.Prelude.{◌≡◌, ◌<◌, ◌≤◌, ◌+◌, ◌/◌, ◌%◌, [], length, Some, IfOk, IfErr};
+ghost use Rattle.lock_world.specs.SlotHolds.{most_groups};
 ghost use Rattle.lock_world.specs.World.{opening};
 ghost use Rattle.shared_rule.specs.Shown.{WordsAreShown};
 ghost use Rattle.lock_table.specs.Parts.{AreEmptyParts};
@@ -10,17 +11,17 @@ use crate::history::View;
 use crate::kept::Kept;
 use crate::layout::{
     BLOCK, CONTENT_GAP, CONTENT_SLOTS, COUNTERS_START, GAP, SESSIONS_START, TABLE_SLOTS,
-    TABLE_WORDS,
+    TABLE_WORDS, table_words,
 };
 use crate::opener::Opener;
-use crate::rule::Law;
+use crate::rule::{Law, Sizes};
 use atomic_table::{Refused, Table};
 use lock_table::{NoMemory, PartTable};
 use lw_word::{LwWord, WaitList};
 use std::alloc::Global;
 
 /// The table and its memory. Threads share its field `shared`.
-pub type SharedTable<T> = Table<Kept<T>, View<T>, u8, Law, Global>;
+pub type SharedTable<T> = Table<Kept<T>, View<T>, Sizes, Law, Global>;
 
 // The word at an index, before the first step: a free one where it is a lightweight lock's, and else 0.
 fn first_word(index: usize) -> u64
@@ -33,19 +34,24 @@ fn first_word(index: usize) -> u64
         }
     }
     if index >= SESSIONS_START {
-        if (index - SESSIONS_START) % BLOCK == 0 {
-            return free;
+        if index < TABLE_WORDS {
+            if (index - SESSIONS_START) % BLOCK == 0 {
+                return free;
+            }
         }
     }
     0
 }
 
-// All words, before the first step.
-fn first_words(alloc: Global) -> Result<Vec<u64>, NoMemory>
-    ensures shown { IfOk result (λ words. WordsAreShown words.items (opening 0).words) }
+// All words, before the first step, with so many groups of slots.
+fn first_words(alloc: Global, groups: u8) -> Result<Vec<u64>, NoMemory>
+    requires some { 0 < groups }
+    requires few { groups ≤ most_groups }
+    ensures shown { IfOk result (λ words. WordsAreShown groups words.items (opening 0 0).words) }
 {
-    let mut words = Vec::with_capacity(alloc, TABLE_WORDS)?;
-    for index in 0..TABLE_WORDS {
+    let many = table_words(groups);
+    let mut words = Vec::with_capacity(alloc, many)?;
+    for index in 0..many {
         words.push_reserved(first_word(index));
     }
     Ok(words)
@@ -100,24 +106,33 @@ pub fn in_slots<T: PartTable + Drop>(
     Ok(slots)
 }
 
-/// Makes the table for so many sessions, and the opener at it (`InitProcGlobal` in proc.c, `InitLocks` in lock.c).
+/// Makes the table for so many sessions, with so many groups of slots each, and the opener at it (`InitProcGlobal` in proc.c, `InitLocks` in lock.c).
 /// The parts come each in its slot of the table, as `in_slots` puts them. Without memory they come back.
 pub fn open<T: PartTable>(
     alloc: Global,
-    sessions: u8,
+    sizes: &Sizes,
     parts: Vec<Kept<T>>,
 ) -> Result<(SharedTable<T>, Opener<T>), Refused<Kept<T>, Global>>
-    requires few { sessions ≤ 64 }
+    requires few { sizes.now.sessions ≤ 64 }
+    requires some_groups { 0 < sizes.now.groups }
+    requires few_groups { sizes.now.groups ≤ most_groups }
     requires parts { AreNew T.content T.begun parts.items }
-    ensures key { IfOk result (λ opened. opened.0.shared.key ≡ sessions) }
+    ensures key { IfOk result (λ opened. opened.0.shared.key ≡ sizes.now) }
     ensures opener { IfOk result (λ opened.
-        opened.1 ≡ record { table = opened.0.shared.table_id; issued = 0; limit = sessions; closed = []; gathered = [] }) }
+        opened.1 ≡ record {
+          table = opened.0.shared.table_id;
+          issued = 0;
+          limit = sizes.now.sessions;
+          groups = sizes.now.groups;
+          closed = [];
+          gathered = [];
+        }) }
     ensures refused { IfErr result (λ refused. refused.slots.items ≡ parts.items) }
 {
-    let words = match first_words(alloc) {
+    let words = match first_words(alloc, sizes.groups) {
         Ok(words) => words,
         Err(NoMemory) => return Err(Refused { slots: parts }),
     };
-    let (table, place) = Table::new(alloc, words.as_slice(), parts, &sessions)?;
-    Ok((table, Opener::at(place, sessions)))
+    let (table, place) = Table::new(alloc, words.as_slice(), parts, sizes)?;
+    Ok((table, Opener::at(place, sizes)))
 }

@@ -36,7 +36,7 @@ pub(crate) fn set_waiting<T: PartTable, M: Marking<T>>(
     requires table { FitsTable place.old top.now.table_id }
     requires session { HasSession place.old.me.0 }
     requires own { number ≡ number_at place.old }
-    requires lawful { (mine : InHand) × MayMoveBy top.now.key (number_at place.old)
+    requires lawful { (mine : InHand) × MayMoveBy top.now.key.sessions (number_at place.old)
         (account_at T.content place.old) (partition_of tag.now) mine (Join tag.now mode) [] (T.content content.now) }
     requires mark { M.mark ≡ (λ _. SetWaiting tag.now mode content.now) }
     ensures seat { IsSameSeat place.old place.new }
@@ -61,7 +61,7 @@ pub(crate) fn mark_granted<T: PartTable, M: Marking<T>>(
     requires grants { IsGrantingIn part done.now }
     requires lawful { (mine : InHand) × (granted : List contents.Wait)
         × (woken.now.items ≡ map whose_and_mode granted)
-        × MayMarkBy top.now.key (number_at place.old) (account_at T.content place.old) part
+        × MayMarkBy top.now.key.sessions (number_at place.old) (account_at T.content place.old) part
         mine done.now granted (T.content content.now) other }
     requires mark { M.mark
         ≡ (λ _. MarkedGranted part other done.now (sessions_told woken.now.items) content.now) }
@@ -140,7 +140,7 @@ pub(crate) fn leave_queue<T: PartTable, M: Marking<T>>(
     requires own { number ≡ number_at place.old }
     requires lawful { (wait : OwnWait) × (mine : InHand) × (granted : List contents.Wait)
         × (woken.now.items ≡ map whose_and_mode granted)
-        × MayLeaveBy top.now.key (number_at place.old) (account_at T.content place.old) wait
+        × MayLeaveBy top.now.key.sessions (number_at place.old) (account_at T.content place.old) wait
         mine granted (T.content content.now) }
     requires mark { M.mark ≡ (λ _. LeftQueue (sessions_told woken.now.items) content.now) }
     ensures seat { IsSameSeat place.old place.new }

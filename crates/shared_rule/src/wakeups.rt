@@ -76,7 +76,7 @@ fn set_release_ok_if<T: PartTable>(
     release_ok: bool,
 )
     requires table { FitsTable place.old top.now.table_id }
-    requires exists { LockExists top.now.key lock.now }
+    requires exists { LockExists top.now.key.sessions lock.now }
     requires there { LockIsInTable lock.now }
     requires session { HasSession place.old.me.0 }
     ensures led { Led T.content place.old place.new (account_at T.content place.old) }
@@ -97,7 +97,7 @@ fn unlock_after_wakeup<T: PartTable>(
     release_ok: bool,
 )
     requires table { FitsTable place.old top.now.table_id }
-    requires exists { LockExists top.now.key lock.now }
+    requires exists { LockExists top.now.key.sessions lock.now }
     requires there { LockIsInTable lock.now }
     requires session { HasSession place.old.me.0 }
     requires out { place.old.me.1 ≡ (list_slot_of (lock_number lock.now), Nothing) ∷ rest place.old.me.1 }
@@ -118,7 +118,7 @@ fn unlock_after_wakeup<T: PartTable>(
 #[inline(never)]
 pub(crate) fn wake_waiters<T: PartTable>(top: &Top<T>, place: &mut Place<T>, lock: &LwLock)
     requires table { FitsTable place.old top.now.table_id }
-    requires exists { LockExists top.now.key lock.now }
+    requires exists { LockExists top.now.key.sessions lock.now }
     requires there { LockIsInTable lock.now }
     requires session { HasSession place.old.me.0 }
     requires idle { (account_at T.content place.old).lists ≡ no_lists }

@@ -10,7 +10,7 @@ ghost use Rattle.shared_rule.specs.History.{noting};
 ghost use Rattle.shared_rule.specs.Ruled.{Ruled};
 ghost use Rattle.shared_rule.specs.Plays.{account_at, number_at, FitsTable, IsSameSeat, Marked, WentHome, Looked};
 ghost use Rattle.lock_world.specs.declared.events.Word.{Word};
-ghost use Rattle.shared_rule.specs.Layout.{index_of_word, IsInTable};
+ghost use Rattle.shared_rule.specs.Layout.{index_of_word, MayBeInTable};
 ghost use Rattle.shared_rule.specs.Slots.{KnowsWord};
 
 use crate::plays::{Looks, Marking, Marks, PutsHome};
@@ -123,7 +123,7 @@ pub(crate) fn fetch_or_as<T: PartTable, M: Marking<T>>(
         (λ n. bit_or n bits) (Looked T.content M.mark (step top.now.table_id.slots word bits 0 none) place.old.me) }
     ensures seat { IsSameSeat place.old place.new }
     ensures side { place.new.me ≡ (noting place.old.me.0 (M.mark result), place.old.me.1) }
-    ensures knows { (which : Word) → IsInTable which → word ≡ index_of_word which
+    ensures knows { (which : Word) → MayBeInTable which → word ≡ index_of_word which
         → KnowsWord (number_at place.old) (account_at T.content place.old) which result }
 {
     top.fetch_or::<Looks<M>>(place, word, bits)
@@ -140,7 +140,7 @@ pub(crate) fn look_as<T: PartTable, M: Marking<T>>(
         (Looked T.content M.mark (step top.now.table_id.slots word 0 0 none) place.old.me) }
     ensures seat { IsSameSeat place.old place.new }
     ensures side { place.new.me ≡ (noting place.old.me.0 (M.mark result), place.old.me.1) }
-    ensures knows { (which : Word) → IsInTable which → word ≡ index_of_word which
+    ensures knows { (which : Word) → MayBeInTable which → word ≡ index_of_word which
         → KnowsWord (number_at place.old) (account_at T.content place.old) which result }
 {
     top.load::<Looks<M>>(place, word)

@@ -5,18 +5,22 @@ ghost use Rattle.shared_rule.specs.Boards.{nothing_due};
 ghost use Rattle.shared_rule.specs.History.{blank_account};
 ghost use Rattle.shared_rule.specs.Seats.{MayCloseBy};
 
-use super::{empty_slots, one_thread};
+use super::latecomers::race;
+use super::{SIZES, empty_slots, one_thread};
 use lock_table::{Move, PartTable, PlainPart};
+use modes_core::SessionId;
 use shared_rule::{Board, open};
+use std::alloc::Global;
 use std::process::Abort;
 use std::sync::Wait;
 use std::test::Fail;
 use std::thread::{Threads, join_mut};
+use std::time::Clock;
 
 const ROUNDS: u32 = 10_000;
 
-// Takes the partition in hand, and puts it home as it was.
-fn keep_once<T: PartTable, B: Board<T>, R: Wait>(rt: &R, board: &mut B, part: u8)
+/// Takes the partition in hand, and puts it home as it was.
+pub fn keep_once<T: PartTable, B: Board<T>, R: Wait>(rt: &R, board: &mut B, part: u8)
     requires exists { part < 16 }
     requires idle { MayCloseBy (B.view board.old) }
     requires none_owed { (B.stack board.old).owed ≡ [] }
@@ -65,11 +69,49 @@ fn in_two_threads<B: Board<PlainPart> + Send, R: Threads + Wait + Sync>(
     );
 }
 
+// What two sessions do side by side.
+#[derive(Clone, Copy)]
+enum Story {
+    /// Both take one partition over and over.
+    Together,
+    /// One comes for a lock as the other one puts it.
+    Latecomer,
+}
+
+// Tells a story of two sessions.
+fn tell<B: Board<PlainPart> + Send, R: Abort + Clock + Threads + Wait + Sync>(
+    rt: &R,
+    first: &mut B,
+    second: &mut B,
+    owner: SessionId,
+    story: Story,
+)
+    requires exists { owner < (B.seat first.old).limit }
+    requires its_exists { owner < (B.seat second.old).limit }
+    requires idle { MayCloseBy (B.view first.old) }
+    requires stack { B.stack first.old ≡ nothing_due }
+    requires its_idle { MayCloseBy (B.view second.old) }
+    requires its_stack { B.stack second.old ≡ nothing_due }
+    ensures idle { MayCloseBy (B.view first.new) }
+    ensures stack { B.stack first.new ≡ nothing_due }
+    ensures seat { B.seat first.new ≡ B.seat first.old }
+    ensures its_idle { MayCloseBy (B.view second.new) }
+    ensures its_stack { B.stack second.new ≡ nothing_due }
+    ensures its_seat { B.seat second.new ≡ B.seat second.old }
+{
+    match story {
+        Story::Together => in_two_threads(rt, first, second),
+        Story::Latecomer => race(rt, first, second, owner),
+    }
+}
+
 // Two sessions open, make their steps side by side, meet, part and close.
-#[test]
-fn two_threads_take_one_partition(rt: HostRuntime) -> Result<(), Fail> {
-    let alloc = rt.alloc();
-    let Ok((table, mut opener)) = open(alloc, 2, empty_slots(alloc)?) else {
+fn of_two<R: Abort + Clock + Threads + Wait + Sync>(
+    rt: &R,
+    alloc: Global,
+    story: Story,
+) -> Result<(), Fail> {
+    let Ok((table, mut opener)) = open(alloc, &SIZES, empty_slots(alloc)?) else {
         return Err("out of memory".into());
     };
     let Some(mut first) = opener.session(&table.shared) else {
@@ -79,11 +121,22 @@ fn two_threads_take_one_partition(rt: HostRuntime) -> Result<(), Fail> {
         opener.close(first);
         return Err("no second session".into());
     };
-    in_two_threads(&rt, &mut first, &mut second);
+    let owner = first.number();
+    tell(rt, &mut first, &mut second, owner, story);
     let second = first.meet(second);
     opener.close(second);
     opener.close(first);
     Ok(())
+}
+
+#[test]
+fn two_threads_take_one_partition(rt: HostRuntime) -> Result<(), Fail> {
+    of_two(&rt, rt.alloc(), Story::Together)
+}
+
+#[test]
+fn who_comes_for_a_lock_as_it_is_put_is_not_left_asleep(rt: HostRuntime) -> Result<(), Fail> {
+    of_two(&rt, rt.alloc(), Story::Latecomer)
 }
 
 // Keeps it twice, on the board of a session that has nothing. What the wait word shows then.

@@ -18,6 +18,7 @@ fn set_twice<T: PartTable, B: Board<T>, R: Wait>(rt: &R, board: &mut B) -> Optio
     requires blank { B.view board.old ≡ blank_account }
     requires stack { B.stack board.old ≡ nothing_due }
     requires exists { (B.seat board.old).number < (B.seat board.old).limit }
+    requires groups { (B.seat board.old).groups ≡ 1 }
 {
     let own = board.number();
     let tag = Tag::Relation {
@@ -43,6 +44,7 @@ fn read_shared<T: PartTable, B: Board<T>, R: Wait>(rt: &R, board: &mut B) -> (u6
     requires blank { B.view board.old ≡ blank_account }
     requires stack { B.stack board.old ≡ nothing_due }
     requires exists { (B.seat board.old).number < (B.seat board.old).limit }
+    requires groups { (B.seat board.old).groups ≡ 1 }
     ensures none_in_hand { (B.view board.new).fast.slots ≡ (λ _. None) }
     ensures none_shared { (B.view board.new).fast.shared_slots ≡ (λ _. None) }
     ensures stack { B.stack board.new ≡ nothing_due }

@@ -75,6 +75,8 @@ module _ (m : Machine) (w : World) (safe : SafeWorld w) (shows : Shows m w) wher
         record {
           numbers = record {
             limit = shows.numbers.limit;
+            groups = shows.numbers.groups;
+            some_groups = shows.numbers.some_groups;
             issued = ap (λ n. n + 1) (sym next);
             live = λ j. written-at (λ own its. own ≡ its) m.numbers.live s true false w.numbers.live true in_live refl j (shows.numbers.live j);
             kept_by = shows.numbers.kept_by;
@@ -97,6 +99,8 @@ module _ (m : Machine) (w : World) (safe : SafeWorld w) (shows : Shows m w) wher
     record {
       numbers = record {
         limit = shows.numbers.limit;
+        groups = shows.numbers.groups;
+        some_groups = shows.numbers.some_groups;
         issued = shows.numbers.issued;
         live = shows.numbers.live;
         kept_by = λ j. written-at (λ own its. own ≡ its) m.numbers.kept_by s None None w.numbers.kept_by None in_kept_by refl j (shows.numbers.kept_by j);
@@ -183,6 +187,8 @@ module _ (m : Machine) (w : World) (safe : SafeWorld w) (shows : Shows m w) wher
         record {
           numbers = record {
             limit = shows.numbers.limit;
+            groups = shows.numbers.groups;
+            some_groups = shows.numbers.some_groups;
             issued = shows.numbers.issued;
             live = shows.numbers.live;
             kept_by = λ j. written-at (λ own its. own ≡ its) m.numbers.kept_by s (Some joiner) None w.numbers.kept_by (Some joiner) in_kept_by refl j (shows.numbers.kept_by j);
@@ -228,6 +234,8 @@ module _ (m : Machine) (w : World) (safe : SafeWorld w) (shows : Shows m w) wher
         record {
           numbers = record {
             limit = shows.numbers.limit;
+            groups = shows.numbers.groups;
+            some_groups = shows.numbers.some_groups;
             issued = shows.numbers.issued;
             live = λ j. written-at (λ own its. own ≡ its) m.numbers.live s false false w.numbers.live false in_live refl j (shows.numbers.live j);
             kept_by = shows.numbers.kept_by;

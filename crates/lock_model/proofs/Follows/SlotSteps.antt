@@ -1,4 +1,4 @@
-use Rattle.std.proofs.Common.{◌≡◌, ◌⊎◌, ℕ, ◌^◌, ◌<◌, ◌≤◌, true, false, List, [], length, get_or, nat_lt, None, refl, sym, ap, ◌∙◌, inl, inr}
+use Rattle.std.proofs.Common.{◌≡◌, ◌⊎◌, ℕ, ◌^◌, ◌<◌, ◌≤◌, true, false, List, [], length, get_or, nat_lt, None, ◌*◌, refl, sym, ap, ◌∙◌, subst, inl, inr}
 use Rattle.std.specs.List.{list_any}
 use Rattle.std.proofs.Math.ListN.{set}
 use Rattle.std.proofs.lemmas.Bool.{cases_Bool, cases_eq, both_ways, and_parts, and_from, eqb-true, eq-eqb, ltb-true, lt-ltb, false_from_ne_true, not-true, not_from_false}
@@ -12,7 +12,7 @@ use Rattle.lw_word.specs.SlotWord.{in_use, relation_in, shows, word_with, word_w
 use Rattle.lock_world.specs.declared.events.Step.TheVariants.{LoadWord, SetSlot, ClearSlot, StoreDatabase}
 use Rattle.lock_world.specs.declared.events.Word.{Word}
 use Rattle.lock_world.specs.declared.events.Word.TheVariants.{Partition, Fast, Database, Slot, Wait, Strong, Sleep}
-use Rattle.lock_world.specs.SlotHolds.{relation_of}
+use Rattle.lock_world.specs.SlotHolds.{group_size, relation_of, IsSlotToGrant, AreInGroups}
 use Rattle.lock_world.specs.World.{World, WordExists, word_in}
 use Rattle.lock_world.specs.Happens.{Lawful, Next}
 use Rattle.lock_world.specs.Happens.Slots.{MayLoad, after_loading, MaySetSlot, after_setting_slot, MayClearSlot, after_clearing_slot, MayStoreDatabase, after_storing_database}
@@ -39,18 +39,18 @@ set_is_eligible m s place t n may =
     (eligible-is (get_or m.fast_path.databases s 0) t n (and_parts _ _ reads).1).2
 
 pub set_takes : (m : Machine) (s place : ℕ) (t : Tag) (n : Mode) → may_set_slot m s place t n ≡ true → in_use (get_or (slots_at m s) place 0) ≡ true → relation_in (get_or (slots_at m s) place 0) ≡ relation_of t
-set_takes m s place t n may used = to_grant-relation (slots_at m s) (relation_of t) place (and_parts _ (is_slot_to_grant (slots_at m s) (relation_of t) place) may).1 used
+set_takes m s place t n may used = to_grant-relation m.numbers.groups (slots_at m s) (relation_of t) place (and_parts _ (is_slot_to_grant m.numbers.groups (slots_at m s) (relation_of t) place) may).1 used
 
-pub set_within : (m : Machine) (s place : ℕ) (t : Tag) (n : Mode) → may_set_slot m s place t n ≡ true → place < 16
+pub set_within : (m : Machine) (s place : ℕ) (t : Tag) (n : Mode) → may_set_slot m s place t n ≡ true → place < 128
 set_within m s place t n may =
     let reads = (and_parts _ _ (and_parts _ _ (and_parts _ _ may).0).0).0 in
-    ltb-true place 16 (and_parts _ _ (and_parts _ _ reads).0).0
+    ltb-true place 128 (and_parts _ _ (and_parts _ _ reads).0).0
 
 pub clear_is_eligible : (m : Machine) (s place : ℕ) (t : Tag) (n : Mode) → may_clear_slot m s place t n ≡ true → number_of n ≤ 3
 clear_is_eligible m s place t n may = (eligible-is (get_or m.fast_path.databases s 0) t n (and_parts _ _ (and_parts _ _ may).0).1).2
 
-pub clear_within : (m : Machine) (s place : ℕ) (t : Tag) (n : Mode) → may_clear_slot m s place t n ≡ true → place < 16
-clear_within m s place t n may = ltb-true place 16 (and_parts _ _ (and_parts _ _ (and_parts _ _ may).0).0).0
+pub clear_within : (m : Machine) (s place : ℕ) (t : Tag) (n : Mode) → may_clear_slot m s place t n ≡ true → place < 128
+clear_within m s place t n may = ltb-true place 128 (and_parts _ _ (and_parts _ _ (and_parts _ _ may).0).0).0
 
 -- What is read at a place of a session's slots.
 pub slot_read : (rows : List (List ℕ)) (i s j place d : ℕ) → i ≡ s → j ≡ place → place < length (get_or rows s []) → get_or (get_or rows i []) j d ≡ get_or (get_or rows s []) place 0
@@ -73,7 +73,7 @@ module _ (m : Machine) (w : World) (safe : SafeWorld w) (shows_w : Shows m w) wh
     waits = shows_w.waits;
   }
 
-  may_load : (s n : ℕ) (word : Word) → (WordExists word ⊎ (WordExists word → ⊥)) → MayLoad w s word n ⊎ (MayLoad w s word n → ⊥)
+  may_load : (s n : ℕ) (word : Word) → (WordExists w.numbers.groups word ⊎ (WordExists w.numbers.groups word → ⊥)) → MayLoad w s word n ⊎ (MayLoad w s word n → ⊥)
   may_load s n word (inr no_word) = inr (λ may. no_word may.exists)
   may_load s n word (inl exists) =
       elim (cases_Bool (makes_steps m s)) [
@@ -84,11 +84,11 @@ module _ (m : Machine) (w : World) (safe : SafeWorld w) (shows_w : Shows m w) wh
         | inr idle ↦ inr (λ may. steps_not m w safe shows_w s idle may.steps)
       ]
 
-  slot_exists : (s place : ℕ) → WordExists (Slot s place) ⊎ (WordExists (Slot s place) → ⊥)
+  slot_exists : (s place : ℕ) → WordExists w.numbers.groups (Slot s place) ⊎ (WordExists w.numbers.groups (Slot s place) → ⊥)
   slot_exists s place =
-      elim (cases_Bool (nat_lt place 16)) [
-        | inl within ↦ inl (ltb-true place 16 within)
-        | inr past ↦ inr (λ within. both_ways (nat_lt place 16) past (lt-ltb place 16 within))
+      elim (cases_Bool (nat_lt place (group_size * w.numbers.groups))) [
+        | inl within ↦ inl (ltb-true place (group_size * w.numbers.groups) within)
+        | inr past ↦ inr (λ within. both_ways (nat_lt place (group_size * w.numbers.groups)) past (lt-ltb place (group_size * w.numbers.groups) within))
       ]
 
   not_loaded : (s n : ℕ) (word : Word) → (Lawful w (record { session = s; step = LoadWord word n }) → ⊥) → (v : World) × Next w (record { session = s; step = LoadWord word n }) v × Shows m v
@@ -153,7 +153,8 @@ module _ (m : Machine) (w : World) (safe : SafeWorld w) (shows_w : Shows m w) wh
         read_as_zero = sym (shows_w.fast_path.zero s) ∙ number_of_some (get_or m.fast_path.zeros s None) (index_of t) reads.1;
         no_wait = new.0;
         new = new.1;
-        takes = to_grant_from (slots_at m s) (w.words.slot s) (relation_of t) place (shows_w.fast_path.sixteen s below) (shows_w.fast_path.slot s) (ltb-true place 16 there.0) takes.1;
+        takes = subst (λ n. IsSlotToGrant n (w.words.slot s) (relation_of t) place) shows_w.numbers.groups
+            (to_grant_from m.numbers.groups (slots_at m s) (w.words.slot s) (relation_of t) place (shows_w.fast_path.each_slots s below) (shows_w.fast_path.slot s) (ltb-true place 128 there.0) takes.1);
       }
 
   from_set : (s place : ℕ) (t : Tag) (n : Mode) → s < 64 → MaySetSlot w s place t n → may_set_slot m s place t n ≡ true
@@ -162,11 +163,13 @@ module _ (m : Machine) (w : World) (safe : SafeWorld w) (shows_w : Shows m w) wh
       (and_from _ _
       (and_from _ _
       (and_from _ _
-      (and_from _ _ (lt-ltb place 16 may.takes.within) (and_from _ _ (steps_kept m w safe shows_w s may.steps) (shows_w.locks.fast_holders.mark s s ∙ may.holding)))
+      (and_from _ _ (lt-ltb place 128 may.takes.within) (and_from _ _ (steps_kept m w safe shows_w s may.steps) (shows_w.locks.fast_holders.mark s s ∙ may.holding)))
       (eligible_same s t n ∙ may.eligible))
       (some_of_number (get_or m.fast_path.zeros s None) (index_of t) (shows_w.fast_path.zero s ∙ may.read_as_zero)))
       (from_fits m w safe shows_w s t n may.no_wait may.new))
-      (from_to_grant (slots_at m s) (w.words.slot s) (relation_of t) place (shows_w.fast_path.sixteen s below) (shows_w.fast_path.slot s) may.takes)
+      (from_to_grant m.numbers.groups (slots_at m s) (w.words.slot s) (relation_of t) place (shows_w.fast_path.each_slots s below) (shows_w.fast_path.slot s)
+      (subst (λ n. AreInGroups n (w.words.slot s)) (sym shows_w.numbers.groups) (safe.slots.in_groups s))
+      (subst (λ n. IsSlotToGrant n (w.words.slot s) (relation_of t) place) (sym shows_w.numbers.groups) may.takes))
 
   pub slot_was_set : (s place : ℕ) (t : Tag) (n : Mode) → s < 64 → relation_of t < 2 ^ 32 → may_set_slot m s place t n ≡ true
       → (v : World) × Next w (record { session = s; step = SetSlot place t n }) v
@@ -202,7 +205,7 @@ module _ (m : Machine) (w : World) (safe : SafeWorld w) (shows_w : Shows m w) wh
         holding = own.1;
         held_in = record {
           eligible = sym (eligible_same s t n) ∙ eligible.1;
-          within = ltb-true place 16 there.0;
+          within = ltb-true place 128 there.0;
           shown = sym (ap (λ word. shows word (relation_of t) n) (shows_w.fast_path.slot s place)) ∙ shown.1;
         };
       }
@@ -211,7 +214,7 @@ module _ (m : Machine) (w : World) (safe : SafeWorld w) (shows_w : Shows m w) wh
   from_clear s place t n may =
       and_from _ _
       (and_from _ _
-      (and_from _ _ (lt-ltb place 16 may.held_in.within) (and_from _ _ (steps_kept m w safe shows_w s may.steps) (shows_w.locks.fast_holders.mark s s ∙ may.holding)))
+      (and_from _ _ (lt-ltb place 128 may.held_in.within) (and_from _ _ (steps_kept m w safe shows_w s may.steps) (shows_w.locks.fast_holders.mark s s ∙ may.holding)))
       (eligible_same s t n ∙ may.held_in.eligible))
       (ap (λ word. shows word (relation_of t) n) (shows_w.fast_path.slot s place) ∙ may.held_in.shown)
 

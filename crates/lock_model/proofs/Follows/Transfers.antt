@@ -72,30 +72,30 @@ transferred_by m o place word p shown part = record m {
 }
 
 -- What the tests say before a slot is written.
-pub transfer_within : (m : Machine) (s o place : ℕ) (t : Tag) (n strong : Mode) → may_transfer m s o place t n strong ≡ true → place < 16
+pub transfer_within : (m : Machine) (s o place : ℕ) (t : Tag) (n strong : Mode) → may_transfer m s o place t n strong ≡ true → place < 128
 transfer_within m s o place t n strong may =
     let it = and_parts (holds_fast m s o && list_any (is_by_at s o t strong) m.counted.items) (is_in_slot m o place t n) may in
-    ltb-true place 16 (and_parts (nat_lt place 16) _ (and_parts (nat_lt place 16 && is_eligible_for (get_or m.fast_path.databases o 0) t n) _ it.1).0).0
+    ltb-true place 128 (and_parts (nat_lt place 128) _ (and_parts (nat_lt place 128 && is_eligible_for (get_or m.fast_path.databases o 0) t n) _ it.1).0).0
 
 pub transfer_is_eligible : (m : Machine) (s o place : ℕ) (t : Tag) (n strong : Mode) → may_transfer m s o place t n strong ≡ true → number_of n ≤ 3
 transfer_is_eligible m s o place t n strong may =
     let it = and_parts (holds_fast m s o && list_any (is_by_at s o t strong) m.counted.items) (is_in_slot m o place t n) may in
-    (eligible-is (get_or m.fast_path.databases o 0) t n (and_parts (nat_lt place 16) _ (and_parts (nat_lt place 16 && is_eligible_for (get_or m.fast_path.databases o 0) t n) _ it.1).0).1).2
+    (eligible-is (get_or m.fast_path.databases o 0) t n (and_parts (nat_lt place 128) _ (and_parts (nat_lt place 128 && is_eligible_for (get_or m.fast_path.databases o 0) t n) _ it.1).0).1).2
 
 module _ (m : Machine) (w : World) (safe : SafeWorld w) (shows_w : Shows m w) where
   held_from : (o place : ℕ) (t : Tag) (n : Mode) → is_in_slot m o place t n ≡ true → IsHeldIn (w.words.database o) (w.words.slot o) t n place
   held_from o place t n is =
-      let shown = and_parts (nat_lt place 16 && is_eligible_for (get_or m.fast_path.databases o 0) t n) (shows (get_or (slots_at m o) place 0) (relation_of t) n) is in
-      let first = and_parts (nat_lt place 16) (is_eligible_for (get_or m.fast_path.databases o 0) t n) shown.0 in
+      let shown = and_parts (nat_lt place 128 && is_eligible_for (get_or m.fast_path.databases o 0) t n) (shows (get_or (slots_at m o) place 0) (relation_of t) n) is in
+      let first = and_parts (nat_lt place 128) (is_eligible_for (get_or m.fast_path.databases o 0) t n) shown.0 in
       record {
         eligible = sym (ap (λ database. is_eligible_for database t n) (shows_w.fast_path.database o)) ∙ first.1;
-        within = ltb-true place 16 first.0;
+        within = ltb-true place 128 first.0;
         shown = sym (ap (λ word. shows word (relation_of t) n) (shows_w.fast_path.slot o place)) ∙ shown.1;
       }
 
   from_held : (o place : ℕ) (t : Tag) (n : Mode) → IsHeldIn (w.words.database o) (w.words.slot o) t n place → is_in_slot m o place t n ≡ true
   from_held o place t n held =
-      and_from _ _ (and_from _ _ (lt-ltb place 16 held.within) (ap (λ database. is_eligible_for database t n) (shows_w.fast_path.database o) ∙ held.eligible))
+      and_from _ _ (and_from _ _ (lt-ltb place 128 held.within) (ap (λ database. is_eligible_for database t n) (shows_w.fast_path.database o) ∙ held.eligible))
       (ap (λ word. shows word (relation_of t) n) (shows_w.fast_path.slot o place) ∙ held.shown)
 
   in_slot : (s o place : ℕ) (t : Tag) (n strong : Mode) → may_transfer m s o place t n strong ≡ true → IsHeldIn (w.words.database o) (w.words.slot o) t n place

@@ -59,15 +59,17 @@ NobodySleeps m =
     × (m.lists.off ≡ replicate 64 (replicate 64 false))
 
 -- The machine as it is made shows the opening World.
-pub opening-shown : (m : Machine) → m.numbers.issued ≡ 0 → m.numbers.live ≡ replicate 64 false → m.numbers.kept_by ≡ replicate 64 None → m.words.partitions ≡ replicate 16 opening_state
+pub opening-shown : (m : Machine) (groups : ℕ) → m.numbers.groups ≡ groups → 0 < groups → m.numbers.issued ≡ 0 → m.numbers.live ≡ replicate 64 false → m.numbers.kept_by ≡ replicate 64 None → m.words.partitions ≡ replicate 16 opening_state
     → m.words.fast ≡ replicate 64 opening_state → m.words.waits ≡ replicate 64 0 → m.locks.fast_holders ≡ replicate 64 (replicate 64 false)
-    → m.locks.fast_sharers ≡ replicate 64 (replicate 64 false) → m.locks.partition_sharers ≡ replicate 16 (replicate 64 false) → m.fast_path.databases ≡ replicate 64 0 → m.fast_path.slots ≡ replicate 64 (replicate 16 0) → m.fast_path.zeros ≡ replicate 64 None → m.counted.items ≡ []
+    → m.locks.fast_sharers ≡ replicate 64 (replicate 64 false) → m.locks.partition_sharers ≡ replicate 16 (replicate 64 false) → m.fast_path.databases ≡ replicate 64 0 → m.fast_path.slots ≡ replicate 64 (replicate 128 0) → m.fast_path.zeros ≡ replicate 64 None → m.counted.items ≡ []
     → NobodySleeps m
     → m.contents.hands ≡ replicate 16 None → m.waits.awaited ≡ replicate 64 None → m.waits.seen ≡ replicate 64 false
-    → length m.contents.parts.items ≡ 16 → ((p : ℕ) → (contents_in m.contents.parts.items p ≡ empty_content) × ((part_at m.contents.parts.items p).begun ≡ None)) → Shows m (opening 64)
-opening-shown m issued live kept_by words fast_words wait_words holders sharers partition_sharers databases slots zeros counted no_sleep hands awaited seen sixteen empty = record {
+    → length m.contents.parts.items ≡ 16 → ((p : ℕ) → (contents_in m.contents.parts.items p ≡ empty_content) × ((part_at m.contents.parts.items p).begun ≡ None)) → Shows m (opening 64 groups)
+opening-shown m groups same_groups some issued live kept_by words fast_words wait_words holders sharers partition_sharers databases slots zeros counted no_sleep hands awaited seen sixteen empty = record {
   numbers = record {
     limit = refl;
+    groups = same_groups;
+    some_groups = subst (λ n. 0 < n) (sym same_groups) some;
     issued = issued;
     live = λ k. ap (λ list. get_or list k false) live ∙ get_or-one_value 64 false k;
     kept_by = λ k. ap (λ list. get_or list k None) kept_by ∙ get_or-one_value 64 None k;
@@ -82,8 +84,8 @@ opening-shown m issued live kept_by words fast_words wait_words holders sharers 
   fast_path = record {
     sixty_four_databases = ap length databases ∙ length-replicate {A = ℕ} 64 0;
     sixty_four = ap length slots ∙ length-replicate {A = List ℕ} 64 (replicate 16 0);
-    sixteen = λ s below.
-        ap (λ list. length (get_or list s [])) slots ∙ ap length (get_or-replicate 64 s (replicate 16 0) [] below) ∙ length-replicate {A = ℕ} 16 0;
+    each_slots = λ s below.
+        ap (λ list. length (get_or list s [])) slots ∙ ap length (get_or-replicate 64 s (replicate 128 0) [] below) ∙ length-replicate {A = ℕ} 128 0;
     sixty_four_zeros = ap length zeros ∙ length-replicate {A = Option ℕ} 64 None;
     database = λ s. ap (λ list. get_or list s 0) databases ∙ get_or-one_value 64 0 s;
     slot = λ s place. ap (λ list. get_or (get_or list s []) place 0) slots ∙ no_slot s place;
@@ -128,11 +130,11 @@ opening-shown m issued live kept_by words fast_words wait_words holders sharers 
         | inr past ↦ ap (λ row. get_or row k false) (get_or_past (replicate 64 (replicate 64 false)) s [] (let e = length-replicate {A = List Bool} 64 (replicate 64 false) in omega (arith, e)))
       ]
 
-  no_slot : (s place : ℕ) → ◌≡◌ {A = ℕ} (get_or (get_or (replicate 64 (replicate 16 0)) s []) place 0) 0
+  no_slot : (s place : ℕ) → ◌≡◌ {A = ℕ} (get_or (get_or (replicate 64 (replicate 128 0)) s []) place 0) 0
   no_slot s place =
       elim (cases_lt s 64) [
-        | inl within ↦ ap (λ row. get_or row place 0) (get_or-replicate 64 s (replicate 16 0) [] within) ∙ get_or-one_value 16 0 place
-        | inr past ↦ ap (λ row. get_or row place 0) (get_or_past (replicate 64 (replicate 16 0)) s [] (let e = length-replicate {A = List ℕ} 64 (replicate 16 0) in omega (arith, e)))
+        | inl within ↦ ap (λ row. get_or row place 0) (get_or-replicate 64 s (replicate 128 0) [] within) ∙ get_or-one_value 128 0 place
+        | inr past ↦ ap (λ row. get_or row place 0) (get_or_past (replicate 64 (replicate 128 0)) s [] (let e = length-replicate {A = List ℕ} 64 (replicate 16 0) in omega (arith, e)))
       ]
 
 -- In a safe World each hold and each wait that the machine keeps stands in the partition that its object lies in.
@@ -241,7 +243,7 @@ all-stand m w safe shows list gathered =
       word : ℕ → ℕ → ℕ
       word s place = get_or (get_or m.fast_path.slots s []) place 0
 
-      in_slot : (s place : ℕ) (n : Mode) → place < 16
+      in_slot : (s place : ℕ) (n : Mode) → place < 128
           → is_eligible_for (get_or m.fast_path.databases s 0) (Relation (get_or m.fast_path.databases s 0) (relation_in (word s place))) n ≡ true
           → slot_word.shows (word s place) (relation_in (word s place)) n ≡ true
           → IsHeldIn (w.words.database s) (w.words.slot s) (Relation (get_or m.fast_path.databases s 0) (relation_in (word s place))) n place
@@ -255,12 +257,13 @@ all-stand m w safe shows list gathered =
 pub plain-shown : (m : Machine) (w : World) → SafeWorld w → Shows m w → (plain : Plain) (parts parts_2 : List PartView) → parts ≡ m.contents.parts.items → parts_2 ≡ m.contents.parts.items
     → GathersHolds parts m.fast_path (holds_of plain) → GathersWaits parts_2 (listed_waits plain)
     → IsSortedByKey (λ queued. queued.tag) (on numbers_of (slice_cmp nat_cmp)) (listed_waits plain)
-    → plain.words ≡ m.words → plain.fast_path ≡ m.fast_path → plain.counted ≡ m.counted → plain.lists ≡ m.lists → IsPlainOf plain w
-plain-shown m w safe shows plain parts parts_2 these those gathered gathered_waits by_tag same same_path same_counted same_lists = record {
+    → plain.words ≡ m.words → plain.fast_path ≡ m.fast_path → plain.counted ≡ m.counted → plain.lists ≡ m.lists → plain.groups ≡ m.numbers.groups → IsPlainOf plain w
+plain-shown m w safe shows plain parts parts_2 these those gathered gathered_waits by_tag same same_path same_counted same_lists same_groups = record {
   holds = all-shown m w safe shows (holds_of plain) holds;
   spots = all-stand m w safe shows (holds_of plain) holds;
   waits = λ t. waits at_home t ∙ ap (λ c. c.waits t) (content_from m w safe shows t);
   waits_by_tag = by_tag;
+  groups = same_groups ∙ shows.numbers.groups;
   words = word_shown;
   lists = λ lock. ap (λ lists. waiters_of lock lists.sleepers.items) same_lists ∙ shows.lists.list lock;
 } where
@@ -273,7 +276,7 @@ plain-shown m w safe shows plain parts parts_2 these those gathered gathered_wai
   waits : GathersWaits m.contents.parts.items (listed_waits plain)
   waits = subst (λ items. GathersWaits items (listed_waits plain)) those gathered_waits
 
-  word_shown : (word : Word) → WordExists word → word_of plain word ≡ word_in w.words word
+  word_shown : (word : Word) → WordExists w.numbers.groups word → word_of plain word ≡ word_in w.words word
   word_shown (Partition p) exists = ap (λ words. lock_state.word_of (get_or words.partitions p opening_state)) same ∙ number_shown _ _ (shows.words.partition p)
   word_shown (Fast k) exists = ap (λ words. lock_state.word_of (get_or words.fast k opening_state)) same ∙ number_shown _ _ (shows.words.fast k)
   word_shown (Database k) exists = ap (λ path. get_or path.databases k 0) same_path ∙ shows.fast_path.database k

@@ -1,4 +1,4 @@
-use Rattle.std.proofs.Common.{◌≡◌, ◌≢◌, ℕ, ◌<◌, ◌≤◌, ◌-◌, true, false, not, ◌&&◌, List, [], length, get_or, nat_eq, Option, None, refl, sym, ap, ◌∙◌, subst, inl, inr, arith}
+use Rattle.std.proofs.Common.{◌≡◌, ◌≢◌, ℕ, ◌<◌, ◌≤◌, ◌-◌, true, false, not, ◌&&◌, ◌||◌, List, [], length, get_or, nat_eq, Option, None, refl, sym, ap, ◌∙◌, subst, inl, inr, arith}
 use Rattle.std.proofs.Math.ListN.{set, length-set}
 use Rattle.std.specs.List.{list_any}
 use Rattle.std.specs.Int.{bit_at}
@@ -12,7 +12,7 @@ use Rattle.modes_core.specs.Mode.{number_of}
 use Rattle.modes_core.specs.Tag.{is_eligible_for}
 use Rattle.lw_word.specs.SlotWord.{mode_bits, relation_in, in_use, has_mode, shows}
 use Rattle.lock_world.specs.World.{World}
-use Rattle.lock_world.specs.SlotHolds.{is_slot_of, IsSlotToGrant, NoSlotInUse}
+use Rattle.lock_world.specs.SlotHolds.{may_use, is_slot_of, IsSlotToGrant, AreInGroups, NoSlotInUse}
 use Rattle.lock_world.specs.SafeWorld.{SafeWorld, slots_of}
 use Rattle.lock_world.proofs.Slots.Databases.{slot_holds-unused}
 use Rattle.lock_world.proofs.Slots.Eligible.{is_in-held}
@@ -71,11 +71,11 @@ module _ (m : Machine) (w : World) (safe : SafeWorld w) (shows_w : Shows m w) wh
   no_slot_hold s none t n =
       slots_from m w safe shows_w s t n ∙ ap (λ holds. holds t n) (slot_holds-unused (w.words.database s) (w.words.slot s) (unused_from s none))
 
-  -- Where one is in use, it is one of the session's 16, and it shows a hold of its own.
-  pub used_from : (s : ℕ) → s < 64 → list_any in_use (slots_at m s) ≡ true → (place : ℕ) × (place < 16) × (in_use (w.words.slot s place) ≡ true)
+  -- Where one is in use, it is one of the session's places, and it shows a hold of its own.
+  pub used_from : (s : ℕ) → s < 64 → list_any in_use (slots_at m s) ≡ true → (place : ℕ) × (place < 128) × (in_use (w.words.slot s place) ≡ true)
   used_from s below any =
       let found = any_found in_use (slots_at m s) any in
-      (found.0, subst (λ n. found.0 < n) (shows_w.fast_path.sixteen s below) found.2, sym (ap in_use (shows_w.fast_path.slot s found.0)) ∙ ap in_use (found.3 0) ∙ found.4)
+      (found.0, subst (λ n. found.0 < n) (shows_w.fast_path.each_slots s below) found.2, sym (ap in_use (shows_w.fast_path.slot s found.0)) ∙ ap in_use (found.3 0) ∙ found.4)
 
   pub some_slot_hold : (s : ℕ) → s < 64 → list_any in_use (slots_at m s) ≡ true → ((t : Tag) (n : Mode) → w.sessions.own s t n ≡ false) → ⊥
   some_slot_hold s below any none =
@@ -92,58 +92,73 @@ module _ (m : Machine) (w : World) (safe : SafeWorld w) (shows_w : Shows m w) wh
 
 -- The slot that a grant takes.
 
-pub to_grant_from : (slots : List ℕ) (slot : ℕ → ℕ) (relation place : ℕ) → length slots ≡ 16 → ((k : ℕ) → get_or slots k 0 ≡ slot k) → place < 16 → is_slot_to_grant slots relation place ≡ true
-    → IsSlotToGrant slot relation place
-to_grant_from slots slot relation place sixteen same within takes = record {
+pub to_grant_from : (groups : ℕ) (slots : List ℕ) (slot : ℕ → ℕ) (relation place : ℕ) → length slots ≡ 128 → ((k : ℕ) → get_or slots k 0 ≡ slot k) → place < 128 → is_slot_to_grant groups slots relation place ≡ true
+    → IsSlotToGrant groups slot relation place
+to_grant_from groups slots slot relation place many same within takes = record {
   within = within;
-  usable = refl;
-  its_or_unused = elim (or_cases _ _ takes) [
+  usable = its_group.0;
+  its_or_unused = elim (or_cases _ _ its_group.1) [
     | inl its ↦ inl (ap (λ word. is_slot_of word relation) (sym (same place)) ∙ its)
     | inr unused ↦
         let both = and_parts _ _ unused in
         inr (
           ap in_use (sym (same place)) ∙ not-true _ both.0,
-          λ other below.
+          λ other below usable.
               false_from_ne_true (is_slot_of (slot other) relation) (λ its.
               both_ways (list_any (λ word. is_slot_of word relation) slots) (not-true _ both.1)
               (found_within (λ word. is_slot_of word relation) slots other 0 refl (ap (λ word. is_slot_of word relation) (same other) ∙ its))),
         )
   ];
-}
+} where
+  word : ℕ
+  word = get_or slots place 0
 
-pub from_to_grant : (slots : List ℕ) (slot : ℕ → ℕ) (relation place : ℕ) → length slots ≡ 16 → ((k : ℕ) → get_or slots k 0 ≡ slot k) → IsSlotToGrant slot relation place
-    → is_slot_to_grant slots relation place ≡ true
-from_to_grant slots slot relation place sixteen same takes =
-    elim takes.its_or_unused [
+  its_group : (may_use groups relation place ≡ true)
+      × ((is_slot_of word relation || (not (in_use word) && not (list_any (λ other. is_slot_of other relation) slots))) ≡ true)
+  its_group = and_parts (may_use groups relation place) (is_slot_of word relation || (not (in_use word) && not (list_any (λ other. is_slot_of other relation) slots))) takes
+
+-- In no other group there is a slot for the relation.
+pub from_to_grant : (groups : ℕ) (slots : List ℕ) (slot : ℕ → ℕ) (relation place : ℕ) → length slots ≡ 128 → ((k : ℕ) → get_or slots k 0 ≡ slot k) → AreInGroups groups slot
+    → IsSlotToGrant groups slot relation place → is_slot_to_grant groups slots relation place ≡ true
+from_to_grant groups slots slot relation place many same in_groups takes = and_from (may_use groups relation place) _ takes.usable
+    (elim takes.its_or_unused [
       | inl its ↦ or_left _ _ (ap (λ word. is_slot_of word relation) (same place) ∙ its)
       | inr unused ↦
           or_right (is_slot_of (get_or slots place 0) relation) _
           (and_from _ _ (not_from_false _ (ap in_use (same place) ∙ unused.0))
           (not_from_false _ (false_from_ne_true (list_any (λ word. is_slot_of word relation) slots) (λ any.
           let found = any_found (λ word. is_slot_of word relation) slots any in
-          both_ways (is_slot_of (slot found.0) relation) (unused.1 found.0 (subst (λ n. found.0 < n) sixteen found.2))
-          (ap (λ word. is_slot_of word relation) (sym (same found.0) ∙ found.3 0) ∙ found.4)))))
-    ]
+          let its : is_slot_of (slot found.0) relation ≡ true = ap (λ word. is_slot_of word relation) (sym (same found.0) ∙ found.3 0) ∙ found.4 in
+          let within : found.0 < 128 = subst (λ n. found.0 < n) many found.2 in
+          both_ways (is_slot_of (slot found.0) relation) (unused.1 found.0 within (usable found.0 within its)) its))))
+    ]) where
+      usable : (j : ℕ) → j < 128 → is_slot_of (slot j) relation ≡ true → may_use groups relation j ≡ true
+      usable j within is =
+          let both = and_parts (in_use (slot j)) (nat_eq (relation_in (slot j)) relation) is in
+          ap (λ r. may_use groups r j) (sym (eqb-true (relation_in (slot j)) relation both.1)) ∙ in_groups j within both.0
 
 -- A slot in use that a grant takes is in use for the relation.
-pub to_grant-relation : (slots : List ℕ) (relation place : ℕ) → is_slot_to_grant slots relation place ≡ true → in_use (get_or slots place 0) ≡ true → relation_in (get_or slots place 0) ≡ relation
-to_grant-relation slots relation place takes used =
-    elim (or_cases (is_slot_of word relation) (not (in_use word) && not (list_any (λ other. is_slot_of other relation) slots)) takes) [
+pub to_grant-relation : (groups : ℕ) (slots : List ℕ) (relation place : ℕ) → is_slot_to_grant groups slots relation place ≡ true → in_use (get_or slots place 0) ≡ true → relation_in (get_or slots place 0) ≡ relation
+to_grant-relation groups slots relation place takes used =
+    elim (or_cases (is_slot_of word relation) (not (in_use word) && not (list_any (λ other. is_slot_of other relation) slots)) takes_it) [
       | inl its ↦ eqb-true (relation_in word) relation (and_parts (in_use word) (nat_eq (relation_in word) relation) its).1
       | inr unused ↦ absurd (both_ways (in_use word) (not-true (in_use word) (and_parts (not (in_use word)) (not (list_any (λ other. is_slot_of other relation) slots)) unused).0) used)
     ] where
       word : ℕ
       word = get_or slots place 0
 
+      takes_it : (is_slot_of word relation || (not (in_use word) && not (list_any (λ other. is_slot_of other relation) slots))) ≡ true
+      takes_it = (and_parts (may_use groups relation place) (is_slot_of word relation || (not (in_use word) && not (list_any (λ other. is_slot_of other relation) slots))) takes).1
+
 -- A slot is written.
-pub slot-set : (shown : FastPath) (databases : ℕ → ℕ) (slots : ℕ → ℕ → ℕ) (zeros : ℕ → Option ℕ) (s place a b : ℕ) → ShowsFastPath shown databases slots zeros → s < 64 → place < 16 → a ≡ b
+pub slot-set : (shown : FastPath) (databases : ℕ → ℕ) (slots : ℕ → ℕ → ℕ) (zeros : ℕ → Option ℕ) (s place a b : ℕ) → ShowsFastPath shown databases slots zeros → s < 64 → place < 128 → a ≡ b
     → ShowsFastPath (record shown { slots = set shown.slots s (set (get_or shown.slots s []) place a) }) databases (set_at slots s (set_at (slots s) place b)) zeros
 slot-set shown databases slots zeros s place a b shows_it below within same = record {
   sixty_four_databases = shows_it.sixty_four_databases;
   sixty_four = length-set shown.slots s row ∙ shows_it.sixty_four;
-  sixteen = λ k exists. elim (cases_eq k s) [
-    | inl is ↦ ap (λ i. length (get_or (set shown.slots s row) i [])) is ∙ ap length (get_or-set_same shown.slots s row [] in_slots) ∙ length-set (get_or shown.slots s []) place a ∙ shows_it.sixteen s below
-    | inr other ↦ ap length (get_or-set_other shown.slots s k row [] other) ∙ shows_it.sixteen k exists
+  each_slots = λ k exists. elim (cases_eq k s) [
+    | inl is ↦ ap (λ i. length (get_or (set shown.slots s row) i [])) is ∙ ap length (get_or-set_same shown.slots s row [] in_slots) ∙ length-set (get_or shown.slots s []) place a ∙ shows_it.each_slots s below
+    | inr other ↦ ap length (get_or-set_other shown.slots s k row [] other) ∙ shows_it.each_slots k exists
   ];
   sixty_four_zeros = shows_it.sixty_four_zeros;
   database = shows_it.database;
@@ -157,7 +172,7 @@ slot-set shown databases slots zeros s place a b shows_it below within same = re
   in_slots = subst (λ n. s < n) (sym shows_it.sixty_four) below
 
   in_row : place < length (get_or shown.slots s [])
-  in_row = subst (λ n. place < n) (sym (shows_it.sixteen s below)) within
+  in_row = subst (λ n. place < n) (sym (shows_it.each_slots s below)) within
 
   written : (j : ℕ) → get_or row j 0 ≡ set_at (slots s) place b j
   written j = get_or-set_at (get_or shown.slots s []) place a 0 (slots s) in_row (shows_it.slot s) j ∙ ap (λ word. set_at (slots s) place word j) same
@@ -168,7 +183,7 @@ pub database-set : (shown : FastPath) (databases : ℕ → ℕ) (slots : ℕ →
 database-set shown databases slots zeros s a shows_it below = record {
   sixty_four_databases = length-set shown.databases s a ∙ shows_it.sixty_four_databases;
   sixty_four = shows_it.sixty_four;
-  sixteen = shows_it.sixteen;
+  each_slots = shows_it.each_slots;
   sixty_four_zeros = shows_it.sixty_four_zeros;
   database = λ k. get_or-set_at shown.databases s a 0 databases (subst (λ n. s < n) (sym shows_it.sixty_four_databases) below) shows_it.database k;
   slot = shows_it.slot;
@@ -181,7 +196,7 @@ pub zero-set : (shown : FastPath) (databases : ℕ → ℕ) (slots : ℕ → ℕ
 zero-set shown databases slots zeros s a shows_it below = record {
   sixty_four_databases = shows_it.sixty_four_databases;
   sixty_four = shows_it.sixty_four;
-  sixteen = shows_it.sixteen;
+  each_slots = shows_it.each_slots;
   sixty_four_zeros = length-set shown.zeros s a ∙ shows_it.sixty_four_zeros;
   database = shows_it.database;
   slot = shows_it.slot;

@@ -35,6 +35,7 @@ pub struct QueuedWait {
 pub struct Plain {
     pub(crate) holds: Vec<Hold>,
     pub(crate) waits: Vec<QueuedWait>,
+    pub(crate) groups: u8,
     pub(crate) words: Words,
     pub(crate) fast_path: FastPath,
     pub(crate) counted: Vec<CountedBy>,
@@ -42,9 +43,10 @@ pub struct Plain {
 }
 
 impl Plain {
-    ghost use Rattle.std.specs.Prelude.{◌≡◌, ◌<◌, ◌≤◌};
+    ghost use Rattle.std.specs.Prelude.{◌≡◌, ◌*◌, ◌<◌, ◌≤◌};
     ghost use Rattle.lock_world.specs.declared.events.Word.TheVariants.{Slot, Strong};
-    ghost use Rattle.lock_model.specs.Plain.{holds_of, listed_waits, listed_sleepers, word_of};
+    ghost use Rattle.lock_model.specs.Plain.{holds_of, listed_waits, listed_sleepers, groups_of, word_of};
+    ghost use Rattle.lock_world.specs.SlotHolds.{group_size};
     ghost use Rattle.lock_world.specs.World.{WordExists};
 
     /// All holds, those in fast-path slots and those in the lock table, each once, with where it stands: by
@@ -78,10 +80,10 @@ impl Plain {
     }
 
     /// What a word shows, and 0 where there is no such word: there are 16 partitions, 16 fast-path slots a
-    /// session, and 1,024 strong lock counters.
+    /// session in each group, and 1,024 strong lock counters.
     pub fn word(&self, word: Word) -> u64
-        ensures shown { WordExists word → result ≡ word_of self.now word }
-        ensures absent { ¬ (WordExists word) → result ≡ 0 }
+        ensures shown { WordExists (groups_of self.now) word → result ≡ word_of self.now word }
+        ensures absent { ¬ (WordExists (groups_of self.now) word) → result ≡ 0 }
     {
         match word {
             Word::Partition(partition) => {
@@ -105,12 +107,15 @@ impl Plain {
 
     /// What a fast-path slot of the session shows, and 0 where there is no slot of this place.
     fn slot(&self, session: SessionId, place: u8) -> u64
-        ensures shown { place < 16 → result ≡ word_of self.now (Slot session place) }
-        ensures absent { 16 ≤ place → result ≡ 0 }
+        ensures shown { place < group_size * groups_of self.now → result ≡ word_of self.now (Slot session place) }
+        ensures absent { group_size * groups_of self.now ≤ place → result ≡ 0 }
     {
         let index = usize::from(place);
-        if index < 16 {
-            self.fast_path.slots[usize::from(session.number())][index].number()
+        if index < 16 * usize::from(self.groups) {
+            match self.fast_path.slots[usize::from(session.number())].get(index) {
+                Some(word) => word.number(),
+                None => 0,
+            }
         } else {
             0
         }

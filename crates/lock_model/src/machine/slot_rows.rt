@@ -32,7 +32,7 @@ fn append_session(
         (slice_index_or fast_path.now.databases session 0) (slice_index_or fast_path.now.slots session [])) }
 {
     let database = fast_path.databases[usize::from(session.number())];
-    for place in 0..16u8 {
+    for place in 0..128u8 {
         let word = word_at(fast_path, session, place);
         append_slot(session, database, place, word, list)?;
     }
@@ -41,7 +41,7 @@ fn append_session(
 
 /// The word of the session's slot at this place.
 fn word_at(fast_path: &FastPath, session: SessionId, place: u8) -> SlotWord
-    requires { place < 16 }
+    requires { place < 128 }
     ensures { result ≡ slice_index_or (slice_index_or fast_path.now.slots session []) place 0 }
 {
     fast_path.slots[usize::from(session.number())][usize::from(place)]

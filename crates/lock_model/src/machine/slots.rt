@@ -3,7 +3,7 @@
 ghost use Rattle.std.specs.Prelude.{◌≡◌, ◌<◌, length};
 ghost use Rattle.std.specs.List.{list_any};
 ghost use Rattle.lw_word.specs.SlotWord.{in_use};
-ghost use Rattle.lock_world.specs.SlotHolds.{is_slot_of};
+ghost use Rattle.lock_world.specs.SlotHolds.{may_use, is_slot_of};
 ghost use Rattle.lock_model.specs.SlotLooks.{is_slot_to_grant};
 
 use super::lw_words::put;
@@ -34,13 +34,24 @@ fn some_slot_is_of(slots: &[SlotWord], relation: u32) -> bool
     slots.iter().any(|word| is_slot_of(*word, relation))
 }
 
-/// Whether a grant for the relation takes the slot: it is in use for it, or it is not in use and none is for it.
-fn is_slot_to_grant(slots: &[SlotWord], relation: u32, place: usize) -> bool
-    requires { place < length slots.now }
-    ensures { result ≡ is_slot_to_grant slots.now relation place }
+/// Whether the slot at this place is of the relation's group, of so many.
+fn may_use(groups: u8, relation: u32, place: usize) -> bool
+    requires { 0 < groups }
+    ensures { result ≡ may_use groups relation place }
+{
+    place / 16 == (relation % u32::from(groups)) as usize
+}
+
+/// Whether a grant for the relation takes the slot, with so many groups: it is of the relation's group, and in use for the
+/// relation, or not in use and none is for it.
+fn is_slot_to_grant(groups: u8, slots: &[SlotWord], relation: u32, place: usize) -> bool
+    requires groups { 0 < groups }
+    requires within { place < length slots.now }
+    ensures { result ≡ is_slot_to_grant groups slots.now relation place }
 {
     let word = slots[place];
-    is_slot_of(word, relation) || !word.in_use() && !some_slot_is_of(slots, relation)
+    may_use(groups, relation, place)
+        && (is_slot_of(word, relation) || !word.in_use() && !some_slot_is_of(slots, relation))
 }
 
 impl Machine {
@@ -168,12 +179,17 @@ impl Machine {
     {
         let index = usize::from(session.number());
         let slots = self.fast_path.slots[index];
-        place < 16
+        place < 128
             && self.has_own_slots(session)
             && is_eligible(self.fast_path.databases[index], tag, mode)
             && self.has_read_zero(session, tag)
             && self.may_ask(session, tag, mode)
-            && is_slot_to_grant(slots.as_slice(), tag.relation_number(), place)
+            && is_slot_to_grant(
+                self.numbers.groups,
+                slots.as_slice(),
+                tag.relation_number(),
+                place,
+            )
     }
 
     /// Whether the session may clear the mode in the slot.
@@ -181,7 +197,7 @@ impl Machine {
         ensures { result ≡ may_clear_slot self.now session place tag mode }
     {
         let index = usize::from(session.number());
-        place < 16
+        place < 128
             && self.has_own_slots(session)
             && is_eligible(self.fast_path.databases[index], tag, mode)
             && self.fast_path.slots[index][place].shows(tag.relation_number(), mode)

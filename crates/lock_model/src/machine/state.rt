@@ -18,6 +18,8 @@ use std::alloc::Global;
 pub struct Numbers {
     /// The session numbers below this one have been given out.
     pub issued: u8,
+    /// How many groups of fast-path slots each session has.
+    pub groups: u8,
     pub live: [bool; 64],
     /// The session that keeps this one apart, if any.
     pub kept_by: [Option<SessionId>; 64],
@@ -77,8 +79,8 @@ pub struct OwnWaits {
 pub struct FastPath {
     /// The database of each session.
     pub databases: [u32; 64],
-    /// The words of each session's slots.
-    pub slots: [[SlotWord; 16]; 64],
+    /// The words of each session's slots, with places for those of eight groups.
+    pub slots: [[SlotWord; 128]; 64],
     /// The index of the counter that a session has read as 0, for as long as that lets it set a slot.
     pub zeros: [Option<u16>; 64],
 }
@@ -89,12 +91,12 @@ impl FastPath {
     /// No database, no slot in use, and no counter read.
     pub fn empty() -> Self
         ensures databases { result.databases ≡ replicate 64 0 }
-        ensures slots { result.slots ≡ replicate 64 (replicate 16 0) }
+        ensures slots { result.slots ≡ replicate 64 (replicate 128 0) }
         ensures zeros { result.zeros ≡ replicate 64 None }
     {
         FastPath {
             databases: [0; 64],
-            slots: [[SlotWord::from_number(0); 16]; 64],
+            slots: [[SlotWord::from_number(0); 128]; 64],
             zeros: [None; 64],
         }
     }
@@ -169,7 +171,7 @@ pub struct Machine {
 }
 
 impl Machine {
-    ghost use Rattle.std.specs.Prelude.{◌≡◌, ◌&&◌, not, OnOk, IfOk, is_none, slice_index_or, None};
+    ghost use Rattle.std.specs.Prelude.{◌≡◌, ◌<◌, ◌&&◌, not, OnOk, IfOk, is_none, slice_index_or, None};
     ghost use Rattle.std.specs.List.Sorted.{IsSorted};
     ghost use Rattle.lock_world.specs.World.{World, opening};
     ghost use Rattle.lock_world.specs.SafeWorld.{SafeWorld};
@@ -178,13 +180,15 @@ impl Machine {
     ghost use Rattle.lock_table.specs.Parts.{contents_in};
     ghost use Rattle.modes_core.specs.Tag.{partition_of};
 
-    /// The machine that shows the opening World.
-    pub fn new(alloc: Global) -> Result<Self, NoMemory>
-        ensures { IfOk result (λ machine. Shows machine (opening 64)) }
+    /// The machine that shows the opening World, with so many groups of slots.
+    pub fn new(alloc: Global, groups: u8) -> Result<Self, NoMemory>
+        requires some { 0 < groups }
+        ensures { IfOk result (λ machine. Shows machine (opening 64 groups)) }
     {
         Ok(Machine {
             numbers: Numbers {
                 issued: 0,
+                groups,
                 live: [false; 64],
                 kept_by: [None; 64],
             },
@@ -280,6 +284,7 @@ impl Machine {
         Ok(Plain {
             holds,
             waits,
+            groups: self.numbers.groups,
             words: self.words,
             fast_path: self.fast_path,
             counted: self.counted,

@@ -79,7 +79,7 @@ impl Machine {
         ensures { result ≡ is_in_slot self.now owner place tag mode }
     {
         let index = usize::from(owner.number());
-        place < 16
+        place < 128
             && is_eligible(self.fast_path.databases[index], tag, mode)
             && self.fast_path.slots[index][place].shows(tag.relation_number(), mode)
     }

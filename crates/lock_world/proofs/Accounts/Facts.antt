@@ -98,12 +98,13 @@ module _ (w : World) (safe : SafeWorld w) (s p : ℕ) where
   }
 
 -- What a session knows of the slots of any session, its own too, is so.
-pub slots-told : (w : World) → SafeWorld w → (s o : ℕ) → KnowsSlots s (account w s) o (slots_now w o)
+pub slots-told : (w : World) → SafeWorld w → (s o : ℕ) → KnowsSlots w.numbers.groups s (account w s) o (slots_now w o)
 slots-told w safe s o = record {
   database = w.words.database o;
   holds = refl;
   one_each = safe.slots.one_each o;
   in_use = safe.slots.has_database o;
+  in_groups = safe.slots.in_groups o;
   own_database = λ its. ap w.words.database its;
   own = λ its t m shown. ap (λ k. w.sessions.own k t m) (sym its) ∙ safe.slots.are_own o t m shown;
   as_remembered = λ its place relation mode within shown.

@@ -142,7 +142,7 @@ module _ (w : World) (safe : SafeWorld w) (s : ℕ) (steps : MakesSteps w.number
     no_slot = λ n. ap (λ slots. slots.holds t n) (sym (known o its may.in_hand).1) ∙ may.no_slot n;
   }
 
-  pub set_slot-lawful : (its : SlotsInHand) (i : ℕ) (t : Tag) (m : Mode) → MaySetSlotBy s (account w s) its i t m → MaySetSlot w s i t m
+  pub set_slot-lawful : (its : SlotsInHand) (i : ℕ) (t : Tag) (m : Mode) → MaySetSlotBy w.numbers.groups s (account w s) its i t m → MaySetSlot w s i t m
   set_slot-lawful its i t m may = record {
     steps = steps;
     holding = (known s its may.in_hand).0;
@@ -151,7 +151,7 @@ module _ (w : World) (safe : SafeWorld w) (s : ℕ) (steps : MakesSteps w.number
     read_as_zero = may.read_as_zero;
     no_wait = may.no_wait;
     new = may.new;
-    takes = subst (λ slots. IsSlotToGrant slots.word (relation_of t) i) (known s its may.in_hand).1 may.takes;
+    takes = subst (λ slots. IsSlotToGrant w.numbers.groups slots.word (relation_of t) i) (known s its may.in_hand).1 may.takes;
   }
 
   pub clear_slot-lawful : (its : SlotsInHand) (i : ℕ) (t : Tag) (m : Mode) → MayClearSlotBy s (account w s) its i t m → MayClearSlot w s i t m

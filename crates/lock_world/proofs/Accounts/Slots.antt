@@ -198,7 +198,7 @@ account-setting w s i t m safe may =
     (fast-by (after_setting_slot w s i t m) s (account_setting s (account w s) (slots_now w s) i t m).fast
     (slots-written (w.sessions.holds_fast s) w.words.database w.words.slot s after may.holding
     ∙ ap (λ holds. set_at (slots_in_hand (w.sessions.holds_fast s) w.words.database w.words.slot) s (Some (record { word = after; holds = holds })))
-    (slot_holds-set (w.words.database s) (w.words.slot s) t m i may.eligible may.fits may.takes))
+    (slot_holds-set w.numbers.groups (w.words.database s) (w.words.slot s) t m i may.eligible may.fits may.takes))
     (slots_in_hand-set (w.sessions.shares_fast s) w.words.database w.words.slot s after ((safe.but_slots.locks.fast_words s).never_both s s may.holding)) refl
     (set_at-here w.sessions.remembered s after s refl) refl refl)
     refl where

@@ -19,9 +19,9 @@ use Rattle.lock_world.specs.SafeWorld.{SlotsAreOwn, OwnIsInOrder, slots_of}
 
 module _ (own own' : Holds) (awaited awaited' : ℕ → Option OwnWait) (s : ℕ) (same_own : (k : ℕ) (o : Tag) (n : Mode) → k ≢ s → own' k o n ≡ own k o n) (same_wait : (k : ℕ) → k ≢ s → awaited' k ≡ awaited k) where
   pub SlotsAreOwn-one :
-      (database : ℕ → ℕ) (slot : ℕ → ℕ → ℕ) → SlotsAreOwn database slot own
-      → ((o : Tag) (n : Mode) → slots_of database slot s o n ≡ true → own s o n ≡ true → own' s o n ≡ true) → SlotsAreOwn database slot own'
-  SlotsAreOwn-one database slot slots its = record {
+      (groups : ℕ) (database : ℕ → ℕ) (slot : ℕ → ℕ → ℕ) → SlotsAreOwn groups database slot own
+      → ((o : Tag) (n : Mode) → slots_of database slot s o n ≡ true → own s o n ≡ true → own' s o n ≡ true) → SlotsAreOwn groups database slot own'
+  SlotsAreOwn-one groups database slot slots its = record {
     are_own = λ k o n shown. elim (cases_eq k s) [
       | inl same ↦
           ap (λ j. own' j o n) same
@@ -30,6 +30,7 @@ module _ (own own' : Holds) (awaited awaited' : ℕ → Option OwnWait) (s : ℕ
     ];
     one_each = slots.one_each;
     has_database = slots.has_database;
+    in_groups = slots.in_groups;
   }
 
   pub OwnIsInOrder-one :

@@ -23,8 +23,8 @@ shows_nobody limit = record {
 }
 
 -- Of the opening World partitions, waits and locks are safe,
-but_slots : (limit : ℕ) → limit < 2 ^ 24 → SafeButSlots (tabled (opening limit))
-but_slots limit few = record {
+but_slots : (limit groups : ℕ) → limit < 2 ^ 24 → SafeButSlots (tabled (opening limit groups))
+but_slots limit groups few = record {
   table = record {
     promise = record {
       no_conflict = λ p k l o m n apart has its. absurd (false≢true has);
@@ -86,9 +86,9 @@ no_list_shown lock = record {
   unlocked false locked = omega (arith, locked)
 
 -- The opening World is safe.
-pub opening-safe : (limit : ℕ) → limit < 2 ^ 24 → SafeWorld (opening limit)
-opening-safe limit few = record {
-  but_slots = but_slots limit few;
+pub opening-safe : (limit groups : ℕ) → limit < 2 ^ 24 → SafeWorld (opening limit groups)
+opening-safe limit groups few = record {
+  but_slots = but_slots limit groups few;
   lists = record {
     shown = λ lock. no_list_shown lock;
     sleepers = record {
@@ -106,6 +106,7 @@ opening-safe limit few = record {
     are_own = λ k t m shown. absurd (none_shown k t m shown);
     one_each = λ k relation place other within its used too. absurd (false≢true used);
     has_database = λ k place within used. absurd (false≢true used);
+    in_groups = λ k place within used. absurd (false≢true used);
   };
   order = record { awaited_is_not_own = λ k t m awaits. refl; no_hold = λ k t m dead. refl; no_count = λ k dead. refl };
   counters = record { shown = λ index. sym (none_pass limit (λ k. false) (λ k. refl)); once = λ k t m. omega arith };

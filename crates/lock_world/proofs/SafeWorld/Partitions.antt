@@ -34,9 +34,9 @@ module _ (w : World) (safe : SafeWorld w) (s p : ℕ) (done : Move) (granted : L
   abbrev own' : Holds
   own' = own_after w.sessions.own s done
 
-  pub slots-moved : SlotsAreOwn w.words.database w.words.slot own'
+  pub slots-moved : SlotsAreOwn w.numbers.groups w.words.database w.words.slot own'
   slots-moved = SlotsAreOwn-one w.sessions.own own' w.sessions.awaited w.sessions.awaited s (own_after-else w.sessions.own s done) (λ _ _. refl)
-      w.words.database w.words.slot safe.slots
+      w.numbers.groups w.words.database w.words.slot safe.slots
       (own_after-shown w.sessions.own w.sessions.awaited s w.words.database w.words.slot done (released-no_slot w safe s p done granted content may))
 
   pub order-moved : OwnIsInOrder w.numbers.live own' w.sessions.awaited w.sessions.counted

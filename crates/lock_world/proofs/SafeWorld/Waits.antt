@@ -169,7 +169,7 @@ module _ (w : World) (safe : SafeWorld w) (s : ℕ) (wait : OwnWait) (alive : w.
     but_slots = with_own-safe (after_clearing w s wait) _ _ (over-tabled granted) but_slots;
     lists = safe.lists;
     slots = SlotsAreOwn-one own (over granted) w.sessions.awaited awaited' s (over-else granted) (set_at-else w.sessions.awaited s None)
-        w.words.database w.words.slot safe.slots (over-shown granted);
+        w.numbers.groups w.words.database w.words.slot safe.slots (over-shown granted);
     order = OwnIsInOrder-one own (over granted) w.sessions.awaited awaited' s (over-else granted) (set_at-else w.sessions.awaited s None)
         w.numbers.live w.sessions.counted alive safe.order (λ o n awaits. absurd (none_awaited o n awaits));
     counters = safe.counters;

@@ -1,5 +1,5 @@
 use Rattle.std.proofs.Common.{◌≡◌, ◌≢◌, ℕ, ◌<◌, ◌≤◌, true, false, not, ◌&&◌, nat_eq, refl, sym, ap, ◌∙◌, inl, inr}
-use Rattle.std.proofs.lemmas.Bool.{cases_eq, cases_Bool, false_from_ne_true, and_parts, eqb-true}
+use Rattle.std.proofs.lemmas.Bool.{cases_eq, cases_Bool, false_from_ne_true, and_parts, and_from, eqb-true, eq-eqb}
 use Rattle.modes_core.specs.declared.modes.Mode.{Mode}
 use Rattle.modes_core.specs.declared.tags.Tag.{Tag}
 use Rattle.modes_core.specs.Mode.{mode_eq, number_of}
@@ -10,7 +10,7 @@ use Rattle.lw_word.proofs.SlotLemmas.{shows-word_without, in_use-shows}
 use Rattle.lock_table.specs.Put.{put, set_at}
 use Rattle.lock_table.proofs.PutLemmas.{set_at-here, set_at-else}
 use Rattle.lock_table.proofs.HoldLemmas.{IsTheHold, here, elsewhere, set_hold-at}
-use Rattle.lock_world.specs.SlotHolds.{slot_count, relation_of, slot_holds, IsHeldIn, is_slot_of, OneSlotEach}
+use Rattle.lock_world.specs.SlotHolds.{slot_count, relation_of, slot_holds, may_use, IsHeldIn, is_slot_of, OneSlotEach, AreInGroups}
 use Rattle.lock_world.proofs.Slots.Eligible.{eligible-is, eligible-same, shown-in_use, slot_holds-same, slot_holds-none}
 
 -- A mode cleared in the slot that has it.
@@ -90,3 +90,24 @@ OneSlotEach-clear slot mode place weak one relation k l k_within l_within k_is l
             ∙ was_slot_of (slot place) relation mode weak (ap (λ w. is_slot_of w relation) (sym (set_at-here slot place (word_without (slot place) mode) j same)) ∙ is)
         | inr other ↦ ap (λ w. is_slot_of w relation) (sym (set_at-else slot place (word_without (slot place) mode) j other)) ∙ is
       ]
+
+-- And each in use is of its relation's group.
+pub AreInGroups-clear :
+    (groups : ℕ) (slot : ℕ → ℕ) (mode : Mode) (place : ℕ) → number_of mode ≤ 3 →
+    AreInGroups groups slot → AreInGroups groups (set_at slot place (word_without (slot place) mode))
+AreInGroups-clear groups slot mode place weak old k within used =
+    elim (cases_eq k place) [
+      | inl its_place ↦
+          let word : ℕ = word_without (slot place) mode in
+          let same = set_at-here slot place word k its_place in
+          let left : is_slot_of word (relation_in word) ≡ true =
+          and_from (in_use word) (nat_eq (relation_in word) (relation_in word)) (ap in_use (sym same) ∙ used) (eq-eqb (relation_in word) (relation_in word) refl) in
+          let was = and_parts (in_use (slot place)) (nat_eq (relation_in (slot place)) (relation_in word)) (was_slot_of (slot place) (relation_in word) mode weak left) in
+          ap (λ w. may_use groups (relation_in w) k) same
+          ∙ ap (λ r. may_use groups r k) (sym (eqb-true (relation_in (slot place)) (relation_in word) was.1))
+          ∙ ap (λ j. may_use groups (relation_in (slot j)) k) (sym its_place)
+          ∙ old k within (ap (λ j. in_use (slot j)) its_place ∙ was.0)
+      | inr other ↦
+          let same = set_at-else slot place (word_without (slot place) mode) k other in
+          ap (λ w. may_use groups (relation_in w) k) same ∙ old k within (ap in_use (sym same) ∙ used)
+    ]

@@ -10,14 +10,14 @@ use Rattle.lw_word.proofs.SlotLemmas.{shows-word_with, relation_in-word_with}
 use Rattle.lock_table.specs.Put.{put, set_at}
 use Rattle.lock_table.proofs.PutLemmas.{set_at-here, set_at-else}
 use Rattle.lock_table.proofs.HoldLemmas.{IsTheHold, here, elsewhere, set_hold-at}
-use Rattle.lock_world.specs.SlotHolds.{slot_count, relation_of, slot_holds, is_slot_of, OneSlotEach, IsSlotToGrant}
+use Rattle.lock_world.specs.SlotHolds.{slot_count, relation_of, slot_holds, may_use, is_slot_of, OneSlotEach, AreInGroups, IsSlotToGrant}
 use Rattle.lock_world.proofs.Slots.Eligible.{eligible-is, eligible-same, is_in-held, slot_holds-same}
 
 -- A mode set in the slot that a grant takes.
 
 -- A slot in use that a grant takes is in use for the relation.
-its_relation : (slot : ℕ → ℕ) (relation place : ℕ) → IsSlotToGrant slot relation place → in_use (slot place) ≡ true → relation_in (slot place) ≡ relation
-its_relation slot relation place takes used =
+its_relation : (groups : ℕ) (slot : ℕ → ℕ) (relation place : ℕ) → IsSlotToGrant groups slot relation place → in_use (slot place) ≡ true → relation_in (slot place) ≡ relation
+its_relation groups slot relation place takes used =
     elim takes.its_or_unused [
       | inl its ↦ let both = and_parts (in_use (slot place)) (nat_eq (relation_in (slot place)) relation) its in eqb-true (relation_in (slot place)) relation both.1
       | inr unused ↦ absurd (both_ways (in_use (slot place)) unused.0 used)
@@ -25,9 +25,9 @@ its_relation slot relation place takes used =
 
 -- The slots then hold one more mode.
 pub slot_holds-set :
-    (database : ℕ) (slot : ℕ → ℕ) (tag : Tag) (mode : Mode) (place : ℕ) → is_eligible_for database tag mode ≡ true → relation_of tag < 2 ^ 32 → IsSlotToGrant slot (relation_of tag) place →
+    (groups database : ℕ) (slot : ℕ → ℕ) (tag : Tag) (mode : Mode) (place : ℕ) → is_eligible_for database tag mode ≡ true → relation_of tag < 2 ^ 32 → IsSlotToGrant groups slot (relation_of tag) place →
     slot_holds database (set_at slot place (word_with (slot place) (relation_of tag) mode)) ≡ put tag_eq (slot_holds database slot) tag (put mode_eq (slot_holds database slot tag) mode true)
-slot_holds-set database slot tag mode place eligible fits takes = λ i o n. at o n i where
+slot_holds-set groups database slot tag mode place eligible fits takes = λ i o n. at o n i where
   after : ℕ → ℕ
   after = set_at slot place (word_with (slot place) (relation_of tag) mode)
 
@@ -37,7 +37,7 @@ slot_holds-set database slot tag mode place eligible fits takes = λ i o n. at o
   shown : (o : Tag) (n : Mode) (k : ℕ) → k ≡ place → shows (after k) (relation_of o) n ≡ (mode_eq n mode && nat_eq (relation_of tag) (relation_of o) || shows (slot k) (relation_of o) n)
   shown o n k same =
       ap (λ w. shows w (relation_of o) n) (set_at-here slot place (word_with (slot place) (relation_of tag) mode) k same)
-      ∙ shows-word_with (slot place) (relation_of tag) mode fits weak (its_relation slot (relation_of tag) place takes) (relation_of o) n
+      ∙ shows-word_with (slot place) (relation_of tag) mode fits weak (its_relation groups slot (relation_of tag) place takes) (relation_of o) n
       ∙ ap (λ j. mode_eq n mode && nat_eq (relation_of tag) (relation_of o) || shows (slot j) (relation_of o) n) (sym same)
 
   now_held : slot_holds database after tag mode ≡ true
@@ -71,9 +71,10 @@ slot_holds-set database slot tag mode place eligible fits takes = λ i o n. at o
 
 -- There is still one slot at most for each relation.
 pub OneSlotEach-set :
-    (slot : ℕ → ℕ) (relation : ℕ) (mode : Mode) (place : ℕ) → relation < 2 ^ 32 → number_of mode ≤ 3 → IsSlotToGrant slot relation place → OneSlotEach slot →
+    (groups : ℕ) (slot : ℕ → ℕ) (relation : ℕ) (mode : Mode) (place : ℕ) → relation < 2 ^ 32 → number_of mode ≤ 3 → IsSlotToGrant groups slot relation place →
+    AreInGroups groups slot → OneSlotEach slot →
     OneSlotEach (set_at slot place (word_with (slot place) relation mode))
-OneSlotEach-set slot relation mode place fits weak takes one r k l k_within l_within k_is l_is =
+OneSlotEach-set groups slot relation mode place fits weak takes in_groups one r k l k_within l_within k_is l_is =
     elim (cases_eq k place) [
       | inl k_here ↦ elim (cases_eq l place) [
         | inl l_here ↦ k_here ∙ sym l_here
@@ -101,5 +102,25 @@ OneSlotEach-set slot relation mode place fits weak takes one r k l k_within l_wi
       by_grant j within is =
           elim takes.its_or_unused [
             | inl its ↦ one relation j place within takes.within is its
-            | inr unused ↦ absurd (both_ways (is_slot_of (slot j) relation) (unused.1 j within) is)
-          ]
+            | inr unused ↦ absurd (both_ways (is_slot_of (slot j) relation) (unused.1 j within (usable j within is)) is)
+          ] where
+            usable : (j : ℕ) → j < slot_count → is_slot_of (slot j) relation ≡ true → may_use groups relation j ≡ true
+            usable j within is =
+                let both = and_parts (in_use (slot j)) (nat_eq (relation_in (slot j)) relation) is in
+                ap (λ r. may_use groups r j) (sym (eqb-true (relation_in (slot j)) relation both.1)) ∙ in_groups j within both.0
+
+-- And each in use is of its relation's group.
+pub AreInGroups-set :
+    (groups : ℕ) (slot : ℕ → ℕ) (relation : ℕ) (mode : Mode) (place : ℕ) → relation < 2 ^ 32 → number_of mode ≤ 3 → may_use groups relation place ≡ true →
+    AreInGroups groups slot → AreInGroups groups (set_at slot place (word_with (slot place) relation mode))
+AreInGroups-set groups slot relation mode place fits weak usable old k within used =
+    elim (cases_eq k place) [
+      | inl its_place ↦
+          let word : ℕ = word_with (slot place) relation mode in
+          let of_it : relation_in (set_at slot place word k) ≡ relation =
+          ap relation_in (set_at-here slot place word k its_place) ∙ relation_in-word_with (slot place) relation mode fits weak in
+          ap (λ r. may_use groups r k) of_it ∙ ap (may_use groups relation) its_place ∙ usable
+      | inr other ↦
+          let same = set_at-else slot place (word_with (slot place) relation mode) k other in
+          ap (λ w. may_use groups (relation_in w) k) same ∙ old k within (ap in_use (sym same) ∙ used)
+    ]

@@ -1,7 +1,8 @@
-use Rattle.std.proofs.Common.{◌≡◌, ℕ, ◌+◌, ◌<◌, ◌≤◌, ◌^◌, Bool, true, false, ◌&&◌, nat_eq, zero, suc}
+use Rattle.std.proofs.Common.{◌≡◌, ◌≢◌, ℕ, ◌+◌, ◌*◌, ◌%◌, ◌<◌, ◌≤◌, ◌^◌, Bool, true, false, ◌&&◌, nat_eq, zero, suc}
 use Rattle.std.proofs.Common.{refl, sym, ap, ◌∙◌, inl, inr, arith}
-use Rattle.std.specs.Prelude.{if◌then◌else◌}
-use Rattle.std.proofs.lemmas.Bool.{cases_eq, both_ways, false_from_ne_true, and_from, or_left, eq-eqb}
+use Rattle.std.specs.Prelude.{◌/◌, if◌then◌else◌}
+use Rattle.std.proofs.lemmas.Bool.{cases_eq, both_ways, false_from_ne_true, and_from, or_left, eqb-true, eq-eqb}
+use Rattle.std.proofs.lemmas.Nat.{mod_below}
 use Rattle.modes_core.specs.declared.modes.Mode.{Mode}
 use Rattle.modes_core.specs.declared.tags.Tag.{Tag}
 use Rattle.modes_core.specs.Mode.{mode_eq, number_of}
@@ -11,11 +12,13 @@ use Rattle.lw_word.proofs.SlotLemmas.{in_use-shows, shows-of, shows-word_with}
 use Rattle.lock_table.specs.Put.{set_at}
 use Rattle.lock_table.proofs.PutLemmas.{set_at-here, set_at-else}
 use Rattle.lock_table.specs.Total.{total, how_many}
-use Rattle.lock_world.specs.SlotHolds.{slot_count, slot_holds, used, ShowsNoMore, NoSlotInUse}
+use Rattle.lock_world.specs.SlotHolds.{group_size, most_groups, slot_count, group_of_relation, place_in_group, may_use}
+use Rattle.lock_world.specs.SlotHolds.{relation_of, slot_holds, used_in, ShowsNoMore, AreInGroups, NoSlotInUse}
 use Rattle.lock_table.proofs.Totals.{total-same, none_pass, some_pass, one_more, one_less, how_many-most}
 use Rattle.lock_world.proofs.Slots.Databases.{slot_holds-unused}
+use Rattle.lock_world.proofs.Slots.Eligible.{slot_holds-none}
 
--- How many of a session's slots are in use.
+-- How many slots of a group are in use.
 
 pub shows-used : (word relation : ℕ) (mode : Mode) → shows word relation mode ≡ true → in_use word ≡ true
 shows-used word relation mode shown = (shows-of word relation mode shown).0
@@ -52,11 +55,26 @@ how_many-room (suc limit) test fewer = at (test limit) refl fewer (how_many-room
   at false is fewer before = (limit, omega arith, is)
 
 -- None is in use where each word is 0.
-pub used-nothing : used (λ _. 0) ≡ 0
-used-nothing = none_pass slot_count (λ place. in_use 0) (λ place. refl)
+pub used-nothing : (group : ℕ) → used_in group (λ _. 0) ≡ 0
+used-nothing group = none_pass group_size (λ k. in_use 0) (λ k. refl)
 
-pub used-most : (slot : ℕ → ℕ) → used slot ≤ slot_count
-used-most slot = how_many-most slot_count (λ place. in_use (slot place))
+pub used-most : (group : ℕ) (slot : ℕ → ℕ) → used_in group slot ≤ group_size
+used-most group slot = how_many-most group_size (λ k. in_use (slot (place_in_group group k)))
+
+-- Where a place is in its group.
+pub place-split :
+    (group place : ℕ) → place / group_size ≡ group → (k : ℕ) × (k < group_size) × (place ≡ place_in_group group k)
+place-split group place its = (place % group_size, omega arith, omega (arith, its))
+
+pub place-group : (group k : ℕ) → k < group_size → place_in_group group k / group_size ≡ group
+place-group group k below = omega (arith, below)
+
+pub place-within : (group k : ℕ) → group < most_groups → k < group_size → place_in_group group k < slot_count
+place-within group k few below = omega (arith, few, below)
+
+-- The group of a relation is one of those that there are.
+pub relation-group : (groups relation : ℕ) → 0 < groups → group_of_relation groups relation < groups
+relation-group groups relation some = mod_below relation groups some
 
 -- Slots that show no more are in use at no more places,
 pub in_use-fewer :
@@ -67,47 +85,76 @@ in_use-fewer slot before fewer place within is =
     shows-used (before place) (relation_in (slot place)) some.0
     (fewer place (relation_in (slot place)) some.0 within some.2)
 
--- so there are no more of them.
-pub used-fewer : (slot before : ℕ → ℕ) → ShowsNoMore slot before → used slot ≤ used before
-used-fewer slot before fewer =
-    how_many-fewer slot_count (λ place. in_use (slot place)) (λ place. in_use (before place))
-    (in_use-fewer slot before fewer)
+-- so there are no more of them in a group,
+pub used-fewer :
+    (group : ℕ) (slot before : ℕ → ℕ) → group < most_groups → ShowsNoMore slot before
+    → used_in group slot ≤ used_in group before
+used-fewer group slot before few fewer =
+    how_many-fewer group_size (λ k. in_use (slot (place_in_group group k))) (λ k. in_use (before (place_in_group group k)))
+    (λ k below is. in_use-fewer slot before fewer (place_in_group group k) (place-within group k few below) is)
+
+-- and each is of its relation's group, where the others were.
+pub in_groups-fewer : (groups : ℕ) (slot before : ℕ → ℕ) → ShowsNoMore slot before → AreInGroups groups before → AreInGroups groups slot
+in_groups-fewer groups slot before fewer old place within is =
+    let some = in_use-shows (slot place) is in
+    let shown = fewer place (relation_in (slot place)) some.0 within some.2 in
+    let was = shows-of (before place) (relation_in (slot place)) some.0 shown in
+    ap (λ r. may_use groups r place) (sym was.1) ∙ old place within was.0
+
+-- So none is in use past the slots of those groups.
+pub none_past-groups :
+    (groups : ℕ) (slot : ℕ → ℕ) → AreInGroups groups slot → 0 < groups
+    → (place : ℕ) → group_size * groups ≤ place → place < slot_count → in_use (slot place) ≡ false
+none_past-groups groups slot in_groups some place past within = false_from_ne_true (in_use (slot place)) (λ is.
+    let its : place / group_size ≡ group_of_relation groups (relation_in (slot place)) =
+    eqb-true (place / group_size) (group_of_relation groups (relation_in (slot place))) (in_groups place within is) in
+    let below : group_of_relation groups (relation_in (slot place)) < groups =
+    relation-group groups (relation_in (slot place)) some in
+    let least : groups ≤ place / group_size = omega (arith, past) in
+    absurd (above (place / group_size) (group_of_relation groups (relation_in (slot place))) groups its below least)) where
+      above : (at group most : ℕ) → at ≡ group → group < most → most ≤ at → ⊥
+      above at group most is below least = omega (arith, is, below, least)
 
 -- One word is another.
 in_use-set :
-    (slot : ℕ → ℕ) (place word : ℕ) (b : Bool) → in_use word ≡ b
-    → (k : ℕ) → in_use (set_at slot place word k) ≡ set_at (λ j. in_use (slot j)) place b k
-in_use-set slot place word b is k =
-    elim (cases_eq k place) [
+    (group : ℕ) (slot : ℕ → ℕ) (at word : ℕ) (b : Bool) → in_use word ≡ b
+    → (k : ℕ) → in_use (set_at slot (place_in_group group at) word (place_in_group group k))
+    ≡ set_at (λ j. in_use (slot (place_in_group group j))) at b k
+in_use-set group slot at word b is k =
+    elim (cases_eq k at) [
       | inl same ↦
-          ap in_use (set_at-here slot place word k same) ∙ is
-          ∙ sym (set_at-here (λ j. in_use (slot j)) place b k same)
+          ap in_use (set_at-here slot (place_in_group group at) word (place_in_group group k) (ap (place_in_group group) same)) ∙ is
+          ∙ sym (set_at-here (λ j. in_use (slot (place_in_group group j))) at b k same)
       | inr other ↦
-          ap in_use (set_at-else slot place word k other)
-          ∙ sym (set_at-else (λ j. in_use (slot j)) place b k other)
+          ap in_use (set_at-else slot (place_in_group group at) word (place_in_group group k)
+          (λ same. let e : ◌≡◌ {A = ℕ} (16 * group + k) (16 * group + at) = same in other (omega (arith, e))))
+          ∙ sym (set_at-else (λ j. in_use (slot (place_in_group group j))) at b k other)
     ]
 
 used-set :
-    (slot : ℕ → ℕ) (place word : ℕ) (b : Bool) → in_use word ≡ b
-    → used (set_at slot place word) ≡ how_many slot_count (set_at (λ j. in_use (slot j)) place b)
-used-set slot place word b is =
-    total-same slot_count (λ k. if in_use (set_at slot place word k) then 1 else 0)
-    (λ k. if set_at (λ j. in_use (slot j)) place b k then 1 else 0)
-    (λ k _. ap (λ (c : Bool). if c then 1 else 0) (in_use-set slot place word b is k))
+    (group : ℕ) (slot : ℕ → ℕ) (at word : ℕ) (b : Bool) → in_use word ≡ b
+    → used_in group (set_at slot (place_in_group group at) word)
+    ≡ how_many group_size (set_at (λ j. in_use (slot (place_in_group group j))) at b)
+used-set group slot at word b is =
+    total-same group_size (λ k. if in_use (set_at slot (place_in_group group at) word (place_in_group group k)) then 1 else 0)
+    (λ k. if set_at (λ j. in_use (slot (place_in_group group j))) at b k then 1 else 0)
+    (λ k _. ap (λ (c : Bool). if c then 1 else 0) (in_use-set group slot at word b is k))
 
--- A slot that was not in use makes one more,
+-- A slot that was not in use makes one more in its group,
 pub used-one_more :
-    (slot : ℕ → ℕ) (place word : ℕ) → place < slot_count → in_use (slot place) ≡ false → in_use word ≡ true
-    → used (set_at slot place word) ≡ used slot + 1
-used-one_more slot place word within unused is =
-    used-set slot place word true is ∙ one_more slot_count (λ j. in_use (slot j)) place within unused
+    (group : ℕ) (slot : ℕ → ℕ) (at word : ℕ) → at < group_size → in_use (slot (place_in_group group at)) ≡ false → in_use word ≡ true
+    → used_in group (set_at slot (place_in_group group at) word) ≡ used_in group slot + 1
+used-one_more group slot at word within unused is =
+    used-set group slot at word true is ∙ one_more group_size (λ j. in_use (slot (place_in_group group j))) at within unused
 
 -- one that stays in use, or out of it, leaves the number,
 pub used-same :
-    (slot : ℕ → ℕ) (place word : ℕ) → in_use word ≡ in_use (slot place) → used (set_at slot place word) ≡ used slot
-used-same slot place word same =
-    total-same slot_count (λ k. if in_use (set_at slot place word k) then 1 else 0)
-    (λ k. if in_use (slot k) then 1 else 0) (λ k _. ap (λ (c : Bool). if c then 1 else 0) (at k)) where
+    (group : ℕ) (slot : ℕ → ℕ) (place word : ℕ) → in_use word ≡ in_use (slot place)
+    → used_in group (set_at slot place word) ≡ used_in group slot
+used-same group slot place word same =
+    total-same group_size (λ k. if in_use (set_at slot place word (place_in_group group k)) then 1 else 0)
+    (λ k. if in_use (slot (place_in_group group k)) then 1 else 0)
+    (λ k _. ap (λ (c : Bool). if c then 1 else 0) (at (place_in_group group k))) where
       at : (k : ℕ) → in_use (set_at slot place word k) ≡ in_use (slot k)
       at k =
           elim (cases_eq k place) [
@@ -116,13 +163,23 @@ used-same slot place word same =
             | inr other ↦ ap in_use (set_at-else slot place word k other)
           ]
 
+-- so does one of another group,
+pub used-elsewhere :
+    (group : ℕ) (slot : ℕ → ℕ) (place word : ℕ) → place / group_size ≢ group
+    → used_in group (set_at slot place word) ≡ used_in group slot
+used-elsewhere group slot place word apart =
+    total-same group_size (λ k. if in_use (set_at slot place word (place_in_group group k)) then 1 else 0)
+    (λ k. if in_use (slot (place_in_group group k)) then 1 else 0)
+    (λ k below. ap (λ n. if in_use n then 1 else 0) (set_at-else slot place word (place_in_group group k)
+    (λ same. apart (ap (λ n. n / group_size) (sym same) ∙ place-group group k below))))
+
 -- and one that is emptied makes one fewer.
 pub used-one_less :
-    (slot : ℕ → ℕ) (place word : ℕ) → place < slot_count → in_use (slot place) ≡ true → in_use word ≡ false
-    → used (set_at slot place word) + 1 ≡ used slot
-used-one_less slot place word within was is =
-    ap (λ n. n + 1) (used-set slot place word false is)
-    ∙ one_less slot_count (λ j. in_use (slot j)) place within was
+    (group : ℕ) (slot : ℕ → ℕ) (at word : ℕ) → at < group_size → in_use (slot (place_in_group group at)) ≡ true → in_use word ≡ false
+    → used_in group (set_at slot (place_in_group group at) word) + 1 ≡ used_in group slot
+used-one_less group slot at word within was is =
+    ap (λ n. n + 1) (used-set group slot at word false is)
+    ∙ one_less group_size (λ j. in_use (slot (place_in_group group j))) at within was
 
 -- A word with a mode is in use.
 pub word_with-in_use :
@@ -134,18 +191,35 @@ word_with-in_use word relation mode fits weak its_slot =
     ∙ or_left (mode_eq mode mode && nat_eq relation relation) (shows word relation mode)
     (and_from (mode_eq mode mode) (nat_eq relation relation) (mode_eq-refl mode) (eq-eqb relation relation refl)))
 
--- Where the number is 0 none is in use, and none shows a hold;
-pub used-zero : (slot : ℕ → ℕ) → used slot ≡ 0 → NoSlotInUse slot
-used-zero slot none place within = false_from_ne_true (in_use (slot place)) (λ is.
-    let some : 0 < used slot = some_pass slot_count (λ j. in_use (slot j)) place within is in
+-- Where the number is 0 none of the group is in use,
+pub used-zero :
+    (group : ℕ) (slot : ℕ → ℕ) → used_in group slot ≡ 0 → (k : ℕ) → k < group_size → in_use (slot (place_in_group group k)) ≡ false
+used-zero group slot none k within = false_from_ne_true (in_use (slot (place_in_group group k))) (λ is.
+    let some : 0 < used_in group slot = some_pass group_size (λ j. in_use (slot (place_in_group group j))) k within is in
     omega (arith, some, none))
+
+-- and so no slot shows a hold on a relation of the group.
+pub none_in_group-no_hold :
+    (groups database : ℕ) (slot : ℕ → ℕ) (tag : Tag) (mode : Mode) → AreInGroups groups slot
+    → used_in (group_of_relation groups (relation_of tag)) slot ≡ 0 → slot_holds database slot tag mode ≡ false
+none_in_group-no_hold groups database slot tag mode in_groups none =
+    slot_holds-none database slot tag mode (λ place within.
+    false_from_ne_true (shows (slot place) (relation_of tag) mode) (λ shown.
+    let is = shows-of (slot place) (relation_of tag) mode shown in
+    let its : may_use groups (relation_of tag) place ≡ true =
+    ap (λ r. may_use groups r place) (sym is.1) ∙ in_groups place within is.0 in
+    let group : ℕ = group_of_relation groups (relation_of tag) in
+    let there = place-split group place (eqb-true (place / group_size) group its) in
+    both_ways (in_use (slot place))
+    (ap (λ j. in_use (slot j)) there.2 ∙ used-zero group slot none there.0 there.1) is.0))
 
 pub no_slot-no_hold :
     (database : ℕ) (slot : ℕ → ℕ) → NoSlotInUse slot
     → (tag : Tag) (mode : Mode) → slot_holds database slot tag mode ≡ false
 no_slot-no_hold database slot none tag mode = λ i. slot_holds-unused database slot none i tag mode
 
--- where it is below the number of slots one is free, and else all are in use.
+-- Where it is below the number of a group's slots one of them is free, and else all are in use.
 pub used-room :
-    (slot : ℕ → ℕ) → used slot < slot_count → (place : ℕ) × (place < slot_count) × (in_use (slot place) ≡ false)
-used-room slot fewer = how_many-room slot_count (λ place. in_use (slot place)) fewer
+    (group : ℕ) (slot : ℕ → ℕ) → used_in group slot < group_size
+    → (k : ℕ) × (k < group_size) × (in_use (slot (place_in_group group k)) ≡ false)
+used-room group slot fewer = how_many-room group_size (λ k. in_use (slot (place_in_group group k))) fewer

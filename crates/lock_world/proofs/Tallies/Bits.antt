@@ -9,7 +9,6 @@ use Rattle.modes_core.specs.declared.tags.Tag.TheVariants.{Relation, Object, Adv
 use Rattle.modes_core.specs.Mode.{mode_eq, number_of}
 use Rattle.lw_word.specs.SlotWord.{relation_in, has_mode, shows}
 use Rattle.lock_table.specs.Total.{total}
-use Rattle.lock_world.specs.SlotHolds.{slot_count}
 use Rattle.lock_world.specs.Tallies.{Held, joined, modes_shown, is_this}
 use Rattle.lock_world.proofs.Slots.Bits.{shows-weak}
 use Rattle.lock_world.proofs.Tallies.Lists.{count_by-append, count_by-one, length-joined, count_by-joined}
@@ -23,8 +22,8 @@ mode_held database word mode = if has_mode word mode then (record { tag = Relati
 abbrev pub held_in : ℕ → ℕ → List Held
 held_in database word = mode_held database word AccessShare ++ (mode_held database word RowShare ++ mode_held database word RowExclusive)
 
-abbrev pub held_in_all : ℕ → (ℕ → ℕ) → List Held
-held_in_all database slot = joined slot_count (λ place. held_in database (slot place))
+abbrev pub held_in_all : ℕ → ℕ → (ℕ → ℕ) → List Held
+held_in_all count database slot = joined count (λ place. held_in database (slot place))
 
 one-long : {X : Type 0} (has : Bool) (x : X) → length (if has then x ∷ [] else []) ≡ (if has then 1 else 0)
 one-long true x = refl
@@ -39,10 +38,10 @@ held_in-long database word =
     let c = one-long {X = Held} (has_mode word RowExclusive) (record { tag = Relation database (relation_in word); mode = RowExclusive }) in
     omega (arith, all, two, a, b, c)
 
-pub held_in_all-long : (database : ℕ) (slot : ℕ → ℕ) → length (held_in_all database slot) ≡ total slot_count (λ place. modes_shown (slot place))
-held_in_all-long database slot =
-    length-joined slot_count (λ place. held_in database (slot place))
-    ∙ (λ i. total slot_count (λ place. held_in-long database (slot place) i))
+pub held_in_all-long : (count database : ℕ) (slot : ℕ → ℕ) → length (held_in_all count database slot) ≡ total count (λ place. modes_shown (slot place))
+held_in_all-long count database slot =
+    length-joined count (λ place. held_in database (slot place))
+    ∙ (λ i. total count (λ place. held_in-long database (slot place) i))
 
 -- whether the word shows the mode on the object, in the database
 abbrev pub shows_tag : ℕ → ℕ → Tag → Mode → Bool
@@ -139,8 +138,8 @@ counted-in database word (Relation other relation) mode = relation-counted datab
 counted-in database word (Object s d c o) mode = never-counted database word (is_this (Object s d c o) mode) (λ m. refl)
 counted-in database word (Advisory s d k l) mode = never-counted database word (is_this (Advisory s d k l) mode) (λ m. refl)
 
-pub counted-in_all : (database : ℕ) (slot : ℕ → ℕ) (tag : Tag) (mode : Mode)
-    → count_by (is_this tag mode) (held_in_all database slot) ≡ total slot_count (λ place. if shows_tag database (slot place) tag mode then 1 else 0)
-counted-in_all database slot tag mode =
-    count_by-joined (is_this tag mode) slot_count (λ place. held_in database (slot place))
-    ∙ (λ i. total slot_count (λ place. counted-in database (slot place) tag mode i))
+pub counted-in_all : (count database : ℕ) (slot : ℕ → ℕ) (tag : Tag) (mode : Mode)
+    → count_by (is_this tag mode) (held_in_all count database slot) ≡ total count (λ place. if shows_tag database (slot place) tag mode then 1 else 0)
+counted-in_all count database slot tag mode =
+    count_by-joined (is_this tag mode) count (λ place. held_in database (slot place))
+    ∙ (λ i. total count (λ place. counted-in database (slot place) tag mode i))

@@ -1,6 +1,6 @@
-use Rattle.std.proofs.Common.{◌≡◌, ◌⊎◌, ℕ, ◌+◌, ◌<◌, Bool, true, false, not, ◌&&◌, nat_eq, ◌==◌, List, [], ◌∷◌, ◌++◌, map, refl, sym, ap, ◌∙◌, inl, inr, subst, arith}
+use Rattle.std.proofs.Common.{◌≡◌, ◌⊎◌, ℕ, ◌+◌, ◌*◌, ◌<◌, ◌≤◌, Bool, true, false, not, ◌&&◌, nat_eq, ◌==◌, List, [], ◌∷◌, ◌++◌, map, refl, sym, ap, ◌∙◌, inl, inr, subst, arith}
 use Rattle.std.specs.Prelude.{filter, count_by, if◌then◌else◌}
-use Rattle.std.proofs.lemmas.Bool.{cases_Bool, false≢true, both_ways, false_from_ne_true, and_parts, and_from, cond-true, cond-false, eqb-true, eq-eqb, ne_eqb, and_right}
+use Rattle.std.proofs.lemmas.Bool.{cases_Bool, cases_lt, false≢true, both_ways, false_from_ne_true, and_parts, and_from, cond-true, cond-false, eqb-true, eq-eqb, ne_eqb, and_right}
 use Rattle.std.proofs.lemmas.List.{length-append}
 use Rattle.modes_core.specs.declared.modes.Mode.{Mode}
 use Rattle.modes_core.specs.declared.tags.Tag.{Tag}
@@ -8,17 +8,18 @@ use Rattle.modes_core.specs.declared.tags.Tag.TheVariants.{Relation, Object, Adv
 use Rattle.modes_core.specs.Mode.{mode_eq}
 use Rattle.modes_core.specs.Tag.{tag_eq, partition_of}
 use Rattle.modes_core.proofs.Laws.{mode_eq-refl, mode_eq-same, tag_eq-refl, tag_eq-same}
-use Rattle.lw_word.specs.SlotWord.{shows}
+use Rattle.lw_word.specs.SlotWord.{in_use, shows}
 use Rattle.lock_table.specs.declared.rows.TableRow.{TableRow}
 use Rattle.lock_table.specs.Content.{Content}
 use Rattle.lock_table.specs.Listing.{row_eq, has_row, HasEachRow}
 use Rattle.lock_table.specs.WholeContent.{whole_of}
 use Rattle.lock_table.proofs.HoldLists.{count_by-cons}
 use Rattle.lock_table.specs.Total.{total}
-use Rattle.lock_world.specs.SlotHolds.{slot_count, relation_of}
+use Rattle.lock_world.specs.SlotHolds.{group_size, most_groups, slot_count, relation_of}
 use Rattle.lock_world.specs.Account.{Account}
 use Rattle.lock_world.specs.Tallies.{Held, AreSoMany, left_in_slots, OwnStand, ShowsLeft, is_this, modes_shown, shown_in_slots}
 use Rattle.lock_world.proofs.Slots.Eligible.{eligible-is, held-is_in, shown-in_use}
+use Rattle.lock_world.proofs.Slots.Used.{shows-used, none_past-groups}
 use Rattle.lock_table.proofs.Totals.{total-same, total-nothing}
 use Rattle.lock_world.proofs.Tallies.Lists.{same_truth, same-length, count_by-append, count_by-same, count_by-map_filter, length-map_filter}
 use Rattle.lock_world.proofs.Tallies.Sums.{total-one, total-add}
@@ -37,12 +38,28 @@ held-same h g is =
     λ i. record { tag = sym tag i; mode = sym mode i }
 
 -- One session.
-module _ (k : ℕ) (a : Account) (contents : ℕ → Content) (stand : OwnStand k a contents) (slot : ℕ → ℕ) (left : (place : ℕ) → place < slot_count → ShowsLeft k a contents place (slot place)) where
+module _ (groups k : ℕ) (some : 0 < groups) (few : groups ≤ most_groups) (a : Account) (contents : ℕ → Content) (stand : OwnStand groups k a contents) (slot : ℕ → ℕ)
+    (left : (place : ℕ) → place < group_size * groups → ShowsLeft k a contents place (slot place)) where
+  -- how many slots there are
+  abbrev count : ℕ
+  count = group_size * groups
+
+  within-places : (place : ℕ) → place < count → place < slot_count
+  within-places place within = omega (arith, within, few)
+
+  -- A mode that it remembers is in one of them.
+  remembered-within : (place relation : ℕ) (mode : Mode) → place < slot_count → shows (a.fast.remembered place) relation mode ≡ true → place < count
+  remembered-within place relation mode within shown =
+      elim (cases_lt place count) [
+        | inl there ↦ there
+        | inr past ↦ absurd (both_ways (in_use (a.fast.remembered place)) (none_past-groups groups a.fast.remembered stand.in_groups some place past within) (shows-used (a.fast.remembered place) relation mode shown))
+      ]
+
   abbrev is_left : Tag → Mode → Bool
   is_left = left_in_slots a.own contents k
 
   -- A word shows a mode that is left, and that the session remembers there.
-  shown-is_left : (place : ℕ) (tag : Tag) (mode : Mode) → place < slot_count → shows_tag a.fast.database (slot place) tag mode ≡ true
+  shown-is_left : (place : ℕ) (tag : Tag) (mode : Mode) → place < count → shows_tag a.fast.database (slot place) tag mode ≡ true
       → (is_left tag mode ≡ true) × (shows (a.fast.remembered place) (relation_of tag) mode ≡ true)
   shown-is_left place (Relation d r) mode within shown =
       let both = and_parts (nat_eq a.fast.database d) (shows (slot place) r mode) shown in
@@ -53,7 +70,7 @@ module _ (k : ℕ) (a : Account) (contents : ℕ → Content) (stand : OwnStand 
   shown-is_left place (Advisory s d k l) mode within shown = absurd (false≢true shown)
 
   -- What is left is shown where the session remembers it.
-  left-is_shown : (place : ℕ) (tag : Tag) (mode : Mode) → place < slot_count → tag ≡ Relation a.fast.database (relation_of tag) → is_left tag mode ≡ true
+  left-is_shown : (place : ℕ) (tag : Tag) (mode : Mode) → place < count → tag ≡ Relation a.fast.database (relation_of tag) → is_left tag mode ≡ true
       → shows (a.fast.remembered place) (relation_of tag) mode ≡ true → shows_tag a.fast.database (slot place) tag mode ≡ true
   left-is_shown place tag mode within its is remembered =
       subst (λ t. shows_tag a.fast.database (slot place) t mode ≡ true) (sym its)
@@ -61,23 +78,24 @@ module _ (k : ℕ) (a : Account) (contents : ℕ → Content) (stand : OwnStand 
       (left place within (relation_of tag) mode
       ∙ and_from (shows (a.fast.remembered place) (relation_of tag) mode) (is_left (Relation a.fast.database (relation_of tag)) mode) remembered (ap (λ t. is_left t mode) (sym its) ∙ is)))
 
-  slots-counted : (tag : Tag) (mode : Mode) → count_by (is_this tag mode) (held_in_all a.fast.database slot) ≡ (if is_left tag mode then 1 else 0)
+  slots-counted : (tag : Tag) (mode : Mode) → count_by (is_this tag mode) (held_in_all count a.fast.database slot) ≡ (if is_left tag mode then 1 else 0)
   slots-counted tag mode =
-      counted-in_all a.fast.database slot tag mode ∙
+      counted-in_all count a.fast.database slot tag mode ∙
       elim (cases_Bool (is_left tag mode)) [
         | inl is ↦
             let found = held-is_in a.fast.database a.fast.remembered tag mode (stand.in_slots tag mode is) in
             let its = (eligible-is a.fast.database tag mode found.1.eligible).0 in
-            let here = left-is_shown found.0 tag mode found.1.within its is found.1.shown in
-            total-one slot_count (λ place. if shows_tag a.fast.database (slot place) tag mode then 1 else 0) found.0 found.1.within
+            let there = remembered-within found.0 (relation_of tag) mode found.1.within found.1.shown in
+            let here = left-is_shown found.0 tag mode there its is found.1.shown in
+            total-one count (λ place. if shows_tag a.fast.database (slot place) tag mode then 1 else 0) found.0 there
             (λ place within other. cond-false (shows_tag a.fast.database (slot place) tag mode) 1 0
             (false_from_ne_true (shows_tag a.fast.database (slot place) tag mode) (λ shown.
-            other (stand.one_each (relation_of tag) place found.0 within found.1.within
+            other (stand.one_each (relation_of tag) place found.0 (within-places place within) found.1.within
             (shown-in_use (a.fast.remembered place) (relation_of tag) mode (shown-is_left place tag mode within shown).1)
             (shown-in_use (a.fast.remembered found.0) (relation_of tag) mode found.1.shown)))))
             ∙ cond-true (shows_tag a.fast.database (slot found.0) tag mode) 1 0 here ∙ sym (cond-true (is_left tag mode) 1 0 is)
         | inr none ↦
-            total-nothing slot_count (λ place. if shows_tag a.fast.database (slot place) tag mode then 1 else 0)
+            total-nothing count (λ place. if shows_tag a.fast.database (slot place) tag mode then 1 else 0)
             (λ place within. cond-false (shows_tag a.fast.database (slot place) tag mode) 1 0
             (false_from_ne_true (shows_tag a.fast.database (slot place) tag mode) (λ shown. both_ways (is_left tag mode) none (shown-is_left place tag mode within shown).0)))
             ∙ sym (cond-false (is_left tag mode) 1 0 none)
@@ -120,19 +138,19 @@ module _ (k : ℕ) (a : Account) (contents : ℕ → Content) (stand : OwnStand 
 
   -- What its slots show and its rows are as much as it owns.
   pub session-sum : (rows : List TableRow) (many : ℕ) → HasEachRow (whole_of contents) rows → AreSoMany a.own many
-      → total slot_count (λ place. modes_shown (slot place)) + count_by is_its rows ≡ many
+      → total count (λ place. modes_shown (slot place)) + count_by is_its rows ≡ many
   session-sum rows many listing owned =
-      let slots = held_in_all a.fast.database slot in
+      let slots = held_in_all count a.fast.database slot in
       let table = map held_by (filter is_its rows) in
-      let long = held_in_all-long a.fast.database slot in
+      let long = held_in_all-long count a.fast.database slot in
       let table_long = length-map_filter held_by is_its rows in
       let both = length-append slots table in
       let same = same-length (λ (h : Held). is_this h.tag h.mode) held-itself held-same (slots ++ table) owned.listed counts in
       let many_is = owned.as_many in
       omega (arith, long, table_long, both, same, many_is) where
-        counts : (h : Held) → count_by (is_this h.tag h.mode) (held_in_all a.fast.database slot ++ map held_by (filter is_its rows)) ≡ count_by (is_this h.tag h.mode) owned.listed
+        counts : (h : Held) → count_by (is_this h.tag h.mode) (held_in_all count a.fast.database slot ++ map held_by (filter is_its rows)) ≡ count_by (is_this h.tag h.mode) owned.listed
         counts h =
-            let split = count_by-append (is_this h.tag h.mode) (held_in_all a.fast.database slot) (map held_by (filter is_its rows)) in
+            let split = count_by-append (is_this h.tag h.mode) (held_in_all count a.fast.database slot) (map held_by (filter is_its rows)) in
             let first = slots-counted h.tag h.mode in
             let rest = count_by-map_filter held_by is_its (is_this h.tag h.mode) rows in
             let each = count_by-same (λ row. is_its row && is_this h.tag h.mode (held_by row)) (row_eq (record { session = k; tag = h.tag; mode = h.mode; granted = true })) rows (same-row h.tag h.mode) in
@@ -183,18 +201,18 @@ rows-by_session limit (row ∷ rows) within =
           total-nothing limit (λ k. if row.granted && (row.session == k) then 1 else 0) (λ k below. cond-false (row.granted && (row.session == k)) 1 0 (ap (λ b. b && (row.session == k)) awaited))
           ∙ sym (cond-false row.granted 1 0 awaited)
 
-module _ (limit : ℕ) (accounts : ℕ → Account) (contents : ℕ → Content) (slot : ℕ → ℕ → ℕ) (many : ℕ → ℕ)
-    (stand : (k : ℕ) → OwnStand k (accounts k) contents)
-    (left : (k place : ℕ) → k < limit → place < slot_count → ShowsLeft k (accounts k) contents place (slot k place))
+module _ (limit groups : ℕ) (some : 0 < groups) (few : groups ≤ most_groups) (accounts : ℕ → Account) (contents : ℕ → Content) (slot : ℕ → ℕ → ℕ) (many : ℕ → ℕ)
+    (stand : (k : ℕ) → OwnStand groups k (accounts k) contents)
+    (left : (k place : ℕ) → k < limit → place < group_size * groups → ShowsLeft k (accounts k) contents place (slot k place))
     (owned : (k : ℕ) → AreSoMany (accounts k).own (many k))
     (within : (k : ℕ) (tag : Tag) (mode : Mode) → (accounts k).own tag mode ≡ true → k < limit) where
   -- What all slots show and all granted rows are as much as all sessions own.
-  pub all-sum : (rows : List TableRow) → HasEachRow (whole_of contents) rows → shown_in_slots limit slot + count_by (λ (row : TableRow). row.granted) rows ≡ total limit many
+  pub all-sum : (rows : List TableRow) → HasEachRow (whole_of contents) rows → shown_in_slots limit groups slot + count_by (λ (row : TableRow). row.granted) rows ≡ total limit many
   all-sum rows listing =
       let by_session = rows-by_session limit rows row-within in
-      let both = total-add limit (λ k. total slot_count (λ place. modes_shown (slot k place))) (λ k. count_by (λ (row : TableRow). row.granted && (row.session == k)) rows) in
-      let each : total limit (λ k. total slot_count (λ place. modes_shown (slot k place)) + count_by (λ (row : TableRow). row.granted && (row.session == k)) rows) ≡ total limit many =
-      total-same limit _ _ (λ k below. session-sum k (accounts k) contents (stand k) (slot k) (λ place there. left k place below there) rows (many k) listing (owned k)) in
+      let both = total-add limit (λ k. total (group_size * groups) (λ place. modes_shown (slot k place))) (λ k. count_by (λ (row : TableRow). row.granted && (row.session == k)) rows) in
+      let each : total limit (λ k. total (group_size * groups) (λ place. modes_shown (slot k place)) + count_by (λ (row : TableRow). row.granted && (row.session == k)) rows) ≡ total limit many =
+      total-same limit _ _ (λ k below. session-sum groups k some few (accounts k) contents (stand k) (slot k) (λ place there. left k place below there) rows (many k) listing (owned k)) in
       omega (arith, by_session, both, each) where
         row-within : (row : TableRow) → 0 < count_by (row_eq row) rows → row.granted ≡ true → row.session < limit
         row-within row there granted =

@@ -64,7 +64,7 @@ HappensPuttingFast w session owner v = MayPutFast w session owner × (v ≡ afte
 -- Loading a word, which shows this: it joins the trace.
 pub record MayLoad (w : World) (session : ℕ) (word : Word) (shown : ℕ) : Type 0 where
   pub steps : MakesSteps w.numbers session
-  pub exists : WordExists word
+  pub exists : WordExists w.numbers.groups word
   pub is_shown : shown ≡ word_in w.words word
 
 abbrev pub after_loading : World → ℕ → Word → ℕ → World
@@ -102,7 +102,7 @@ pub record MaySetSlot (w : World) (session place : ℕ) (tag : Tag) (mode : Mode
   pub read_as_zero : w.sessions.zero session ≡ Some (index_of tag)
   pub no_wait : w.sessions.awaited session ≡ None
   pub new : w.sessions.own session tag mode ≡ false
-  pub takes : IsSlotToGrant (w.words.slot session) (relation_of tag) place
+  pub takes : IsSlotToGrant w.numbers.groups (w.words.slot session) (relation_of tag) place
 
 abbrev pub after_setting_slot : World → ℕ → ℕ → Tag → Mode → World
 after_setting_slot w session place tag mode = record {

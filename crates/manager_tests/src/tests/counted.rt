@@ -16,7 +16,7 @@ use lock_manager::OwnSession;
 use lock_manager::Owner::{Session, Transaction};
 use lock_table::{PartTable, PlainPart, empty_parts};
 use modes_core::Tag;
-use shared_rule::{Board, Kept, OneThread, in_slots};
+use shared_rule::{Board, Kept, OneThread, Sizes, in_slots};
 use std::alloc::Global;
 use std::process::Abort;
 use std::sync::Wait;
@@ -195,7 +195,11 @@ fn one_thread(alloc: Global) -> Result<OneThread<PlainPart>, Fail>
     ensures limit { let B = ⟦<OneThread<PlainPart> as Board<PlainPart>>⟧ in
         IfOk result (λ board. (B.seat board).limit ≡ 1) }
 {
-    match OneThread::new(alloc, 1, empty_slots(alloc)?) {
+    let sizes = Sizes {
+        sessions: 1,
+        groups: 1,
+    };
+    match OneThread::new(alloc, &sizes, empty_slots(alloc)?) {
         Ok(board) => Ok(board),
         Err(_) => Err("out of memory".into()),
     }

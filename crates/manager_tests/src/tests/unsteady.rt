@@ -14,7 +14,7 @@ use super::{asked, crowds, watches};
 use lock_manager::{OwnSession, Part};
 use lock_table::{PartTable, empty_parts};
 use modes_core::SessionId;
-use shared_rule::{Board, Kept, Opener, SeatBoard, SharedTable, Top, in_slots, open};
+use shared_rule::{Board, Kept, Opener, SeatBoard, SharedTable, Sizes, Top, in_slots, open};
 use std::alloc::Global;
 use std::process::Abort;
 use std::sync::Wait;
@@ -27,6 +27,9 @@ use std::time::Clock;
 const DATABASE: u32 = 5;
 
 const MAX_LOCAL: u32 = 8;
+
+/// How many groups of fast-path slots each session has.
+const GROUPS: u8 = 2;
 
 /// How many looks a short pause has at most, and a long one, which is longer than it takes to wake a thread.
 const SHORT: u64 = 512;
@@ -115,10 +118,15 @@ fn empty_slots(alloc: Global) -> Result<Vec<Kept<Part>>, Fail>
 fn open_table(alloc: Global, sessions: u8) -> Result<(SharedTable<Part>, Opener<Part>), Fail>
     requires few { sessions ≤ 64 }
     ensures table { IfOk result (λ opened. opened.1.table ≡ opened.0.shared.table_id) }
-    ensures key { IfOk result (λ opened. opened.1.limit ≡ opened.0.shared.key) }
+    ensures key { IfOk result (λ opened. (opened.1.limit ≡ opened.0.shared.key.sessions)
+        × (opened.1.groups ≡ opened.0.shared.key.groups)) }
     ensures limit { IfOk result (λ opened. opened.1.limit ≡ sessions) }
 {
-    match open(alloc, sessions, empty_slots(alloc)?) {
+    let sizes = Sizes {
+        sessions,
+        groups: GROUPS,
+    };
+    match open(alloc, &sizes, empty_slots(alloc)?) {
         Ok(opened) => Ok(opened),
         Err(_) => Err("out of memory".into()),
     }
@@ -131,9 +139,11 @@ fn open_next<'a, R: Abort>(
     table: &'a Top<Part>,
     opener: &mut Opener<Part>,
 ) -> Unsteady<'a>
-    requires table { (opener.old.table ≡ table.now.table_id) × (opener.old.limit ≡ table.now.key) }
+    requires table { (opener.old.table ≡ table.now.table_id) × (opener.old.limit ≡ table.now.key.sessions)
+        × (opener.old.groups ≡ table.now.key.groups) }
     requires few { opener.old.limit ≤ 64 }
-    ensures opener { (opener.new.table ≡ opener.old.table) × (opener.new.limit ≡ opener.old.limit) }
+    ensures opener { (opener.new.table ≡ opener.old.table) × (opener.new.limit ≡ opener.old.limit)
+        × (opener.new.groups ≡ opener.old.groups) }
     ensures own { let B = ⟦<WatchedBoard<SeatBoard<'a, Part>, Pauses> as Board<Part>>⟧ in
         (B.seat result.board).table ≡ opener.old.table }
 {
@@ -158,7 +168,8 @@ fn open_all<'a, R: Abort>(
     opener: &mut Opener<Part>,
     number: u8,
 ) -> Vec<Unsteady<'a>>
-    requires table { (opener.old.table ≡ table.now.table_id) × (opener.old.limit ≡ table.now.key) }
+    requires table { (opener.old.table ≡ table.now.table_id) × (opener.old.limit ≡ table.now.key.sessions)
+        × (opener.old.groups ≡ table.now.key.groups) }
     requires few { opener.old.limit ≤ 64 }
     ensures opener { opener.new.table ≡ opener.old.table }
     ensures own { let B = ⟦<WatchedBoard<SeatBoard<'a, Part>, Pauses> as Board<Part>>⟧ in

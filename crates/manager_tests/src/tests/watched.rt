@@ -57,6 +57,10 @@ impl<T: PartTable, B: Board<T>, W: Watch> Board<T> for WatchedBoard<B, W> {
         self.board.sessions()
     }
 
+    fn groups(&self) -> u8 {
+        self.board.groups()
+    }
+
     fn take_part<R: Wait>(&mut self, rt: &R, part: u8) -> T {
         self.watch.before();
         let result = self.board.take_part(rt, part);

@@ -19,6 +19,7 @@ use Rattle.lock_world.proofs.Counters.Uncounting.{count_at-uncounting}
 use Rattle.lock_world.proofs.Accounts.Lawful.{count-lawful, uncount-lawful}
 use Rattle.lock_world.proofs.Accounts.Slots.{account-counting, account-uncounting}
 use Rattle.shared_rule.specs.Marks as mark
+use Rattle.shared_rule.specs.declared.rule.Sizes.{Sizes}
 use Rattle.shared_rule.specs.declared.history.History.{History}
 use Rattle.shared_rule.specs.Shown.{set_word}
 use Rattle.shared_rule.specs.History.{told}
@@ -45,13 +46,13 @@ counter-most limit counted index few each =
     let few_here = each k in omega (arith, most_here, few_here)) in
     omega (arith, most, few)
 
-module _ {T : Type 0} (content : T → Content) (limit : ℕ) (x : History T) (tag : Tag) (mode : Mode) where
+module _ {T : Type 0} (content : T → Content) (sizes : Sizes) (x : History T) (tag : Tag) (mode : Mode) where
   -- the counter's index
   abbrev index : ℕ
   index = index_of tag
 
   -- the counter shows no more than that
-  shown-most : (w : World) → Stepper limit w x.number (told content x.number x.marks) → w.words.strong index ≤ 4194304
+  shown-most : (w : World) → Stepper sizes w x.number (told content x.number x.marks) → w.words.strong index ≤ 4194304
   shown-most w steps =
       let few : w.numbers.limit ≤ 64 = subst (λ n. n ≤ 64) (sym steps.is_limit) steps.few in
       let shown : w.words.strong index ≡ counter w.numbers.limit w.sessions.counted index = steps.safe.counters.shown index in
@@ -59,7 +60,7 @@ module _ {T : Type 0} (content : T → Content) (limit : ℕ) (x : History T) (t
       omega (arith, shown, most)
 
   pub counting-lawful : MayCountBy (told content x.number x.marks) tag mode
-      → IsAlwaysLawful content limit x (Strong index) (λ _. Unit {0}) (λ n. (n + 1) % 2 ^ 64) (λ _. mark.Counted tag mode)
+      → IsAlwaysLawful content sizes x (Strong index) (λ _. Unit {0}) (λ n. (n + 1) % 2 ^ 64) (λ _. mark.Counted tag mode)
   counting-lawful may w steps n below shown _ =
       let may' = subst (λ a. MayCountBy a tag mode) steps.account may in
       let most = shown-most w steps in
@@ -84,7 +85,7 @@ module _ {T : Type 0} (content : T → Content) (limit : ℕ) (x : History T) (t
       }
 
   pub uncounting-lawful : MayUncountBy (told content x.number x.marks) tag mode
-      → IsAlwaysLawful content limit x (Strong index) (λ _. Unit {0}) (λ n. (n + (2 ^ 64 - 1)) % 2 ^ 64) (λ _. mark.Uncounted tag mode)
+      → IsAlwaysLawful content sizes x (Strong index) (λ _. Unit {0}) (λ n. (n + (2 ^ 64 - 1)) % 2 ^ 64) (λ _. mark.Uncounted tag mode)
   uncounting-lawful may w steps n below shown _ =
       let may' = subst (λ a. MayUncountBy a tag mode) steps.account may in
       let numbers = steps.safe.but_slots.table.carriers.numbers in

@@ -10,79 +10,82 @@ use Rattle.lock_world.specs.declared.events.Word.TheVariants.{Partition, Fast, D
 use Rattle.lock_world.specs.World.{word_in}
 use Rattle.shared_rule.specs.declared.history.History.{History}
 use Rattle.shared_rule.specs.declared.history.Mark.{Mark}
+use Rattle.shared_rule.specs.declared.rule.Sizes.{Sizes}
 use Rattle.shared_rule.specs.declared.history.View.{View}
 use Rattle.shared_rule.specs.declared.kept.Kept.{Kept}
 use Rattle.shared_rule.specs.History.{noting, first_account}
-use Rattle.shared_rule.specs.Layout.{index_of_word, IsInTable}
+use Rattle.shared_rule.specs.Layout.{index_of_word, IsInTable, MayBeInTable}
 use Rattle.shared_rule.specs.Plays.{Side}
 use Rattle.shared_rule.specs.Ruled.{Ruled}
-use Rattle.shared_rule.specs.Gatherings.{AreAll, gathered_in, HasAllInHand, KnowsOfAll, LookedOver, ToldAll}
+use Rattle.lock_world.specs.Tallies.{OwnStand}
+use Rattle.shared_rule.specs.Gatherings.{AreAll, account_among, gathered_in, HasAllInHand, KnowsOfAll, LookedOver, ToldAll}
 use Rattle.shared_rule.proofs.Events.Counters.{counter-most}
 use Rattle.shared_rule.proofs.Events.Words.{IsAlwaysLawful, rule-after, nothing-changes}
 use Rattle.shared_rule.proofs.Gathered.{distinct, stands-among, slots-among, counters-among}
 
 -- Loads by a seat at which all sessions are.
 
-module _ {T : Type 0} (content : T → Content) (begun : T → Option Request) (limit : ℕ) (s : State (Kept T) (View T)) (r : Ruled content begun limit s) (id : ℕ) (view : View T) (at : get_elem? s.views id ≡ some view)
+module _ {T : Type 0} (content : T → Content) (begun : T → Option Request) (sizes : Sizes) (s : State (Kept T) (View T)) (r : Ruled content begun sizes s) (id : ℕ) (view : View T) (at : get_elem? s.views id ≡ some view)
     (x : History T) (others : List (History T)) (is : view.sessions ≡ x ∷ others) (issued : ℕ) (are : AreAll issued view) where
-  few : limit < 2 ^ 24
+  few : sizes.sessions < 2 ^ 24
   few = let most = r.few in omega (arith, most)
 
   first : slice_get view.sessions 0 ≡ Some x
   first = ap (λ (xs : List (History T)). slice_get xs 0) is
 
   -- What such a seat knows of a word is so.
-  all-known : (word : Word) → IsInTable word → KnowsOfAll content view word (word_in r.world.words word)
+  all-known : (word : Word) → MayBeInTable word → KnowsOfAll content view word (word_in r.world.words word)
   all-known (Partition p) exists = tt
   all-known (Fast k) exists = tt
   all-known (Database k) exists = tt
   all-known (Slot k place) exists = λ contents has.
-      slots-among content r.world limit r.events few r.run r.safe s.views id issued view at r.seats r.closed are x first contents
+      slots-among content r.world sizes r.events few r.run r.safe s.views id issued view at r.seats r.closed are x first contents
       (subst (λ (xs : List (History T)). HasAllInHand (first_account content xs) contents) is has) k place exists.0
   all-known (Wait k) exists = tt
   all-known (Strong index) exists =
       let most_limit : r.world.numbers.limit ≤ 64 = subst (λ n. n ≤ 64) (sym r.is_limit) r.few in
       let most = counter-most r.world.numbers.limit r.world.sessions.counted index most_limit r.few_counted in
       let shown = r.safe.counters.shown index in
-      (counters-among content r.world limit r.events few r.run r.safe s.views id issued view at r.seats r.closed are index, omega (arith, shown, most))
+      (counters-among content r.world sizes r.events few r.run r.safe s.views id issued view at r.seats r.closed are index, omega (arith, shown, most))
   all-known (Sleep k) exists = tt
 
-module _ {T : Type 0} (content : T → Content) (begun : T → Option Request) (limit slots id : ℕ) (me : Side T) (x : History T) (others : List (History T)) (is : me.0.sessions ≡ x ∷ others) where
+module _ {T : Type 0} (content : T → Content) (begun : T → Option Request) (sizes : Sizes) (slots id : ℕ) (me : Side T) (x : History T) (others : List (History T)) (is : me.0.sessions ≡ x ∷ others) where
   -- A load that tells what is known of the number found.
-  pub looks_over_at : (word : Word) → IsInTable word → (i : ℕ) → i ≡ index_of_word word → (mark : ℕ → Mark T) → IsAlwaysLawful content limit x word (λ _. Unit {0}) (λ n. n) mark
-      → Allows (Ruled content begun limit) slots id me i (λ n. n) (LookedOver content mark (step slots i 0 0 none) me)
+  pub looks_over_at : (word : Word) → IsInTable sizes.groups word → (i : ℕ) → i ≡ index_of_word word → (mark : ℕ → Mark T) → IsAlwaysLawful content sizes x word (λ _. Unit {0}) (λ n. n) mark
+      → Allows (Ruled content begun sizes) slots id me i (λ n. n) (LookedOver content mark (step slots i 0 0 none) me)
   looks_over_at word exists i at mark lawful =
-      subst (λ k. Allows (Ruled content begun limit) slots id me k (λ n. n) (LookedOver content mark (step slots k 0 0 none) me)) (sym at) here where
-        here : Allows (Ruled content begun limit) slots id me (index_of_word word) (λ n. n) (LookedOver content mark (step slots (index_of_word word) 0 0 none) me)
+      subst (λ k. Allows (Ruled content begun sizes) slots id me k (λ n. n) (LookedOver content mark (step slots k 0 0 none) me)) (sym at) here where
+        here : Allows (Ruled content begun sizes) slots id me (index_of_word word) (λ n. n) (LookedOver content mark (step slots (index_of_word word) 0 0 none) me)
         here s r many at_view below =
             let n : ℕ = slice_index s.words (index_of_word word) in (
               noting me.0 (mark n),
               keeps,
               tt,
-              rule-after content begun limit slots id me x others is word exists (λ k. k) mark (λ _. Unit {0}) lawful s r at_view n below refl tt,
+              rule-after content begun sizes slots id me x others is word exists (λ k. k) mark (λ _. Unit {0}) lawful s r at_view n below refl tt,
               (
                 refl,
                 (λ other issued there same are.
                     let shown : word_in r.world.words other ≡ n = sym (ap (slice_index s.words) same ∙ r.words.word other there) in
-                    subst (KnowsOfAll content me.0 other) shown (all-known content begun limit s r id me.0 at_view x others is issued are other there)),
+                    subst (KnowsOfAll content me.0 other) shown (all-known content begun sizes s r id me.0 at_view x others is issued are other there)),
               ),
             )
 
   -- A load that changes nothing, and tells what is known of all.
-  pub tells_all_at : (i : ℕ) (step : Step (Kept T)) → Allows (Ruled content begun limit) slots id me i (λ n. n) (ToldAll content step me)
-  tells_all_at i step s r many at below = (
+  pub tells_all_at : (groups : ℕ) → groups ≡ sizes.groups → (i : ℕ) (step : Step (Kept T)) → Allows (Ruled content begun sizes) slots id me i (λ n. n) (ToldAll content groups step me)
+  tells_all_at groups same i step s r many at below = (
     me.0,
     keeps,
     tt,
-    nothing-changes content begun limit id i me.0 s r at,
+    nothing-changes content begun sizes id i me.0 s r at,
     (
       refl,
       λ issued are. record {
-        distinct = distinct content r.world limit r.events (few content begun limit s r id me.0 at x others is issued are) r.run r.safe s.views id issued me.0 at r.seats r.closed are;
+        distinct = distinct content r.world sizes r.events (few content begun sizes s r id me.0 at x others is issued are) r.run r.safe s.views id issued me.0 at r.seats r.closed are;
         stand = λ contents nobody has number.
-            stands-among content r.world limit r.events (few content begun limit s r id me.0 at x others is issued are) r.run r.safe s.views id issued me.0 at r.seats r.closed are x
-            (first content begun limit s r id me.0 at x others is issued are) contents nobody
-            (subst (λ (xs : List (History T)). HasAllInHand (first_account content xs) contents) is has) number;
+            subst (λ n. OwnStand n number (account_among (gathered_in content me.0.sessions) number) contents) (sym same)
+            (stands-among content r.world sizes r.events (few content begun sizes s r id me.0 at x others is issued are) r.run r.safe s.views id issued me.0 at r.seats r.closed are x
+            (first content begun sizes s r id me.0 at x others is issued are) contents nobody
+            (subst (λ (xs : List (History T)). HasAllInHand (first_account content xs) contents) is has) number);
       },
     ),
   )

@@ -22,6 +22,7 @@ use Rattle.lock_table.proofs.PutLemmas.{set_at-here, set_at-else, set_at-same}
 use Rattle.lock_world.specs.declared.events.Word.{Word}
 use Rattle.lock_world.specs.declared.events.Word.TheVariants.{Partition, Fast, Sleep}
 use Rattle.lock_world.specs.declared.events.Step.TheVariants as step_of
+use Rattle.lock_world.specs.SlotHolds.{most_groups}
 use Rattle.lock_world.specs.World.{World, Words, Contents, word_in}
 use Rattle.lock_world.specs.WaitLists.{partition_lock, fast_lock, lock_word, after_seeing_none}
 use Rattle.lock_world.specs.Happens.Lists.{sleepers, with_sleepers, after_locking_partition_list, after_locking_fast_list, HasList}
@@ -40,6 +41,7 @@ use Rattle.lock_world.proofs.Accounts.Lists.{lock_list-lawful, has_list-lawful, 
 use Rattle.shared_rule.specs.declared.history.Mark.{Mark}
 use Rattle.shared_rule.specs.Marks as mark
 use Rattle.shared_rule.specs.declared.history.History.{History}
+use Rattle.shared_rule.specs.declared.rule.Sizes.{Sizes}
 use Rattle.shared_rule.specs.declared.history.View.{View}
 use Rattle.shared_rule.specs.declared.kept.Kept.{Kept}
 use Rattle.shared_rule.specs.declared.kept.Kept.TheVariants as kept
@@ -71,9 +73,9 @@ pub lock-below : (lock : LwLock) → LockIsInTable lock → lock_number lock < l
 lock-below (OfPart p) there = omega (arith, there)
 lock-below (OfSlots o) there = omega (arith, there)
 
-pub lock-word_there : (lock : LwLock) → LockIsInTable lock → IsInTable (word_of_lock lock)
-lock-word_there (OfPart p) there = (there, tt)
-lock-word_there (OfSlots o) there = (tt, there)
+pub lock-word_there : (lock : LwLock) → LockIsInTable lock → (groups : ℕ) → IsInTable groups (word_of_lock lock)
+lock-word_there (OfPart p) there groups = (there, tt)
+lock-word_there (OfSlots o) there groups = (tt, there)
 
 lists-apart : (l m : ℕ) → l ≢ m → list_slot_of l ≢ list_slot_of m
 lists-apart l m other same = other (omega (arith, same))
@@ -157,21 +159,21 @@ module _ {T : Type 0} where
   ]
 
 -- A step by which a list comes in the session's hand or goes, as it is noted; contents stay, and who stands where.
-record ChangesHand {T : Type 0} (content : T → Content) (w : World) (number : ℕ) (a : Account) (mark : Mark T) (next : Words) (has : Option ℕ) : Type 0 where
-  noted : IsNoted content w number a mark next
+record ChangesHand {T : Type 0} (content : T → Content) (groups : ℕ) (w : World) (number : ℕ) (a : Account) (mark : Mark T) (next : Words) (has : Option ℕ) : Type 0 where
+  noted : IsNoted content groups w number a mark next
   contents : noted.after.contents ≡ w.contents
   has_list : noted.after.sessions.has_list ≡ set_at w.sessions.has_list number has
   list : noted.after.words.list ≡ w.words.list
 
-module _ {T : Type 0} (content : T → Content) (limit : ℕ) (x : History T) where
+module _ {T : Type 0} (content : T → Content) (sizes : Sizes) (x : History T) where
   abbrev a : Account
   a = told content x.number x.marks
 
   -- Locking a list whose bit is not set.
   locking-noted :
-      (lock : LwLock) (w : World) → Stepper limit w x.number a → LockExists limit lock → MayLockListBy a → word_in w.words (word_of_lock lock) / 2 ^ 28 % 2 ≡ 0
+      (lock : LwLock) (w : World) → Stepper sizes w x.number a → LockExists sizes.sessions lock → MayLockListBy a → word_in w.words (word_of_lock lock) / 2 ^ 28 % 2 ≡ 0
       → (waiters : List LwWaiter) → waiters ≡ w.words.list (lock_number lock)
-      → ChangesHand content w x.number a (mark.LockedList (lock_number lock) waiters)
+      → ChangesHand content sizes.groups w x.number a (mark.LockedList (lock_number lock) waiters)
       (set_word w.words (word_of_lock lock) (list_locked_word (word_in w.words (word_of_lock lock)))) (Some (lock_number lock))
   locking-noted (OfPart p) w steps exists may unlocked waiters is = record {
     noted = record {
@@ -210,8 +212,8 @@ module _ {T : Type 0} (content : T → Content) (limit : ℕ) (x : History T) wh
 
   -- Unlocking it.
   unlocking-noted :
-      (lock : LwLock) (has_waiters release_ok : Bool) (w : World) → Stepper limit w x.number a → HasList w x.number (lock_number lock)
-      → ChangesHand content w x.number a mark.UnlockedList
+      (lock : LwLock) (has_waiters release_ok : Bool) (w : World) → Stepper sizes w x.number a → HasList w x.number (lock_number lock)
+      → ChangesHand content sizes.groups w x.number a mark.UnlockedList
       (set_word w.words (word_of_lock lock) (list_unlocked_word (word_in w.words (word_of_lock lock)) has_waiters release_ok)) None
   unlocking-noted (OfPart p) has_waiters release_ok w steps has = record {
     noted = record {
@@ -255,7 +257,7 @@ module _ {T : Type 0} (content : T → Content) (limit : ℕ) (x : History T) wh
       let is = known-list (w.sessions.has_list x.number) w.words.list mine known in
       ap list_here known ∙ (λ i. record { lock = mine.lock; waiters = sym is.1 i })
 
-  pub joining-lawful : (mine : ListInHand) (mode : LwMode) → MayJoinListBy a mine → IsAlwaysLawful content limit x (Sleep x.number) (λ _. Unit {0}) (λ _. 1) (λ _. mark.JoinedList mode)
+  pub joining-lawful : (mine : ListInHand) (mode : LwMode) → MayJoinListBy a mine → IsAlwaysLawful content sizes x (Sleep x.number) (λ _. Unit {0}) (λ _. 1) (λ _. mark.JoinedList mode)
   joining-lawful mine mode may w steps n below shown _ =
       let may' : MayJoinListBy (account w x.number) mine = subst (λ b. MayJoinListBy b mine) steps.account may in
       let lawful = join_list-lawful w steps.safe x.number steps.makes mine may' in
@@ -278,7 +280,7 @@ module _ {T : Type 0} (content : T → Content) (limit : ℕ) (x : History T) wh
         lists = λ l nobody. (nobody, kept-beside w mine.lock _ lawful.has.in_hand l nobody);
       }
 
-  pub leaving-lawful : (mine : ListInHand) → MayLeaveListBy x.number a mine → IsAlwaysLawful content limit x (Sleep x.number) (λ _. Unit {0}) (λ _. 0) (λ _. mark.LeftList)
+  pub leaving-lawful : (mine : ListInHand) → MayLeaveListBy x.number a mine → IsAlwaysLawful content sizes x (Sleep x.number) (λ _. Unit {0}) (λ _. 0) (λ _. mark.LeftList)
   leaving-lawful mine may w steps n below shown _ =
       let may' : MayLeaveListBy x.number (account w x.number) mine = subst (λ b. MayLeaveListBy x.number b mine) steps.account may in
       let lawful = leave_list-lawful w steps.safe x.number steps.makes mine may' in
@@ -301,7 +303,7 @@ module _ {T : Type 0} (content : T → Content) (limit : ℕ) (x : History T) wh
       }
 
   pub taking_off-lawful : (mine : ListInHand) (other : ℕ) → MayTakeOffBy x.number a mine other
-      → IsAlwaysLawful content limit x (Sleep other) (λ _. Unit {0}) (λ _. 2) (λ _. mark.TookOff other)
+      → IsAlwaysLawful content sizes x (Sleep other) (λ _. Unit {0}) (λ _. 2) (λ _. mark.TookOff other)
   taking_off-lawful mine other may w steps n below shown _ =
       let may' : MayTakeOffBy x.number (account w x.number) mine other = subst (λ b. MayTakeOffBy x.number b mine other) steps.account may in
       let lawful = take_off-lawful w steps.safe x.number steps.makes mine other may' in
@@ -323,7 +325,7 @@ module _ {T : Type 0} (content : T → Content) (limit : ℕ) (x : History T) wh
         lists = λ l nobody. (nobody, kept-beside w mine.lock _ lawful.has.in_hand l nobody);
       }
 
-  pub telling-lawful : (other : ℕ) → MayTellBy a other → IsAlwaysLawful content limit x (Sleep other) (λ _. Unit {0}) (λ _. 0) (λ _. mark.Told other)
+  pub telling-lawful : (other : ℕ) → MayTellBy a other → IsAlwaysLawful content sizes x (Sleep other) (λ _. Unit {0}) (λ _. 0) (λ _. mark.Told other)
   telling-lawful other may w steps n below shown _ =
       let lawful = tell-lawful w steps.safe x.number steps.makes other (subst (λ b. MayTellBy b other) steps.account may) in
       record {
@@ -347,7 +349,7 @@ module _ {T : Type 0} (content : T → Content) (limit : ℕ) (x : History T) wh
   seen-words w s true = refl
   seen-words w s false = refl
 
-  pub loading_sleep-lawful : IsAlwaysLawful content limit x (Sleep x.number) (λ _. Unit {0}) (λ n. n) mark.LoadedSleep
+  pub loading_sleep-lawful : IsAlwaysLawful content sizes x (Sleep x.number) (λ _. Unit {0}) (λ n. n) mark.LoadedSleep
   loading_sleep-lawful w steps n below shown _ =
       let same = seen-words w x.number (n == 0) in
       let stored : w.words ≡ set_word w.words (Sleep x.number) n = ap (λ f. record (w.words) { sleep = f }) (sym (set_at-same w.words.sleep x.number n shown)) in
@@ -368,8 +370,8 @@ module _ {T : Type 0} (content : T → Content) (limit : ℕ) (x : History T) wh
       }
 
   -- The flags.
-  pub setting_release_ok-lawful : (lock : LwLock) → LockExists limit lock
-      → IsAlwaysLawful content limit x (word_of_lock lock) (λ _. Unit {0}) (λ n. bit_or n (2 ^ 29)) (λ _. mark.SetReleaseOk (lock_number lock))
+  pub setting_release_ok-lawful : (lock : LwLock) → LockExists sizes.sessions lock
+      → IsAlwaysLawful content sizes x (word_of_lock lock) (λ _. Unit {0}) (λ n. bit_or n (2 ^ 29)) (λ _. mark.SetReleaseOk (lock_number lock))
   setting_release_ok-lawful (OfPart p) exists w steps n below shown _ = record {
     list = w.words.list;
     noted = record {
@@ -402,7 +404,7 @@ module _ {T : Type 0} (content : T → Content) (limit : ℕ) (x : History T) wh
   }
 
   pub setting_has_waiters-lawful : (lock : LwLock) (mine : ListInHand) → a.lists.in_hand ≡ Some mine → mine.lock ≡ lock_number lock
-      → IsAlwaysLawful content limit x (word_of_lock lock) (λ _. Unit {0}) (λ n. bit_or n (2 ^ 30)) (λ _. mark.SetHasWaiters (lock_number lock))
+      → IsAlwaysLawful content sizes x (word_of_lock lock) (λ _. Unit {0}) (λ n. bit_or n (2 ^ 30)) (λ _. mark.SetHasWaiters (lock_number lock))
   setting_has_waiters-lawful (OfPart p) mine known its w steps n below shown _ =
       let has = has_list-lawful w steps.safe x.number steps.makes mine (subst (λ (b : Account). b.lists.in_hand ≡ Some mine) steps.account known) in
       record {
@@ -438,32 +440,32 @@ module _ {T : Type 0} (content : T → Content) (limit : ℕ) (x : History T) wh
         lists = λ l nobody. (nobody, refl);
       }
 
-module _ {T : Type 0} (content : T → Content) (begun : T → Option Request) (limit slots id : ℕ) (me : Side T) (x : History T) (others : List (History T)) (is : me.0.sessions ≡ x ∷ others)
+module _ {T : Type 0} (content : T → Content) (begun : T → Option Request) (sizes : Sizes) (slots id : ℕ) (me : Side T) (x : History T) (others : List (History T)) (is : me.0.sessions ≡ x ∷ others)
     (lock : LwLock) (there : LockIsInTable lock) where
   abbrev at_word : ℕ
   at_word = index_of_word (word_of_lock lock)
 
   -- The fetch-or takes the list in hand where it finds its bit not set.
-  locks_list : LockExists limit lock → MayLockListBy (told content x.number x.marks)
-      → Allows (Ruled content begun limit) slots id me at_word (λ n. bit_or n (2 ^ 28)) (LockedListOr content (step slots at_word (2 ^ 28) 0 none) me)
+  locks_list : LockExists sizes.sessions lock → MayLockListBy (told content x.number x.marks)
+      → Allows (Ruled content begun sizes) slots id me at_word (λ n. bit_or n (2 ^ 28)) (LockedListOr content (step slots at_word (2 ^ 28) 0 none) me)
   locks_list exists may s r many at_view below = elim (cases_eq (n / 2 ^ 28 % 2) 0) [
     | inl unlocked ↦
         let w : World = r.world in
-        let steps = ruled-steps content begun limit s r id me.0 x others at_view is in
-        let shown : word_in w.words (word_of_lock lock) ≡ n = sym (r.words.word (word_of_lock lock) (lock-word_there lock there)) in
+        let steps = ruled-steps content begun sizes s r id me.0 x others at_view is in
+        let shown : word_in w.words (word_of_lock lock) ≡ n = sym (r.words.word (word_of_lock lock) (lock-word_there lock there most_groups)) in
         let free : word_in w.words (word_of_lock lock) / 2 ^ 28 % 2 ≡ 0 = ap (λ k. k / 2 ^ 28 % 2) shown ∙ unlocked in
         let home = r.lists (lock_number lock) (lock-below lock there) (unlocked-in_no_hand w r.safe lock free) in
-        let changes = locking-noted content limit x lock w steps exists may free home.list.value home.is_list in
+        let changes = locking-noted content sizes x lock w steps exists may free home.list.value home.is_list in
         let none_had : w.sessions.has_list x.number ≡ None = no_list-known (w.sessions.has_list x.number) w.words.list
         (ap (λ (b : Account). b.lists.in_hand) (sym steps.account) ∙ may.no_list) in (
           noting me.0 (mark.LockedList (lock_number lock) home.list.value),
           takes (list_slot_of (lock_number lock)) (kept.List home.list),
           home.at_home,
-          ruled-noted content begun limit s r id me.0 x others at_view is (mark.LockedList (lock_number lock) home.list.value)
+          ruled-noted content begun sizes s r id me.0 x others at_view is (mark.LockedList (lock_number lock) home.list.value)
               (set_word w.words (word_of_lock lock) (list_locked_word (word_in w.words (word_of_lock lock)))) (slice_set s.words at_word (bit_or n (2 ^ 28)))
               (slice_set s.homes (list_slot_of (lock_number lock)) none) changes.noted
-              (subst (λ k. WordsAreShown (slice_set s.words at_word (list_locked_word k)) (set_word w.words (word_of_lock lock) (list_locked_word (word_in w.words (word_of_lock lock))))) shown
-              (words-set s.words w.words (word_of_lock lock) (list_locked_word (word_in w.words (word_of_lock lock))) r.words (lock-word_there lock there)))
+              (subst (λ k. WordsAreShown sizes.groups (slice_set s.words at_word (list_locked_word k)) (set_word w.words (word_of_lock lock) (list_locked_word (word_in w.words (word_of_lock lock))))) shown
+              (words-set sizes.groups r.some_groups r.few_groups s.words w.words (word_of_lock lock) (list_locked_word (word_in w.words (word_of_lock lock))) r.words (lock-word_there lock there sizes.groups)))
               (subst (ContentsAreHome content begun (slice_set s.homes (list_slot_of (lock_number lock)) none)) (sym changes.contents)
               (contents-beside content begun s.homes (lock_number lock) none w.contents r.contents))
               (subst (λ has. ListsAreHome (slice_set s.homes (list_slot_of (lock_number lock)) none) has changes.noted.after.words.list) (sym changes.has_list)
@@ -489,8 +491,8 @@ module _ {T : Type 0} (content : T → Content) (begun : T → Option Request) (
       me.0,
       keeps,
       tt,
-      subst (λ k. Ruled content begun limit (record { words = slice_set s.words at_word k; homes = s.homes; views = slice_set s.views id me.0 })) (sym (or-locked n locked))
-          (nothing-changes content begun limit id at_word me.0 s r at_view),
+      subst (λ k. Ruled content begun sizes (record { words = slice_set s.words at_word k; homes = s.homes; views = slice_set s.views id me.0 })) (sym (or-locked n locked))
+          (nothing-changes content begun sizes id at_word me.0 s r at_view),
       ((λ unlocked. absurd (locked unlocked)), λ _. refl),
     )
   ] where
@@ -503,29 +505,29 @@ module _ {T : Type 0} (content : T → Content) (begun : T → Option Request) (
       → (told content x.number x.marks).lists.in_hand ≡ Some (record { lock = lock_number lock; waiters = list.value })
       → me.1 ≡ (list_slot_of (lock_number lock), kept.List list) ∷ rest me.1
       → (step : Step (Kept T))
-      → Allows (Ruled content begun limit) slots id me at_word (λ n. bit_and n (kept_bits has_waiters release_ok)) (WentHome (λ _. mark.UnlockedList) step me)
+      → Allows (Ruled content begun sizes) slots id me at_word (λ n. bit_and n (kept_bits has_waiters release_ok)) (WentHome (λ _. mark.UnlockedList) step me)
   unlocks_list has_waiters release_ok list sized known carried step s r many at_view below =
       let w : World = r.world in
       let n : ℕ = slice_index s.words at_word in
       let number : ℕ = lock_number lock in
-      let steps = ruled-steps content begun limit s r id me.0 x others at_view is in
-      let shown : word_in w.words (word_of_lock lock) ≡ n = sym (r.words.word (word_of_lock lock) (lock-word_there lock there)) in
+      let steps = ruled-steps content begun sizes s r id me.0 x others at_view is in
+      let shown : word_in w.words (word_of_lock lock) ≡ n = sym (r.words.word (word_of_lock lock) (lock-word_there lock there most_groups)) in
       let mine : ListInHand = record { lock = number; waiters = list.value } in
       let known' : (account w x.number).lists.in_hand ≡ Some mine = ap (λ (b : Account). b.lists.in_hand) (sym steps.account) ∙ known in
       let its = known-list (w.sessions.has_list x.number) w.words.list mine known' in
       let has = has_list-lawful w steps.safe x.number steps.makes mine known' in
-      let changes = unlocking-noted content limit x lock has_waiters release_ok w steps has in
+      let changes = unlocking-noted content sizes x lock has_waiters release_ok w steps has in
       let homes : List (maybe.Option (Kept T)) = slice_set s.homes (list_slot_of number) (some (kept.List list)) in
       let back : put_back s.homes me.1 ≡ homes = ap (put_back s.homes) carried in (
         noting me.0 mark.UnlockedList,
         gives,
         tt,
-        ruled-noted content begun limit s r id me.0 x others at_view is mark.UnlockedList
+        ruled-noted content begun sizes s r id me.0 x others at_view is mark.UnlockedList
             (set_word w.words (word_of_lock lock) (list_unlocked_word (word_in w.words (word_of_lock lock)) has_waiters release_ok)) (slice_set s.words at_word (bit_and n (kept_bits has_waiters release_ok)))
             (put_back s.homes me.1) changes.noted
-            (subst (λ k. WordsAreShown (slice_set s.words at_word (list_unlocked_word k has_waiters release_ok))
+            (subst (λ k. WordsAreShown sizes.groups (slice_set s.words at_word (list_unlocked_word k has_waiters release_ok))
             (set_word w.words (word_of_lock lock) (list_unlocked_word (word_in w.words (word_of_lock lock)) has_waiters release_ok))) shown
-            (words-set s.words w.words (word_of_lock lock) (list_unlocked_word (word_in w.words (word_of_lock lock)) has_waiters release_ok) r.words (lock-word_there lock there)))
+            (words-set sizes.groups r.some_groups r.few_groups s.words w.words (word_of_lock lock) (list_unlocked_word (word_in w.words (word_of_lock lock)) has_waiters release_ok) r.words (lock-word_there lock there sizes.groups)))
             (subst (λ (h : List (maybe.Option (Kept T))). ContentsAreHome content begun h changes.noted.after.contents) (sym back)
             (subst (ContentsAreHome content begun homes) (sym changes.contents) (contents-beside content begun s.homes number (some (kept.List list)) w.contents r.contents)))
             (subst (λ (h : List (maybe.Option (Kept T))). ListsAreHome h changes.noted.after.sessions.has_list changes.noted.after.words.list) (sym back)
@@ -536,19 +538,19 @@ module _ {T : Type 0} (content : T → Content) (begun : T → Option Request) (
       )
 
   -- The same of the word at an index.
-  pub locks_list_at : LockExists limit lock → MayLockListBy (told content x.number x.marks) → (i : ℕ) → i ≡ at_word
-      → Allows (Ruled content begun limit) slots id me i (λ n. bit_or n (2 ^ 28)) (LockedListOr content (step slots i (2 ^ 28) 0 none) me)
+  pub locks_list_at : LockExists sizes.sessions lock → MayLockListBy (told content x.number x.marks) → (i : ℕ) → i ≡ at_word
+      → Allows (Ruled content begun sizes) slots id me i (λ n. bit_or n (2 ^ 28)) (LockedListOr content (step slots i (2 ^ 28) 0 none) me)
   locks_list_at exists may i at =
-      subst (λ k. Allows (Ruled content begun limit) slots id me k (λ n. bit_or n (2 ^ 28)) (LockedListOr content (step slots k (2 ^ 28) 0 none) me)) (sym at) (locks_list exists may)
+      subst (λ k. Allows (Ruled content begun sizes) slots id me k (λ n. bit_or n (2 ^ 28)) (LockedListOr content (step slots k (2 ^ 28) 0 none) me)) (sym at) (locks_list exists may)
 
   pub unlocks_list_at :
       (has_waiters release_ok : Bool) (list : Box (List LwWaiter)) → slots ≡ TABLE_SLOTS
       → (told content x.number x.marks).lists.in_hand ≡ Some (record { lock = lock_number lock; waiters = list.value })
       → me.1 ≡ (list_slot_of (lock_number lock), kept.List list) ∷ rest me.1 → (i : ℕ) → i ≡ at_word → (mask : ℕ) → mask ≡ kept_bits has_waiters release_ok
       → (mark' : ℕ → Mark T) → mark' ≡ (λ _. mark.UnlockedList)
-      → Allows (Ruled content begun limit) slots id me i (λ n. bit_and n mask) (WentHome mark' (step slots i mask 0 none) me)
+      → Allows (Ruled content begun sizes) slots id me i (λ n. bit_and n mask) (WentHome mark' (step slots i mask 0 none) me)
   unlocks_list_at has_waiters release_ok list sized known carried i at mask is_mask mark' marked =
-      subst (λ k. Allows (Ruled content begun limit) slots id me i (λ n. bit_and n k) (WentHome mark' (step slots i k 0 none) me)) (sym is_mask)
-      (subst (λ k. Allows (Ruled content begun limit) slots id me k (λ n. bit_and n (kept_bits has_waiters release_ok)) (WentHome mark' (step slots k (kept_bits has_waiters release_ok) 0 none) me)) (sym at)
-      (subst (λ (m : ℕ → Mark T). Allows (Ruled content begun limit) slots id me at_word (λ n. bit_and n (kept_bits has_waiters release_ok)) (WentHome m (step slots at_word (kept_bits has_waiters release_ok) 0 none) me)) (sym marked)
+      subst (λ k. Allows (Ruled content begun sizes) slots id me i (λ n. bit_and n k) (WentHome mark' (step slots i k 0 none) me)) (sym is_mask)
+      (subst (λ k. Allows (Ruled content begun sizes) slots id me k (λ n. bit_and n (kept_bits has_waiters release_ok)) (WentHome mark' (step slots k (kept_bits has_waiters release_ok) 0 none) me)) (sym at)
+      (subst (λ (m : ℕ → Mark T). Allows (Ruled content begun sizes) slots id me at_word (λ n. bit_and n (kept_bits has_waiters release_ok)) (WentHome m (step slots at_word (kept_bits has_waiters release_ok) 0 none) me)) (sym marked)
       (unlocks_list has_waiters release_ok list sized known carried (step slots at_word (kept_bits has_waiters release_ok) 0 none))))

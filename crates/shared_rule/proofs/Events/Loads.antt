@@ -1,14 +1,16 @@
-use Rattle.std.proofs.Common.{◌≡◌, ℕ, ◌<◌, refl, sym, ap, ◌∙◌, subst}
+use Rattle.std.proofs.Common.{◌≡◌, ℕ, ◌*◌, ◌<◌, refl, sym, ap, ◌∙◌, subst}
 use Rattle.lock_table.specs.Content.{Content}
 use Rattle.lock_table.specs.Put.{set_at}
 use Rattle.lock_table.proofs.PutLemmas.{set_at-same}
 use Rattle.lock_world.specs.declared.events.Word.TheVariants.{Database, Fast, Slot, Strong}
 use Rattle.lock_world.specs.declared.events.Step.TheVariants.{LoadWord, LoadStrong}
+use Rattle.lock_world.specs.SlotHolds.{group_size}
 use Rattle.lock_world.specs.World.{Words, Loaded}
 use Rattle.lock_world.specs.Happens.Slots.{after_loading, after_reading_counter}
 use Rattle.lock_world.specs.AccountSteps.{account_tracing, account_reading}
 use Rattle.lock_world.proofs.Accounts.Slots.{account-loading, account-reading}
 use Rattle.shared_rule.specs.Marks as mark
+use Rattle.shared_rule.specs.declared.rule.Sizes.{Sizes}
 use Rattle.shared_rule.specs.declared.history.History.{History}
 use Rattle.shared_rule.specs.Shown.{set_word}
 use Rattle.shared_rule.specs.Ruled.{NoneBeyondSlots}
@@ -26,8 +28,8 @@ slot-same words session place n shown =
     set_at-same words.slot session (set_at (words.slot session) place n) row in
     ap (λ f. record words { slot = f }) (sym all)
 
-module _ {T : Type 0} (content : T → Content) (limit : ℕ) (x : History T) where
-  pub loading_database-lawful : (owner : ℕ) → IsAlwaysLawful content limit x (Database owner) (λ _. Unit {0}) (λ n. n)
+module _ {T : Type 0} (content : T → Content) (sizes : Sizes) (x : History T) where
+  pub loading_database-lawful : (owner : ℕ) → IsAlwaysLawful content sizes x (Database owner) (λ _. Unit {0}) (λ n. n)
       (mark.LoadedDatabase owner)
   loading_database-lawful owner w steps n below shown _ = record {
     list = w.words.list;
@@ -46,19 +48,19 @@ module _ {T : Type 0} (content : T → Content) (limit : ℕ) (x : History T) wh
     lists = λ lock nobody. (nobody, refl);
   }
 
-  pub loading_slot-lawful : (owner place : ℕ) → place < 16 → IsAlwaysLawful content limit x (Slot owner place)
+  pub loading_slot-lawful : (owner place : ℕ) → place < group_size * sizes.groups → IsAlwaysLawful content sizes x (Slot owner place)
       (λ _. Unit {0}) (λ n. n) (mark.LoadedSlot owner place)
   loading_slot-lawful owner place within w steps n below shown _ = record {
     list = w.words.list;
     noted = record {
       step = LoadWord (Slot owner place) n;
       after = after_loading w x.number (Slot owner place) n;
-      happens = (record { steps = steps.makes; exists = within; is_shown = shown }, refl);
+      happens = (record { steps = steps.makes; exists = subst (λ n. place < group_size * n) (sym steps.are_groups) within; is_shown = shown }, refl);
       numbers = refl;
       account = ap (λ a. account_tracing a (Loaded (Slot owner place) n)) steps.account
           ∙ sym (account-loading w x.number (Slot owner place) n);
       words = slot-same w.words owner place n shown;
-      none_beyond = subst NoneBeyondSlots (slot-same w.words owner place n shown) steps.none_beyond;
+      none_beyond = subst (NoneBeyondSlots sizes.groups) (slot-same w.words owner place n shown) steps.none_beyond;
       few_counted = steps.few_counted x.number;
     };
     home = λ p none. (none, refl);
@@ -66,7 +68,7 @@ module _ {T : Type 0} (content : T → Content) (limit : ℕ) (x : History T) wh
   }
 
   -- Also where an exchange finds another number than the one expected.
-  pub loading_fast-lawful : (expected : ℕ → Type 0) → IsAlwaysLawful content limit x (Fast x.number) expected (λ n. n)
+  pub loading_fast-lawful : (expected : ℕ → Type 0) → IsAlwaysLawful content sizes x (Fast x.number) expected (λ n. n)
       mark.LoadedFast
   loading_fast-lawful expected w steps n below shown _ = record {
     list = w.words.list;
@@ -85,7 +87,7 @@ module _ {T : Type 0} (content : T → Content) (limit : ℕ) (x : History T) wh
     lists = λ lock nobody. (nobody, refl);
   }
 
-  pub loading_strong-lawful : (index : ℕ) → index < 1024 → IsAlwaysLawful content limit x (Strong index)
+  pub loading_strong-lawful : (index : ℕ) → index < 1024 → IsAlwaysLawful content sizes x (Strong index)
       (λ _. Unit {0}) (λ n. n) (mark.LoadedStrong index)
   loading_strong-lawful index within w steps n below shown _ = record {
     list = w.words.list;

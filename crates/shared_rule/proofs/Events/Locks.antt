@@ -1,4 +1,4 @@
-use Rattle.std.proofs.Common.{◌≡◌, ℕ, zero, suc, ◌+◌, ◌-◌, ◌%◌, ◌^◌, ◌<◌, ◌≤◌, ◌==◌, List, [], ◌∷◌, length}
+use Rattle.std.proofs.Common.{◌≡◌, ℕ, zero, suc, ◌+◌, ◌-◌, ◌*◌, ◌%◌, ◌^◌, ◌<◌, ◌≤◌, ◌==◌, List, [], ◌∷◌, length}
 use Rattle.std.proofs.Common.{Option, refl, sym, ap, ◌∙◌, subst, arith}
 use Rattle.std.specs.Prelude.{slice_set, slice_index, slice_index_or}
 use mathlib.Core.Option.{some, none}
@@ -16,7 +16,7 @@ use Rattle.lock_table.specs.Content.{Content}
 use Rattle.lock_table.proofs.PutLemmas.{set_at-here}
 use Rattle.lock_world.specs.declared.events.Word.TheVariants.{Fast}
 use Rattle.lock_world.specs.declared.events.Step.TheVariants.{TakeExclusive, PutExclusive, TakeShared, PutShared, PutPassing}
-use Rattle.lock_world.specs.SlotHolds.{slot_count, slot_holds}
+use Rattle.lock_world.specs.SlotHolds.{group_size, most_groups, slot_count, slot_holds}
 use Rattle.lock_world.specs.World.{World}
 use Rattle.lock_world.specs.Counted.{passing, passed}
 use Rattle.lock_world.specs.Happens.Slots.{after_taking_fast, after_putting_fast}
@@ -31,11 +31,12 @@ use Rattle.lock_world.proofs.Accounts.Lawful.{share_fast-lawful, unshare_fast-la
 use Rattle.lock_world.proofs.Words.Holders.{shared-some}
 use Rattle.lock_world.specs.AccountFacts.{KnowsSlots}
 use Rattle.lock_world.proofs.Accounts.Facts.{slots-told}
-use Rattle.lock_world.proofs.Accounts.Slots.{account-taking_fast, account-putting_fast, account-passing}
+use Rattle.lock_world.proofs.Accounts.Slots.{slots_now, account-taking_fast, account-putting_fast, account-passing}
 use Rattle.lock_world.proofs.Accounts.Slots.{account-sharing_fast, account-unsharing_fast}
 use Rattle.shared_rule.specs.declared.history.Mark.{Mark}
 use Rattle.shared_rule.specs.Marks as mark
 use Rattle.shared_rule.specs.declared.history.History.{History}
+use Rattle.shared_rule.specs.declared.rule.Sizes.{Sizes}
 use Rattle.shared_rule.specs.declared.history.View.{View}
 use Rattle.shared_rule.specs.declared.kept.Kept.{Kept}
 use Rattle.shared_rule.specs.Layout.{index_of_word}
@@ -77,20 +78,25 @@ slots-listed database slot rest =
     k rest i in
     λ i. record { word = same i; holds = slot_holds database (same i) }
 
+-- What is beyond all places is beyond the slots of so many groups.
+beyond-all : (groups : ℕ) → groups ≤ most_groups → (slot : ℕ → ℕ) → ((j : ℕ) → group_size * groups ≤ j → slot j ≡ 0)
+    → (j : ℕ) → slot_count ≤ j → slot j ≡ 0
+beyond-all groups few slot rest j later = rest j (omega (arith, few, later))
+
 -- Taking it is noted so, with what the slots show.
 abbrev taking_fast-noted :
-    {T : Type 0} (content : T → Content) (limit : ℕ) (x : History T) (owner : ℕ) (w : World)
-    → Stepper limit w x.number (told content x.number x.marks) → owner < w.numbers.limit
+    {T : Type 0} (content : T → Content) (sizes : Sizes) (x : History T) (owner : ℕ) (w : World)
+    → Stepper sizes w x.number (told content x.number x.marks) → owner < w.numbers.limit
     → IsHeldByNobody (w.words.fast owner)
-    → IsNoted content w x.number (told content x.number x.marks) (mark.TookFast owner (w.words.database owner)
+    → IsNoted content sizes.groups w x.number (told content x.number x.marks) (mark.TookFast owner (w.words.database owner)
     (listed slot_count (w.words.slot owner))) (set_word w.words (Fast owner) (taken_word (w.words.fast owner)))
-taking_fast-noted content limit x owner w steps exists free = record {
+taking_fast-noted content sizes x owner w steps exists free = record {
   step = TakeExclusive (Fast owner);
   after = after_taking_fast w x.number owner;
   happens = (record { steps = steps.makes; exists = exists; free = free }, refl);
   numbers = refl;
   account = (λ i. account_taking_fast x.number (steps.account i) owner (slots-listed (w.words.database owner)
-      (w.words.slot owner) (steps.none_beyond owner) i))
+      (w.words.slot owner) (beyond-all sizes.groups steps.few_groups (w.words.slot owner) (steps.none_beyond owner)) i))
       ∙ sym (account-taking_fast w x.number owner);
   words = refl;
   none_beyond = steps.none_beyond;
@@ -99,12 +105,12 @@ taking_fast-noted content limit x owner w steps exists free = record {
 
 -- So is sharing it.
 abbrev sharing_fast-noted :
-    {T : Type 0} (content : T → Content) (limit : ℕ) (x : History T) (owner : ℕ) (w : World)
-    → Stepper limit w x.number (told content x.number x.marks) → owner < w.numbers.limit
+    {T : Type 0} (content : T → Content) (sizes : Sizes) (x : History T) (owner : ℕ) (w : World)
+    → Stepper sizes w x.number (told content x.number x.marks) → owner < w.numbers.limit
     → IsFreeToShare (w.words.fast owner) → MayShareFastBy (told content x.number x.marks) owner
-    → IsNoted content w x.number (told content x.number x.marks) (mark.SharedFast owner (w.words.database owner)
+    → IsNoted content sizes.groups w x.number (told content x.number x.marks) (mark.SharedFast owner (w.words.database owner)
     (listed slot_count (w.words.slot owner))) (set_word w.words (Fast owner) (shared_word (w.words.fast owner)))
-sharing_fast-noted content limit x owner w steps exists free may = record {
+sharing_fast-noted content sizes x owner w steps exists free may = record {
   step = TakeShared (Fast owner);
   after = after_sharing_fast w x.number owner;
   happens = (
@@ -114,7 +120,7 @@ sharing_fast-noted content limit x owner w steps exists free may = record {
   );
   numbers = refl;
   account = (λ i. account_sharing_fast x.number (steps.account i) owner (slots-listed (w.words.database owner)
-      (w.words.slot owner) (steps.none_beyond owner) i))
+      (w.words.slot owner) (beyond-all sizes.groups steps.few_groups (w.words.slot owner) (steps.none_beyond owner)) i))
       ∙ sym (account-sharing_fast w x.number owner);
   words = refl;
   none_beyond = steps.none_beyond;
@@ -122,15 +128,15 @@ sharing_fast-noted content limit x owner w steps exists free may = record {
 }
 
 -- Whatever is so noted, with the word next, leaves the contents as they are.
-record Sees {T : Type 0} (content : T → Content) (x : History T) (owner : ℕ) (w : World)
+record Sees {T : Type 0} (content : T → Content) (groups : ℕ) (x : History T) (owner : ℕ) (w : World)
     (mark : ℕ → ℕ → List ℕ → Mark T) (next : ℕ) : Type 0 where
   noted :
-      IsNoted content w x.number (told content x.number x.marks) (mark owner (w.words.database owner)
+      IsNoted content groups w x.number (told content x.number x.marks) (mark owner (w.words.database owner)
       (listed slot_count (w.words.slot owner))) (set_word w.words (Fast owner) next)
   contents : noted.after.contents ≡ w.contents
   lists : KeepsLists w noted.after
 
-module _ {T : Type 0} (content : T → Content) (begun : T → Option Request) (limit slots id : ℕ) (me : Side T)
+module _ {T : Type 0} (content : T → Content) (begun : T → Option Request) (sizes : Sizes) (slots id : ℕ) (me : Side T)
     (x : History T) (others : List (History T)) (is : me.0.sessions ≡ x ∷ others)
     (owner : ℕ) (inside : owner < 64) where
   -- where the word stands
@@ -141,59 +147,60 @@ module _ {T : Type 0} (content : T → Content) (begun : T → Option Request) (
   -- step that keeps the rule.
   sees_slots_or :
       (mark : ℕ → ℕ → List ℕ → Mark T) (lost : ℕ → View T → View T) (old new : ℕ)
-      → ((w : World) → Stepper limit w x.number (told content x.number x.marks) → w.words.fast owner ≡ old
-      → Sees content x owner w mark new)
-      → ((s : State (Kept T) (View T)) → Ruled content begun limit s → get_elem? s.views id ≡ some me.0
+      → ((w : World) → Stepper sizes w x.number (told content x.number x.marks) → w.words.fast owner ≡ old
+      → Sees content sizes.groups x owner w mark new)
+      → ((s : State (Kept T) (View T)) → Ruled content begun sizes s → get_elem? s.views id ≡ some me.0
       → slice_index s.words at_word < 2 ^ 64
-      → Ruled content begun limit (record {
+      → Ruled content begun sizes (record {
         words = slice_set s.words at_word (slice_index s.words at_word);
         homes =
             s.homes;
         views = slice_set s.views id (lost (slice_index s.words at_word) me.0);
       }))
       → (i : ℕ) → i ≡ at_word
-      → Allows (Ruled content begun limit) slots id me i (λ n. either (n == old) new n)
-      (SeesSlotsOr content mark lost (step slots i old new none) me)
+      → Allows (Ruled content begun sizes) slots id me i (λ n. either (n == old) new n)
+      (SeesSlotsOr content sizes.groups mark lost (step slots i old new none) me)
   sees_slots_or mark lost old new makes stays i at =
-      subst (λ k. Allows (Ruled content begun limit) slots id me k (λ n. either (n == old) new n)
-      (SeesSlotsOr content mark lost (step slots k old new none) me)) (sym at) here where
-        here : Allows (Ruled content begun limit) slots id me at_word (λ n. either (n == old) new n)
-            (SeesSlotsOr content mark lost (step slots at_word old new none) me)
+      subst (λ k. Allows (Ruled content begun sizes) slots id me k (λ n. either (n == old) new n)
+      (SeesSlotsOr content sizes.groups mark lost (step slots k old new none) me)) (sym at) here where
+        here : Allows (Ruled content begun sizes) slots id me at_word (λ n. either (n == old) new n)
+            (SeesSlotsOr content sizes.groups mark lost (step slots at_word old new none) me)
         here s r many at_view below =
             exchanged (slice_index s.words at_word) old new (λ m. (view : View T) × (act : Act (Kept T))
             × Valid s.homes me.1 act
-            × Ruled content begun limit (stepped s at_word m id me.1 view act)
-            × SeesSlotsOr content mark lost (step slots at_word old new none) me (slice_index s.words at_word)
+            × Ruled content begun sizes (stepped s at_word m id me.1 view act)
+            × SeesSlotsOr content sizes.groups mark lost (step slots at_word old new none) me (slice_index s.words at_word)
             (view, carried_after me.1 act))
             (λ hit.
             let w : World = r.world in
             let shown : w.words.fast owner ≡ old = sym (r.words.word (Fast owner) (tt, inside)) ∙ hit in
-            let steps = ruled-steps content begun limit s r id me.0 x others at_view is in
+            let steps = ruled-steps content begun sizes s r id me.0 x others at_view is in
             let sees = makes w steps shown in
             let database : ℕ = w.words.database owner in
             let words : List ℕ = listed slot_count (w.words.slot owner) in (
               noting me.0 (mark owner database words),
               keeps,
               tt,
-              ruled-noted content begun limit s r id me.0 x others at_view is (mark owner database words)
+              ruled-noted content begun sizes s r id me.0 x others at_view is (mark owner database words)
                   (set_word w.words (Fast owner) new) (slice_set s.words at_word new) s.homes sees.noted
-                  (words-set s.words w.words (Fast owner) new r.words (tt, inside))
+                  (words-set sizes.groups r.some_groups r.few_groups s.words w.words (Fast owner) new r.words (tt, inside))
                   (subst (ContentsAreHome content begun s.homes) (sym sees.contents) r.contents)
                   (lists-kept s.homes w sees.noted.after sees.lists r.lists),
               (
                 (λ _ k within same.
                     let one : owner ≡ k = omega (arith, same) in
-                    subst (λ k. SeesSlots content mark k me (noting me.0 (mark owner database words), me.1)) one
+                    subst (λ k. SeesSlots content sizes.groups mark k me (noting me.0 (mark owner database words), me.1)) one
                     (record {
                       database = database;
                       words = words;
                       side = refl;
-                      knows = subst (λ (sessions : List (History T)). KnowsSlots (first_number sessions)
+                      knows = subst (λ (sessions : List (History T)). KnowsSlots sizes.groups (first_number sessions)
                           (first_account content sessions) owner (slots_shown database words)) (sym is)
-                          (subst (λ a. KnowsSlots x.number a owner (slots_shown database words)) (sym steps.account)
-                          (subst (KnowsSlots x.number (account w x.number) owner)
-                          (sym (slots-listed database (w.words.slot owner) (steps.none_beyond owner)))
-                          (slots-told w steps.safe x.number owner)));
+                          (subst (λ a. KnowsSlots sizes.groups x.number a owner (slots_shown database words)) (sym steps.account)
+                          (subst (KnowsSlots sizes.groups x.number (account w x.number) owner)
+                          (sym (slots-listed database (w.words.slot owner) (beyond-all sizes.groups steps.few_groups (w.words.slot owner) (steps.none_beyond owner))))
+                          (subst (λ n. KnowsSlots n x.number (account w x.number) owner (slots_now w owner)) steps.are_groups
+                          (slots-told w steps.safe x.number owner))));
                     })),
                 (λ miss. absurd (miss hit)),
               ),
@@ -208,34 +215,38 @@ module _ {T : Type 0} (content : T → Content) (begun : T → Option Request) (
 
   -- Taking it,
   taking-sees :
-      (old new : ℕ) → ((w : World) → Stepper limit w x.number (told content x.number x.marks) → owner < w.numbers.limit)
+      (old new : ℕ) → ((w : World) → Stepper sizes w x.number (told content x.number x.marks) → owner < w.numbers.limit)
       → IsHeldByNobody old → new ≡ taken_word old
-      → (w : World) → Stepper limit w x.number (told content x.number x.marks) → w.words.fast owner ≡ old
-      → Sees content x owner w mark.TookFast new
+      → (w : World) → Stepper sizes w x.number (told content x.number x.marks) → w.words.fast owner ≡ old
+      → Sees content sizes.groups x owner w mark.TookFast new
   taking-sees old new there free is_new w steps shown =
-      subst (Sees content x owner w mark.TookFast) (ap taken_word shown ∙ sym is_new)
+      subst (Sees content sizes.groups x owner w mark.TookFast) (ap taken_word shown ∙ sym is_new)
       (record {
-        noted = taking_fast-noted content limit x owner w steps (there w steps) (subst IsHeldByNobody (sym shown) free);
+        noted = taking_fast-noted content sizes x owner w steps (there w steps) (subst IsHeldByNobody (sym shown) free);
         contents = refl;
         lists = λ lock nobody. (nobody, refl);
       })
 
   -- of a session that there can be
-  pub takes_fast_at : (old new : ℕ) → owner < limit → IsHeldByNobody old → new ≡ taken_word old → (i : ℕ) → i ≡ at_word
-      → Allows (Ruled content begun limit) slots id me i (λ n. either (n == old) new n)
-      (TookSlotsOr content unnoted (step slots i old new none) me)
-  takes_fast_at old new exists free is_new =
-      sees_slots_or mark.TookFast unnoted old new
+  pub takes_fast_at : (groups old new : ℕ) → groups ≡ sizes.groups → owner < sizes.sessions → IsHeldByNobody old → new ≡ taken_word old → (i : ℕ) → i ≡ at_word
+      → Allows (Ruled content begun sizes) slots id me i (λ n. either (n == old) new n)
+      (TookSlotsOr content groups unnoted (step slots i old new none) me)
+  takes_fast_at groups old new same exists free is_new i at =
+      subst (λ k. Allows (Ruled content begun sizes) slots id me i (λ n. either (n == old) new n)
+      (TookSlotsOr content k unnoted (step slots i old new none) me)) (sym same)
+      (sees_slots_or mark.TookFast unnoted old new
       (taking-sees old new (λ w steps. subst (λ n. owner < n) (sym steps.is_limit) exists) free is_new)
-      (λ s r at_view below. nothing-changes content begun limit id at_word me.0 s r at_view)
+      (λ s r at_view below. nothing-changes content begun sizes id at_word me.0 s r at_view) i at)
 
   -- of the session's own slots
-  pub tries_fast_at : (old new : ℕ) → owner ≡ x.number → IsHeldByNobody old → new ≡ taken_word old → (i : ℕ)
+  pub tries_fast_at : (groups old new : ℕ) → groups ≡ sizes.groups → owner ≡ x.number → IsHeldByNobody old → new ≡ taken_word old → (i : ℕ)
       → i ≡ at_word
-      → Allows (Ruled content begun limit) slots id me i (λ n. either (n == old) new n)
-      (TookSlotsOr content noted_load (step slots i old new none) me)
-  tries_fast_at old new own free is_new =
-      sees_slots_or mark.TookFast noted_load old new
+      → Allows (Ruled content begun sizes) slots id me i (λ n. either (n == old) new n)
+      (TookSlotsOr content groups noted_load (step slots i old new none) me)
+  tries_fast_at groups old new same own free is_new i at =
+      subst (λ k. Allows (Ruled content begun sizes) slots id me i (λ n. either (n == old) new n)
+      (TookSlotsOr content k noted_load (step slots i old new none) me)) (sym same)
+      (sees_slots_or mark.TookFast noted_load old new
       (taking-sees old new
       (λ w steps.
       let numbers = steps.safe.but_slots.table.carriers.numbers in
@@ -243,43 +254,45 @@ module _ {T : Type 0} (content : T → Content) (begun : T → Option Request) (
       let all = numbers.within in
       omega (arith, issued, all, own))
       free is_new)
-      (λ s r at_view below. rule-after content begun limit slots id me x others is (Fast owner) (tt, inside) (λ n. n)
+      (λ s r at_view below. rule-after content begun sizes slots id me x others is (Fast owner) (tt, inside) (λ n. n)
       mark.LoadedFast (λ _. Unit {0})
-      (subst (λ k. IsAlwaysLawful content limit x (Fast k) (λ _. Unit {0}) (λ n. n) mark.LoadedFast) (sym own)
-      (loading_fast-lawful content limit x (λ _. Unit {0})))
-      s r at_view (slice_index s.words at_word) below refl tt)
+      (subst (λ k. IsAlwaysLawful content sizes x (Fast k) (λ _. Unit {0}) (λ n. n) mark.LoadedFast) (sym own)
+      (loading_fast-lawful content sizes x (λ _. Unit {0})))
+      s r at_view (slice_index s.words at_word) below refl tt) i at)
 
   -- and sharing it.
   pub shares_fast_at :
-      (old new : ℕ) → owner < limit → IsFreeToShare old → new ≡ shared_word old
+      (groups old new : ℕ) → groups ≡ sizes.groups → owner < sizes.sessions → IsFreeToShare old → new ≡ shared_word old
       → MayShareFastBy (told content x.number x.marks) owner → (i : ℕ) → i ≡ at_word
-      → Allows (Ruled content begun limit) slots id me i (λ n. either (n == old) new n)
-      (SharedSlotsOr content unnoted (step slots i old new none) me)
-  shares_fast_at old new exists free is_new may =
-      sees_slots_or mark.SharedFast unnoted old new
+      → Allows (Ruled content begun sizes) slots id me i (λ n. either (n == old) new n)
+      (SharedSlotsOr content groups unnoted (step slots i old new none) me)
+  shares_fast_at groups old new same exists free is_new may i at =
+      subst (λ k. Allows (Ruled content begun sizes) slots id me i (λ n. either (n == old) new n)
+      (SharedSlotsOr content k unnoted (step slots i old new none) me)) (sym same)
+      (sees_slots_or mark.SharedFast unnoted old new
       (λ w steps shown.
-      subst (Sees content x owner w mark.SharedFast) (ap shared_word shown ∙ sym is_new)
+      subst (Sees content sizes.groups x owner w mark.SharedFast) (ap shared_word shown ∙ sym is_new)
       (record {
-        noted = sharing_fast-noted content limit x owner w steps (subst (λ n. owner < n) (sym steps.is_limit) exists)
+        noted = sharing_fast-noted content sizes x owner w steps (subst (λ n. owner < n) (sym steps.is_limit) exists)
             (subst IsFreeToShare (sym shown) free) may;
         contents = refl;
         lists = λ lock nobody. (nobody, refl);
       }))
-      (λ s r at_view below. nothing-changes content begun limit id at_word me.0 s r at_view)
+      (λ s r at_view below. nothing-changes content begun sizes id at_word me.0 s r at_view) i at)
 
-module _ {T : Type 0} (content : T → Content) (limit : ℕ) (x : History T) (owner : ℕ) (exists : owner < limit) where
-  there : (w : World) → Stepper limit w x.number (told content x.number x.marks) → owner < w.numbers.limit
+module _ {T : Type 0} (content : T → Content) (sizes : Sizes) (x : History T) (owner : ℕ) (exists : owner < sizes.sessions) where
+  there : (w : World) → Stepper sizes w x.number (told content x.number x.marks) → owner < w.numbers.limit
   there w steps = subst (λ n. owner < n) (sym steps.is_limit) exists
 
   -- whoever knows the slots holds the word
-  shows-held : (w : World) → Stepper limit w x.number (told content x.number x.marks) → (slots : SlotsInHand) → (account w x.number).fast.slots owner ≡ Rattle.std.proofs.Common.Some slots
+  shows-held : (w : World) → Stepper sizes w x.number (told content x.number x.marks) → (slots : SlotsInHand) → (account w x.number).fast.slots owner ≡ Rattle.std.proofs.Common.Some slots
       → IsHeldExclusively (w.words.fast owner)
   shows-held w steps slots known =
       (steps.safe.but_slots.locks.fast_words owner).held_is_shown x.number
       (slots-known (w.sessions.holds_fast x.number owner) (w.words.database owner) (w.words.slot owner) slots known).0
 
   pub putting_fast-lawful : (slots : SlotsInHand) → MayPutFastBy (told content x.number x.marks) owner slots
-      → IsAlwaysLawful content limit x (Fast owner) (λ _. Unit {0}) (λ n. (n + (2 ^ 64 - 2 ^ 24)) % 2 ^ 64) (λ _. mark.PutFast owner)
+      → IsAlwaysLawful content sizes x (Fast owner) (λ _. Unit {0}) (λ n. (n + (2 ^ 64 - 2 ^ 24)) % 2 ^ 64) (λ _. mark.PutFast owner)
   putting_fast-lawful slots may w steps n below shown _ =
       let may' = subst (λ a. MayPutFastBy a owner slots) steps.account may in
       let held = subst IsHeldExclusively (sym shown) (shows-held w steps slots may'.in_hand) in
@@ -301,7 +314,7 @@ module _ {T : Type 0} (content : T → Content) (limit : ℕ) (x : History T) (o
 
   -- Whoever knows slots that it shares is counted in the word.
   pub unsharing_fast-lawful : (slots : SlotsInHand) → MayUnshareFastBy (told content x.number x.marks) owner slots
-      → IsAlwaysLawful content limit x (Fast owner) (λ _. Unit {0}) (λ n. (n + (2 ^ 64 - 1)) % 2 ^ 64) (λ _. mark.UnsharedFast owner)
+      → IsAlwaysLawful content sizes x (Fast owner) (λ _. Unit {0}) (λ n. (n + (2 ^ 64 - 1)) % 2 ^ 64) (λ _. mark.UnsharedFast owner)
   unsharing_fast-lawful slots may w steps n below shown _ =
       let may' = unshare_fast-lawful w steps.safe x.number steps.makes owner slots
       (subst (λ a. MayUnshareFastBy a owner slots) steps.account may) in
@@ -327,7 +340,7 @@ module _ {T : Type 0} (content : T → Content) (limit : ℕ) (x : History T) (o
       }
 
   pub passing-lawful : (slots : SlotsInHand) (tag : Tag) (mode : Mode) → MayPassBy (told content x.number x.marks) owner slots tag mode
-      → IsAlwaysLawful content limit x (Fast owner) (λ _. Unit {0}) (λ n. (n + (2 ^ 64 - 2 ^ 24)) % 2 ^ 64) (λ _. mark.Passed owner tag mode)
+      → IsAlwaysLawful content sizes x (Fast owner) (λ _. Unit {0}) (λ n. (n + (2 ^ 64 - 2 ^ 24)) % 2 ^ 64) (λ _. mark.Passed owner tag mode)
   passing-lawful slots tag mode may w steps n below shown _ =
       let may' = subst (λ a. MayPassBy a owner slots tag mode) steps.account may in
       let held = subst IsHeldExclusively (sym shown) (shows-held w steps slots may'.in_hand) in

@@ -35,6 +35,7 @@ use Rattle.lock_world.proofs.Accounts.Facts.{content-known}
 use Rattle.shared_rule.specs.Marks.{TookPart, PutPart}
 use Rattle.shared_rule.specs.declared.history.Mark.{Mark}
 use Rattle.shared_rule.specs.declared.history.History.{History}
+use Rattle.shared_rule.specs.declared.rule.Sizes.{Sizes}
 use Rattle.shared_rule.specs.declared.history.View.{View}
 use Rattle.shared_rule.specs.declared.kept.Kept.{Kept}
 use Rattle.shared_rule.specs.declared.kept.Kept.TheVariants.{Part}
@@ -121,16 +122,16 @@ module _ {T : Type 0} (content : T → Content) (begun : T → Option Request) w
             (sym (set_else homes (content_slot_of p) (content_slot_of q) (some (Part part)) (slots-apart p q other))) (home q within)))
       ]
 
-module _ {T : Type 0} (content : T → Content) (begun : T → Option Request) (limit id : ℕ) (me : Side T) (x : History T) (others : List (History T)) (is : me.0.sessions ≡ x ∷ others)
+module _ {T : Type 0} (content : T → Content) (begun : T → Option Request) (sizes : Sizes) (id : ℕ) (me : Side T) (x : History T) (others : List (History T)) (is : me.0.sessions ≡ x ∷ others)
     (p : ℕ) (exists : p < 16) where
   -- What is at home in a partition that is free.
-  at_home : (s : State (Kept T) (View T)) (r : Ruled content begun limit s) → IsHeldByNobody (r.world.words.partition p)
+  at_home : (s : State (Kept T) (View T)) (r : Ruled content begun sizes s) → IsHeldByNobody (r.world.words.partition p)
       → IsAtHome content begun (r.world.contents.now p) (get_elem? s.homes (content_slot_of p))
   at_home s r free = subst (λ h. IsHomeUnlessInHand content begun h (r.world.contents.now p) (get_elem? s.homes (content_slot_of p))) (free-in_no_hand r.world r.safe p free) (r.contents p exists)
 
   -- Taking it is noted so.
-  abbrev taking-noted : (w : World) → Stepper limit w x.number (told content x.number x.marks) → IsHeldByNobody (w.words.partition p) → (part : T) → content part ≡ w.contents.now p
-      → IsNoted content w x.number (told content x.number x.marks) (TookPart p part) (set_word w.words (Partition p) (taken_word (w.words.partition p)))
+  abbrev taking-noted : (w : World) → Stepper sizes w x.number (told content x.number x.marks) → IsHeldByNobody (w.words.partition p) → (part : T) → content part ≡ w.contents.now p
+      → IsNoted content sizes.groups w x.number (told content x.number x.marks) (TookPart p part) (set_word w.words (Partition p) (taken_word (w.words.partition p)))
   taking-noted w steps free part is_content = record {
     step = TakeExclusive (Partition p);
     after = after_taking_partition w x.number p;
@@ -144,26 +145,26 @@ module _ {T : Type 0} (content : T → Content) (begun : T → Option Request) (
 
   -- The exchange takes it where it finds the number of a free word.
   pub takes_part : (old new : ℕ) (step : Step (Kept T)) → step.first ≡ old → step.word ≡ index_of_word (Partition p) → IsHeldByNobody old → new ≡ taken_word old
-      → Allows (Ruled content begun limit) TABLE_SLOTS id me (index_of_word (Partition p)) (λ n. either (n == old) new n) (TookPartition content begun step me)
+      → Allows (Ruled content begun sizes) TABLE_SLOTS id me (index_of_word (Partition p)) (λ n. either (n == old) new n) (TookPartition content begun step me)
   takes_part old new step first word free is_new s r many at below =
       exchanged n old new (λ m. (view : View T) × (act : Act (Kept T)) × Valid s.homes me.1 act
-      × Ruled content begun limit (stepped s (index_of_word (Partition p)) m id me.1 view act)
+      × Ruled content begun sizes (stepped s (index_of_word (Partition p)) m id me.1 view act)
       × TookPartition content begun step me n (view, carried_after me.1 act))
       (λ hit.
       let shown : r.world.words.partition p ≡ old = sym (r.words.word (Partition p) (exists, tt)) ∙ hit in
       let is_free : IsHeldByNobody (r.world.words.partition p) = subst IsHeldByNobody (sym shown) free in
       let home = at_home s r is_free in
-      let steps = ruled-steps content begun limit s r id me.0 x others at is in
+      let steps = ruled-steps content begun sizes s r id me.0 x others at is in
       let noted = taking-noted r.world steps is_free home.part home.is_content in
       let next : taken_word (r.world.words.partition p) ≡ new = ap taken_word shown ∙ sym is_new in (
         noting me.0 (TookPart p home.part),
         takes (content_slot_of p) (Part home.part),
         home.at_home,
-        ruled-noted content begun limit s r id me.0 x others at is (TookPart p home.part)
+        ruled-noted content begun sizes s r id me.0 x others at is (TookPart p home.part)
             (set_word r.world.words (Partition p) (taken_word (r.world.words.partition p))) (slice_set s.words (index_of_word (Partition p)) new)
             (slice_set s.homes (content_slot_of p) none) noted
-            (subst (λ k. Rattle.shared_rule.specs.Shown.WordsAreShown (slice_set s.words (index_of_word (Partition p)) k) (set_word r.world.words (Partition p) (taken_word (r.world.words.partition p)))) next
-            (words-set s.words r.world.words (Partition p) (taken_word (r.world.words.partition p)) r.words (exists, tt)))
+            (subst (λ k. Rattle.shared_rule.specs.Shown.WordsAreShown sizes.groups (slice_set s.words (index_of_word (Partition p)) k) (set_word r.world.words (Partition p) (taken_word (r.world.words.partition p)))) next
+            (words-set sizes.groups r.some_groups r.few_groups s.words r.world.words (Partition p) (taken_word (r.world.words.partition p)) r.words (exists, tt)))
             (home-taken content begun s.homes r.world.contents p
             (record { holder = x.number; taken = r.world.contents.now p; recorded = None; unmarked = λ _. Rattle.std.proofs.Common.false }) r.contents)
             (lists-beside s.homes p none r.world.sessions.has_list r.world.words.list exists r.lists),
@@ -181,19 +182,19 @@ module _ {T : Type 0} (content : T → Content) (begun : T → Option Request) (
           (λ miss. absurd (miss (hit ∙ sym first))),
         ),
       ))
-      (λ miss. (me.0, keeps, tt, nothing-changes content begun limit id (index_of_word (Partition p)) me.0 s r at, ((λ hit. absurd (miss (hit ∙ first))), λ _. refl)))
+      (λ miss. (me.0, keeps, tt, nothing-changes content begun sizes id (index_of_word (Partition p)) me.0 s r at, ((λ hit. absurd (miss (hit ∙ first))), λ _. refl)))
     where
       n : ℕ
       n = slice_index s.words (index_of_word (Partition p))
 
   -- Whoever may put it has it in hand.
-  may_put-in_hand : (a : Account) (its : InHand) (done : Move) (now : Content) → MayPutPart limit x.number a p its done now → a.hand p ≡ Some its
+  may_put-in_hand : (a : Account) (its : InHand) (done : Move) (now : Content) → MayPutPart sizes.sessions x.number a p its done now → a.hand p ≡ Some its
   may_put-in_hand a its done now (inl may) = may.may_move.in_hand
   may_put-in_hand a its done now (inr may) = may.may_put.in_hand
 
   -- Putting it is an event.
-  put-happens : (w : World) → SafeWorld w → MakesSteps w.numbers x.number → w.numbers.limit ≡ limit → (its : InHand) (done : Move) (part : T)
-      → MayPutPart limit x.number (account w x.number) p its done (content part) → (step : event.Step) × HappensStep w x.number step (after_putting_partition w x.number p done (content part))
+  put-happens : (w : World) → SafeWorld w → MakesSteps w.numbers x.number → w.numbers.limit ≡ sizes.sessions → (its : InHand) (done : Move) (part : T)
+      → MayPutPart sizes.sessions x.number (account w x.number) p its done (content part) → (step : event.Step) × HappensStep w x.number step (after_putting_partition w x.number p done (content part))
   put-happens w safe makes is_limit its done part (inl may) =
       let may' : MayPutBy w.numbers.limit x.number (account w x.number) p its done (content part) =
       subst (λ k. MayPutBy k x.number (account w x.number) p its done (content part)) (sym is_limit) may in
@@ -206,11 +207,11 @@ module _ {T : Type 0} (content : T → Content) (begun : T → Option Request) (
       )
 
   -- Putting it is noted so.
-  abbrev putting-noted : (w : World) → Stepper limit w x.number (told content x.number x.marks) → (its : InHand) (done : Move) (part : T)
-      → MayPutPart limit x.number (told content x.number x.marks) p its done (content part)
-      → IsNoted content w x.number (told content x.number x.marks) (PutPart p done part) (set_word w.words (Partition p) (put_word (w.words.partition p)))
+  abbrev putting-noted : (w : World) → Stepper sizes w x.number (told content x.number x.marks) → (its : InHand) (done : Move) (part : T)
+      → MayPutPart sizes.sessions x.number (told content x.number x.marks) p its done (content part)
+      → IsNoted content sizes.groups w x.number (told content x.number x.marks) (PutPart p done part) (set_word w.words (Partition p) (put_word (w.words.partition p)))
   putting-noted w steps its done part may =
-      let may' : MayPutPart limit x.number (account w x.number) p its done (content part) = subst (λ a. MayPutPart limit x.number a p its done (content part)) steps.account may in
+      let may' : MayPutPart sizes.sessions x.number (account w x.number) p its done (content part) = subst (λ a. MayPutPart sizes.sessions x.number a p its done (content part)) steps.account may in
       let had = may_put-in_hand (told content x.number x.marks) its done (content part) may in
       let made = put-happens w steps.safe steps.makes steps.is_limit its done part may' in
       let own = hand-known (w.contents.hand p) (w.contents.now p) x.number its (may_put-in_hand (account w x.number) its done (content part) may') in
@@ -227,11 +228,11 @@ module _ {T : Type 0} (content : T → Content) (begun : T → Option Request) (
         few_counted = steps.few_counted x.number;
       }
 
-  pub puts_part : (step : Step (Kept T)) (its : InHand) (done : Move) (part : T) → MayPutPart limit x.number (told content x.number x.marks) p its done (content part)
+  pub puts_part : (step : Step (Kept T)) (its : InHand) (done : Move) (part : T) → MayPutPart sizes.sessions x.number (told content x.number x.marks) p its done (content part)
       → begun part ≡ None → me.1 ≡ (content_slot_of p, Part part) ∷ rest me.1
-      → Allows (Ruled content begun limit) TABLE_SLOTS id me (index_of_word (Partition p)) (λ n. (n + (2 ^ 64 - 2 ^ 24)) % 2 ^ 64) (WentHome (λ _. PutPart p done part) step me)
+      → Allows (Ruled content begun sizes) TABLE_SLOTS id me (index_of_word (Partition p)) (λ n. (n + (2 ^ 64 - 2 ^ 24)) % 2 ^ 64) (WentHome (λ _. PutPart p done part) step me)
   puts_part step its done part may none_begun carried s r many at below =
-      let steps = ruled-steps content begun limit s r id me.0 x others at is in
+      let steps = ruled-steps content begun sizes s r id me.0 x others at is in
       let noted = putting-noted r.world steps its done part may in
       let own = hand-known (r.world.contents.hand p) (r.world.contents.now p) x.number its (subst (λ (a : Account). a.hand p ≡ Some its) steps.account (may_put-in_hand (told content x.number x.marks) its done (content part) may)) in
       let holds : r.world.sessions.holds_partition x.number p ≡ Rattle.std.proofs.Common.true =
@@ -244,11 +245,11 @@ module _ {T : Type 0} (content : T → Content) (begun : T → Option Request) (
         noting me.0 (PutPart p done part),
         gives,
         tt,
-        ruled-noted content begun limit s r id me.0 x others at is (PutPart p done part)
+        ruled-noted content begun sizes s r id me.0 x others at is (PutPart p done part)
             (set_word r.world.words (Partition p) (put_word (r.world.words.partition p))) (slice_set s.words (index_of_word (Partition p)) ((slice_index s.words (index_of_word (Partition p)) + (2 ^ 64 - 2 ^ 24)) % 2 ^ 64))
             (Rattle.atomic_table.specs.Table.put_back s.homes me.1) noted
-            (subst (λ k. Rattle.shared_rule.specs.Shown.WordsAreShown (slice_set s.words (index_of_word (Partition p)) k) (set_word r.world.words (Partition p) (put_word (r.world.words.partition p)))) next
-            (words-set s.words r.world.words (Partition p) (put_word (r.world.words.partition p)) r.words (exists, tt)))
+            (subst (λ k. Rattle.shared_rule.specs.Shown.WordsAreShown sizes.groups (slice_set s.words (index_of_word (Partition p)) k) (set_word r.world.words (Partition p) (put_word (r.world.words.partition p)))) next
+            (words-set sizes.groups r.some_groups r.few_groups s.words r.world.words (Partition p) (put_word (r.world.words.partition p)) r.words (exists, tt)))
             (subst (λ (homes : List (maybe.Option (Kept T))). ContentsAreHome content begun homes noted.after.contents) (sym (ap (Rattle.atomic_table.specs.Table.put_back s.homes) carried))
             (home-put content begun s.homes r.world.contents p part many exists none_begun r.contents))
             (subst (λ (homes : List (maybe.Option (Kept T))). ListsAreHome homes r.world.sessions.has_list r.world.words.list) (sym (ap (Rattle.atomic_table.specs.Table.put_back s.homes) carried))
@@ -257,20 +258,20 @@ module _ {T : Type 0} (content : T → Content) (begun : T → Option Request) (
       )
 
 -- The same of the word at an index, in a table with this many slots.
-module _ {T : Type 0} (content : T → Content) (begun : T → Option Request) (limit id : ℕ) (me : Side T) (x : History T) (others : List (History T)) (is : me.0.sessions ≡ x ∷ others)
+module _ {T : Type 0} (content : T → Content) (begun : T → Option Request) (sizes : Sizes) (id : ℕ) (me : Side T) (x : History T) (others : List (History T)) (is : me.0.sessions ≡ x ∷ others)
     (p : ℕ) (exists : p < 16) (slots i : ℕ) (many : slots ≡ TABLE_SLOTS) (at : i ≡ index_of_word (Partition p)) where
   pub takes_part_at : (old new : ℕ) → IsHeldByNobody old → new ≡ taken_word old
-      → Allows (Ruled content begun limit) slots id me i (λ n. either (n == old) new n) (TookPartition content begun (step slots i old new none) me)
+      → Allows (Ruled content begun sizes) slots id me i (λ n. either (n == old) new n) (TookPartition content begun (step slots i old new none) me)
   takes_part_at old new free is_new =
-      subst (λ n. Allows (Ruled content begun limit) n id me i (λ n. either (n == old) new n) (TookPartition content begun (step n i old new none) me)) (sym many)
-      (subst (λ k. Allows (Ruled content begun limit) TABLE_SLOTS id me k (λ n. either (n == old) new n) (TookPartition content begun (step TABLE_SLOTS k old new none) me)) (sym at)
-      (takes_part content begun limit id me x others is p exists old new (step TABLE_SLOTS (index_of_word (Partition p)) old new none) refl refl free is_new))
+      subst (λ n. Allows (Ruled content begun sizes) n id me i (λ n. either (n == old) new n) (TookPartition content begun (step n i old new none) me)) (sym many)
+      (subst (λ k. Allows (Ruled content begun sizes) TABLE_SLOTS id me k (λ n. either (n == old) new n) (TookPartition content begun (step TABLE_SLOTS k old new none) me)) (sym at)
+      (takes_part content begun sizes id me x others is p exists old new (step TABLE_SLOTS (index_of_word (Partition p)) old new none) refl refl free is_new))
 
-  pub puts_part_at : (its : InHand) (done : Move) (part : T) → MayPutPart limit x.number (told content x.number x.marks) p its done (content part)
+  pub puts_part_at : (its : InHand) (done : Move) (part : T) → MayPutPart sizes.sessions x.number (told content x.number x.marks) p its done (content part)
       → begun part ≡ None → me.1 ≡ (content_slot_of p, Part part) ∷ rest me.1 → (mark : ℕ → Mark T) → mark ≡ (λ _. PutPart p done part)
-      → Allows (Ruled content begun limit) slots id me i (λ n. (n + (2 ^ 64 - 16777216)) % 2 ^ 64) (WentHome mark (step slots i 16777216 0 none) me)
+      → Allows (Ruled content begun sizes) slots id me i (λ n. (n + (2 ^ 64 - 16777216)) % 2 ^ 64) (WentHome mark (step slots i 16777216 0 none) me)
   puts_part_at its done part may none_begun carried mark marked =
-      subst (λ n. Allows (Ruled content begun limit) n id me i (λ n. (n + (2 ^ 64 - 16777216)) % 2 ^ 64) (WentHome mark (step n i 16777216 0 none) me)) (sym many)
-      (subst (λ k. Allows (Ruled content begun limit) TABLE_SLOTS id me k (λ n. (n + (2 ^ 64 - 16777216)) % 2 ^ 64) (WentHome mark (step TABLE_SLOTS k 16777216 0 none) me)) (sym at)
-      (subst (λ (m : ℕ → Mark T). Allows (Ruled content begun limit) TABLE_SLOTS id me (index_of_word (Partition p)) (λ n. (n + (2 ^ 64 - 16777216)) % 2 ^ 64) (WentHome m (step TABLE_SLOTS (index_of_word (Partition p)) 16777216 0 none) me)) (sym marked)
-      (puts_part content begun limit id me x others is p exists (step TABLE_SLOTS (index_of_word (Partition p)) 16777216 0 none) its done part may none_begun carried)))
+      subst (λ n. Allows (Ruled content begun sizes) n id me i (λ n. (n + (2 ^ 64 - 16777216)) % 2 ^ 64) (WentHome mark (step n i 16777216 0 none) me)) (sym many)
+      (subst (λ k. Allows (Ruled content begun sizes) TABLE_SLOTS id me k (λ n. (n + (2 ^ 64 - 16777216)) % 2 ^ 64) (WentHome mark (step TABLE_SLOTS k 16777216 0 none) me)) (sym at)
+      (subst (λ (m : ℕ → Mark T). Allows (Ruled content begun sizes) TABLE_SLOTS id me (index_of_word (Partition p)) (λ n. (n + (2 ^ 64 - 16777216)) % 2 ^ 64) (WentHome m (step TABLE_SLOTS (index_of_word (Partition p)) 16777216 0 none) me)) (sym marked)
+      (puts_part content begun sizes id me x others is p exists (step TABLE_SLOTS (index_of_word (Partition p)) 16777216 0 none) its done part may none_begun carried)))

@@ -19,6 +19,7 @@ use Rattle.lock_world.proofs.SafeWorld.Seats.{issuing-safe_world, going_on-safe_
 use Rattle.lock_world.proofs.FromSafeWorld.{no_conflict-own_world}
 use Rattle.shared_rule.specs.declared.history.Mark.{Mark}
 use Rattle.shared_rule.specs.declared.history.History.{History}
+use Rattle.shared_rule.specs.declared.rule.Sizes.{Sizes}
 use Rattle.shared_rule.specs.declared.history.View.{View}
 use Rattle.shared_rule.specs.declared.kept.Kept.{Kept}
 use Rattle.std.proofs.lemmas.Bool.{false_from_ne_true}
@@ -65,7 +66,7 @@ closing-lawful w safe k steps nobody may = record {
   keeps_nobody = nobody;
 }
 
-module _ {T : Type 0} (content : T → Content) (begun : T → Option Request) (limit : ℕ) where
+module _ {T : Type 0} (content : T → Content) (begun : T → Option Request) (sizes : Sizes) where
   -- Who closed stands with the opener still, where a view joins the others that doesn't know the next number,
   opener-longer : (numbers : Numbers) (views : List (View T)) (more : View T) → more.next ≡ None → OpenerHasClosed views numbers → OpenerHasClosed (views ++ more ∷ []) numbers
   opener-longer numbers views more none has seat view number there says =
@@ -80,7 +81,7 @@ module _ {T : Type 0} (content : T → Content) (begun : T → Option Request) (
 
   -- where one more is given out, and is live,
   opened-counted :
-      (s : State (Kept T) (View T)) (r : Ruled content begun limit s) (id : ℕ) (view : View T) (n : ℕ) → get_elem? s.views id ≡ some view → view.next ≡ Some n
+      (s : State (Kept T) (View T)) (r : Ruled content begun sizes s) (id : ℕ) (view : View T) (n : ℕ) → get_elem? s.views id ≡ some view → view.next ≡ Some n
       → OpenerHasClosed (slice_set s.views id (record { next = Some (n + 1); closed = view.closed; sessions = view.sessions }) ++ lone n [] ∷ []) (after_issuing r.world n).numbers
   opened-counted s r id view n at gives =
       opener-longer (after_issuing r.world n).numbers (slice_set s.views id left) (lone n []) refl (λ seat u m there says.
@@ -105,7 +106,7 @@ module _ {T : Type 0} (content : T → Content) (begun : T → Option Request) (
 
   -- and where one that was live closes, who is one more.
   closed-counted :
-      (s : State (Kept T) (View T)) (r : Ruled content begun limit s) (id : ℕ) (opener : View T) (n other k : ℕ) (marks : List (Mark T)) → get_elem? s.views id ≡ some opener
+      (s : State (Kept T) (View T)) (r : Ruled content begun sizes s) (id : ℕ) (opener : View T) (n other k : ℕ) (marks : List (Mark T)) → get_elem? s.views id ≡ some opener
       → opener.next ≡ Some n → other ≢ id → r.world.numbers.live k ≡ true
       → OpenerHasClosed (slice_set (slice_set s.views id (with_closed opener (lone k marks))) other spent_view) (after_closing r.world k).numbers
   closed-counted s r id opener n other k marks at gives apart live seat u m there says =
@@ -120,19 +121,19 @@ module _ {T : Type 0} (content : T → Content) (begun : T → Option Request) (
       ]
 
   -- A session opens.
-  pub opens : (id : ℕ) (view : View T) → HasNumber view limit → Splits (Ruled content begun limit) id view (opened view) (newcomer view)
+  pub opens : (id : ℕ) (view : View T) → HasNumber view sizes.sessions → Splits (Ruled content begun sizes) id view (opened view) (newcomer view)
   opens id view has =
-      subst (λ (o : Option ℕ). Splits (Ruled content begun limit) id view (record { next = number_after o; closed = view.closed; sessions = view.sessions }) (lone (number_in o) [])) (sym has.next)
+      subst (λ (o : Option ℕ). Splits (Ruled content begun sizes) id view (record { next = number_after o; closed = view.closed; sessions = view.sessions }) (lone (number_in o) [])) (sym has.next)
       (λ s r at.
       let seats = seats-opened content r.world s.views id view has.number at has.next r.safe.but_slots.table.carriers.numbers r.seats in
       let within : has.number < r.world.numbers.limit = subst (λ (n : ℕ). has.number < n) (sym r.is_limit) has.within in
       let may : MayBeIssued r.world has.number = record { next = (r.seats.next id view has.number at has.next).1; within = within } in
-      ruled-numbered content begun limit s r (record { session = has.number; step = SplitSeat }) (after_issuing r.world has.number).numbers _ (inl (may, refl)) refl (issuing-safe_world r.world has.number r.safe may) seats
+      ruled-numbered content begun sizes s r (record { session = has.number; step = SplitSeat }) (after_issuing r.world has.number).numbers _ (inl (may, refl)) refl (issuing-safe_world r.world has.number r.safe may) seats
       (opened-counted s r id view has.number at has.next))
 
   -- A session closes.
   pub closes : (id : ℕ) (opener : View T) (other : ℕ) (view : View T) → HasNext opener → IsForOne view → MayCloseBy (first_account content view.sessions)
-      → Joins (Ruled content begun limit) id opener other view (with_closed opener view) spent_view
+      → Joins (Ruled content begun sizes) id opener other view (with_closed opener view) spent_view
   closes id opener other view has one may s r at apart there =
       let k = one.number in
       let same : with_closed opener view ≡ with_closed opener (lone k one.marks) = ap (λ (z : View T). with_closed opener z) one.one in
@@ -140,15 +141,15 @@ module _ {T : Type 0} (content : T → Content) (begun : T → Option Request) (
       let shown = history-alone content r.world s.views other k one.marks stands r.seats in
       let may_by : MayCloseBy (account r.world k) = subst MayCloseBy (ap (λ (z : View T). first_account content z.sessions) one.one ∙ shown.account) may in
       let may_close = closing-lawful r.world r.safe k (record { live = shown.live; by_itself = shown.kept_by }) (keeps-nobody content r.world s.views other k one.marks stands r.seats) may_by in
-      subst (λ (v : View T). Ruled content begun limit (record { words = s.words; homes = s.homes; views = slice_set (slice_set s.views id v) other spent_view })) (sym same)
-      (ruled-closed content begun limit s r k _ may_close (closing-safe_world r.world k r.safe may_close)
+      subst (λ (v : View T). Ruled content begun sizes (record { words = s.words; homes = s.homes; views = slice_set (slice_set s.views id v) other spent_view })) (sym same)
+      (ruled-closed content begun sizes s r k _ may_close (closing-safe_world r.world k r.safe may_close)
       (seats-closed content r.world s.views other k one.marks stands r.seats id opener at apart r.safe.but_slots.table.carriers.numbers)
       (closed-counted s r id opener has.number other k one.marks at has.next apart shown.live))
 
   -- A session meets those at a seat, behind them.
-  meets : (s : State (Kept T) (View T)) (r : Ruled content begun limit s) (id : ℕ) (view : View T) (other b : ℕ) (marks : List (Mark T)) (at : get_elem? s.views id ≡ some view)
+  meets : (s : State (Kept T) (View T)) (r : Ruled content begun sizes s) (id : ℕ) (view : View T) (other b : ℕ) (marks : List (Mark T)) (at : get_elem? s.views id ≡ some view)
       (there : get_elem? s.views other ≡ some (lone b marks)) (apart : other ≢ id) → MayBeKeptApartBy (account r.world b) → (sessions : List (History T)) → view.sessions ≡ sessions
-      → Ruled content begun limit (record { words = s.words; homes = s.homes; views = slice_set (slice_set s.views id (met view (lone b marks))) other spent_view })
+      → Ruled content begun sizes (record { words = s.words; homes = s.homes; views = slice_set (slice_set s.views id (met view (lone b marks))) other spent_view })
   meets s r id view other b marks at there apart may sessions is = by sessions is where
     theirs : History T
     theirs = record { number = b; marks = marks }
@@ -171,14 +172,17 @@ module _ {T : Type 0} (content : T → Content) (begun : T → Option Request) (
         subst (λ (k : ℕ → Option ℕ). SeatsAreShown content after (with_numbers r.world (record (r.world.numbers) { kept_by = k }))) same
         (seats-met content r.world s.views id view other b marks at there apart r.seats)
 
-    by : (sessions : List (History T)) → view.sessions ≡ sessions → Ruled content begun limit (record { words = s.words; homes = s.homes; views = after })
+    by : (sessions : List (History T)) → view.sessions ≡ sessions → Ruled content begun sizes (record { words = s.words; homes = s.homes; views = after })
     by [] none = record {
       world = r.world;
       events = r.events;
       run = r.run;
       safe = r.safe;
       is_limit = r.is_limit;
+      are_groups = r.are_groups;
       few = r.few;
+      some_groups = r.some_groups;
+      few_groups = r.few_groups;
       words = r.words;
       none_beyond = r.none_beyond;
       few_counted = r.few_counted;
@@ -199,27 +203,27 @@ module _ {T : Type 0} (content : T → Content) (begun : T → Option Request) (
           no_word = λ p. r.safe.but_slots.table.carriers.hands p b ∙ no-hand (r.world.contents.hand p) (r.world.contents.now p) b (may.no_partition p);
           no_fast_word = λ o. none-tested (r.world.sessions.holds_fast b o) _ (may.no_fast_word o);
         } in
-        ruled-numbered content begun limit s r (record { session = b; step = JoinSeat (Some x.number) }) (after_keeping_apart r.world b x.number).numbers after (may_be, refl) refl
+        ruled-numbered content begun sizes s r (record { session = b; step = JoinSeat (Some x.number) }) (after_keeping_apart r.world b x.number).numbers after (may_be, refl) refl
         (keeping_apart-safe_world r.world b x.number r.safe may_be)
         (seats_as (set_at r.world.numbers.kept_by b (Some x.number)) (ap (λ (xs : List (History T)). set_at r.world.numbers.kept_by b (keeper (xs ++ theirs ∷ []) (length xs))) its))
         (kept-counted r.world.numbers (after_keeping_apart r.world b x.number).numbers.kept_by after closed)
 
   -- A session is kept apart.
   pub keeps_apart : (id : ℕ) (view : View T) (other : ℕ) (theirs : View T) → IsForOne theirs → MayBeKeptApartBy (first_account content theirs.sessions)
-      → Joins (Ruled content begun limit) id view other theirs (met view theirs) spent_view
+      → Joins (Ruled content begun sizes) id view other theirs (met view theirs) spent_view
   keeps_apart id view other theirs one may s r at apart there =
       let b = one.number in
       let stands : get_elem? s.views other ≡ some (lone b one.marks) = sym (set_else s.views id other (met view theirs) apart) ∙ there ∙ ap some one.one in
       let shown = history-alone content r.world s.views other b one.marks stands r.seats in
       let may_by : MayBeKeptApartBy (account r.world b) = subst MayBeKeptApartBy (ap (λ (z : View T). first_account content z.sessions) one.one ∙ shown.account) may in
-      subst (λ (v : View T). Ruled content begun limit (record { words = s.words; homes = s.homes; views = slice_set (slice_set s.views id v) other spent_view }))
+      subst (λ (v : View T). Ruled content begun sizes (record { words = s.words; homes = s.homes; views = slice_set (slice_set s.views id v) other spent_view }))
       (sym (ap (λ (z : View T). met view z) one.one))
       (meets s r id view other b one.marks at stands apart may_by view.sessions refl)
 
   -- The last one goes on by itself.
-  parts : (s : State (Kept T) (View T)) (r : Ruled content begun limit s) (id : ℕ) (view : View T) (before : List (History T)) (y : History T) (at : get_elem? s.views id ≡ some view)
+  parts : (s : State (Kept T) (View T)) (r : Ruled content begun sizes s) (id : ℕ) (view : View T) (before : List (History T)) (y : History T) (at : get_elem? s.views id ≡ some view)
       (is : view.sessions ≡ before ++ y ∷ [])
-      → Ruled content begun limit (record {
+      → Ruled content begun sizes (record {
         words = s.words;
         homes = s.homes;
         views = slice_set s.views id (record { next = view.next; closed = view.closed; sessions = before }) ++ record { next = None; closed = []; sessions = y ∷ [] } ∷ [];
@@ -232,7 +236,10 @@ module _ {T : Type 0} (content : T → Content) (begun : T → Option Request) (
         run = r.run;
         safe = r.safe;
         is_limit = r.is_limit;
+        are_groups = r.are_groups;
         few = r.few;
+        some_groups = r.some_groups;
+        few_groups = r.few_groups;
         words = r.words;
         none_beyond = r.none_beyond;
         few_counted = r.few_counted;
@@ -253,30 +260,30 @@ module _ {T : Type 0} (content : T → Content) (begun : T → Option Request) (
   parts s r id view (x ∷ before) y at is =
       let shown = last-shown content r.world s.views id view (x ∷ before) y at is r.seats in
       let kept : r.world.numbers.kept_by y.number ≡ Some x.number = shown.kept_by ∙ ap (λ (xs : List (History T)). keeper xs (length (x ∷ before))) is in
-      ruled-numbered content begun limit s r (record { session = y.number; step = SplitSeat }) (after_going_on r.world y.number).numbers _ (inr ((x.number, kept), refl)) refl
+      ruled-numbered content begun sizes s r (record { session = y.number; step = SplitSeat }) (after_going_on r.world y.number).numbers _ (inr ((x.number, kept), refl)) refl
       (going_on-safe_world r.world y.number r.safe (x.number, kept))
       (seats-parted content r.world s.views id view (x ∷ before) y at is r.seats)
       (kept-counted r.world.numbers (after_going_on r.world y.number).numbers.kept_by _
       (opener-longer r.world.numbers (slice_set s.views id (record { next = view.next; closed = view.closed; sessions = x ∷ before })) (record { next = None; closed = []; sessions = y ∷ [] }) refl
       (opener-set r.world.numbers s.views id view (record { next = view.next; closed = view.closed; sessions = x ∷ before }) at refl (λ n says. says) r.closed)))
 
-  pub hands_back : (id : ℕ) (view : View T) → HasLast view → Splits (Ruled content begun limit) id view (parted view) (handed_back view)
+  pub hands_back : (id : ℕ) (view : View T) → HasLast view → Splits (Ruled content begun sizes) id view (parted view) (handed_back view)
   hands_back id view is s r at =
       let rest : all_but_last view.sessions ≡ is.before = ap all_but_last is.sessions ∙ all_but_last-of is.before is.last in
       let last : last_of view.sessions ≡ is.last ∷ [] = ap last_of is.sessions ∙ last_of-of is.before is.last in
       subst
-      (λ (views : List (View T)). Ruled content begun limit (record { words = s.words; homes = s.homes; views = views }))
+      (λ (views : List (View T)). Ruled content begun sizes (record { words = s.words; homes = s.homes; views = views }))
       (λ i. slice_set s.views id (record { next = view.next; closed = view.closed; sessions = sym rest i }) ++ record { next = None; closed = []; sessions = sym last i } ∷ [])
       (parts s r id view is.before is.last at is.sessions)
 
   -- Those that the opener has as closed were given out, each once.
-  pub tells_closed : (slots id i : ℕ) (me : Side T) (step : Step (Kept T)) → HasNext me.0 → Allows (Ruled content begun limit) slots id me i (λ n. n) (ToldClosed step me)
+  pub tells_closed : (slots id i : ℕ) (me : Side T) (step : Step (Kept T)) → HasNext me.0 → Allows (Ruled content begun sizes) slots id me i (λ n. n) (ToldClosed step me)
   tells_closed slots id i me step has s r many at below =
       let opens_at = r.seats.next id me.0 has.number at has.next in (
         me.0,
         keeps,
         tt,
-        nothing-changes content begun limit id i me.0 s r at,
+        nothing-changes content begun sizes id i me.0 s r at,
         (
           refl,
           subst (λ (o : Option ℕ). HaveClosed (number_in o) me.0.closed) (sym has.next)
@@ -286,7 +293,7 @@ module _ {T : Type 0} (content : T → Content) (begun : T → Option Request) (
       )
 
   -- Where two meet, no hold of the one conflicts with a hold of the other.
-  pub tells_apart : (slots id i : ℕ) (me : Side T) (step : Step (Kept T)) → IsForTwo me.0 → Allows (Ruled content begun limit) slots id me i (λ n. n) (ToldApart content step me)
+  pub tells_apart : (slots id i : ℕ) (me : Side T) (step : Step (Kept T)) → IsForTwo me.0 → Allows (Ruled content begun sizes) slots id me i (λ n. n) (ToldApart content step me)
   tells_apart slots id i me step is s r many at below =
       let both : me.0.sessions ≡ is.first ∷ is.second ∷ [] = ap (λ (v : View T). v.sessions) is.two in
       let one = r.seats.history id 0 me.0 is.first at (ap (λ (xs : List (History T)). slice_get xs 0) both) in
@@ -299,7 +306,7 @@ module _ {T : Type 0} (content : T → Content) (begun : T → Option Request) (
         me.0,
         keeps,
         tt,
-        nothing-changes content begun limit id i me.0 s r at,
+        nothing-changes content begun sizes id i me.0 s r at,
         (
           refl,
           subst (λ (v : View T). DoNotConflict (first_account content v.sessions) (first_account content (behind_of v.sessions))) (sym is.two)

@@ -1,4 +1,4 @@
-use Rattle.std.proofs.Common.{◌≡◌, ℕ, ◌<◌, Some, refl, sym, ap, ◌∙◌, subst, inl, inr, arith}
+use Rattle.std.proofs.Common.{◌≡◌, ℕ, ◌*◌, ◌<◌, Some, refl, sym, ap, ◌∙◌, subst, inl, inr, arith}
 use Rattle.std.proofs.lemmas.Bool.{cases_eq, false_from_ne_true}
 use Rattle.modes_core.specs.declared.modes.Mode.{Mode}
 use Rattle.modes_core.specs.declared.tags.Tag.{Tag}
@@ -10,7 +10,7 @@ use Rattle.lock_table.specs.Put.{set_at}
 use Rattle.lock_table.proofs.PutLemmas.{set_at-here, set_at-else}
 use Rattle.lock_world.specs.declared.events.Word.TheVariants.{Database, Slot}
 use Rattle.lock_world.specs.declared.events.Step.TheVariants as step
-use Rattle.lock_world.specs.SlotHolds.{slot_count, relation_of, InUseHasDatabase, NoSlotInUse}
+use Rattle.lock_world.specs.SlotHolds.{group_size, relation_of, InUseHasDatabase, NoSlotInUse}
 use Rattle.lock_world.specs.World.{World, Words, is_unmarked}
 use Rattle.lock_world.specs.Happens.Slots.{after_setting_slot, after_clearing_slot, MayStoreDatabase}
 use Rattle.lock_world.specs.Happens.Slots.{after_storing_database}
@@ -24,6 +24,7 @@ use Rattle.lock_world.proofs.Accounts.Parts.{mine}
 use Rattle.lock_world.proofs.Accounts.Slots.{slots_now, account-setting, account-unsetting, account-transferring}
 use Rattle.lock_world.proofs.Accounts.Slots.{account-storing}
 use Rattle.shared_rule.specs.Marks as mark
+use Rattle.shared_rule.specs.declared.rule.Sizes.{Sizes}
 use Rattle.shared_rule.specs.declared.history.History.{History}
 use Rattle.shared_rule.specs.Shown.{set_word}
 use Rattle.shared_rule.specs.Ruled.{NoneBeyondSlots}
@@ -34,9 +35,9 @@ use Rattle.shared_rule.proofs.Events.Waits.{home-recorded}
 -- Setting and clearing a mode in a slot of its own, moving one from a slot to the table, and storing its own database.
 
 -- A slot that is set is none beyond the others.
-set-none_beyond : (words : Words) (session place n : ℕ) → place < slot_count → NoneBeyondSlots words
-    → NoneBeyondSlots (set_word words (Slot session place) n)
-set-none_beyond words session place n within none k j later =
+set-none_beyond : (groups : ℕ) (words : Words) (session place n : ℕ) → place < group_size * groups → NoneBeyondSlots groups words
+    → NoneBeyondSlots groups (set_word words (Slot session place) n)
+set-none_beyond groups words session place n within none k j later =
     elim (cases_eq k session) [
       | inl same ↦
           ap (λ row. row j) (set_at-here words.slot session (set_at (words.slot session) place n) k same)
@@ -58,15 +59,16 @@ known-here : (w : World) (s owner : ℕ) (its : SlotsInHand) → (account w s).f
 known-here w s owner its known = (slots-known (w.sessions.holds_fast s owner) (w.words.database owner)
     (w.words.slot owner) its known).1
 
-module _ {T : Type 0} (content : T → Content) (limit : ℕ) (x : History T) where
+module _ {T : Type 0} (content : T → Content) (sizes : Sizes) (x : History T) where
   pub setting-lawful : (its : SlotsInHand) (place : ℕ) (tag : Tag) (mode : Mode) (shown : ℕ)
-      → MaySetSlotBy x.number (told content x.number x.marks) its place tag mode → shown ≡ its.word place
-      → IsAlwaysLawful content limit x (Slot x.number place) (λ _. Unit {0})
+      → place < group_size * sizes.groups → MaySetSlotBy sizes.groups x.number (told content x.number x.marks) its place tag mode → shown ≡ its.word place
+      → IsAlwaysLawful content sizes x (Slot x.number place) (λ _. Unit {0})
       (λ _. word_with shown (relation_of tag) mode) (λ _. mark.SetSlot place tag mode)
-  setting-lawful its place tag mode shown may is w steps n below _ _ =
+  setting-lawful its place tag mode shown within may is w steps n below _ _ =
       let s : ℕ = x.number in
-      let may' : MaySetSlotBy s (account w s) its place tag mode = subst (λ a. MaySetSlotBy s a its place tag mode)
-      steps.account may in
+      let may' : MaySetSlotBy w.numbers.groups s (account w s) its place tag mode =
+      subst (λ k. MaySetSlotBy k s (account w s) its place tag mode) (sym steps.are_groups)
+      (subst (λ a. MaySetSlotBy sizes.groups s a its place tag mode) steps.account may) in
       let lawful = set_slot-lawful w steps.safe s steps.makes its place tag mode may' in
       let known : its ≡ slots_now w s = known-here w s s its may'.in_hand in
       let here : slots_here ((account w s).fast.slots s) ≡ slots_now w s = ap slots_here may'.in_hand ∙ known in
@@ -83,7 +85,7 @@ module _ {T : Type 0} (content : T → Content) (limit : ℕ) (x : History T) wh
               ∙ (ap (λ slots. account_setting s (account w s) slots place tag mode) here
               ∙ sym (account-setting w s place tag mode steps.safe lawful));
           words = ap (λ k. set_word w.words (Slot s place) (word_with k (relation_of tag) mode)) (sym shows);
-          none_beyond = set-none_beyond w.words s place (word_with shown (relation_of tag) mode) may.takes.within
+          none_beyond = set-none_beyond sizes.groups w.words s place (word_with shown (relation_of tag) mode) within
               steps.none_beyond;
           few_counted = steps.few_counted s;
         };
@@ -92,10 +94,10 @@ module _ {T : Type 0} (content : T → Content) (limit : ℕ) (x : History T) wh
       }
 
   pub clearing_slot-lawful : (its : SlotsInHand) (place : ℕ) (tag : Tag) (mode : Mode) (shown : ℕ)
-      → MayClearSlotBy x.number (told content x.number x.marks) its place tag mode → shown ≡ its.word place
-      → IsAlwaysLawful content limit x (Slot x.number place) (λ _. Unit {0}) (λ _. word_without shown mode)
+      → place < group_size * sizes.groups → MayClearSlotBy x.number (told content x.number x.marks) its place tag mode → shown ≡ its.word place
+      → IsAlwaysLawful content sizes x (Slot x.number place) (λ _. Unit {0}) (λ _. word_without shown mode)
       (λ _. mark.ClearedSlot place tag mode)
-  clearing_slot-lawful its place tag mode shown may is w steps n below _ _ =
+  clearing_slot-lawful its place tag mode shown within may is w steps n below _ _ =
       let s : ℕ = x.number in
       let may' : MayClearSlotBy s (account w s) its place tag mode =
       subst (λ a. MayClearSlotBy s a its place tag mode) steps.account may in
@@ -115,7 +117,7 @@ module _ {T : Type 0} (content : T → Content) (limit : ℕ) (x : History T) wh
               ∙ (ap (λ slots. account_unsetting s (account w s) slots place tag mode) here
               ∙ sym (account-unsetting w s place tag mode steps.safe lawful));
           words = ap (λ k. set_word w.words (Slot s place) (word_without k mode)) (sym shows);
-          none_beyond = set-none_beyond w.words s place (word_without shown mode) may.within steps.none_beyond;
+          none_beyond = set-none_beyond sizes.groups w.words s place (word_without shown mode) within steps.none_beyond;
           few_counted = steps.few_counted s;
         };
         lists = λ lock nobody. (nobody, refl);
@@ -123,17 +125,17 @@ module _ {T : Type 0} (content : T → Content) (limit : ℕ) (x : History T) wh
       }
 
   pub transferring-lawful : (owner place : ℕ) (its : SlotsInHand) (held : InHand) (tag : Tag) (mode strong : Mode)
-      (shown : ℕ)
-      → MayTransferBy limit (told content x.number x.marks) owner place its held tag mode strong
+      (shown : ℕ) → place < group_size * sizes.groups
+      → MayTransferBy sizes.sessions (told content x.number x.marks) owner place its held tag mode strong
       → shown ≡ its.word place
-      → IsAlwaysLawful content limit x (Slot owner place) (λ _. Unit {0}) (λ _. word_without shown mode)
+      → IsAlwaysLawful content sizes x (Slot owner place) (λ _. Unit {0}) (λ _. word_without shown mode)
       (λ _. mark.TransferredSlot owner place tag mode)
-  transferring-lawful owner place its held tag mode strong shown may is w steps n below _ _ =
+  transferring-lawful owner place its held tag mode strong shown within may is w steps n below _ _ =
       let s : ℕ = x.number in
       let p : ℕ = partition_of tag in
       let may' : MayTransferBy w.numbers.limit (account w s) owner place its held tag mode strong =
       subst (λ k. MayTransferBy k (account w s) owner place its held tag mode strong) (sym steps.is_limit)
-      (subst (λ a. MayTransferBy limit a owner place its held tag mode strong) steps.account may) in
+      (subst (λ a. MayTransferBy sizes.sessions a owner place its held tag mode strong) steps.account may) in
       let lawful = transfer-lawful w steps.safe s steps.makes owner place its held tag mode strong may' in
       let own = hand-known (w.contents.hand p) (w.contents.now p) s held may'.in_hand in
       let known : its ≡ slots_now w owner = known-here w s owner its may'.its_slots in
@@ -155,7 +157,7 @@ module _ {T : Type 0} (content : T → Content) (limit : ℕ) (x : History T) wh
               ∙ sym (account-transferring w s owner place tag mode strong own.hand_of steps.safe lawful own.is_hand
               own.whose));
           words = ap (λ k. set_word w.words (Slot owner place) (word_without k mode)) (sym shows);
-          none_beyond = set-none_beyond w.words owner place (word_without shown mode) may.within steps.none_beyond;
+          none_beyond = set-none_beyond sizes.groups w.words owner place (word_without shown mode) within steps.none_beyond;
           few_counted = steps.few_counted s;
         };
         lists = λ lock nobody. (nobody, refl);
@@ -166,7 +168,7 @@ module _ {T : Type 0} (content : T → Content) (limit : ℕ) (x : History T) wh
       }
 
   pub storing-lawful : (database : ℕ) → (told content x.number x.marks).fast.database ≡ 0
-      → IsAlwaysLawful content limit x (Database x.number) (λ _. Unit {0}) (λ _. database)
+      → IsAlwaysLawful content sizes x (Database x.number) (λ _. Unit {0}) (λ _. database)
       (λ _. mark.StoredDatabase database)
   storing-lawful database unset w steps n below _ _ =
       let s : ℕ = x.number in

@@ -28,6 +28,7 @@ use Rattle.lock_world.proofs.Accounts.Waits.{account-asking, account-loading_wai
 use Rattle.lock_world.proofs.Accounts.Marks.{mark_first-lawful, mark_next-lawful}
 use Rattle.lock_world.proofs.Counters.Lists.{any-map}
 use Rattle.shared_rule.specs.Marks as mark
+use Rattle.shared_rule.specs.declared.rule.Sizes.{Sizes}
 use Rattle.shared_rule.specs.declared.history.History.{History}
 use Rattle.shared_rule.specs.Shown.{set_word}
 use Rattle.shared_rule.specs.History.{told, in_hand, is_among, sessions_told, account_granting, account_granting_by, is_granted, account_cleared, account_left}
@@ -49,9 +50,9 @@ home-recorded contents p s its own now done unmarked elsewhere q none =
       | inr other ↦ (sym (set_at-else contents.hand p (recording (contents.hand p) done unmarked) q other) ∙ none, elsewhere q other)
     ]
 
-module _ {T : Type 0} (content : T → Content) (limit : ℕ) (x : History T) where
+module _ {T : Type 0} (content : T → Content) (sizes : Sizes) (x : History T) where
   -- Loading its own wait word.
-  pub loading_wait-lawful : IsAlwaysLawful content limit x (word.Wait x.number) (λ _. Unit {0}) (λ n. n) mark.LoadedWait
+  pub loading_wait-lawful : IsAlwaysLawful content sizes x (word.Wait x.number) (λ _. Unit {0}) (λ n. n) mark.LoadedWait
   loading_wait-lawful w steps n below shown _ =
       let same : w.words ≡ set_word w.words (word.Wait x.number) n = ap (λ f. record (w.words) { wait = f }) (sym (set_at-same w.words.wait x.number n shown)) in
       record {
@@ -72,7 +73,7 @@ module _ {T : Type 0} (content : T → Content) (limit : ℕ) (x : History T) wh
       }
 
   -- Asking a session to cancel.
-  pub asking-lawful : (other : ℕ) → IsAlwaysLawful content limit x (word.Wait other) (λ _. Unit {0}) (λ n. bit_or n 4) (mark.Asked other)
+  pub asking-lawful : (other : ℕ) → IsAlwaysLawful content sizes x (word.Wait other) (λ _. Unit {0}) (λ n. bit_or n 4) (mark.Asked other)
   asking-lawful other w steps n below shown _ = record {
     list = w.words.list;
     noted = record {
@@ -90,13 +91,13 @@ module _ {T : Type 0} (content : T → Content) (limit : ℕ) (x : History T) wh
   }
 
   -- Setting its own wait word to waiting.
-  pub setting_waiting-lawful : (its : InHand) (tag : Tag) (mode : Mode) (now : T) → MayMoveBy limit x.number (told content x.number x.marks) (partition_of tag) its (Join tag mode) [] (content now)
-      → IsAlwaysLawful content limit x (word.Wait x.number) (λ _. Unit {0}) (λ _. 1) (λ _. mark.SetWaiting tag mode now)
+  pub setting_waiting-lawful : (its : InHand) (tag : Tag) (mode : Mode) (now : T) → MayMoveBy sizes.sessions x.number (told content x.number x.marks) (partition_of tag) its (Join tag mode) [] (content now)
+      → IsAlwaysLawful content sizes x (word.Wait x.number) (λ _. Unit {0}) (λ _. 1) (λ _. mark.SetWaiting tag mode now)
   setting_waiting-lawful its tag mode now may w steps n below shown _ =
       let p : ℕ = partition_of tag in
       let may' : MayMoveBy w.numbers.limit x.number (account w x.number) p its (Join tag mode) [] (content now) =
       subst (λ k. MayMoveBy k x.number (account w x.number) p its (Join tag mode) [] (content now)) (sym steps.is_limit)
-      (subst (λ a. MayMoveBy limit x.number a p its (Join tag mode) [] (content now)) steps.account may) in
+      (subst (λ a. MayMoveBy sizes.sessions x.number a p its (Join tag mode) [] (content now)) steps.account may) in
       let own = hand-known (w.contents.hand p) (w.contents.now p) x.number its may'.in_hand in
       let known : in_hand ((told content x.number x.marks).hand p) ≡ mine own.hand_of (w.contents.now p) = ap in_hand may.in_hand ∙ own.as_known in
       record {
@@ -142,19 +143,19 @@ marking-happens w s other p (Adopt k i) v grants h = absurd grants
 granted_word-wraps : (n : ℕ) → n < 2 ^ 64 → wait_state n ≡ 1 → granted_word n ≡ (n + 1) % 2 ^ 64
 granted_word-wraps n below waits = omega (arith, below, waits)
 
-module _ {T : Type 0} (content : T → Content) (limit : ℕ) (x : History T) (p : ℕ) (its : InHand) (done : Move) (granted : List Wait) (now : T) (other : ℕ) (grants : IsGrantingIn p done) where
+module _ {T : Type 0} (content : T → Content) (sizes : Sizes) (x : History T) (p : ℕ) (its : InHand) (done : Move) (granted : List Wait) (now : T) (other : ℕ) (grants : IsGrantingIn p done) where
   abbrev a : Account
   a = told content x.number x.marks
 
   abbrev woken : List ℕ
   woken = map (λ (wait : Wait). wait.session) granted
 
-  marking_first-lawful : MayMarkFirstBy limit x.number a p its done granted (content now) other
-      → IsAlwaysLawful content limit x (word.Wait other) (λ _. Unit {0}) (λ n. (n + 1) % 2 ^ 64) (λ _. mark.MarkedGranted p other done woken now)
+  marking_first-lawful : MayMarkFirstBy sizes.sessions x.number a p its done granted (content now) other
+      → IsAlwaysLawful content sizes x (word.Wait other) (λ _. Unit {0}) (λ n. (n + 1) % 2 ^ 64) (λ _. mark.MarkedGranted p other done woken now)
   marking_first-lawful may w steps n below shown _ =
       let may' : MayMarkFirstBy w.numbers.limit x.number (account w x.number) p its done granted (content now) other =
       subst (λ k. MayMarkFirstBy k x.number (account w x.number) p its done granted (content now) other) (sym steps.is_limit)
-      (subst (λ b. MayMarkFirstBy limit x.number b p its done granted (content now) other) steps.account may) in
+      (subst (λ b. MayMarkFirstBy sizes.sessions x.number b p its done granted (content now) other) steps.account may) in
       let lawful = mark_first-lawful w steps.safe x.number steps.makes p its done granted (content now) other may' in
       let own = hand-known (w.contents.hand p) (w.contents.now p) x.number its may'.may_move.in_hand in
       let known : in_hand (a.hand p) ≡ mine own.hand_of (w.contents.now p) = ap in_hand may.may_move.in_hand ∙ own.as_known in
@@ -180,7 +181,7 @@ module _ {T : Type 0} (content : T → Content) (limit : ℕ) (x : History T) (p
       }
 
   marking_next-lawful : MayMarkNextBy a p its done other
-      → IsAlwaysLawful content limit x (word.Wait other) (λ _. Unit {0}) (λ n. (n + 1) % 2 ^ 64) (λ _. mark.MarkedGranted p other done woken now)
+      → IsAlwaysLawful content sizes x (word.Wait other) (λ _. Unit {0}) (λ n. (n + 1) % 2 ^ 64) (λ _. mark.MarkedGranted p other done woken now)
   marking_next-lawful may w steps n below shown _ =
       let may' : MayMarkNextBy (account w x.number) p its done other = subst (λ b. MayMarkNextBy b p its done other) steps.account may in
       let lawful = mark_next-lawful w steps.safe x.number steps.makes p its done other may' in
@@ -208,8 +209,8 @@ module _ {T : Type 0} (content : T → Content) (limit : ℕ) (x : History T) (p
         lists = λ lock nobody. (nobody, refl);
       }
 
-  pub marking-lawful : MayMarkBy limit x.number a p its done granted (content now) other
-      → IsAlwaysLawful content limit x (word.Wait other) (λ _. Unit {0}) (λ n. (n + 1) % 2 ^ 64) (λ _. mark.MarkedGranted p other done woken now)
+  pub marking-lawful : MayMarkBy sizes.sessions x.number a p its done granted (content now) other
+      → IsAlwaysLawful content sizes x (word.Wait other) (λ _. Unit {0}) (λ n. (n + 1) % 2 ^ 64) (λ _. mark.MarkedGranted p other done woken now)
   marking-lawful (inl may) = marking_first-lawful may
   marking-lawful (inr may) = marking_next-lawful may
 
@@ -234,9 +235,9 @@ clearing-happens : (w : World) → SafeWorld w → (s : ℕ) → MakesSteps w.nu
 clearing-happens w safe s makes wait (inl seen) = inl (clear_seen-lawful w safe s makes wait seen)
 clearing-happens w safe s makes wait (inr gone) = inr (clear_in_hand-lawful w safe s makes wait gone.0 gone.1)
 
-module _ {T : Type 0} (content : T → Content) (limit : ℕ) (x : History T) (wait : OwnWait) where
+module _ {T : Type 0} (content : T → Content) (sizes : Sizes) (x : History T) (wait : OwnWait) where
   pub clearing-lawful : MayClearBy x.number (told content x.number x.marks) wait
-      → IsAlwaysLawful content limit x (word.Wait x.number) (λ _. Unit {0}) (λ _. 0) (λ _. mark.ClearedWait)
+      → IsAlwaysLawful content sizes x (word.Wait x.number) (λ _. Unit {0}) (λ _. 0) (λ _. mark.ClearedWait)
   clearing-lawful may w steps n below shown _ =
       let may' : MayClearBy x.number (account w x.number) wait = subst (λ b. MayClearBy x.number b wait) steps.account may in
       let waits : (account w x.number).awaited ≡ Some wait = may_clear-waits x.number (account w x.number) wait may' in
@@ -260,13 +261,13 @@ module _ {T : Type 0} (content : T → Content) (limit : ℕ) (x : History T) (w
       }
 
   -- Leaving the queue by it.
-  pub leaving-lawful : (its : InHand) (granted : List Wait) (now : T) → MayLeaveBy limit x.number (told content x.number x.marks) wait its granted (content now)
-      → IsAlwaysLawful content limit x (word.Wait x.number) (λ _. Unit {0}) (λ _. 0) (λ _. mark.LeftQueue (map (λ (w : Wait). w.session) granted) now)
+  pub leaving-lawful : (its : InHand) (granted : List Wait) (now : T) → MayLeaveBy sizes.sessions x.number (told content x.number x.marks) wait its granted (content now)
+      → IsAlwaysLawful content sizes x (word.Wait x.number) (λ _. Unit {0}) (λ _. 0) (λ _. mark.LeftQueue (map (λ (w : Wait). w.session) granted) now)
   leaving-lawful its granted now may w steps n below shown _ =
       let p : ℕ = partition_of wait.tag in
       let may' : MayLeaveBy w.numbers.limit x.number (account w x.number) wait its granted (content now) =
       subst (λ k. MayLeaveBy k x.number (account w x.number) wait its granted (content now)) (sym steps.is_limit)
-      (subst (λ b. MayLeaveBy limit x.number b wait its granted (content now)) steps.account may) in
+      (subst (λ b. MayLeaveBy sizes.sessions x.number b wait its granted (content now)) steps.account may) in
       let own = hand-known (w.contents.hand p) (w.contents.now p) x.number its may'.may_move.in_hand in
       let known : in_hand ((account w x.number).hand p) ≡ mine own.hand_of (w.contents.now p) = ap in_hand may'.may_move.in_hand ∙ own.as_known in
       let sessions : List ℕ = map (λ (z : Wait). z.session) granted in

@@ -20,6 +20,7 @@ use mathlib.Core.Option as maybe
 use Rattle.lock_world.specs.World.{World, Words, Contents, Hand, word_in}
 use Rattle.shared_rule.specs.declared.history.Mark.{Mark}
 use Rattle.shared_rule.specs.declared.history.History.{History}
+use Rattle.shared_rule.specs.declared.rule.Sizes.{Sizes}
 use Rattle.shared_rule.specs.declared.history.View.{View}
 use Rattle.shared_rule.specs.declared.kept.Kept.{Kept}
 use Rattle.shared_rule.specs.Layout.{index_of_word, content_slot_of, list_slot_of, IsInTable}
@@ -28,7 +29,7 @@ use Rattle.shared_rule.specs.History.{told, noting, first_account, first_number}
 use Rattle.shared_rule.specs.Ruled.{IsHomeUnlessInHand, ContentsAreHome, IsInNoHand, ListIsAtHome, ListsAreHome, Ruled}
 use Rattle.shared_rule.specs.Slots.{HasOrShares, KnowsWord}
 use Rattle.shared_rule.specs.Plays.{Side, Marked, Looked}
-use Rattle.shared_rule.proofs.Shown.{words-set}
+use Rattle.shared_rule.proofs.Shown.{may_be, words-set}
 use Rattle.shared_rule.proofs.Frame.{Stepper, IsNoted, ruled-steps, ruled-noted}
 
 -- A step that only leaves a mark is allowed where in each World it is lawful and makes that of the account, and no content comes or goes.
@@ -78,9 +79,9 @@ listed-same words list (Wait k) = refl
 listed-same words list (Strong index) = refl
 listed-same words list (Sleep k) = refl
 
-pub listed-shown : (table : List ℕ) (words : Words) (list : ℕ → List LwWaiter) → WordsAreShown table words
-    → WordsAreShown table (record words { list = list })
-listed-shown table words list shown =
+pub listed-shown : (groups : ℕ) (table : List ℕ) (words : Words) (list : ℕ → List LwWaiter) → WordsAreShown groups table words
+    → WordsAreShown groups table (record words { list = list })
+listed-shown groups table words list shown =
     record { as_many = shown.as_many; word = λ word there. shown.word word there ∙ sym (listed-same words list word) }
 
 -- What a session knows of a word is so.
@@ -104,43 +105,43 @@ word-known w safe s (Sleep k) = tt
 
 module _ {T : Type 0} (content : T → Content) where
   -- Whatever the World is, the step on a word that shows this is noted so, and leaves the contents alone.
-  pub record IsLawful (limit : ℕ) (x : History T) (word : Word) (shown next : ℕ) (mark : Mark T) (w : World) : Type 0 where
+  pub record IsLawful (sizes : Sizes) (x : History T) (word : Word) (shown next : ℕ) (mark : Mark T) (w : World) : Type 0 where
     -- who stands in lists after it
     pub list : ℕ → List LwWaiter
     pub noted :
-        IsNoted content w x.number (told content x.number x.marks) mark
+        IsNoted content sizes.groups w x.number (told content x.number x.marks) mark
         (record (set_word w.words word next) { list = list })
     pub home : KeepsHome w.contents noted.after.contents
     pub lists : KeepsLists w noted.after
 
-  abbrev pub IsAlwaysLawful : ℕ → History T → Word → (ℕ → Type 0) → (ℕ → ℕ) → (ℕ → Mark T) → Type 0
-  IsAlwaysLawful limit x word expected next mark =
-      (w : World) → Stepper limit w x.number (told content x.number x.marks)
+  abbrev pub IsAlwaysLawful : Sizes → History T → Word → (ℕ → Type 0) → (ℕ → ℕ) → (ℕ → Mark T) → Type 0
+  IsAlwaysLawful sizes x word expected next mark =
+      (w : World) → Stepper sizes w x.number (told content x.number x.marks)
       → (n : ℕ) → n < 2 ^ 64 → n ≡ word_in w.words word → expected n
-      → IsLawful limit x word n (next n) (mark n) w
+      → IsLawful sizes x word n (next n) (mark n) w
 
-module _ {T : Type 0} (content : T → Content) (begun : T → Option Request) (limit slots id : ℕ) (me : Side T) (x : History T) (others : List (History T)) (is : me.0.sessions ≡ x ∷ others)
-    (word : Word) (exists : IsInTable word) (next : ℕ → ℕ) (mark : ℕ → Mark T) where
+module _ {T : Type 0} (content : T → Content) (begun : T → Option Request) (sizes : Sizes) (slots id : ℕ) (me : Side T) (x : History T) (others : List (History T)) (is : me.0.sessions ≡ x ∷ others)
+    (word : Word) (exists : IsInTable sizes.groups word) (next : ℕ → ℕ) (mark : ℕ → Mark T) where
   -- After it the rule holds.
   pub rule-after :
-      (expected : ℕ → Type 0) → IsAlwaysLawful content limit x word expected next mark
-      → (s : State (Kept T) (View T)) → Ruled content begun limit s → get_elem? s.views id ≡ some me.0
+      (expected : ℕ → Type 0) → IsAlwaysLawful content sizes x word expected next mark
+      → (s : State (Kept T) (View T)) → Ruled content begun sizes s → get_elem? s.views id ≡ some me.0
       → (n : ℕ) → n < 2 ^ 64 → n ≡ slice_index s.words (index_of_word word) → expected n
-      → Ruled content begun limit (record { words = slice_set s.words (index_of_word word) (next n); homes = s.homes; views = slice_set s.views id (noting me.0 (mark n)) })
+      → Ruled content begun sizes (record { words = slice_set s.words (index_of_word word) (next n); homes = s.homes; views = slice_set s.views id (noting me.0 (mark n)) })
   rule-after expected lawful s r at n below shows is_so =
-      let steps = ruled-steps content begun limit s r id me.0 x others at is in
-      let now = lawful r.world steps n below (shows ∙ r.words.word word exists) is_so in
-      ruled-noted content begun limit s r id me.0 x others at is (mark n)
+      let steps = ruled-steps content begun sizes s r id me.0 x others at is in
+      let now = lawful r.world steps n below (shows ∙ r.words.word word (may_be sizes.groups r.few_groups word exists)) is_so in
+      ruled-noted content begun sizes s r id me.0 x others at is (mark n)
       (record (set_word r.world.words word (next n)) { list = now.list })
       (slice_set s.words (index_of_word word) (next n)) s.homes now.noted
-      (listed-shown (slice_set s.words (index_of_word word) (next n)) (set_word r.world.words word (next n)) now.list
-      (words-set s.words r.world.words word (next n) r.words exists))
+      (listed-shown sizes.groups (slice_set s.words (index_of_word word) (next n)) (set_word r.world.words word (next n)) now.list
+      (words-set sizes.groups r.some_groups r.few_groups s.words r.world.words word (next n) r.words exists))
       (home-kept content begun s.homes r.world.contents now.noted.after.contents now.home r.contents)
       (lists-kept s.homes r.world now.noted.after now.lists r.lists)
 
   -- A fetch-and-add, a fetch-and-subtract, or with `next` as it is a load.
-  pub marks : (step : Step (Kept T)) → IsAlwaysLawful content limit x word (λ _. Unit {0}) next mark
-      → Allows (Ruled content begun limit) slots id me (index_of_word word) next (Marked mark step me)
+  pub marks : (step : Step (Kept T)) → IsAlwaysLawful content sizes x word (λ _. Unit {0}) next mark
+      → Allows (Ruled content begun sizes) slots id me (index_of_word word) next (Marked mark step me)
   marks step lawful s r many at below = (
     noting me.0 (mark (slice_index s.words (index_of_word word))),
     keeps,
@@ -152,41 +153,41 @@ module _ {T : Type 0} (content : T → Content) (begun : T → Option Request) (
 
 -- A step that changes nothing.
 pub nothing-changes :
-    {T : Type 0} (content : T → Content) (begun : T → Option Request) (limit id i : ℕ) (view : View T) (s : State (Kept T) (View T))
-    → Ruled content begun limit s → get_elem? s.views id ≡ some view
-    → Ruled content begun limit (record { words = slice_set s.words i (slice_index s.words i); homes = s.homes; views = slice_set s.views id view })
-nothing-changes {T} content begun limit id i view s r at =
-    subst (λ (words : List ℕ). Ruled content begun limit (record { words = words; homes = s.homes; views = slice_set s.views id view })) (sym (set-get_or s.words i 0))
-    (subst (λ (views : List (View T)). Ruled content begun limit (record { words = s.words; homes = s.homes; views = views })) (sym (set_again s.views id view at)) r)
+    {T : Type 0} (content : T → Content) (begun : T → Option Request) (sizes : Sizes) (id i : ℕ) (view : View T) (s : State (Kept T) (View T))
+    → Ruled content begun sizes s → get_elem? s.views id ≡ some view
+    → Ruled content begun sizes (record { words = slice_set s.words i (slice_index s.words i); homes = s.homes; views = slice_set s.views id view })
+nothing-changes {T} content begun sizes id i view s r at =
+    subst (λ (words : List ℕ). Ruled content begun sizes (record { words = words; homes = s.homes; views = slice_set s.views id view })) (sym (set-get_or s.words i 0))
+    (subst (λ (views : List (View T)). Ruled content begun sizes (record { words = s.words; homes = s.homes; views = views })) (sym (set_again s.views id view at)) r)
 
 -- The same of the word at an index: a play of a mark reads nothing else of its step.
 pub marks_at :
-    {T : Type 0} (content : T → Content) (begun : T → Option Request) (limit slots id : ℕ) (me : Side T) (x : History T) (others : List (History T)) → me.0.sessions ≡ x ∷ others
-    → (word : Word) → IsInTable word → (i : ℕ) → i ≡ index_of_word word → (next : ℕ → ℕ) (mark : ℕ → Mark T)
-    → IsAlwaysLawful content limit x word (λ _. Unit {0}) next mark
-    → Allows (Ruled content begun limit) slots id me i next (Marked mark (step 0 0 0 0 none) me)
-marks_at {T} content begun limit slots id me x others is word exists i at next mark lawful =
-    subst (λ k. Allows (Ruled content begun limit) slots id me k next (Marked mark (step 0 0 0 0 none) me)) (sym at)
-    (marks content begun limit slots id me x others is word exists next mark (step 0 0 0 0 none) lawful)
+    {T : Type 0} (content : T → Content) (begun : T → Option Request) (sizes : Sizes) (slots id : ℕ) (me : Side T) (x : History T) (others : List (History T)) → me.0.sessions ≡ x ∷ others
+    → (word : Word) → IsInTable sizes.groups word → (i : ℕ) → i ≡ index_of_word word → (next : ℕ → ℕ) (mark : ℕ → Mark T)
+    → IsAlwaysLawful content sizes x word (λ _. Unit {0}) next mark
+    → Allows (Ruled content begun sizes) slots id me i next (Marked mark (step 0 0 0 0 none) me)
+marks_at {T} content begun sizes slots id me x others is word exists i at next mark lawful =
+    subst (λ k. Allows (Ruled content begun sizes) slots id me k next (Marked mark (step 0 0 0 0 none) me)) (sym at)
+    (marks content begun sizes slots id me x others is word exists next mark (step 0 0 0 0 none) lawful)
 
 -- A load, or a fetch operation, that tells what the account knows of the number found.
 pub looks_at :
-    {T : Type 0} (content : T → Content) (begun : T → Option Request) (limit slots id : ℕ) (me : Side T) (x : History T) (others : List (History T)) → me.0.sessions ≡ x ∷ others
-    → (word : Word) → IsInTable word → (i : ℕ) → i ≡ index_of_word word → (first : ℕ) (next : ℕ → ℕ) (mark : ℕ → Mark T)
-    → IsAlwaysLawful content limit x word (λ _. Unit {0}) next mark
-    → Allows (Ruled content begun limit) slots id me i next (Looked content mark (step slots i first 0 none) me)
-looks_at {T} content begun limit slots id me x others is word exists i at first next mark lawful =
-    subst (λ k. Allows (Ruled content begun limit) slots id me k next (Looked content mark (step slots k first 0 none)
+    {T : Type 0} (content : T → Content) (begun : T → Option Request) (sizes : Sizes) (slots id : ℕ) (me : Side T) (x : History T) (others : List (History T)) → me.0.sessions ≡ x ∷ others
+    → (word : Word) → IsInTable sizes.groups word → (i : ℕ) → i ≡ index_of_word word → (first : ℕ) (next : ℕ → ℕ) (mark : ℕ → Mark T)
+    → IsAlwaysLawful content sizes x word (λ _. Unit {0}) next mark
+    → Allows (Ruled content begun sizes) slots id me i next (Looked content mark (step slots i first 0 none) me)
+looks_at {T} content begun sizes slots id me x others is word exists i at first next mark lawful =
+    subst (λ k. Allows (Ruled content begun sizes) slots id me k next (Looked content mark (step slots k first 0 none)
     me)) (sym at) here where
-      here : Allows (Ruled content begun limit) slots id me (index_of_word word) next
+      here : Allows (Ruled content begun sizes) slots id me (index_of_word word) next
           (Looked content mark (step slots (index_of_word word) first 0 none) me)
       here s r many at_view below =
           let n : ℕ = slice_index s.words (index_of_word word) in
-          let steps = ruled-steps content begun limit s r id me.0 x others at_view is in (
+          let steps = ruled-steps content begun sizes s r id me.0 x others at_view is in (
             noting me.0 (mark n),
             keeps,
             tt,
-            rule-after content begun limit slots id me x others is word exists next mark (λ _. Unit {0}) lawful s
+            rule-after content begun sizes slots id me x others is word exists next mark (λ _. Unit {0}) lawful s
                 r at_view n below refl tt,
             (
               refl,
@@ -203,10 +204,10 @@ looks_at {T} content begun limit slots id me x others is word exists i at first 
 
 -- A store, which leaves the same mark whatever it found.
 pub stores_at :
-    {T : Type 0} (content : T → Content) (begun : T → Option Request) (limit slots id : ℕ) (me : Side T) (x : History T) (others : List (History T)) → me.0.sessions ≡ x ∷ others
-    → (word : Word) → IsInTable word → (i : ℕ) → i ≡ index_of_word word → (new : ℕ) (mark : ℕ → Mark T) (left : Mark T) → mark ≡ (λ _. left)
-    → IsAlwaysLawful content limit x word (λ _. Unit {0}) (λ _. new) (λ _. left)
-    → Allows (Ruled content begun limit) slots id me i (λ _. new) (λ _. Marked mark (step 0 0 0 0 none) me new)
-stores_at {T} content begun limit slots id me x others is word exists i at new mark left same lawful =
-    subst (λ (m : ℕ → Mark T). Allows (Ruled content begun limit) slots id me i (λ _. new) (λ _. Marked m (step 0 0 0 0 none) me new)) (sym same)
-    (marks_at content begun limit slots id me x others is word exists i at (λ _. new) (λ _. left) lawful)
+    {T : Type 0} (content : T → Content) (begun : T → Option Request) (sizes : Sizes) (slots id : ℕ) (me : Side T) (x : History T) (others : List (History T)) → me.0.sessions ≡ x ∷ others
+    → (word : Word) → IsInTable sizes.groups word → (i : ℕ) → i ≡ index_of_word word → (new : ℕ) (mark : ℕ → Mark T) (left : Mark T) → mark ≡ (λ _. left)
+    → IsAlwaysLawful content sizes x word (λ _. Unit {0}) (λ _. new) (λ _. left)
+    → Allows (Ruled content begun sizes) slots id me i (λ _. new) (λ _. Marked mark (step 0 0 0 0 none) me new)
+stores_at {T} content begun sizes slots id me x others is word exists i at new mark left same lawful =
+    subst (λ (m : ℕ → Mark T). Allows (Ruled content begun sizes) slots id me i (λ _. new) (λ _. Marked m (step 0 0 0 0 none) me new)) (sym same)
+    (marks_at content begun sizes slots id me x others is word exists i at (λ _. new) (λ _. left) lawful)

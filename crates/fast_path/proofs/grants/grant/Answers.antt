@@ -6,8 +6,8 @@ use Rattle.fast_path.proofs.grants.grant.Goals as goal
 
 pub grant_with_slots-requires-clause-in_hand : goal.grant_with_slots-requires-clause-in_hand
 grant_with_slots-requires-clause-in_hand g c =
-    subst (λ (s : Seated). HasOwnSlots s.number (g.B.Board.view c.take_fast.new.self) c.args.uses.now)
+    subst (λ (s : Seated). HasOwnSlots s.groups s.number (g.B.Board.view c.take_fast.new.self) c.args.uses.now)
     (sym c.take_fast.ensures.seat)
-    (has_own_slots (g.B.Board.seat c.args.board.now).number (g.B.Board.view c.args.board.now)
+    (has_own_slots (g.B.Board.seat c.args.board.now).groups (g.B.Board.seat c.args.board.now).number (g.B.Board.view c.args.board.now)
     (g.B.Board.view c.take_fast.new.self) c.args.uses.now c.number-own.result
     c.number-own.ensures.value c.requires.ready c.take_fast.ensures.taken)

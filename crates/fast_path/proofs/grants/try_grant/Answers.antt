@@ -12,10 +12,17 @@ grant_with_slots-requires-clause-in_hand g c =
     let number = (g.B.Board.seat c.args.board.now).number in
     let tried = c.in-Ok.ensures.tried in
     let ready = c.requires.ready in
-    subst (λ (s : Seated). HasOwnSlots s.number (g.B.Board.view c.try_take_fast.new.self) c.args.uses.now)
+    subst (λ (s : Seated). HasOwnSlots s.groups s.number (g.B.Board.view c.try_take_fast.new.self) c.args.uses.now)
     (sym c.try_take_fast.ensures.seat)
-    (has_own_slots number (account_tracing (g.B.Board.view c.args.board.now) (Loaded (Fast number) tried.shown))
+    (has_own_slots (g.B.Board.seat c.args.board.now).groups number (account_tracing (g.B.Board.view c.args.board.now) (Loaded (Fast number) tried.shown))
     (g.B.Board.view c.try_take_fast.new.self)
     c.args.uses.now number refl
-    (record { no_slots = ready.no_slots; no_shared_slots = ready.no_shared_slots; no_zero = ready.no_zero; enough = ready.enough; within = ready.within })
+    (record {
+      no_slots = ready.no_slots;
+      no_shared_slots = ready.no_shared_slots;
+      no_zero = ready.no_zero;
+      in_groups = ready.in_groups;
+      enough = ready.enough;
+      within = ready.within;
+    })
     tried.takes)

@@ -1,4 +1,4 @@
-use Rattle.std.proofs.Common.{◌∙◌, sym, ap}
+use Rattle.std.proofs.Common.{◌∙◌, ◌*◌, ℕ, sym, ap, arith, rules}
 use Rattle.shared_rule.specs.Boards.{Seated}
 use Rattle.fast_path.proofs.Reading.{reads, slots-shared, may_unshare}
 use Rattle.fast_path.proofs.SlotRows.{lists-session}
@@ -6,36 +6,45 @@ use Rattle.fast_path.proofs.listing.session_rows.Goals as goal
 
 pub load_slots-words-requires : goal.load_slots-words-requires
 load_slots-words-requires g c =
+    let groups = (g.B.Board.seat c.args.board.now).groups in
     let own = (g.B.Board.seat c.args.board.now).number in
     let a = g.B.Board.view c.args.board.now in
     let b = g.B.Board.view c.load_database-shown.new.self in
-    let read = reads own a (g.B.Board.view c.share_fast.new.self) b c.args.owner c.load_database-shown.result
+    let read = reads groups own a (g.B.Board.view c.share_fast.new.self) b c.args.owner c.load_database-shown.result
     c.share_fast.ensures.shared c.load_database-shown.ensures.of_shared_slots (λ same. c.load_database-shown.ensures.own (same ∙ sym (ap (λ (s : Seated). s.number) c.share_fast.ensures.seat)))
     c.load_database-shown.ensures.view in
-    record { shared = (read.slots, slots-shared own a b c.args.owner c.load_database-shown.result read) }
+    record {
+      few = omega (arith, c.groups-count.ensures.value, c.groups-count.ensures.few);
+      there = search rules;
+      shared = (read.slots, slots-shared groups own a b c.args.owner c.load_database-shown.result read);
+    }
 
 pub unshare_fast-requires-clause-lawful : goal.unshare_fast-requires-clause-lawful
 unshare_fast-requires-clause-lawful g c =
+    let groups = (g.B.Board.seat c.args.board.now).groups in
     let own = (g.B.Board.seat c.args.board.now).number in
     let a = g.B.Board.view c.args.board.now in
     let b = g.B.Board.view c.load_database-shown.new.self in
-    let read = reads own a (g.B.Board.view c.share_fast.new.self) b c.args.owner c.load_database-shown.result
+    let read = reads groups own a (g.B.Board.view c.share_fast.new.self) b c.args.owner c.load_database-shown.result
     c.share_fast.ensures.shared c.load_database-shown.ensures.of_shared_slots (λ same. c.load_database-shown.ensures.own (same ∙ sym (ap (λ (s : Seated). s.number) c.share_fast.ensures.seat)))
     c.load_database-shown.ensures.view in
-    may_unshare own a b c.args.owner c.load_database-shown.result read (g.B.Board.view c.load_slots-words.new.board)
+    may_unshare groups own a b c.args.owner c.load_database-shown.result read (g.B.Board.view c.load_slots-words.new.board) _
+    (ap (λ (k : ℕ). 16 * k) c.groups-count.ensures.value)
     c.load_slots-words.ensures.loaded
 
 pub returns-clause-listed : goal.returns-clause-listed
 returns-clause-listed g c =
+    let groups = (g.B.Board.seat c.args.board.now).groups in
     let own = (g.B.Board.seat c.args.board.now).number in
     let a = g.B.Board.view c.args.board.now in
     let b = g.B.Board.view c.load_database-shown.new.self in
     let shown = c.load_database-shown.result in
-    let read = reads own a (g.B.Board.view c.share_fast.new.self) b c.args.owner shown c.share_fast.ensures.shared
+    let read = reads groups own a (g.B.Board.view c.share_fast.new.self) b c.args.owner shown c.share_fast.ensures.shared
     c.load_database-shown.ensures.of_shared_slots (λ same. c.load_database-shown.ensures.own (same ∙ sym (ap (λ (s : Seated). s.number) c.share_fast.ensures.seat)))
     c.load_database-shown.ensures.view in
-    lists-session own a b (g.B.Board.view c.load_slots-words.new.board)
-    (g.B.Board.view c.unshare_fast.new.self) c.args.owner shown c.database_in.result c.load_slots-words.result
-    c.args.rows.now.items c.append_session.new.rows.items c.append_session.result c.requires.unlocked read
+    lists-session groups own a b (g.B.Board.view c.load_slots-words.new.board)
+    (g.B.Board.view c.unshare_fast.new.self) c.args.owner shown c.database_in.result _ c.load_slots-words.result
+    c.args.rows.now.items c.append_session.new.rows.items c.append_session.result c.requires.unlocked
+    c.groups-count.ensures.some c.groups-count.ensures.few (ap (λ (k : ℕ). 16 * k) c.groups-count.ensures.value) read
     c.load_slots-words.ensures.loaded c.load_slots-words.ensures.words c.unshare_fast.ensures.view c.database_in.ensures
     c.append_session.ensures.listed

@@ -7,7 +7,7 @@ use Rattle.fast_path.proofs.listing.slot_rows.Goals as goal
 
 pub loop-number-init : goal.loop-number-init
 loop-number-init g c = record {
-  lists = listing-begun (g.B.Board.seat c.args.board.now).number (g.B.Board.view c.args.board.now) c.args.rows.now.items;
+  lists = listing-begun (g.B.Board.seat c.args.board.now).groups (g.B.Board.seat c.args.board.now).number (g.B.Board.view c.args.board.now) c.args.rows.now.items;
   end = c.sessions-number-end.ensures;
   stack = refl;
   seat = refl;
@@ -23,10 +23,10 @@ loop-number-preserved g c =
     let owner : c.unwrap-owner.result ≡ c.loop-number.number =
     subst (λ found. IfSome found (λ id. id ≡ c.loop-number.number)) c.unwrap-owner.ensures c.new.ensures.value in
     record {
-      lists = listing-next (g.B.Board.seat c.args.board.now).number c.loop-number.number a b after c.args.rows.now.items mid new c.loop-number.invariant.lists
+      lists = listing-next (g.B.Board.seat c.args.board.now).groups (g.B.Board.seat c.args.board.now).number c.loop-number.number a b after c.args.rows.now.items mid new c.loop-number.invariant.lists
           c.in-Ok.field-0
-          (subst (λ (s : Seated). ListsSession s.number b c.loop-number.number mid (Ok c.in-Ok.field-0) new after) c.loop-number.invariant.seat
-          (subst (λ (k : ℕ). ListsSession (g.B.Board.seat c.loop-number.board).number b k mid (Ok c.in-Ok.field-0) new after) owner
+          (subst (λ (s : Seated). ListsSession s.groups s.number b c.loop-number.number mid (Ok c.in-Ok.field-0) new after) c.loop-number.invariant.seat
+          (subst (λ (k : ℕ). ListsSession (g.B.Board.seat c.loop-number.board).groups (g.B.Board.seat c.loop-number.board).number b k mid (Ok c.in-Ok.field-0) new after) owner
           c.in-Ok.ensures.listed));
       end = c.loop-number.invariant.end;
       stack = c.session_rows.ensures.stack ∙ c.loop-number.invariant.stack;
@@ -46,11 +46,11 @@ returns-in-Err-clause-listed g c =
     let own = (g.B.Board.seat c.args.board.now).number in
     let owner : c.unwrap-owner.result ≡ c.loop-number.number =
     subst (λ found. IfSome found (λ id. id ≡ c.loop-number.number)) c.unwrap-owner.ensures c.new.ensures.value in
-    listing-stops own c.loop-number.number a b after old mid new so_far
+    listing-stops (g.B.Board.seat c.args.board.now).groups own c.loop-number.number a b after old mid new so_far
     (g.B.Board.seat c.args.board.now).limit (record {}) cut
     (omega (arith, c.loop-number-test.true, c.loop-number.invariant.end))
-    (subst (λ (s : Seated). ListsSession s.number b c.loop-number.number mid (Err c.in-Err.field-0) new after) c.loop-number.invariant.seat
-    (subst (λ (k : ℕ). ListsSession (g.B.Board.seat c.loop-number.board).number b k mid (Err c.in-Err.field-0) new after) owner
+    (subst (λ (s : Seated). ListsSession s.groups s.number b c.loop-number.number mid (Err c.in-Err.field-0) new after) c.loop-number.invariant.seat
+    (subst (λ (k : ℕ). ListsSession (g.B.Board.seat c.loop-number.board).groups (g.B.Board.seat c.loop-number.board).number b k mid (Err c.in-Err.field-0) new after) owner
     c.in-Err.ensures.listed))
     (behind-cut old new cut c.len-before.result
     (behind-more old mid new (rows_of_all c.loop-number.number so_far.database so_far.word, so_far.listed)

@@ -9,7 +9,7 @@ pub loop-place-init : goal.loop-place-init
 loop-place-init g c =
     let a = g.B.Board.view c.args.board.now in
     record {
-      loaded = loading-begun a c.args.owner (slots_here (a.fast.shared_slots c.args.owner)).word;
+      loaded = loading-begun a c.args.owner (λ place. place) (slots_here (a.fast.shared_slots c.args.owner)).word;
       words = search rules;
       seat = search rules;
       stack = search rules;
@@ -19,12 +19,12 @@ pub loop-place-preserved : goal.loop-place-preserved
 loop-place-preserved g c =
     let a = g.B.Board.view c.args.board.now in
     let word = (slots_here (a.fast.shared_slots c.args.owner)).word in
-    let shown = loading-shows_shared a (g.B.Board.view c.loop-place.board) c.args.owner word c.loop-place.place
+    let shown = loading-shows_shared a (g.B.Board.view c.loop-place.board) c.args.owner (λ place. place) word c.loop-place.place
     c.loop-place.place
     c.load_slot.result c.requires.shared.0 c.loop-place.invariant.loaded c.requires.shared.1
     c.load_slot.ensures.of_shared_slots in
     record {
-      loaded = loading-next a (g.B.Board.view c.loop-place.board) _ c.args.owner word c.loop-place.place
+      loaded = loading-next a (g.B.Board.view c.loop-place.board) _ c.args.owner (λ place. place) word c.loop-place.place
           c.load_slot.result
           c.loop-place.invariant.loaded shown c.load_slot.ensures.view;
       words = subst (λ at. (k : ℕ) → k < c.loop-place.place + 1

@@ -1,17 +1,18 @@
 use Rattle.std.proofs.Common.{◌≡◌, ◌≤◌}
+use Rattle.lock_world.specs.SlotHolds.{place_in_group}
 use Rattle.shared_rule.specs.History.{slots_here}
 use Rattle.fast_path.specs.Slots.{account_loading}
 use Rattle.fast_path.proofs.Looking.{SightsBelow}
 use Rattle.fast_path.proofs.slot_words.look_through.Given as goal
 
-abbrev pub invariant-loop-place : goal.invariant-loop-place
-invariant-loop-place g l = record {
+abbrev pub invariant-loop-index : goal.invariant-loop-index
+invariant-loop-index g l = record {
   loaded : g.B.Board.view l.board
-      ≡ account_loading (g.B.Board.view l.fn.board) l.owner
-      (slots_here ((g.B.Board.view l.fn.board).fast.slots l.owner)).word l.place;
-  sights : SightsBelow (slots_here ((g.B.Board.view l.fn.board).fast.slots l.owner)).word l.relation l.place
+      ≡ account_loading (g.B.Board.view l.fn.board) l.owner (place_in_group l.group)
+      (slots_here ((g.B.Board.view l.fn.board).fast.slots l.owner)).word l.index;
+  sights : SightsBelow l.group (slots_here ((g.B.Board.view l.fn.board).fast.slots l.owner)).word l.relation l.index
       l.of_relation l.highest_unused l.used_count;
-  few : l.used_count ≤ l.place;
+  few : l.used_count ≤ l.index;
   seat : g.B.Board.seat l.board ≡ g.B.Board.seat l.fn.board;
   stack : g.B.Board.stack l.board ≡ g.B.Board.stack l.fn.board;
 }

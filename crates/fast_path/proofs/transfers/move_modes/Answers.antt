@@ -1,5 +1,6 @@
-use Rattle.std.proofs.Common.{◌≡◌, ◌<◌, ◌∙◌, ◌+◌, IfSome, refl, sym, ap, subst, arith}
+use Rattle.std.proofs.Common.{◌≡◌, ◌*◌, ◌<◌, ◌∙◌, ◌+◌, IfSome, refl, sym, ap, subst, arith}
 use Rattle.modes_core.specs.Mode.{number_of}
+use Rattle.lock_world.specs.SlotHolds.{group_size}
 use Rattle.shared_rule.specs.Boards.{Seated}
 use Rattle.lock_table.specs.Content.{add_hold}
 use Rattle.fast_path.specs.Turns.{MovesSome}
@@ -8,6 +9,10 @@ use Rattle.fast_path.proofs.Moving.{moving-begun, moving-skips, not_there-yet, n
 use Rattle.fast_path.proofs.Moving.{may_transfer, moving-next, moving-same}
 use Rattle.fast_path.proofs.transfers.move_modes.Goals as goal
 use Rattle.fast_path.proofs.transfers.move_modes.Goals.{then-has+else-is_err, else-has}
+
+pub transfer_slot-requires-clause-within : goal.transfer_slot-requires-clause-within
+transfer_slot-requires-clause-within g c =
+    subst (λ (s : Seated). c.args.place < group_size * s.groups) (sym c.loop-number.invariant.seat) c.requires.there
 
 pub loop-number-init : goal.loop-number-init
 loop-number-init g c = record {

@@ -15,6 +15,7 @@ use Rattle.atomic_table.specs.Seated.{TableId}
 use Rattle.local_locks.specs.declared.records.Entry.{Entry}
 use Rattle.local_locks.specs.Owned.{is_of, has_entry, are_of_same, IsWellOwned}
 use Rattle.lock_table.specs.declared.no_memory.NoMemory.{NoMemory}
+use Rattle.fast_path.specs.declared.use_counts.UseCounts.{UseCounts}
 use Rattle.lock_manager.specs.Keeper.{PartView, content_of}
 use Rattle.lock_table.proofs.HoldLists.{count_by-cons}
 use Rattle.lock_world.specs.Account.{Account}
@@ -132,20 +133,20 @@ all-to P (x ∷ xs) all zero d below = all.0
 all-to P (x ∷ xs) all (suc k) d below = all-to P xs all.1 k d (omega (arith, below))
 
 -- Who rests may be kept apart, and rests after steps that only joined the trace.
-pub kept_apart-rest : (limit database uses : ℕ) (a : Account) (stack : Stack) (entries : List Entry) → IsAtRest limit database uses a stack entries → MayBeKeptApartBy a
-kept_apart-rest limit database uses a stack entries rest =
+pub kept_apart-rest : (groups limit database : ℕ) (uses : UseCounts) (a : Account) (stack : Stack) (entries : List Entry) → IsAtRest groups limit database uses a stack entries → MayBeKeptApartBy a
+kept_apart-rest groups limit database uses a stack entries rest =
     subst MayBeKeptApartBy (sym rest.account) (record { no_partition = λ partition. refl; no_fast_word = λ owner. refl })
 
-pub no_wait-rest : (limit database uses : ℕ) (a : Account) (stack : Stack) (entries : List Entry) → IsAtRest limit database uses a stack entries → a.awaited ≡ None
-no_wait-rest limit database uses a stack entries rest = ap (λ (x : Account). x.awaited) rest.account
+pub no_wait-rest : (groups limit database : ℕ) (uses : UseCounts) (a : Account) (stack : Stack) (entries : List Entry) → IsAtRest groups limit database uses a stack entries → a.awaited ≡ None
+no_wait-rest groups limit database uses a stack entries rest = ap (λ (x : Account). x.awaited) rest.account
 
-pub rest-traced : (database uses : ℕ) (s t : Seated) (a b : Account) (x y : Stack) (entries : List Entry) → t ≡ s → b ≡ record a { trace = b.trace } → y ≡ x
-    → IsAtRest s.limit database uses a x entries → IsAtRest t.limit database uses b y entries
+pub rest-traced : (database : ℕ) (uses : UseCounts) (s t : Seated) (a b : Account) (x y : Stack) (entries : List Entry) → t ≡ s → b ≡ record a { trace = b.trace } → y ≡ x
+    → IsAtRest s.groups s.limit database uses a x entries → IsAtRest t.groups t.limit database uses b y entries
 rest-traced database uses s t a b x y entries same is stack rest =
-    subst (λ (z : Seated). IsAtRest z.limit database uses b y entries) (sym same) (rest-read s.limit database uses a b x y entries stack rest is)
+    subst (λ (z : Seated). IsAtRest z.groups z.limit database uses b y entries) (sym same) (rest-read s.groups s.limit database uses a b x y entries stack rest is)
 
-pub rest-unchanged : (database uses : ℕ) (s t : Seated) (a b : Account) (x y : Stack) (entries : List Entry) → t ≡ s → b ≡ a → y ≡ x → IsAtRest s.limit database uses a x entries
-    → IsAtRest t.limit database uses b y entries
+pub rest-unchanged : (database : ℕ) (uses : UseCounts) (s t : Seated) (a b : Account) (x y : Stack) (entries : List Entry) → t ≡ s → b ≡ a → y ≡ x → IsAtRest s.groups s.limit database uses a x entries
+    → IsAtRest t.groups t.limit database uses b y entries
 rest-unchanged database uses s t a b x y entries same is stack rest =
     rest-traced database uses s t a b x y entries same (is ∙ (λ i. record a { trace = sym (ap (λ (z : Account). z.trace) is) i })) stack rest
 
@@ -298,9 +299,10 @@ module _ {B : Type 0} (seat : B → Seated) (view : B → Account) (stack : B �
     pub counts-one : CountsWith seat view stack old sessions result new2 after
     counts-one = record {
       counts =
-          subst (λ (t : List TraceEntry). Counts old.limit (first_account content_of old.gathered).trace result t) (sym (ap (λ (a : Account). a.trace) new-first))
-          (subst (λ (t : List TraceEntry). Counts old.limit t result (first_account content_of new1.gathered).trace) (ap (λ (a : Account). a.trace) first-same)
-          (subst (λ n. Counts n (first_account content_of old1.gathered).trace result (first_account content_of new1.gathered).trace) (ap (λ (o : OpenerState PartView). o.limit) gathers.opener) counts.counts));
+          subst (λ (t : List TraceEntry). Counts old.limit old.groups (first_account content_of old.gathered).trace result t) (sym (ap (λ (a : Account). a.trace) new-first))
+          (subst (λ (t : List TraceEntry). Counts old.limit old.groups t result (first_account content_of new1.gathered).trace) (ap (λ (a : Account). a.trace) first-same)
+          (subst (λ (o : OpenerState PartView). Counts o.limit o.groups (first_account content_of old1.gathered).trace result
+          (first_account content_of new1.gathered).trace) gathers.opener counts.counts));
       adds_up = adds result counts.adds_up;
       opener =
           back.0 ∙ (λ i. record (counts.opener i) { gathered = counts.first ∷ gs }) ∙ (λ i. record (gathers.opener i) { gathered = counts.first ∷ gs })
@@ -368,18 +370,19 @@ module _ {B : Type 0} (seat : B → Seated) (view : B → Account) (stack : B �
         up.strong ∙ ap (sum_by (λ (one : Gathered). length one.account.fast.counted)) all-are ∙ sum-strong (s ∷ reverse rest) owners
     strong-of (Err e) up = tt
 
-    pub audits-first : Audits seat view stack old.limit (reverse sessions) (reverse after) result
+    pub audits-first : Audits seat view stack old.limit old.groups (reverse sessions) (reverse after) result
     audits-first =
-        subst (λ xs. Audits seat view stack old.limit xs (reverse after) result) (sym (ap reverse is ∙ reverse-last rest s)) (record {
+        subst (λ xs. Audits seat view stack old.limit old.groups xs (reverse after) result) (sym (ap reverse is ∙ reverse-last rest s)) (record {
           first_after = s2;
           others_after = reverse after1;
           sessions = ap reverse is_after ∙ reverse-last after1 s2;
           traced = traced-first;
           unchanged = zip-reverse (IsUnchanged seat view stack) rest after1 counts.unchanged;
           counts =
-              subst (λ (t : List TraceEntry). Counts old.limit (view s.board).trace result t) (ap (λ (a : Account). a.trace) last-is)
-              (subst (λ (t : List TraceEntry). Counts old.limit t result (first_account content_of new1.gathered).trace) (ap (λ (a : Account). a.trace) first-is)
-              (subst (λ n. Counts n (first_account content_of old1.gathered).trace result (first_account content_of new1.gathered).trace) (ap (λ (o : OpenerState PartView). o.limit) gathers.opener) counts.counts));
+              subst (λ (t : List TraceEntry). Counts old.limit old.groups (view s.board).trace result t) (ap (λ (a : Account). a.trace) last-is)
+              (subst (λ (t : List TraceEntry). Counts old.limit old.groups t result (first_account content_of new1.gathered).trace) (ap (λ (a : Account). a.trace) first-is)
+              (subst (λ (o : OpenerState PartView). Counts o.limit o.groups (first_account content_of old1.gathered).trace result
+              (first_account content_of new1.gathered).trace) gathers.opener counts.counts));
           holds = holds-of result counts.adds_up;
           strong = strong-of result counts.adds_up;
         })
@@ -389,19 +392,22 @@ module _ {B : Type 0} (seat : B → Seated) (view : B → Account) (stack : B �
         back_first.0 ∙ (λ i. record (counts.opener i) { gathered = [] }) ∙ (λ i. record (gathers.opener i) { gathered = [] }) ∙ (λ i. record old { gathered = sym none i })
 
   -- Of lists and a limit that are the same it says the same.
-  pub audits-as : {E : Type 0} (limit limit' : ℕ) (xs old ys new : List (SessionView B)) (result : Result Audit E) → limit ≡ limit' → xs ≡ old → ys ≡ new
-      → Audits seat view stack limit xs ys result → Audits seat view stack limit' old new result
-  audits-as limit limit' xs old ys new result same one two audits =
-      subst (λ n. Audits seat view stack n old new result) same
-      (subst (λ zs. Audits seat view stack limit zs new result) one (subst (λ zs. Audits seat view stack limit xs zs result) two audits))
+  pub audits-as : {E : Type 0} (limit limit' groups groups' : ℕ) (xs old ys new : List (SessionView B)) (result : Result Audit E)
+      → limit ≡ limit' → groups ≡ groups' → xs ≡ old → ys ≡ new
+      → Audits seat view stack limit groups xs ys result → Audits seat view stack limit' groups' old new result
+  audits-as limit limit' groups groups' xs old ys new result same same_groups one two audits =
+      subst (λ n. Audits seat view stack n groups' old new result) same
+      (subst (λ n. Audits seat view stack limit n old new result) same_groups
+      (subst (λ zs. Audits seat view stack limit groups zs new result) one
+      (subst (λ zs. Audits seat view stack limit groups xs zs result) two audits)))
 
   -- The answer to the caller says the same.
-  pub audits-ok : (limit : ℕ) (old new : List (SessionView B)) (audit : Audit) → Audits seat view stack {E = NoMemory} limit old new (Ok audit) → Audits seat view stack {E = Refusal} limit old new (Ok audit)
-  audits-ok limit [] new audit audits =
+  pub audits-ok : (limit groups : ℕ) (old new : List (SessionView B)) (audit : Audit) → Audits seat view stack {E = NoMemory} limit groups old new (Ok audit) → Audits seat view stack {E = Refusal} limit groups old new (Ok audit)
+  audits-ok limit groups [] new audit audits =
       let same : ◌≡◌ {A = Result Audit NoMemory} (Ok audit) (Ok (record { fast = 0; table = 0; strong = 0 })) = audits.1 in
       let is : audit ≡ record { fast = 0; table = 0; strong = 0 } = cc (same) in
       (audits.0, ap (λ (a : Audit). Ok a) is)
-  audits-ok limit (s ∷ others) new audit audits = record {
+  audits-ok limit groups (s ∷ others) new audit audits = record {
     first_after = audits.first_after;
     others_after = audits.others_after;
     sessions = audits.sessions;
@@ -419,11 +425,11 @@ module _ {B : Type 0} (seat : B → Seated) (view : B → Account) (stack : B �
     strong = audits.strong;
   }
 
-  pub audits-err : (limit : ℕ) (old new : List (SessionView B)) (e : NoMemory) (refusal : Refusal) → Audits seat view stack {E = NoMemory} limit old new (Err e)
-      → Audits seat view stack {E = Refusal} limit old new (Err refusal)
-  audits-err limit [] new e refusal audits =
+  pub audits-err : (limit groups : ℕ) (old new : List (SessionView B)) (e : NoMemory) (refusal : Refusal) → Audits seat view stack {E = NoMemory} limit groups old new (Err e)
+      → Audits seat view stack {E = Refusal} limit groups old new (Err refusal)
+  audits-err limit groups [] new e refusal audits =
       let never : ◌≡◌ {A = Result Audit NoMemory} (Err e) (Ok (record { fast = 0; table = 0; strong = 0 })) = audits.1 in absurd (cc (never))
-  audits-err limit (s ∷ others) new e refusal audits = record {
+  audits-err limit groups (s ∷ others) new e refusal audits = record {
     first_after = audits.first_after;
     others_after = audits.others_after;
     sessions = audits.sessions;
@@ -451,10 +457,10 @@ module _ {B : Type 0} (seat : B → Seated) (view : B → Account) (stack : B �
       let rest = zip-tables table old new same.1 at.1 in
       ((ap (λ (x : Seated). x.table) same.0.seat_ ∙ at.0, rest.0), ap suc rest.1)
 
-  pub audits-tables : {E : Type 0} (table : TableId) (limit : ℕ) (old new : List (SessionView B)) (result : Result Audit E) → Audits seat view stack limit old new result
+  pub audits-tables : {E : Type 0} (table : TableId) (limit groups : ℕ) (old new : List (SessionView B)) (result : Result Audit E) → Audits seat view stack limit groups old new result
       → AllByRecursion (λ s. (seat s.board).table ≡ table) old → AllByRecursion (λ s. (seat s.board).table ≡ table) new × (length new ≡ length old)
-  audits-tables table limit [] new result audits at = subst (λ xs. AllByRecursion (λ (s : SessionView B). (seat s.board).table ≡ table) xs × (length xs ≡ 0)) (sym audits.0) (tt, refl)
-  audits-tables table limit (s ∷ others) new result audits at =
+  audits-tables table limit groups [] new result audits at = subst (λ xs. AllByRecursion (λ (s : SessionView B). (seat s.board).table ≡ table) xs × (length xs ≡ 0)) (sym audits.0) (tt, refl)
+  audits-tables table limit groups (s ∷ others) new result audits at =
       let rest = zip-tables table others audits.others_after audits.unchanged at.1 in
       subst (λ xs. AllByRecursion (λ (s : SessionView B). (seat s.board).table ≡ table) xs × (length xs ≡ length (s ∷ others))) (sym audits.sessions)
       ((ap (λ (x : Seated). x.table) audits.traced.seat_ ∙ at.0, rest.0), ap suc rest.1)

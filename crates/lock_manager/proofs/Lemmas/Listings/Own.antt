@@ -57,9 +57,9 @@ caller-at number own awaited database remembered p (suc k) (content ∷ contents
 
 -- ---- rows of the caller
 
-module _ (limit number : ℕ) (a b : Account) (database : ℕ → ℕ) (word : ℕ → ℕ → ℕ) (contents : List Content) (listing : Listing)
+module _ (groups limit number : ℕ) (a b : Account) (database : ℕ → ℕ) (word : ℕ → ℕ → ℕ) (contents : List Content) (listing : Listing)
     (exists : number < limit) (fits : a.fast.database < 2 ^ 32) (no_wait : a.awaited ≡ None)
-    (reads : ReadsSlots number a number (database number) (word number)) (remembers : b.fast.remembered ≡ word number)
+    (reads : ReadsSlots groups number a number (database number) (word number)) (remembers : b.fast.remembered ≡ word number)
     (only : b ≡ record a { fast = record (a.fast) { remembered = b.fast.remembered }; trace = b.trace })
     (of_caller : AreOfCaller number b.own b.awaited b.fast.database b.fast.remembered 0 contents)
     (sixteen : length contents ≡ 16) (fast : listing.fast.items ≡ rows_of_all limit database word)
@@ -194,12 +194,12 @@ step-at p (suc k) (content ∷ contents) below =
     }
 
 pub misses-none :
-    (limit number : ℕ) (before after : List TraceEntry) (database : ℕ → ℕ) (word : ℕ → ℕ → ℕ) (contents : List Content) (listing : Listing)
-    → length contents ≡ 16 → after ≡ (before ++ loads_of_all limit database word) ++ listing_steps 0 contents
+    (groups limit number : ℕ) (before after : List TraceEntry) (database : ℕ → ℕ) (word : ℕ → ℕ → ℕ) (contents : List Content) (listing : Listing)
+    → length contents ≡ 16 → after ≡ (before ++ loads_of_all groups limit database word) ++ listing_steps 0 contents
     → listing.fast.items ≡ rows_of_all limit database word → IsListing (whole_of (content_at contents)) listing.table.items
-    → MissesNone limit number before after listing
-misses-none limit number before after database word contents listing sixteen trace fast table first events worlds safe run is is_after
-    session place tag mode exists within words stands =
+    → MissesNone groups limit number before after listing
+misses-none groups limit number before after database word contents listing sixteen trace fast table first events worlds safe run is is_after
+    session place tag mode exists within its words stands =
     elim (seen-or-taken session place tag mode first events worlds number before loads.first loads.second
     (Loaded (Slot session place) (word session place) ∷ loads.later ++ takes.before)
     (loads.rest ++ steps) (loads.later ++ steps) takes.after (database session) (word session place)
@@ -216,8 +216,8 @@ misses-none limit number before after database word contents listing sixteen tra
           table.each_once (record { session = session; tag = tag; mode = mode; granted = true }) ∙ rw has refl in
           omega (arith, one)
     ] where
-      loads : LoadsAt limit database word session place
-      loads = loads-at limit database word session place exists within
+      loads : LoadsAt groups limit database word session place
+      loads = loads-at groups limit database word session place exists its
 
       takes : StepAt 0 (partition_of tag) contents
       takes = let below : partition_of tag < 16 = omega arith in step-at 0 (partition_of tag) contents (omega (arith, below, sixteen))
@@ -239,7 +239,7 @@ misses-none limit number before after database word contents listing sixteen tra
           let same : 0 + partition_of tag ≡ partition_of tag = omega arith in
           takes.split ∙ ap (λ (p : ℕ). takes.before ++ (Took p (content_at contents (partition_of tag)) ∷ takes.after)) same
 
-      all : (last_of first worlds).sessions.trace number ≡ (before ++ loads_of_all limit database word) ++ steps
+      all : (last_of first worlds).sessions.trace number ≡ (before ++ loads_of_all groups limit database word) ++ steps
       all = is_after ∙ trace
 
       by_database : (last_of first worlds).sessions.trace number
@@ -249,7 +249,7 @@ misses-none limit number before after database word contents listing sixteen tra
           ∙ ap (λ entries. entries ++ steps) (sym (append_assoc before loads.first its_database))
           ∙ append_assoc (before ++ loads.first) its_database steps
 
-      slots_then : before ++ loads_of_all limit database word ≡ ((before ++ loads.first) ++ loads.second) ++ its_slot
+      slots_then : before ++ loads_of_all groups limit database word ≡ ((before ++ loads.first) ++ loads.second) ++ its_slot
       slots_then =
           ap (λ entries. before ++ entries) loads.by_slot
           ∙ sym (append_assoc before (loads.first ++ loads.second) its_slot)

@@ -11,15 +11,15 @@ use Rattle.lock_world.specs.Account.{Account, InHand}
 use Rattle.lock_world.specs.AccountFacts.{OwnHoldsStand, KnowsContent}
 use Rattle.lock_world.specs.AccountLaw.{MayMoveBy, MayPutBy}
 use Rattle.lock_world.specs.AccountSteps.{account_taking, account_putting}
-use Rattle.lock_world.specs.SlotHolds.{slot_count}
 use Rattle.lock_world.specs.World.{TraceEntry, Took, Episode}
-use Rattle.fast_path.specs.Slots.{slot_loads, account_tried}
-use Rattle.fast_path.specs.Releases.{Ungrants}
+use Rattle.fast_path.specs.Slots.{group_of_tag, group_loads, account_tried}
+use Rattle.fast_path.specs.Releases.{Ungrants, IsUnused}
 use Rattle.shared_rule.specs.Boards.{Seated}
 use Rattle.shared_rule.specs.Lawful.{MayPutPart}
 use Rattle.shared_rule.specs.History.{taken_of}
 use Rattle.shared_rule.specs.Episodes.{account_episode}
 use Rattle.shared_rule.proofs.Episodes.{fresh_hand, taken-in_hand, taken-put}
+use Rattle.fast_path.specs.declared.use_counts.UseCounts.{UseCounts}
 use Rattle.lock_manager.specs.Releases.{Wakens, Tells, ReleasesInPart, ReleasesHold, LooksNowhere, FindsNone, Releases, account_released}
 use Rattle.lock_manager.proofs.Lemmas.Releases.Marks.{release-once}
 
@@ -98,28 +98,28 @@ woken-released number a b c p tag mode taken put granted object none same stand 
 -- ---- the whole release
 
 -- The account once the session has looked in its slots, or without that.
-pub record HasLookedForHold (number : ℕ) (a : Account) (uses : ℕ) (tag : Tag) (mode : Mode) (b : Account) (left : ℕ) : Type 0 where
+pub record HasLookedForHold (groups number : ℕ) (a : Account) (uses : UseCounts) (tag : Tag) (mode : Mode) (b : Account) (left : UseCounts) : Type 0 where
   pub loads : List TraceEntry
-  pub before : LooksNowhere a uses tag mode loads left ⊎ FindsNone number a uses tag mode loads left
+  pub before : LooksNowhere groups a uses tag mode loads left ⊎ FindsNone groups number a uses tag mode loads left
   pub account : b ≡ account_tried a b.fast.remembered (a.trace ++ loads)
 
 pub looks-nowhere :
-    (number : ℕ) (a : Account) (uses : ℕ) (tag : Tag) (mode : Mode) → (is_eligible_for a.fast.database tag mode ≡ false) ⊎ (uses ≡ 0)
-    → HasLookedForHold number a uses tag mode a uses
-looks-nowhere number a uses tag mode why = record {
+    (groups number : ℕ) (a : Account) (uses : UseCounts) (tag : Tag) (mode : Mode) → (is_eligible_for a.fast.database tag mode ≡ false) ⊎ IsUnused groups uses tag
+    → HasLookedForHold groups number a uses tag mode a uses
+looks-nowhere groups number a uses tag mode why = record {
   loads = [];
   before = inl (record { not_tried = why; no_step = refl; same = refl });
   account = λ i. record a { trace = sym (append-nil a.trace) i };
 }
 
 pub looks-found :
-    (number : ℕ) (a b : Account) (uses left : ℕ) (tag : Tag) (mode : Mode) → is_eligible_for a.fast.database tag mode ≡ true
-    → Ungrants number a uses tag mode false b left → HasLookedForHold number a uses tag mode b left
-looks-found number a b uses left tag mode eligible (inl untried) =
-    subst (λ (its : ℕ). HasLookedForHold number a uses tag mode b its) (sym untried.2)
-    (subst (λ (x : Account). HasLookedForHold number a uses tag mode x uses) (sym untried.1) (looks-nowhere number a uses tag mode (inr untried.0)))
-looks-found number a b uses left tag mode eligible (inr looked) = record {
-  loads = slot_loads number looked.1.word slot_count;
+    (groups number : ℕ) (a b : Account) (uses left : UseCounts) (tag : Tag) (mode : Mode) → is_eligible_for a.fast.database tag mode ≡ true
+    → Ungrants groups number a uses tag mode false b left → HasLookedForHold groups number a uses tag mode b left
+looks-found groups number a b uses left tag mode eligible (inl untried) =
+    subst (λ (its : UseCounts). HasLookedForHold groups number a uses tag mode b its) (sym untried.2)
+    (subst (λ (x : Account). HasLookedForHold groups number a uses tag mode x uses) (sym untried.1) (looks-nowhere groups number a uses tag mode (inr untried.0)))
+looks-found groups number a b uses left tag mode eligible (inr looked) = record {
+  loads = group_loads number (group_of_tag groups tag) looked.1.word;
   before = inr (record {
     looks = record { eligible = eligible; some = looked.0 };
     word = looked.1.word;
@@ -127,11 +127,11 @@ looks-found number a b uses left tag mode eligible (inr looked) = record {
     loaded = refl;
     recomputed = looked.1.recomputed;
   });
-  account = looked.1.account ∙ (λ i. account_tried a (sym (ap (λ (x : Account). x.fast.remembered) looked.1.account) i) (a.trace ++ slot_loads number looked.1.word slot_count));
+  account = looked.1.account ∙ (λ i. account_tried a (sym (ap (λ (x : Account). x.fast.remembered) looked.1.account) i) (a.trace ++ group_loads number (group_of_tag groups tag) looked.1.word));
 }
 
 -- A hold that no slot has is released in the table.
-module _ (number : ℕ) (a b c : Account) (uses left : ℕ) (tag : Tag) (mode : Mode) (looked : HasLookedForHold number a uses tag mode b left)
+module _ (groups number : ℕ) (a b c : Account) (uses left : UseCounts) (tag : Tag) (mode : Mode) (looked : HasLookedForHold groups number a uses tag mode b left)
     (released : ReleasesHold number b tag mode c) where
   table-trace : c.trace ≡ a.trace ++ looked.loads ++ Took (partition_of tag) released.taken ∷ Episode (partition_of tag) released.taken released.put ∷ []
   table-trace =
@@ -150,7 +150,7 @@ module _ (number : ℕ) (a b c : Account) (uses left : ℕ) (tag : Tag) (mode : 
       (subst (λ (own : Tag → Mode → Bool). OwnHoldsStand number own a.fast.database b.fast.remembered (partition_of tag) released.taken) (ap (λ (x : Account). x.own) looked.account)
       (subst (λ (database : ℕ). OwnHoldsStand number b.own database b.fast.remembered (partition_of tag) released.taken) (ap (λ (x : Account). x.fast.database) looked.account) released.own_stand))
 
-  pub table-released : Releases number a uses tag mode c left
+  pub table-released : Releases groups number a uses tag mode c left
   table-released = inr (record {
     loads = looked.loads;
     before = looked.before;

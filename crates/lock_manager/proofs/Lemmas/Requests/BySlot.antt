@@ -6,6 +6,7 @@ use Rattle.lock_world.specs.Account.{Account}
 use Rattle.lock_world.specs.AccountSteps.{own_with}
 use Rattle.lock_world.specs.World.{TraceEntry}
 use Rattle.fast_path.specs.Grants.{GrantsInSlot}
+use Rattle.fast_path.specs.declared.use_counts.UseCounts.{UseCounts}
 use Rattle.lock_manager.specs.Requests.{account_granted}
 use Rattle.lock_manager.proofs.Lemmas.Requests.Whole.{eligible-weak, weak-counted}
 
@@ -13,9 +14,9 @@ use Rattle.lock_manager.proofs.Lemmas.Requests.Whole.{eligible-weak, weak-counte
 
 -- Granted, it leaves what is counted.
 pub by_slot-account :
-    (limit number : ℕ) (a b : Account) (before : List TraceEntry) (uses left : ℕ) (tag : Tag) (mode : Mode) → is_eligible_for a.fast.database tag mode ≡ true
-    → GrantsInSlot number a before uses tag mode b left → b ≡ account_granted limit a tag mode b.fast.remembered b.trace
-by_slot-account limit number a b before uses left tag mode eligible granted =
+    (groups limit number : ℕ) (a b : Account) (before : List TraceEntry) (uses left : UseCounts) (tag : Tag) (mode : Mode) → is_eligible_for a.fast.database tag mode ≡ true
+    → GrantsInSlot groups number a before uses tag mode b left → b ≡ account_granted limit a tag mode b.fast.remembered b.trace
+by_slot-account groups limit number a b before uses left tag mode eligible granted =
     granted.account
     ∙ (λ i. record a {
       own = own_with a.own tag mode true;

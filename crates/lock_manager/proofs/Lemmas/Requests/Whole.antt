@@ -18,18 +18,17 @@ use Rattle.lock_world.specs.Account.{Account, FastAccount}
 use Rattle.lock_world.specs.AccountFacts.{OwnHoldsStand}
 use Rattle.lock_world.specs.AccountSteps.{account_uncounting, own_with}
 use Rattle.lock_world.specs.Counted.{Counted, is_counted, uncounting}
-use Rattle.lock_world.specs.SlotHolds.{slot_count, used}
 use Rattle.lock_world.specs.World.{TraceEntry, Took, Episode, Loaded}
 use Rattle.lock_world.proofs.Slots.Eligible.{eligible-is}
-use Rattle.lock_world.proofs.Slots.Used.{used-fewer}
-use Rattle.fast_path.specs.Grants.{Grants}
+use Rattle.fast_path.specs.Grants.{Grants, IsFull}
 use Rattle.fast_path.specs.Transfers.{IsAfterScan, Transfers, IsCutShort, TransfersOrNot}
 use Rattle.shared_rule.specs.Boards.{Seated}
+use Rattle.fast_path.specs.declared.use_counts.UseCounts.{UseCounts}
 use Rattle.lock_manager.specs.Rest.{IsUseCount}
 use Rattle.lock_manager.specs.Requests.{LeadsToTable, DecidesInPart, Decides, Requests, IsRequested, counted_granted, account_awaiting, account_decided}
 use Rattle.fast_path.proofs.Counting.{counted_at, uncounting-last}
 use Rattle.lock_table.specs.Content.{Content}
-use Rattle.lock_manager.proofs.Lemmas.Rest.Acquires.{use_count-same}
+use Rattle.lock_manager.proofs.Lemmas.Rest.Acquires.{use_count-same, use_count-fewer}
 
 -- A whole request: it is granted in a slot, or decided in the table once it was led there.
 
@@ -58,9 +57,9 @@ account_led a remembered counted trace = record a {
   trace = trace;
 }
 
-pub record IsLed (limit : ℕ) (a : Account) (uses : ℕ) (tag : Tag) (mode : Mode) (counted : List Counted) (b : Account) (left : ℕ) : Type 0 where
+pub record IsLed (groups limit : ℕ) (a : Account) (uses : UseCounts) (tag : Tag) (mode : Mode) (counted : List Counted) (b : Account) (left : UseCounts) : Type 0 where
   pub steps : List TraceEntry
-  pub before : LeadsToTable limit a uses tag mode steps
+  pub before : LeadsToTable groups limit a uses tag mode steps
   pub account : b ≡ account_led a b.fast.remembered counted (a.trace ++ steps)
   pub same : left ≡ uses
 
@@ -73,9 +72,9 @@ eligible-weak database tag mode eligible =
 
 -- A mode that may not go by a slot goes to the table at once,
 pub led-by_table :
-    (limit : ℕ) (a : Account) (uses : ℕ) (tag : Tag) (mode : Mode) → is_strong_on tag mode ≡ false
-    → (is_eligible_for a.fast.database tag mode ≡ false) ⊎ (uses ≡ slot_count) → IsLed limit a uses tag mode a.fast.counted a uses
-led-by_table limit a uses tag mode weak why = record {
+    (groups limit : ℕ) (a : Account) (uses : UseCounts) (tag : Tag) (mode : Mode) → is_strong_on tag mode ≡ false
+    → (is_eligible_for a.fast.database tag mode ≡ false) ⊎ IsFull groups uses tag → IsLed groups limit a uses tag mode a.fast.counted a uses
+led-by_table groups limit a uses tag mode weak why = record {
   steps = [];
   before = inl (record { weak = weak; not_tried = why; no_step = refl });
   account = λ i. record a { trace = sym (append-nil a.trace) i };
@@ -84,13 +83,13 @@ led-by_table limit a uses tag mode weak why = record {
 
 -- one that may, once no slot was to be had,
 pub led-refused :
-    (number limit : ℕ) (a b : Account) (uses left : ℕ) (tag : Tag) (mode : Mode) (refusal : Refusal) → is_eligible_for a.fast.database tag mode ≡ true
-    → Grants number a uses tag mode (Err refusal) b left → IsLed limit a uses tag mode a.fast.counted b left
-led-refused number limit a b uses left tag mode SlotsFull eligible full =
-    subst (λ (its : ℕ). IsLed limit a uses tag mode a.fast.counted b its) (sym full.same)
-    (subst (λ (x : Account). IsLed limit a uses tag mode a.fast.counted x uses) (sym full.account)
-    (led-by_table limit a uses tag mode (eligible-weak a.fast.database tag mode eligible) (inr full.full)))
-led-refused number limit a b uses left tag mode StrongCounted eligible found = record {
+    (groups number limit : ℕ) (a b : Account) (uses left : UseCounts) (tag : Tag) (mode : Mode) (refusal : Refusal) → is_eligible_for a.fast.database tag mode ≡ true
+    → Grants groups number a uses tag mode (Err refusal) b left → IsLed groups limit a uses tag mode a.fast.counted b left
+led-refused groups number limit a b uses left tag mode SlotsFull eligible full =
+    subst (λ (its : UseCounts). IsLed groups limit a uses tag mode a.fast.counted b its) (sym full.same)
+    (subst (λ (x : Account). IsLed groups limit a uses tag mode a.fast.counted x uses) (sym full.account)
+    (led-by_table groups limit a uses tag mode (eligible-weak a.fast.database tag mode eligible) (inr full.full)))
+led-refused groups number limit a b uses left tag mode StrongCounted eligible found = record {
   steps = Loaded (Strong (index_of tag)) found.1.shown ∷ [];
   before = inr (inl (record {
     tried = record { eligible = eligible; room = found.0 };
@@ -101,25 +100,25 @@ led-refused number limit a b uses left tag mode StrongCounted eligible found = r
   account = found.1.account;
   same = found.1.same;
 }
-led-refused number limit a b uses left tag mode (Conflict other its how) eligible none = absurd none
-led-refused number limit a b uses left tag mode NoMemory eligible none = absurd none
-led-refused number limit a b uses left tag mode LocalFull eligible none = absurd none
-led-refused number limit a b uses left tag mode CountFull eligible none = absurd none
-led-refused number limit a b uses left tag mode (SimpleDeadlock other) eligible none = absurd none
-led-refused number limit a b uses left tag mode Cancelled eligible none = absurd none
-led-refused number limit a b uses left tag mode NotHeld eligible none = absurd none
-led-refused number limit a b uses left tag mode Busy eligible none = absurd none
-led-refused number limit a b uses left tag mode NotEligible eligible none = absurd none
-led-refused number limit a b uses left tag mode NoMoreSessions eligible none = absurd none
-led-refused number limit a b uses left tag mode BadConfig eligible none = absurd none
-led-refused number limit a b uses left tag mode TooDeep eligible none = absurd none
-led-refused number limit a b uses left tag mode NoNested eligible none = absurd none
+led-refused groups number limit a b uses left tag mode (Conflict other its how) eligible none = absurd none
+led-refused groups number limit a b uses left tag mode NoMemory eligible none = absurd none
+led-refused groups number limit a b uses left tag mode LocalFull eligible none = absurd none
+led-refused groups number limit a b uses left tag mode CountFull eligible none = absurd none
+led-refused groups number limit a b uses left tag mode (SimpleDeadlock other) eligible none = absurd none
+led-refused groups number limit a b uses left tag mode Cancelled eligible none = absurd none
+led-refused groups number limit a b uses left tag mode NotHeld eligible none = absurd none
+led-refused groups number limit a b uses left tag mode Busy eligible none = absurd none
+led-refused groups number limit a b uses left tag mode NotEligible eligible none = absurd none
+led-refused groups number limit a b uses left tag mode NoMoreSessions eligible none = absurd none
+led-refused groups number limit a b uses left tag mode BadConfig eligible none = absurd none
+led-refused groups number limit a b uses left tag mode TooDeep eligible none = absurd none
+led-refused groups number limit a b uses left tag mode NoNested eligible none = absurd none
 
 -- and a strong one once it is past every session.
 pub led-transferred :
-    (limit : ℕ) (a b : Account) (uses : ℕ) (tag : Tag) (mode : Mode) → is_strong_on tag mode ≡ true → Transfers limit a tag mode b
-    → IsLed limit a uses tag mode (a.fast.counted ++ counted_at tag mode limit ∷ []) b uses
-led-transferred limit a b uses tag mode strong moved = record {
+    (groups limit : ℕ) (a b : Account) (uses : UseCounts) (tag : Tag) (mode : Mode) → is_strong_on tag mode ≡ true → Transfers groups limit a tag mode b
+    → IsLed groups limit a uses tag mode (a.fast.counted ++ counted_at tag mode limit ∷ []) b uses
+led-transferred groups limit a b uses tag mode strong moved = record {
   steps = moved.steps;
   before = inr (inr (record { strong = strong; turns = moved.turns }));
   account = moved.after.account;
@@ -137,13 +136,13 @@ decided-fast kind number a b tag mode (Ok Queued) d = ap (λ (x : Account). x.fa
 decided-fast kind number a b tag mode (Err refusal) d = ap (λ (x : Account). x.fast) d.account
 
 pub decided-use_count :
-    (kind : Kind) (number : ℕ) (a b : Account) (tag : Tag) (mode : Mode) (result : Result Decision Refusal) (uses : ℕ) → DecidesInPart kind number a tag mode result b
-    → IsUseCount a uses → IsUseCount b uses
-decided-use_count kind number a b tag mode result uses d =
-    use_count-same a b uses (ap (λ (fast : FastAccount). fast.remembered) (sym (decided-fast kind number a b tag mode result d)))
+    (kind : Kind) (groups number : ℕ) (a b : Account) (tag : Tag) (mode : Mode) (result : Result Decision Refusal) (uses : UseCounts) → DecidesInPart kind number a tag mode result b
+    → IsUseCount groups a uses → IsUseCount groups b uses
+decided-use_count kind groups number a b tag mode result uses d =
+    use_count-same groups a b uses (ap (λ (fast : FastAccount). fast.remembered) (sym (decided-fast kind number a b tag mode result d)))
 
-module _ (kind : Kind) (seat : Seated) (a b c : Account) (uses left : ℕ) (tag : Tag) (mode : Mode) (counted : List Counted)
-    (led : IsLed seat.limit a uses tag mode counted b left) where
+module _ (kind : Kind) (seat : Seated) (a b c : Account) (uses left : UseCounts) (tag : Tag) (mode : Mode) (counted : List Counted)
+    (led : IsLed seat.groups seat.limit a uses tag mode counted b left) where
   led-trace : b.trace ≡ a.trace ++ led.steps
   led-trace = ap (λ (x : Account). x.trace) led.account
 
@@ -249,9 +248,9 @@ module _ (kind : Kind) (seat : Seated) (a b c : Account) (uses left : ℕ) (tag 
             trace = (whole-trace (Err refusal) d ∙ back-trace) i;
           })
 
-      pub led-refused_use_count : (its : ℕ) → IsUseCount b its → IsUseCount e its
-      led-refused_use_count its before =
-          use_count-same c e its back-remembered (decided-use_count kind seat.number b c tag mode (Err refusal) its d before)
+      pub led-refused_use_count : (groups : ℕ) (its : UseCounts) → IsUseCount groups b its → IsUseCount groups e its
+      led-refused_use_count groups its before =
+          use_count-same groups c e its back-remembered (decided-use_count kind groups seat.number b c tag mode (Err refusal) its d before)
 
 -- What is counted for a strong mode, and for another one.
 pub strong-counted :
@@ -265,7 +264,7 @@ weak-counted limit counted tag mode weak = sym (if-false (is_strong_on tag mode)
 
 -- So a mode that isn't strong is answered, whatever the answer.
 pub led-weak_account :
-    (kind : Kind) (seat : Seated) (a b c : Account) (uses left : ℕ) (tag : Tag) (mode : Mode) → IsLed seat.limit a uses tag mode a.fast.counted b left
+    (kind : Kind) (seat : Seated) (a b c : Account) (uses left : UseCounts) (tag : Tag) (mode : Mode) → IsLed seat.groups seat.limit a uses tag mode a.fast.counted b left
     → is_strong_on tag mode ≡ false → (result : Result Decision Refusal) → DecidesInPart kind seat.number b tag mode result c → IsRequested seat.limit a tag mode result c
 led-weak_account kind seat a b c uses left tag mode led weak (Ok decision) d =
     led-account kind seat a b c uses left tag mode a.fast.counted led (weak-counted seat.limit a.fast.counted tag mode weak) decision d
@@ -276,30 +275,28 @@ led-weak_account kind seat a b c uses left tag mode led weak (Err refusal) d =
 
 -- Slots that show no more are no more in use.
 pub scanned-use_count :
-    (a b : Account) (counted : List Counted) (steps : List TraceEntry) (uses : ℕ) → IsAfterScan a counted steps b → IsUseCount a uses → IsUseCount b uses
-scanned-use_count a b counted steps uses after its =
-    let fewer : used b.fast.remembered ≤ used a.fast.remembered = used-fewer b.fast.remembered a.fast.remembered after.no_more in
-    let enough : used a.fast.remembered ≤ uses = its.enough in
-    record { enough = omega (arith, fewer, enough); within = its.within }
+    (groups : ℕ) (a b : Account) (counted : List Counted) (steps : List TraceEntry) (uses : UseCounts)
+    → IsAfterScan a counted steps b → IsUseCount groups a uses → IsUseCount groups b uses
+scanned-use_count groups a b counted steps uses after = use_count-fewer groups a b uses after.no_more
 
 -- A transfer ends well or is cut short.
 pub transferred :
-    (limit : ℕ) (a : Account) (tag : Tag) (mode : Mode) (result : Result (Unit {0}) NoMemory_) (b : Account) (failed : Bool) → failed ≡ is_err result
-    → failed ≡ false → TransfersOrNot limit a tag mode result b → Transfers limit a tag mode b
-transferred limit a tag mode (Ok done) b failed is well moved = moved
-transferred limit a tag mode (Err none) b failed is well moved = absurd (false≢true (sym well ∙ is))
+    (groups limit : ℕ) (a : Account) (tag : Tag) (mode : Mode) (result : Result (Unit {0}) NoMemory_) (b : Account) (failed : Bool) → failed ≡ is_err result
+    → failed ≡ false → TransfersOrNot groups limit a tag mode result b → Transfers groups limit a tag mode b
+transferred groups limit a tag mode (Ok done) b failed is well moved = moved
+transferred groups limit a tag mode (Err none) b failed is well moved = absurd (false≢true (sym well ∙ is))
 
 pub cut_short :
-    (limit : ℕ) (a : Account) (tag : Tag) (mode : Mode) (result : Result (Unit {0}) NoMemory_) (b : Account) (failed : Bool) → failed ≡ is_err result
-    → failed ≡ true → TransfersOrNot limit a tag mode result b → IsCutShort limit a tag b
-cut_short limit a tag mode (Ok done) b failed is ill moved = absurd (false≢true (sym is ∙ ill))
-cut_short limit a tag mode (Err none) b failed is ill moved = moved
+    (groups limit : ℕ) (a : Account) (tag : Tag) (mode : Mode) (result : Result (Unit {0}) NoMemory_) (b : Account) (failed : Bool) → failed ≡ is_err result
+    → failed ≡ true → TransfersOrNot groups limit a tag mode result b → IsCutShort groups limit a tag b
+cut_short groups limit a tag mode (Ok done) b failed is ill moved = absurd (false≢true (sym is ∙ ill))
+cut_short groups limit a tag mode (Err none) b failed is ill moved = moved
 
 -- ---- the whole request
 
 -- One that is decided in the table.
 pub requests-decided :
-    (kind : Kind) (seat : Seated) (a b : Account) (uses left : ℕ) (tag : Tag) (mode : Mode) (result : Result Decision Refusal)
+    (kind : Kind) (seat : Seated) (a b : Account) (uses left : UseCounts) (tag : Tag) (mode : Mode) (result : Result Decision Refusal)
     → Decides kind seat a uses tag mode result b left → Requests kind seat a uses tag mode result b left
 requests-decided kind seat a b uses left tag mode (Ok Granted) decides = inr decides
 requests-decided kind seat a b uses left tag mode (Ok Queued) decides = decides
@@ -321,7 +318,7 @@ requests-decided kind seat a b uses left tag mode (Err NoNested) decides = decid
 
 -- A conditional request is never queued.
 pub never-queued :
-    (kind : Kind) (seat : Seated) (a b : Account) (uses left : ℕ) (tag : Tag) (mode : Mode) (decision : Decision) → decision ≡ Queued → kind ≡ Conditional
+    (kind : Kind) (seat : Seated) (a b : Account) (uses left : UseCounts) (tag : Tag) (mode : Mode) (decision : Decision) → decision ≡ Queued → kind ≡ Conditional
     → Requests kind seat a uses tag mode (Ok decision) b left → ⊥
 never-queued kind seat a b uses left tag mode Granted is conditional requests = cc
 never-queued Conditional seat a b uses left tag mode Queued is conditional requests = absurd requests.decided.1

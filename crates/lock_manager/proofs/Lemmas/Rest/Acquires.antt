@@ -14,10 +14,13 @@ use Rattle.local_locks.proofs.EntryLaws.{same_key, same_key-from, has_entry-with
 use Rattle.lock_world.specs.Account.{Account}
 use Rattle.lock_world.specs.AccountSteps.{own_with, account_storing}
 use Rattle.lock_world.specs.Counted.{Counted, is_counted}
-use Rattle.lock_world.specs.SlotHolds.{used}
-use Rattle.lock_world.proofs.Slots.Used.{used-nothing}
+use Rattle.lock_world.specs.SlotHolds.{used_in, AreInGroups, ShowsNoMore}
+use Rattle.lock_world.proofs.Slots.Used.{used-nothing, in_groups-fewer}
 use Rattle.shared_rule.specs.History.{blank_account}
 use Rattle.shared_rule.specs.Boards.{Stack, nothing_due}
+use Rattle.fast_path.specs.declared.use_counts.UseCounts.{UseCounts}
+use Rattle.fast_path.specs.Slots.{count_in, AreCounted}
+use Rattle.fast_path.proofs.GroupCounts.{counted-fewer}
 use Rattle.lock_manager.specs.Rest.{counted_for, account_at_rest, IsUseCount, IsAtRest}
 use Rattle.lock_manager.specs.Requests.{counted_granted, account_granted}
 use Rattle.lock_manager.proofs.Lemmas.Rest.Ends.{own_with-key, with_strong, counted_for-cons}
@@ -26,27 +29,45 @@ use Rattle.lock_manager.proofs.Lemmas.Rest.Ends.{own_with-key, with_strong, coun
 
 -- Its account has its database.
 pub rest-database :
-    (limit database uses : ℕ) (a : Account) (stack : Stack) (entries : List Entry) → IsAtRest limit database uses a stack entries → a.fast.database ≡ database
-rest-database limit database uses a stack entries rest = ap (λ (x : Account). x.fast.database) rest.account
+    (groups limit database : ℕ) (uses : UseCounts) (a : Account) (stack : Stack) (entries : List Entry) → IsAtRest groups limit database uses a stack entries → a.fast.database ≡ database
+rest-database groups limit database uses a stack entries rest = ap (λ (x : Account). x.fast.database) rest.account
 
 -- A use count is of what is remembered alone.
-pub use_count-same : (a b : Account) (uses : ℕ) → a.fast.remembered ≡ b.fast.remembered → IsUseCount a uses → IsUseCount b uses
-use_count-same a b uses same its = record {
-  enough = subst (λ (slot : ℕ → ℕ). used slot ≤ uses) same its.enough;
+pub use_count-same :
+    (groups : ℕ) (a b : Account) (uses : UseCounts) → a.fast.remembered ≡ b.fast.remembered → IsUseCount groups a uses
+    → IsUseCount groups b uses
+use_count-same groups a b uses same its = record {
+  in_groups = subst (λ (slot : ℕ → ℕ). AreInGroups groups slot) same its.in_groups;
+  enough = subst (λ (slot : ℕ → ℕ). AreCounted slot (count_in uses)) same its.enough;
+  within = its.within;
+}
+
+-- Slots that show no more are no more in use.
+pub use_count-fewer :
+    (groups : ℕ) (a b : Account) (uses : UseCounts) → ShowsNoMore b.fast.remembered a.fast.remembered
+    → IsUseCount groups a uses → IsUseCount groups b uses
+use_count-fewer groups a b uses fewer its = record {
+  in_groups = in_groups-fewer groups b.fast.remembered a.fast.remembered fewer its.in_groups;
+  enough = counted-fewer b.fast.remembered a.fast.remembered (count_in uses) fewer its.enough;
   within = its.within;
 }
 
 -- A session whose database was just stored is at rest.
 pub rest-new :
-    (limit database uses : ℕ) (a : Account) (stack : Stack) (entries : List Entry) → a ≡ account_storing blank_account database → uses ≡ 0 → stack ≡ nothing_due → entries ≡ []
-    → IsAtRest limit database uses a stack entries
-rest-new limit database uses a stack entries blank none empty nothing =
+    (groups limit database : ℕ) (uses : UseCounts) (a : Account) (stack : Stack) (entries : List Entry) → a ≡ account_storing blank_account database → ((group : ℕ) → count_in uses group ≡ 0) → stack ≡ nothing_due → entries ≡ []
+    → IsAtRest groups limit database uses a stack entries
+rest-new groups limit database uses a stack entries blank none empty nothing =
     let remembered : (λ _. 0) ≡ a.fast.remembered = sym (ap (λ (x : Account). x.fast.remembered) blank) in
     let trace : [] ≡ a.trace = sym (ap (λ (x : Account). x.trace) blank) in
-    let unused : used a.fast.remembered ≡ 0 = ap used (sym remembered) ∙ used-nothing in
     record {
       account = blank ∙ (λ i. account_at_rest limit database (remembered i) (sym nothing i) (trace i));
-      use_count = record { enough = omega (arith, unused); within = omega (arith, none) };
+      use_count = record {
+        in_groups = subst (λ (slot : ℕ → ℕ). AreInGroups groups slot) remembered (λ place within used. absurd (false≢true used));
+        enough = λ group below.
+            let unused : used_in group a.fast.remembered ≡ 0 = ap (used_in group) (sym remembered) ∙ used-nothing group in
+            omega (arith, unused);
+        within = λ group below. let is : count_in uses group ≡ 0 = none group in omega (arith, is);
+      };
       nothing_left = empty;
     }
 
@@ -85,9 +106,9 @@ counted-none limit (entry ∷ entries) tag mode none =
     ]
 
 pub rest-not_counted :
-    (limit database uses : ℕ) (a : Account) (stack : Stack) (entries : List Entry) (tag : Tag) (mode : Mode) → IsAtRest limit database uses a stack entries
+    (groups limit database : ℕ) (uses : UseCounts) (a : Account) (stack : Stack) (entries : List Entry) (tag : Tag) (mode : Mode) → IsAtRest groups limit database uses a stack entries
     → has_entry entries tag mode ≡ false → is_counted a.fast.counted tag mode ≡ false
-rest-not_counted limit database uses a stack entries tag mode rest none =
+rest-not_counted groups limit database uses a stack entries tag mode rest none =
     ap (λ (x : Account). is_counted x.fast.counted tag mode) rest.account ∙ counted-none limit entries tag mode none
 
 -- and no more than it has entries.
@@ -102,8 +123,8 @@ counted-few limit (entry ∷ entries) =
       at false fewer = omega (arith, fewer)
 
 pub rest-few :
-    (limit database uses most : ℕ) (a : Account) (stack : Stack) (entries : List Entry) → IsAtRest limit database uses a stack entries → length entries < most → length a.fast.counted < most
-rest-few limit database uses most a stack entries rest room =
+    (groups limit database : ℕ) (uses : UseCounts) (most : ℕ) (a : Account) (stack : Stack) (entries : List Entry) → IsAtRest groups limit database uses a stack entries → length entries < most → length a.fast.counted < most
+rest-few groups limit database uses most a stack entries rest room =
     let few : length (counted_for limit entries) ≤ length entries = counted-few limit entries in
     subst (λ (x : Account). length x.fast.counted < most) (sym rest.account) (omega (arith, few, room))
 
@@ -147,10 +168,10 @@ counted-granted limit entries tag mode owner none =
       same Transaction = refl
 
 pub rest-granted :
-    (limit database uses left : ℕ) (a b : Account) (stack its : Stack) (old new : List Entry) (tag : Tag) (mode : Mode) (owner : Owner) → has_entry old tag mode ≡ false
-    → b ≡ account_granted limit a tag mode b.fast.remembered b.trace → IsUseCount b left → its ≡ stack → new ≡ with_one_more old tag mode owner
-    → IsAtRest limit database uses a stack old → IsAtRest limit database left b its new
-rest-granted limit database uses left a b stack its old new tag mode owner none granted use_count same more rest = record {
+    (groups limit database : ℕ) (uses left : UseCounts) (a b : Account) (stack its : Stack) (old new : List Entry) (tag : Tag) (mode : Mode) (owner : Owner) → has_entry old tag mode ≡ false
+    → b ≡ account_granted limit a tag mode b.fast.remembered b.trace → IsUseCount groups b left → its ≡ stack → new ≡ with_one_more old tag mode owner
+    → IsAtRest groups limit database uses a stack old → IsAtRest groups limit database left b its new
+rest-granted groups limit database uses left a b stack its old new tag mode owner none granted use_count same more rest = record {
   account =
       granted
       ∙ ap (λ (x : Account). account_granted limit x tag mode b.fast.remembered b.trace) rest.account
@@ -183,9 +204,9 @@ raised-same Transaction e = (refl, refl)
 
 -- A session at rest with entries that hold and count the same is at rest with them.
 pub rest-same :
-    (limit database uses : ℕ) (a : Account) (stack : Stack) (old new : List Entry) → has_entry old ≡ has_entry new → counted_for limit old ≡ counted_for limit new
-    → IsAtRest limit database uses a stack old → IsAtRest limit database uses a stack new
-rest-same limit database uses a stack old new own counted rest = record {
+    (groups limit database : ℕ) (uses : UseCounts) (a : Account) (stack : Stack) (old new : List Entry) → has_entry old ≡ has_entry new → counted_for limit old ≡ counted_for limit new
+    → IsAtRest groups limit database uses a stack old → IsAtRest groups limit database uses a stack new
+rest-same groups limit database uses a stack old new own counted rest = record {
   account =
       rest.account
       ∙ (λ i. record (account_at_rest limit database a.fast.remembered old a.trace) {
@@ -198,10 +219,10 @@ rest-same limit database uses a stack old new own counted rest = record {
 
 -- What is held already may be acquired once more,
 pub rest-held_again :
-    (limit database uses : ℕ) (a : Account) (stack : Stack) (old new : List Entry) (tag : Tag) (mode : Mode) (owner : Owner) → has_entry old tag mode ≡ true
-    → new ≡ with_one_more old tag mode owner → IsAtRest limit database uses a stack old → IsAtRest limit database uses a stack new
-rest-held_again limit database uses a stack old new tag mode owner held more rest =
-    rest-same limit database uses a stack old new (λ i t m. own t m i)
+    (groups limit database : ℕ) (uses : UseCounts) (a : Account) (stack : Stack) (old new : List Entry) (tag : Tag) (mode : Mode) (owner : Owner) → has_entry old tag mode ≡ true
+    → new ≡ with_one_more old tag mode owner → IsAtRest groups limit database uses a stack old → IsAtRest groups limit database uses a stack new
+rest-held_again groups limit database uses a stack old new tag mode owner held more rest =
+    rest-same groups limit database uses a stack old new (λ i t m. own t m i)
     (sym (counted-changed limit (raised owner) old tag mode (raised-same owner))
     ∙ sym (ap (λ b. counted_for limit (if b then change (raised owner) old tag mode else old ++ new_entry tag mode owner ∷ [])) held)
     ∙ ap (counted_for limit) (sym more)) rest where

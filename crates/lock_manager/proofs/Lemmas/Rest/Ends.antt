@@ -20,6 +20,7 @@ use Rattle.lock_world.specs.Account.{Account}
 use Rattle.lock_world.specs.AccountSteps.{own_with}
 use Rattle.lock_world.specs.Counted.{Counted, is_counted, uncounting}
 use Rattle.shared_rule.specs.Boards.{Seated, Stack}
+use Rattle.fast_path.specs.declared.use_counts.UseCounts.{UseCounts}
 use Rattle.lock_manager.specs.Rest.{counted_for, account_at_rest, IsUseCount, IsAtRest}
 use Rattle.lock_manager.specs.Releases.{Releases, ReleasesAll, counted_released, account_released}
 
@@ -234,11 +235,11 @@ entry-counted limit (entry ∷ entries) tag mode has strong =
 
 -- With the hold released that the end takes away next it is at rest with the entries left,
 pub rest-next :
-    (limit database uses left : ℕ) (end : End) (a b : Account) (stack its : Stack) (old new : List Entry) (key : Tag × Mode)
+    (groups limit database : ℕ) (uses left : UseCounts) (end : End) (a b : Account) (stack its : Stack) (old new : List Entry) (key : Tag × Mode)
     → IsDistinct are_of_same old → ended_by end old ≡ key ∷ ended_by end new → new ≡ with_next_ended end old
-    → b ≡ account_released a key.0 key.1 b.fast.remembered b.trace → IsUseCount b left → its ≡ stack
-    → IsAtRest limit database uses a stack old → IsAtRest limit database left b its new
-rest-next limit database uses left end a b stack its old new key once next gone released use_count same at = record {
+    → b ≡ account_released a key.0 key.1 b.fast.remembered b.trace → IsUseCount groups b left → its ≡ stack
+    → IsAtRest groups limit database uses a stack old → IsAtRest groups limit database left b its new
+rest-next groups limit database uses left end a b stack its old new key once next gone released use_count same at = record {
   account =
       released
       ∙ ap (λ (v : Account). account_released v key.0 key.1 b.fast.remembered b.trace) at.account
@@ -255,9 +256,9 @@ rest-next limit database uses left end a b stack its old new key once next gone 
 
 -- and so after a step that takes nothing away.
 pub rest-last :
-    (limit database uses : ℕ) (end : End) (a : Account) (stack : Stack) (old new : List Entry) → ended_by end old ≡ [] → new ≡ with_next_ended end old
-    → IsAtRest limit database uses a stack old → IsAtRest limit database uses a stack new
-rest-last limit database uses end a stack old new none gone at = record {
+    (groups limit database : ℕ) (uses : UseCounts) (end : End) (a : Account) (stack : Stack) (old new : List Entry) → ended_by end old ≡ [] → new ≡ with_next_ended end old
+    → IsAtRest groups limit database uses a stack old → IsAtRest groups limit database uses a stack new
+rest-last groups limit database uses end a stack old new none gone at = record {
   account =
       at.account
       ∙ (λ i. record (account_at_rest limit database a.fast.remembered old a.trace) {
@@ -271,9 +272,9 @@ rest-last limit database uses end a stack old new none gone at = record {
 
 -- At rest with some entries it is at rest with others of the same objects and modes.
 rest-alike :
-    (limit database uses : ℕ) (a : Account) (stack : Stack) (old new : List Entry) → has_entry old ≡ has_entry new → counted_for limit old ≡ counted_for limit new
-    → IsAtRest limit database uses a stack old → IsAtRest limit database uses a stack new
-rest-alike limit database uses a stack old new own counted at = record {
+    (groups limit database : ℕ) (uses : UseCounts) (a : Account) (stack : Stack) (old new : List Entry) → has_entry old ≡ has_entry new → counted_for limit old ≡ counted_for limit new
+    → IsAtRest groups limit database uses a stack old → IsAtRest groups limit database uses a stack new
+rest-alike groups limit database uses a stack old new own counted at = record {
   account =
       at.account
       ∙ (λ i. record (account_at_rest limit database a.fast.remembered old a.trace) {
@@ -302,38 +303,38 @@ counted-found limit Close owned = refl
 counted-found limit Inner owned = counted-recounted limit (count_up_to owned (length owned.outer)) owned.entries
 
 pub rest-found :
-    (limit database uses : ℕ) (end : End) (a : Account) (stack : Stack) (owned : Owned)
-    → IsAtRest limit database uses a stack owned.entries → IsAtRest limit database uses a stack (found_by end owned)
-rest-found limit database uses end a stack owned at =
-    rest-alike limit database uses a stack owned.entries (found_by end owned) (λ i t m. sym (has_entry-found end owned t m) i) (counted-found limit end owned) at
+    (groups limit database : ℕ) (uses : UseCounts) (end : End) (a : Account) (stack : Stack) (owned : Owned)
+    → IsAtRest groups limit database uses a stack owned.entries → IsAtRest groups limit database uses a stack (found_by end owned)
+rest-found groups limit database uses end a stack owned at =
+    rest-alike groups limit database uses a stack owned.entries (found_by end owned) (λ i t m. sym (has_entry-found end owned t m) i) (counted-found limit end owned) at
 
 -- and once an end has nothing more to take away.
 pub rest-left :
-    (limit database uses : ℕ) (end : End) (a : Account) (stack : Stack) (old new : List Entry) → ended_by end old ≡ [] → new ≡ left_by end old
-    → IsAtRest limit database uses a stack old → IsAtRest limit database uses a stack new
-rest-left limit database uses end a stack old new none left at =
-    rest-last limit database uses end a stack old new none (left ∙ sym (with_next_ended-left end old none)) at
+    (groups limit database : ℕ) (uses : UseCounts) (end : End) (a : Account) (stack : Stack) (old new : List Entry) → ended_by end old ≡ [] → new ≡ left_by end old
+    → IsAtRest groups limit database uses a stack old → IsAtRest groups limit database uses a stack new
+rest-left groups limit database uses end a stack old new none left at =
+    rest-last groups limit database uses end a stack old new none (left ∙ sym (with_next_ended-left end old none)) at
 
 -- It holds what the end takes away next, and has counted it where it is a strong lock.
 pub rest-held :
-    (limit database uses : ℕ) (end : End) (a : Account) (stack : Stack) (entries : List Entry) (key : Tag × Mode) (rest : List (Tag × Mode))
-    → ended_by end entries ≡ key ∷ rest → IsAtRest limit database uses a stack entries → a.own key.0 key.1 ≡ true
-rest-held limit database uses end a stack entries key rest next at =
+    (groups limit database : ℕ) (uses : UseCounts) (end : End) (a : Account) (stack : Stack) (entries : List Entry) (key : Tag × Mode) (rest : List (Tag × Mode))
+    → ended_by end entries ≡ key ∷ rest → IsAtRest groups limit database uses a stack entries → a.own key.0 key.1 ≡ true
+rest-held groups limit database uses end a stack entries key rest next at =
     ap (λ (v : Account). v.own key.0 key.1) at.account ∙ has_entry-ended end entries key rest next
 
 pub rest-counted :
-    (limit database uses : ℕ) (end : End) (a : Account) (stack : Stack) (entries : List Entry) (key : Tag × Mode) (rest : List (Tag × Mode))
-    → ended_by end entries ≡ key ∷ rest → IsAtRest limit database uses a stack entries
+    (groups limit database : ℕ) (uses : UseCounts) (end : End) (a : Account) (stack : Stack) (entries : List Entry) (key : Tag × Mode) (rest : List (Tag × Mode))
+    → ended_by end entries ≡ key ∷ rest → IsAtRest groups limit database uses a stack entries
     → is_strong_on key.0 key.1 ≡ true → is_counted a.fast.counted key.0 key.1 ≡ true
-rest-counted limit database uses end a stack entries key rest next at strong =
+rest-counted groups limit database uses end a stack entries key rest next at strong =
     ap (λ (v : Account). is_counted v.fast.counted key.0 key.1) at.account
     ∙ entry-counted limit entries key.0 key.1 (has_entry-ended end entries key rest next) strong
 
 -- The release of the next hold leads on to the releases of those left.
 pub releases-next :
-    (seat its : Seated) (end : End) (a b c : Account) (uses between left : ℕ) (old new : List Entry) (key : Tag × Mode) → its ≡ seat
-    → ended_by end old ≡ key ∷ ended_by end new → Releases its.number a uses key.0 key.1 b between
-    → ReleasesAll seat.number b between (ended_by end new) c left → ReleasesAll seat.number a uses (ended_by end old) c left
+    (seat its : Seated) (end : End) (a b c : Account) (uses between left : UseCounts) (old new : List Entry) (key : Tag × Mode) → its ≡ seat
+    → ended_by end old ≡ key ∷ ended_by end new → Releases its.groups its.number a uses key.0 key.1 b between
+    → ReleasesAll seat.groups seat.number b between (ended_by end new) c left → ReleasesAll seat.groups seat.number a uses (ended_by end old) c left
 releases-next seat its end a b c uses between left old new key same next first others =
-    subst (λ keys. ReleasesAll seat.number a uses keys c left) {x = key ∷ ended_by end new} {y = ended_by end old} (sym next)
-    (b, between, subst (λ (v : Seated). Releases v.number a uses key.0 key.1 b between) same first, others)
+    subst (λ keys. ReleasesAll seat.groups seat.number a uses keys c left) {x = key ∷ ended_by end new} {y = ended_by end old} (sym next)
+    (b, between, subst (λ (v : Seated). Releases v.groups v.number a uses key.0 key.1 b between) same first, others)

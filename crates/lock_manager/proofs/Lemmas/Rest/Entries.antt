@@ -19,6 +19,7 @@ use Rattle.lock_world.specs.Counted.{Counted, is_counted, uncounting}
 use Rattle.lock_world.specs.World.{TraceEntry}
 use Rattle.shared_rule.specs.Seats.{DoNotConflict, MayCloseBy}
 use Rattle.shared_rule.specs.Boards.{Stack}
+use Rattle.fast_path.specs.declared.use_counts.UseCounts.{UseCounts}
 use Rattle.lock_manager.specs.Rest.{counted_for, account_at_rest, IsUseCount, IsAtRest}
 use Rattle.lock_manager.specs.Releases.{counted_released, account_released}
 use Rattle.lock_manager.specs.Sessions.{DontConflict}
@@ -26,16 +27,16 @@ use Rattle.lock_manager.proofs.Lemmas.Rest.Acquires.{rest-same}
 
 -- It holds what it has entries for.
 pub own-rest :
-    (limit database uses : ℕ) (a : Account) (stack : Stack) (entries : List Entry) → IsAtRest limit database uses a stack entries →
+    (groups limit database : ℕ) (uses : UseCounts) (a : Account) (stack : Stack) (entries : List Entry) → IsAtRest groups limit database uses a stack entries →
     (tag : Tag) (mode : Mode) → a.own tag mode ≡ has_entry entries tag mode
-own-rest limit database uses a stack entries rest tag mode = ap (λ (b : Account). b.own tag mode) rest.account
+own-rest groups limit database uses a stack entries rest tag mode = ap (λ (b : Account). b.own tag mode) rest.account
 
 -- Two sessions whose holds don't conflict have no entries that do.
 pub entries-apart :
-    (limit its_limit database its_database uses its_uses : ℕ) (a b : Account) (stack its_stack : Stack) (entries its_entries : List Entry) →
-    IsAtRest limit database uses a stack entries → IsAtRest its_limit its_database its_uses b its_stack its_entries → DoNotConflict a b → DontConflict entries its_entries
-entries-apart limit its_limit database its_database uses its_uses a b stack its_stack entries its_entries rest its_rest apart tag mode its has its_has =
-    apart tag mode its (own-rest limit database uses a stack entries rest tag mode ∙ has) (own-rest its_limit its_database its_uses b its_stack its_entries its_rest tag its ∙ its_has)
+    (groups limit its_groups its_limit database its_database : ℕ) (uses its_uses : UseCounts) (a b : Account) (stack its_stack : Stack) (entries its_entries : List Entry) →
+    IsAtRest groups limit database uses a stack entries → IsAtRest its_groups its_limit its_database its_uses b its_stack its_entries → DoNotConflict a b → DontConflict entries its_entries
+entries-apart groups limit its_groups its_limit database its_database uses its_uses a b stack its_stack entries its_entries rest its_rest apart tag mode its has its_has =
+    apart tag mode its (own-rest groups limit database uses a stack entries rest tag mode ∙ has) (own-rest its_groups its_limit its_database its_uses b its_stack its_entries its_rest tag its ∙ its_has)
 
 -- The end of a session leaves it no entry,
 pub left_by-close : (entries : List Entry) → left_by Close entries ≡ []
@@ -43,8 +44,8 @@ left_by-close [] = refl
 left_by-close (entry ∷ entries) = left_by-close entries
 
 -- and with none it may be closed.
-pub MayCloseBy-rest : (limit database uses : ℕ) (a : Account) (stack : Stack) (entries : List Entry) → IsAtRest limit database uses a stack entries → entries ≡ [] → MayCloseBy a
-MayCloseBy-rest limit database uses a stack entries rest none =
+pub MayCloseBy-rest : (groups limit database : ℕ) (uses : UseCounts) (a : Account) (stack : Stack) (entries : List Entry) → IsAtRest groups limit database uses a stack entries → entries ≡ [] → MayCloseBy a
+MayCloseBy-rest groups limit database uses a stack entries rest none =
     subst MayCloseBy (sym (rest.account ∙ ap (λ (es : List Entry). account_at_rest limit database a.fast.remembered es a.trace) none)) (record {
       no_hold = λ tag mode. refl;
       no_wait = refl;
@@ -149,9 +150,9 @@ is_counted-entry limit (entry ∷ entries) tag mode strong has =
     ]
 
 pub is_counted-rest :
-    (limit database uses : ℕ) (a : Account) (stack : Stack) (entries : List Entry) (tag : Tag) (mode : Mode) → IsAtRest limit database uses a stack entries →
+    (groups limit database : ℕ) (uses : UseCounts) (a : Account) (stack : Stack) (entries : List Entry) (tag : Tag) (mode : Mode) → IsAtRest groups limit database uses a stack entries →
     is_strong_on tag mode ≡ true → has_entry entries tag mode ≡ true → is_counted a.fast.counted tag mode ≡ true
-is_counted-rest limit database uses a stack entries tag mode rest strong has =
+is_counted-rest groups limit database uses a stack entries tag mode rest strong has =
     ap (λ (b : Account). is_counted b.fast.counted tag mode) rest.account ∙ is_counted-entry limit entries tag mode strong has
 
 -- ---- releases
@@ -181,11 +182,11 @@ counted-still_held limit old new tag mode owner less some =
 
 -- and so the session rests.
 pub IsAtRest-still_held :
-    (limit database uses : ℕ) (a : Account) (stack : Stack) (old new : List Entry) (tag : Tag) (mode : Mode) (owner : Owner) →
-    IsAtRest limit database uses a stack old → new ≡ with_one_less old tag mode owner → 0 < total_of new tag mode → IsAtRest limit database uses a stack new
-IsAtRest-still_held limit database uses a stack old new tag mode owner rest less some =
+    (groups limit database : ℕ) (uses : UseCounts) (a : Account) (stack : Stack) (old new : List Entry) (tag : Tag) (mode : Mode) (owner : Owner) →
+    IsAtRest groups limit database uses a stack old → new ≡ with_one_less old tag mode owner → 0 < total_of new tag mode → IsAtRest groups limit database uses a stack new
+IsAtRest-still_held groups limit database uses a stack old new tag mode owner rest less some =
     let own : has_entry old ≡ has_entry new = λ i t m. sym (keys-still_held old new tag mode owner less some t m) i in
-    rest-same limit database uses a stack old new own (sym (counted-still_held limit old new tag mode owner less some)) rest
+    rest-same groups limit database uses a stack old new own (sym (counted-still_held limit old new tag mode owner less some)) rest
 
 -- The last one takes the hold and what is counted for it away.
 own-released :
@@ -220,10 +221,10 @@ counted-released limit old new tag mode owner less had gone =
     ]
 
 pub IsAtRest-released :
-    (limit database uses left : ℕ) (a b : Account) (stack its_stack : Stack) (old new : List Entry) (tag : Tag) (mode : Mode) (owner : Owner) →
-    IsAtRest limit database uses a stack old → new ≡ with_one_less old tag mode owner → has_entry old tag mode ≡ true → has_entry new tag mode ≡ false →
-    b ≡ account_released a tag mode b.fast.remembered b.trace → IsUseCount b left → its_stack ≡ stack → IsAtRest limit database left b its_stack new
-IsAtRest-released limit database uses left a b stack its_stack old new tag mode owner rest less had gone released use_count same_stack =
+    (groups limit database : ℕ) (uses left : UseCounts) (a b : Account) (stack its_stack : Stack) (old new : List Entry) (tag : Tag) (mode : Mode) (owner : Owner) →
+    IsAtRest groups limit database uses a stack old → new ≡ with_one_less old tag mode owner → has_entry old tag mode ≡ true → has_entry new tag mode ≡ false →
+    b ≡ account_released a tag mode b.fast.remembered b.trace → IsUseCount groups b left → its_stack ≡ stack → IsAtRest groups limit database left b its_stack new
+IsAtRest-released groups limit database uses left a b stack its_stack old new tag mode owner rest less had gone released use_count same_stack =
     let own : own_with (has_entry old) tag mode false ≡ has_entry new = λ i t m. own-released old new tag mode owner less gone t m i in
     record {
       account =

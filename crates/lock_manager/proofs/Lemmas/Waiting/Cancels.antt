@@ -10,6 +10,7 @@ use Rattle.lock_world.specs.AccountSteps.{account_uncounting}
 use Rattle.lock_world.specs.Counted.{uncounting}
 use Rattle.lock_world.specs.World.{TraceEntry}
 use Rattle.shared_rule.specs.Boards.{Stack}
+use Rattle.fast_path.specs.declared.use_counts.UseCounts.{UseCounts}
 use Rattle.lock_manager.specs.Rest.{counted_for, account_at_rest, IsUseCount, IsAtRest}
 use Rattle.lock_manager.specs.Requests.{counted_granted, account_granted}
 use Rattle.lock_manager.specs.Waiting.{IsWaiting, account_cancelled}
@@ -20,32 +21,32 @@ use Rattle.lock_manager.proofs.Lemmas.Requests.Whole.{if-true}
 
 -- What a session has once its wait is cancelled.
 
-module _ (limit database uses : ℕ) (a : Account) (stack : Stack) (entries : List Entry) (tag : Tag) (mode : Mode)
-    (waits : IsWaiting limit database uses a stack entries tag mode) where
+module _ (groups limit database : ℕ) (uses : UseCounts) (a : Account) (stack : Stack) (entries : List Entry) (tag : Tag) (mode : Mode)
+    (waits : IsWaiting groups limit database uses a stack entries tag mode) where
   -- the account with the wait over
   abbrev rested : List TraceEntry → Account
   rested trace = account_at_rest limit database a.fast.remembered entries trace
 
-  over-use_count : (b : Account) (how : Bool) → b ≡ account_cancelled a tag mode how b.trace → IsUseCount b uses
-  over-use_count b false over = use_count-same a b uses (sym (ap (λ (x : Account). x.fast.remembered) over)) waits.use_count
-  over-use_count b true over = use_count-same a b uses (sym (ap (λ (x : Account). x.fast.remembered) over)) waits.use_count
+  over-use_count : (b : Account) (how : Bool) → b ≡ account_cancelled a tag mode how b.trace → IsUseCount groups b uses
+  over-use_count b false over = use_count-same groups a b uses (sym (ap (λ (x : Account). x.fast.remembered) over)) waits.use_count
+  over-use_count b true over = use_count-same groups a b uses (sym (ap (λ (x : Account). x.fast.remembered) over)) waits.use_count
 
   -- Where it was granted the session has one more entry,
   pub rest-was_granted :
       (b : Account) (its : Stack) (new : List Entry) (owner : Owner) → b ≡ account_cancelled a tag mode true b.trace → its ≡ stack
-      → new ≡ with_one_more entries tag mode owner → IsAtRest limit database uses b its new
+      → new ≡ with_one_more entries tag mode owner → IsAtRest groups limit database uses b its new
   rest-was_granted b its new owner over same more =
       let remembered : a.fast.remembered ≡ b.fast.remembered = sym (ap (λ (x : Account). x.fast.remembered) over) in
-      rest-taken_over limit database uses a.fast.remembered b its entries new tag mode owner a.trace stack waits.no_entry
+      rest-taken_over groups limit database uses a.fast.remembered b its entries new tag mode owner a.trace stack waits.no_entry
       (over
       ∙ ap (λ (x : Account). account_cancelled x tag mode true b.trace) waits.account
       ∙ (λ i. account_granted limit (rested a.trace) tag mode (remembered i) b.trace))
-      (over-use_count b true over) (use_count-same a (rested a.trace) uses refl waits.use_count) same waits.nothing_left more
+      (over-use_count b true over) (use_count-same groups a (rested a.trace) uses refl waits.use_count) same waits.nothing_left more
 
   -- Else it has what it had before, with a strong mode once that is counted no more.
   pub rest-removed_strong :
       (b c : Account) (its : Stack) → is_strong_on tag mode ≡ true → b ≡ account_cancelled a tag mode false b.trace → c ≡ account_uncounting b tag mode
-      → its ≡ stack → IsAtRest limit database uses c its entries
+      → its ≡ stack → IsAtRest groups limit database uses c its entries
   rest-removed_strong b c its strong over back same = record {
     account =
         back
@@ -57,7 +58,7 @@ module _ (limit database uses : ℕ) (a : Account) (stack : Stack) (entries : Li
           };
           trace = sym (ap (λ (x : Account). x.trace) back) i;
         });
-    use_count = use_count-same b c uses remembered (over-use_count b false over);
+    use_count = use_count-same groups b c uses remembered (over-use_count b false over);
     nothing_left = same ∙ waits.nothing_left;
   } where
     remembered : b.fast.remembered ≡ c.fast.remembered

@@ -10,6 +10,7 @@ use Rattle.lock_world.specs.World.{TraceEntry, Loaded}
 use Rattle.lock_world.specs.Account.{Account}
 use Rattle.shared_rule.specs.Lawful.{HasJustLooked}
 use Rattle.shared_rule.specs.Boards.{Stack}
+use Rattle.fast_path.specs.declared.use_counts.UseCounts.{UseCounts}
 use Rattle.lock_manager.specs.declared.waiting.Looked.{Looked}
 use Rattle.lock_manager.specs.declared.waiting.Looked.TheVariants.{Granted, Still, CancelAsked}
 use Rattle.lock_manager.specs.Waiting.{polled_as, IsWaiting, IsWatch}
@@ -51,9 +52,9 @@ seen-neither false false still = (refl, refl)
 
 -- and may sleep on what it saw.
 pub just_looked :
-    (limit database uses number : ℕ) (a : Account) (stack : Stack) (entries : List Entry) (tag : Tag) (mode : Mode) (shown : ℕ) (before : List TraceEntry)
-    → IsWaiting limit database uses a stack entries tag mode → a.trace ≡ before ++ Loaded (Wait number) shown ∷ [] → polled_as shown ≡ Still → HasJustLooked number a shown
-just_looked limit database uses number a stack entries tag mode shown before waiting looked still =
+    (groups limit database : ℕ) (uses : UseCounts) (number : ℕ) (a : Account) (stack : Stack) (entries : List Entry) (tag : Tag) (mode : Mode) (shown : ℕ) (before : List TraceEntry)
+    → IsWaiting groups limit database uses a stack entries tag mode → a.trace ≡ before ++ Loaded (Wait number) shown ∷ [] → polled_as shown ≡ Still → HasJustLooked number a shown
+just_looked groups limit database uses number a stack entries tag mode shown before waiting looked still =
     let neither = seen-neither (wait_state shown == 2) (is_asked shown) still in
     record {
       wait = own_wait tag mode waiting.held;

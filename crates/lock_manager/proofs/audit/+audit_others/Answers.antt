@@ -19,10 +19,10 @@ gather_next-absent-requires-clause-left_own g t c =
     (all-before _ c.pop.new.self.items _ (subst (AllByRecursion _) c.in-Some.ensures.items c.requires.same_manager)).0
 
 pub gather_next-absent-requires-clause-no_word : goal.gather_next-absent-requires-clause-no_word
-gather_next-absent-requires-clause-no_word g t c = kept_apart-rest _ _ _ _ _ _ c.session.invariant.0
+gather_next-absent-requires-clause-no_word g t c = kept_apart-rest _ _ _ _ _ _ _ c.session.invariant.0
 
 pub gather_next-absent-requires-clause-no_wait : goal.gather_next-absent-requires-clause-no_wait
-gather_next-absent-requires-clause-no_wait g t c = no_wait-rest _ _ _ _ _ _ c.session.invariant.0
+gather_next-absent-requires-clause-no_wait g t c = no_wait-rest _ _ _ _ _ _ _ c.session.invariant.0
 
 pub gather_next-absent-requires-clause-ready : goal.gather_next-absent-requires-clause-ready
 gather_next-absent-requires-clause-ready g t c =

@@ -14,7 +14,7 @@ audit_others-counted-requires-clause-ready g c =
     let split = length-append c.pop.new.self.items (c.in-Some.session ∷ []) in
     let all = c.requires.all in
     may_count-first (length c.pop.new.self.items) c.args.numbers.now c.gather-absent.new.self _ _ c.requires.none_gathered (omega (arith, long, split, all)) c.gather-absent.ensures.gathered
-    (no_wait-rest _ _ _ _ _ _ c.session.invariant.0) (kept_apart-rest _ _ _ _ _ _ c.session.invariant.0)
+    (no_wait-rest _ _ _ _ _ _ _ c.session.invariant.0) (kept_apart-rest _ _ _ _ _ _ _ c.session.invariant.0)
 
 pub send_back-board-requires-clause-table : goal.send_back-board-requires-clause-table
 send_back-board-requires-clause-table g c =

@@ -10,11 +10,17 @@ returns-clause-table c =
     let opener = c.gather.ensures.gathered.opener in (
       ap (λ (o : OpenerState PartView). o.table) opener ∙ c.requires.table.0,
       ap (λ (o : OpenerState PartView). o.limit) opener ∙ c.requires.table.1,
+      ap (λ (o : OpenerState PartView). o.groups) opener ∙ c.requires.table.2,
     )
 
 pub returns-clause-left_own : goal.returns-clause-left_own
 returns-clause-left_own c =
-    all-tables {B = SeatBoard KeptPart} (λ board. record { number = board.number; limit = board.sessions; table = board.table.now.table_id })
+    all-tables {B = SeatBoard KeptPart} (λ board. record {
+      number = board.number;
+      limit = board.sizes.sessions;
+      groups = board.sizes.groups;
+      table = board.table.now.table_id;
+    })
     c.args.numbers.now.table c.gather.new.self.table c.args.left.now.items (sym (ap (λ (o : OpenerState PartView). o.table) c.gather.ensures.gathered.opener)) c.requires.left_own
 
 pub returns-clause-ready : goal.returns-clause-ready

@@ -13,7 +13,7 @@ use Rattle.lock_manager.proofs.listing.list.Goals as goal
 pub returns-then-is_err-clause-rest : goal.returns-then-is_err-clause-rest
 returns-then-is_err-clause-rest g c =
     let listed = c.slot_rows.ensures.listed in
-    rest-read_slots (g.B.Board.seat c.args.board.now).limit c.args.own.now.database c.args.own.now.uses
+    rest-read_slots (g.B.Board.seat c.args.board.now).groups (g.B.Board.seat c.args.board.now).limit c.args.own.now.database c.args.own.now.uses
     (g.B.Board.view c.args.board.now) (g.B.Board.view c.slot_rows.new.board)
     (g.B.Board.stack c.args.board.now) (g.B.Board.stack c.slot_rows.new.board) c.args.own.now.locals.entries
     c.slot_rows.ensures.stack c.requires.rest _ listed.no_more listed.account
@@ -21,11 +21,11 @@ returns-then-is_err-clause-rest g c =
 pub returns-in-Ok-clause-rest : goal.returns-in-Ok-clause-rest
 returns-in-Ok-clause-rest g c =
     let listed = c.slot_rows.ensures.listed in
-    rest-read (g.B.Board.seat c.args.board.now).limit c.args.own.now.database c.args.own.now.uses
+    rest-read (g.B.Board.seat c.args.board.now).groups (g.B.Board.seat c.args.board.now).limit c.args.own.now.database c.args.own.now.uses
     (g.B.Board.view c.slot_rows.new.board) (g.B.Board.view c.list_table.new.board)
     (g.B.Board.stack c.slot_rows.new.board) (g.B.Board.stack c.list_table.new.board) c.args.own.now.locals.entries
     c.list_table.ensures.stack
-    (rest-read_slots (g.B.Board.seat c.args.board.now).limit c.args.own.now.database c.args.own.now.uses
+    (rest-read_slots (g.B.Board.seat c.args.board.now).groups (g.B.Board.seat c.args.board.now).limit c.args.own.now.database c.args.own.now.uses
     (g.B.Board.view c.args.board.now) (g.B.Board.view c.slot_rows.new.board)
     (g.B.Board.stack c.args.board.now) (g.B.Board.stack c.slot_rows.new.board) c.args.own.now.locals.entries
     c.slot_rows.ensures.stack c.requires.rest _ listed.no_more listed.account)
@@ -34,11 +34,11 @@ returns-in-Ok-clause-rest g c =
 pub returns-in-Err-clause-rest : goal.returns-in-Err-clause-rest
 returns-in-Err-clause-rest g c =
     let listed = c.slot_rows.ensures.listed in
-    rest-read (g.B.Board.seat c.args.board.now).limit c.args.own.now.database c.args.own.now.uses
+    rest-read (g.B.Board.seat c.args.board.now).groups (g.B.Board.seat c.args.board.now).limit c.args.own.now.database c.args.own.now.uses
     (g.B.Board.view c.slot_rows.new.board) (g.B.Board.view c.list_table.new.board)
     (g.B.Board.stack c.slot_rows.new.board) (g.B.Board.stack c.list_table.new.board) c.args.own.now.locals.entries
     c.list_table.ensures.stack
-    (rest-read_slots (g.B.Board.seat c.args.board.now).limit c.args.own.now.database c.args.own.now.uses
+    (rest-read_slots (g.B.Board.seat c.args.board.now).groups (g.B.Board.seat c.args.board.now).limit c.args.own.now.database c.args.own.now.uses
     (g.B.Board.view c.args.board.now) (g.B.Board.view c.slot_rows.new.board)
     (g.B.Board.stack c.args.board.now) (g.B.Board.stack c.slot_rows.new.board) c.args.own.now.locals.entries
     c.slot_rows.ensures.stack c.requires.rest _ listed.no_more listed.account)
@@ -57,8 +57,8 @@ returns-in-Ok-clause-listed g c =
     let loaded : slots.loaded ≡ seat.limit = rows-ok c.slot_rows.result _ (sym c.if-is_err.ensures.value) slots.all_loaded in
     let exists : seat.number < seat.limit = subst (λ (n : ℕ). n < seat.limit) c.number.ensures.value c.number.ensures.exists in
     let own_loaded : seat.number < slots.loaded = subst (λ (n : ℕ). seat.number < n) (sym loaded) exists in
-    let reads : b.trace ≡ a.trace ++ loads_of_all seat.limit slots.database slots.word =
-    ap (λ (x : Account). x.trace) slots.account ∙ ap (λ (n : ℕ). a.trace ++ loads_of_all n slots.database slots.word) loaded in
+    let reads : b.trace ≡ a.trace ++ loads_of_all seat.groups seat.limit slots.database slots.word =
+    ap (λ (x : Account). x.trace) slots.account ∙ ap (λ (n : ℕ). a.trace ++ loads_of_all seat.groups n slots.database slots.word) loaded in
     let trace = table.trace ∙ ap (λ entries. entries ++ listing_steps 0 table.contents) reads in
     let fits : a.fast.database < 2 ^ 32 =
     subst (λ (d : ℕ). d < 2 ^ 32) (sym (ap (λ (x : Account). x.fast.database) c.requires.rest.account)) (search rules) in
@@ -76,13 +76,13 @@ returns-in-Ok-clause-listed g c =
       sixteen = table.sixteen;
       trace = trace;
       table = table.table;
-      own = lists-own seat.limit seat.number a b slots.database slots.word table.contents listing exists fits
+      own = lists-own seat.groups seat.limit seat.number a b slots.database slots.word table.contents listing exists fits
           (ap (λ (x : Account). x.awaited) c.requires.rest.account) (slots.shared seat.number own_loaded) (slots.own own_loaded)
           (slots.account ∙ (λ i. record a {
             fast = record (a.fast) { remembered = b.fast.remembered };
             trace = sym (ap (λ (x : Account). x.trace) slots.account) i;
           }))
           of_caller table.sixteen fast table.table;
-      misses_none = misses-none seat.limit seat.number a.trace (g.B.Board.view c.list_table.new.board).trace slots.database slots.word
+      misses_none = misses-none seat.groups seat.limit seat.number a.trace (g.B.Board.view c.list_table.new.board).trace slots.database slots.word
           table.contents listing table.sixteen trace fast table.table;
     })

@@ -1,9 +1,11 @@
-use Rattle.std.proofs.Common.{◌≡◌, [], refl, sym, ap, ◌∙◌, List, arith}
+use Rattle.std.proofs.Common.{◌≡◌, [], refl, sym, ap, ◌∙◌, subst, List, arith}
 use Rattle.local_locks.specs.declared.ends.End.{End}
 use Rattle.local_locks.specs.declared.ends.End.TheVariants.{Commit, Abort, Close, Inner}
 use Rattle.local_locks.specs.declared.records.Entry.{Entry}
 use Rattle.local_locks.specs.Owned.{ended_by, found_by, outer_after}
 use Rattle.local_locks.proofs.EntryLaws.{distinct-found}
+use Rattle.shared_rule.specs.Boards.{Seated}
+use Rattle.lock_manager.specs.Rest.{IsUseCount}
 use Rattle.lock_manager.proofs.Lemmas.Rest.Acquires.{rest-database}
 use Rattle.lock_manager.proofs.Lemmas.Rest.Ends.{rest-held, rest-counted, rest-next, rest-left, rest-found, releases-next}
 use Rattle.lock_manager.proofs.releases.end_all.Goals as goal
@@ -11,7 +13,7 @@ use Rattle.lock_manager.proofs.releases.end_all.Goals as goal
 pub entries-init : goal.entries-init
 entries-init g c = record {
   rest =
-      rest-found (g.B.Board.seat c.args.board.now).limit c.args.own.now.database c.args.own.now.uses c.args.end (g.B.Board.view c.args.board.now) (g.B.Board.stack c.args.board.now)
+      rest-found (g.B.Board.seat c.args.board.now).groups (g.B.Board.seat c.args.board.now).limit c.args.own.now.database c.args.own.now.uses c.args.end (g.B.Board.view c.args.board.now) (g.B.Board.stack c.args.board.now)
       c.args.own.now.locals c.requires.rest;
   steps = λ last left others. others;
   entries = refl;
@@ -22,18 +24,18 @@ entries-init g c = record {
 
 pub release_hold-requires-clause-database : goal.release_hold-requires-clause-database
 release_hold-requires-clause-database g c =
-    rest-database (g.B.Board.seat c.args.board.now).limit c.args.own.now.database c.entries.own.uses (g.B.Board.view c.entries.board) (g.B.Board.stack c.entries.board)
+    rest-database (g.B.Board.seat c.args.board.now).groups (g.B.Board.seat c.args.board.now).limit c.args.own.now.database c.entries.own.uses (g.B.Board.view c.entries.board) (g.B.Board.stack c.entries.board)
     (found_by c.args.end c.entries.own.locals) c.entries.invariant.rest ∙ sym c.entries.invariant.kept.database
 
 pub release_hold-requires-clause-held : goal.release_hold-requires-clause-held
 release_hold-requires-clause-held g c =
-    rest-held (g.B.Board.seat c.args.board.now).limit c.args.own.now.database c.entries.own.uses c.args.end (g.B.Board.view c.entries.board) (g.B.Board.stack c.entries.board)
+    rest-held (g.B.Board.seat c.args.board.now).groups (g.B.Board.seat c.args.board.now).limit c.args.own.now.database c.entries.own.uses c.args.end (g.B.Board.view c.entries.board) (g.B.Board.stack c.entries.board)
     (found_by c.args.end c.entries.own.locals) (c.in-Some.tag, c.in-Some.mode) (ended_by c.args.end (found_by c.args.end c.end_next.new.self))
     c.in-Some.ensures.next c.entries.invariant.rest
 
 pub release_hold-requires-clause-counted : goal.release_hold-requires-clause-counted
 release_hold-requires-clause-counted g c =
-    rest-counted (g.B.Board.seat c.args.board.now).limit c.args.own.now.database c.entries.own.uses c.args.end (g.B.Board.view c.entries.board) (g.B.Board.stack c.entries.board)
+    rest-counted (g.B.Board.seat c.args.board.now).groups (g.B.Board.seat c.args.board.now).limit c.args.own.now.database c.entries.own.uses c.args.end (g.B.Board.view c.entries.board) (g.B.Board.stack c.entries.board)
     (found_by c.args.end c.entries.own.locals) (c.in-Some.tag, c.in-Some.mode) (ended_by c.args.end (found_by c.args.end c.end_next.new.self))
     c.in-Some.ensures.next c.entries.invariant.rest
 
@@ -41,11 +43,14 @@ release_hold-requires-clause-counted g c =
 pub entries-preserved : goal.entries-preserved
 entries-preserved g c = record {
   rest =
-      rest-next (g.B.Board.seat c.args.board.now).limit c.args.own.now.database c.entries.own.uses c.release_hold.new.uses c.args.end (g.B.Board.view c.entries.board)
+      rest-next (g.B.Board.seat c.args.board.now).groups (g.B.Board.seat c.args.board.now).limit c.args.own.now.database c.entries.own.uses c.release_hold.new.uses c.args.end (g.B.Board.view c.entries.board)
       (g.B.Board.view c.release_hold.new.board)
       (g.B.Board.stack c.entries.board) (g.B.Board.stack c.release_hold.new.board) (found_by c.args.end c.entries.own.locals) (found_by c.args.end c.end_next.new.self)
       (c.in-Some.tag, c.in-Some.mode) (distinct-found c.args.end c.entries.own.locals c.entries.invariant.kept.well_owned.once) c.in-Some.ensures.next (c.in-Some.ensures.entries refl)
-      c.release_hold.ensures.account c.release_hold.ensures.use_count c.release_hold.ensures.stack c.entries.invariant.rest;
+      c.release_hold.ensures.account
+      (subst (λ (s : Seated). IsUseCount s.groups (g.B.Board.view c.release_hold.new.board) c.release_hold.new.uses) c.entries.invariant.kept.seat_
+      c.release_hold.ensures.use_count)
+      c.release_hold.ensures.stack c.entries.invariant.rest;
   steps = λ last left others. c.entries.invariant.steps last left
       (releases-next (g.B.Board.seat c.args.board.now) (g.B.Board.seat c.entries.board) c.args.end (g.B.Board.view c.entries.board)
       (g.B.Board.view c.release_hold.new.board) last c.entries.own.uses c.release_hold.new.uses left (found_by c.args.end c.entries.own.locals) (found_by c.args.end c.end_next.new.self)
@@ -65,7 +70,7 @@ entries-preserved g c = record {
 -- At the end nothing was taken away.
 pub returns-clause-rest : goal.returns-clause-rest
 returns-clause-rest g c =
-    rest-left (g.B.Board.seat c.args.board.now).limit c.args.own.now.database c.entries.own.uses c.args.end (g.B.Board.view c.entries.board) (g.B.Board.stack c.entries.board)
+    rest-left (g.B.Board.seat c.args.board.now).groups (g.B.Board.seat c.args.board.now).limit c.args.own.now.database c.entries.own.uses c.args.end (g.B.Board.view c.entries.board) (g.B.Board.stack c.entries.board)
     (found_by c.args.end c.entries.own.locals) c.end_next.new.self.entries c.in_default.ensures.last c.in_default.ensures.left c.entries.invariant.rest
 
 pub returns-clause-levels : goal.returns-clause-levels

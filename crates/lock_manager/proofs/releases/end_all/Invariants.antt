@@ -2,6 +2,7 @@ use Rattle.std.proofs.Common.{◌≡◌, ℕ, length}
 use Rattle.local_locks.specs.declared.ends.End.TheVariants.{Inner}
 use Rattle.local_locks.specs.Owned.{level_of, found_by, ended_by, left_by}
 use Rattle.lock_world.specs.Account.{Account}
+use Rattle.fast_path.specs.declared.use_counts.UseCounts.{UseCounts}
 use Rattle.lock_manager.specs.Rest.{IsAtRest}
 use Rattle.lock_manager.specs.Releases.{ReleasesAll}
 use Rattle.lock_manager.specs.Sessions.{KeepsOwn}
@@ -9,11 +10,11 @@ use Rattle.lock_manager.proofs.releases.end_all.Given as goal
 
 abbrev pub invariant-entries : goal.invariant-entries
 invariant-entries g l = record {
-  rest : IsAtRest (g.B.Board.seat l.fn.board).limit l.fn.own.database l.own.uses (g.B.Board.view l.board) (g.B.Board.stack l.board)
+  rest : IsAtRest (g.B.Board.seat l.fn.board).groups (g.B.Board.seat l.fn.board).limit l.fn.own.database l.own.uses (g.B.Board.view l.board) (g.B.Board.stack l.board)
       (found_by l.end l.own.locals);
-  steps : (last : Account) (left : ℕ) → ReleasesAll (g.B.Board.seat l.fn.board).number (g.B.Board.view l.board) l.own.uses
+  steps : (last : Account) (left : UseCounts) → ReleasesAll (g.B.Board.seat l.fn.board).groups (g.B.Board.seat l.fn.board).number (g.B.Board.view l.board) l.own.uses
       (ended_by l.end (found_by l.end l.own.locals)) last left
-      → ReleasesAll (g.B.Board.seat l.fn.board).number (g.B.Board.view l.fn.board) l.fn.own.uses
+      → ReleasesAll (g.B.Board.seat l.fn.board).groups (g.B.Board.seat l.fn.board).number (g.B.Board.view l.fn.board) l.fn.own.uses
       (ended_by l.end (found_by l.end l.fn.own.locals)) last left;
   entries : left_by l.end (found_by l.end l.own.locals) ≡ left_by l.end (found_by l.end l.fn.own.locals);
   level : level_of l.own.locals ≡ level_of l.fn.own.locals;

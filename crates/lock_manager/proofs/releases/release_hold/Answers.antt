@@ -8,8 +8,8 @@ use Rattle.lock_manager.proofs.releases.release_hold.Goals as goal
 pub returns-then-not-is_eligible-clause-steps : goal.returns-then-not-is_eligible-clause-steps
 returns-then-not-is_eligible-clause-steps g c =
     let before = g.B.Board.view c.args.board.now in
-    table-released (g.B.Board.seat c.args.board.now).number before before (g.B.Board.view c.release_in_table.new.board) c.args.uses.now c.args.uses.now c.args.tag.now c.args.mode
-    (looks-nowhere (g.B.Board.seat c.args.board.now).number before c.args.uses.now c.args.tag.now c.args.mode
+    table-released (g.B.Board.seat c.args.board.now).groups (g.B.Board.seat c.args.board.now).number before before (g.B.Board.view c.release_in_table.new.board) c.args.uses.now c.args.uses.now c.args.tag.now c.args.mode
+    (looks-nowhere (g.B.Board.seat c.args.board.now).groups (g.B.Board.seat c.args.board.now).number before c.args.uses.now c.args.tag.now c.args.mode
     (inl (ap (λ database. is_eligible_for database c.args.tag.now c.args.mode) c.requires.database ∙ sym c.if-not-is_eligible.ensures)))
     c.release_in_table.ensures.released
 
@@ -18,8 +18,8 @@ returns-then-not-ungrant-clause-steps g c =
     let number = (g.B.Board.seat c.args.board.now).number in
     let before = g.B.Board.view c.args.board.now in
     let between = g.B.Board.view c.ungrant.new.board in
-    table-released number before between (g.B.Board.view c.release_in_table-then-not-ungrant.new.board) c.args.uses.now c.ungrant.new.uses c.args.tag.now c.args.mode
-    (looks-found number before between c.args.uses.now c.ungrant.new.uses c.args.tag.now c.args.mode
+    table-released (g.B.Board.seat c.args.board.now).groups number before between (g.B.Board.view c.release_in_table-then-not-ungrant.new.board) c.args.uses.now c.ungrant.new.uses c.args.tag.now c.args.mode
+    (looks-found (g.B.Board.seat c.args.board.now).groups number before between c.args.uses.now c.ungrant.new.uses c.args.tag.now c.args.mode
     (ap (λ database. is_eligible_for database c.args.tag.now c.args.mode) c.requires.database ∙ sym c.if-not-is_eligible.ensures) c.if-not-ungrant.ensures.ungranted)
     (subst (λ (s : Seated). ReleasesHold s.number between c.args.tag.now c.args.mode (g.B.Board.view c.release_in_table-then-not-ungrant.new.board))
     c.ungrant.ensures.seat c.release_in_table-then-not-ungrant.ensures.released)

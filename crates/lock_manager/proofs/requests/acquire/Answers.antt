@@ -13,13 +13,13 @@ returns-then-branch-clause-rest g c other =
     let again =
     held_again c.args.own.now.locals c.add_held.new.self c.args.tag c.args.mode c.args.owner c.add_held.result c.in_ok-add_held.field-0 (c.in_ok-add_held.was {u = tt}) c.if-branch.true c.add_held.ensures.held.0
     c.add_held.ensures.entries in
-    rest-held_again (g.B.Board.seat c.args.board.now).limit c.args.own.now.database c.args.own.now.uses (g.B.Board.view c.args.board.now) (g.B.Board.stack c.args.board.now) c.args.own.now.locals.entries
+    rest-held_again (g.B.Board.seat c.args.board.now).groups (g.B.Board.seat c.args.board.now).limit c.args.own.now.database c.args.own.now.uses (g.B.Board.view c.args.board.now) (g.B.Board.stack c.args.board.now) c.args.own.now.locals.entries
     c.add_held.new.self.entries c.args.tag c.args.mode c.args.owner again.0 again.1 c.requires.rest
 
 pub request-requires-clause-not_counted : goal.request-requires-clause-not_counted
 request-requires-clause-not_counted g c =
     let yet = not_held_yet c.args.own.now.locals c.add_held.new.self c.args.tag c.args.mode c.add_held.result c.in_ok-add_held.field-0 (c.in_ok-add_held.was {u = tt}) c.if-branch.false c.add_held.ensures.not_held.0 c.add_held.ensures.same in
-    rest-not_counted (g.B.Board.seat c.args.board.now).limit c.args.own.now.database c.args.own.now.uses (g.B.Board.view c.args.board.now) (g.B.Board.stack c.args.board.now) c.args.own.now.locals.entries
+    rest-not_counted (g.B.Board.seat c.args.board.now).groups (g.B.Board.seat c.args.board.now).limit c.args.own.now.database c.args.own.now.uses (g.B.Board.view c.args.board.now) (g.B.Board.stack c.args.board.now) c.args.own.now.locals.entries
     c.args.tag c.args.mode c.requires.rest yet.0
 
 pub request-requires-clause-countable : goal.request-requires-clause-countable
@@ -30,7 +30,7 @@ request-requires-clause-countable g c =
     let room : length c.reserve_new.new.self.entries < c.reserve_new.new.self.max_local = c.in_ok-reserve_new.ensures.allowed in
     let number : length c.reserve_new.new.self.entries ≡ length entries = ap (λ (es : List Entry). length es) same in
     let few : length entries < 65536 = omega (arith, room, number, c.reserve_new.ensures.max_local, c.add_held.ensures.max_local, c.requires.few_entries) in
-    rest-few (g.B.Board.seat c.args.board.now).limit c.args.own.now.database c.args.own.now.uses most_counted (g.B.Board.view c.args.board.now) (g.B.Board.stack c.args.board.now) entries c.requires.rest few
+    rest-few (g.B.Board.seat c.args.board.now).groups (g.B.Board.seat c.args.board.now).limit c.args.own.now.database c.args.own.now.uses most_counted (g.B.Board.view c.args.board.now) (g.B.Board.stack c.args.board.now) entries c.requires.rest few
 
 pub add_new-requires-clause-new : goal.add_new-requires-clause-new
 add_new-requires-clause-new g c =
@@ -41,7 +41,7 @@ pub returns-in-Ok-Granted-clause-rest : goal.returns-in-Ok-Granted-clause-rest
 returns-in-Ok-Granted-clause-rest g c other =
     let yet = not_held_yet c.args.own.now.locals c.add_held.new.self c.args.tag c.args.mode c.add_held.result c.in_ok-add_held.field-0 (c.in_ok-add_held.was {u = tt}) c.if-branch.false c.add_held.ensures.not_held.0 c.add_held.ensures.same in
     let entries = c.args.own.now.locals.entries in
-    rest-granted (g.B.Board.seat c.args.board.now).limit c.args.own.now.database c.args.own.now.uses c.request.new.uses (g.B.Board.view c.args.board.now) (g.B.Board.view c.request.new.board) (g.B.Board.stack c.args.board.now) (g.B.Board.stack c.request.new.board)
+    rest-granted (g.B.Board.seat c.args.board.now).groups (g.B.Board.seat c.args.board.now).limit c.args.own.now.database c.args.own.now.uses c.request.new.uses (g.B.Board.view c.args.board.now) (g.B.Board.view c.request.new.board) (g.B.Board.stack c.args.board.now) (g.B.Board.stack c.request.new.board)
     entries c.add_new.new.self.entries c.args.tag c.args.mode c.args.owner yet.0
     (subst (λ decision. IsRequested (g.B.Board.seat c.args.board.now).limit (g.B.Board.view c.args.board.now) c.args.tag c.args.mode (Ok decision) (g.B.Board.view c.request.new.board))
     c.in-Ok-Granted.field-0-is

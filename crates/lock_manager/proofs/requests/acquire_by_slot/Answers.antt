@@ -11,7 +11,7 @@ returns-then-branch-clause-rest g c =
     let again =
     held_again c.args.own.now.locals c.add_held.new.self c.args.tag c.args.mode c.args.owner c.add_held.result c.in_ok-add_held.field-0 (c.in_ok-add_held.was {u = tt}) c.if-branch.true c.add_held.ensures.held.0
     c.add_held.ensures.entries in
-    rest-held_again (g.B.Board.seat c.args.board.now).limit c.args.own.now.database c.args.own.now.uses (g.B.Board.view c.args.board.now) (g.B.Board.stack c.args.board.now) c.args.own.now.locals.entries
+    rest-held_again (g.B.Board.seat c.args.board.now).groups (g.B.Board.seat c.args.board.now).limit c.args.own.now.database c.args.own.now.uses (g.B.Board.view c.args.board.now) (g.B.Board.stack c.args.board.now) c.args.own.now.locals.entries
     c.add_held.new.self.entries c.args.tag c.args.mode c.args.owner again.0 again.1 c.requires.rest
 
 pub add_new-requires-clause-new : goal.add_new-requires-clause-new
@@ -25,11 +25,15 @@ returns-in-Ok-clause-rest g c =
     let entries = c.args.own.now.locals.entries in
     let seat = g.B.Board.seat c.args.board.now in
     let its = g.B.Board.view c.args.board.now in
-    rest-granted seat.limit c.args.own.now.database c.args.own.now.uses c.try_grant.new.uses its (g.B.Board.view c.try_grant.new.board) (g.B.Board.stack c.args.board.now)
+    rest-granted seat.groups seat.limit c.args.own.now.database c.args.own.now.uses c.try_grant.new.uses its (g.B.Board.view c.try_grant.new.board) (g.B.Board.stack c.args.board.now)
     (g.B.Board.stack c.try_grant.new.board) entries c.add_new.new.self.entries c.args.tag c.args.mode c.args.owner yet.0
-    (by_slot-account seat.limit seat.number its (g.B.Board.view c.try_grant.new.board) _ c.args.own.now.uses c.try_grant.new.uses c.args.tag c.args.mode
+    (by_slot-account seat.groups seat.limit seat.number its (g.B.Board.view c.try_grant.new.board) _ c.args.own.now.uses c.try_grant.new.uses c.args.tag c.args.mode
     (ap (λ database. is_eligible_for database c.args.tag c.args.mode)
-    (rest-database seat.limit c.args.own.now.database c.args.own.now.uses its (g.B.Board.stack c.args.board.now) entries c.requires.rest)
+    (rest-database seat.groups seat.limit c.args.own.now.database c.args.own.now.uses its (g.B.Board.stack c.args.board.now) entries c.requires.rest)
     ∙ sym c.if-not-is_eligible.ensures) c.in-Ok.ensures.granted.3)
-    (record { enough = c.in-Ok.ensures.ready.enough; within = c.in-Ok.ensures.ready.within }) c.try_grant.ensures.stack
+    (record {
+      in_groups = c.in-Ok.ensures.ready.in_groups;
+      enough = c.in-Ok.ensures.ready.enough;
+      within = c.in-Ok.ensures.ready.within;
+    }) c.try_grant.ensures.stack
     (c.add_new.ensures.entries ∙ ap (λ (es : List Entry). with_one_more es c.args.tag c.args.mode c.args.owner) (c.reserve_new.ensures.entries ∙ yet.1)) c.requires.rest

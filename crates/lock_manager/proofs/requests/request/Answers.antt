@@ -5,13 +5,16 @@ use Rattle.lock_manager.specs.Requests.{DecidesInPart}
 use Rattle.lock_manager.proofs.Lemmas.Requests.Whole.{led-by_table, led-refused, led-decides, led-weak_account, requests-decided}
 use Rattle.lock_manager.proofs.requests.request.Goals as goal
 
+pub returns-then-is_strong-clause-use_count : goal.returns-then-is_strong-clause-use_count
+returns-then-is_strong-clause-use_count g c = c.request_strong.ensures.use_count c.args.uses.now c.requires.use_count
+
 pub returns-then-not-is_eligible-clause-steps : goal.returns-then-not-is_eligible-clause-steps
 returns-then-not-is_eligible-clause-steps g c =
     let seat = g.B.Board.seat c.args.board.now in
     let before = g.B.Board.view c.args.board.now in
     requests-decided c.args.kind seat before (g.B.Board.view c.decide_in_part.new.board) c.args.uses.now c.args.uses.now c.args.tag.now c.args.mode c.decide_in_part.result
     (led-decides c.args.kind seat before before (g.B.Board.view c.decide_in_part.new.board) c.args.uses.now c.args.uses.now c.args.tag.now c.args.mode before.fast.counted
-    (led-by_table seat.limit before c.args.uses.now c.args.tag.now c.args.mode (sym c.if-is_strong.ensures)
+    (led-by_table seat.groups seat.limit before c.args.uses.now c.args.tag.now c.args.mode (sym c.if-is_strong.ensures)
     (inl (ap (λ database. is_eligible_for database c.args.tag.now c.args.mode) c.requires.database ∙ sym c.if-not-is_eligible.ensures)))
     c.decide_in_part.result c.decide_in_part.ensures.decided)
 
@@ -20,7 +23,7 @@ returns-then-not-is_eligible-clause-account g c =
     let seat = g.B.Board.seat c.args.board.now in
     let before = g.B.Board.view c.args.board.now in
     led-weak_account c.args.kind seat before before (g.B.Board.view c.decide_in_part.new.board) c.args.uses.now c.args.uses.now c.args.tag.now c.args.mode
-    (led-by_table seat.limit before c.args.uses.now c.args.tag.now c.args.mode (sym c.if-is_strong.ensures)
+    (led-by_table seat.groups seat.limit before c.args.uses.now c.args.tag.now c.args.mode (sym c.if-is_strong.ensures)
     (inl (ap (λ database. is_eligible_for database c.args.tag.now c.args.mode) c.requires.database ∙ sym c.if-not-is_eligible.ensures)))
     (sym c.if-is_strong.ensures) c.decide_in_part.result c.decide_in_part.ensures.decided
 
@@ -31,7 +34,7 @@ returns-in-Err-clause-steps g c =
     let between = g.B.Board.view c.grant.new.board in
     requests-decided c.args.kind seat before (g.B.Board.view c.decide_in_part-in-Err.new.board) c.args.uses.now c.grant.new.uses c.args.tag.now c.args.mode c.decide_in_part-in-Err.result
     (led-decides c.args.kind seat before between (g.B.Board.view c.decide_in_part-in-Err.new.board) c.args.uses.now c.grant.new.uses c.args.tag.now c.args.mode before.fast.counted
-    (led-refused seat.number seat.limit before between c.args.uses.now c.grant.new.uses c.args.tag.now c.args.mode c.in-Err.field-0
+    (led-refused seat.groups seat.number seat.limit before between c.args.uses.now c.grant.new.uses c.args.tag.now c.args.mode c.in-Err.field-0
     (ap (λ database. is_eligible_for database c.args.tag.now c.args.mode) c.requires.database ∙ sym c.if-not-is_eligible.ensures) c.in-Err.ensures.granted)
     c.decide_in_part-in-Err.result
     (subst (λ (s : Seated). DecidesInPart c.args.kind s.number between c.args.tag.now c.args.mode c.decide_in_part-in-Err.result (g.B.Board.view c.decide_in_part-in-Err.new.board))
@@ -43,7 +46,7 @@ returns-in-Err-clause-account g c =
     let before = g.B.Board.view c.args.board.now in
     let between = g.B.Board.view c.grant.new.board in
     led-weak_account c.args.kind seat before between (g.B.Board.view c.decide_in_part-in-Err.new.board) c.args.uses.now c.grant.new.uses c.args.tag.now c.args.mode
-    (led-refused seat.number seat.limit before between c.args.uses.now c.grant.new.uses c.args.tag.now c.args.mode c.in-Err.field-0
+    (led-refused seat.groups seat.number seat.limit before between c.args.uses.now c.grant.new.uses c.args.tag.now c.args.mode c.in-Err.field-0
     (ap (λ database. is_eligible_for database c.args.tag.now c.args.mode) c.requires.database ∙ sym c.if-not-is_eligible.ensures) c.in-Err.ensures.granted)
     (sym c.if-is_strong.ensures) c.decide_in_part-in-Err.result
     (subst (λ (s : Seated). DecidesInPart c.args.kind s.number between c.args.tag.now c.args.mode c.decide_in_part-in-Err.result (g.B.Board.view c.decide_in_part-in-Err.new.board))

@@ -13,10 +13,10 @@ loop-preserved g c =
     let seat = c.load_wait-shown.ensures.seat ∙ c.loop.invariant.seat in
     let own = c.in-Still.ensures.same_own still_not_granted ∙ c.loop.invariant.own in
     record {
-      waiting = subst (λ (s : Seated). IsWaiting s.limit c.args.own.now.database c.args.own.now.uses (g.B.Board.view c.take_up.new.board) (g.B.Board.stack c.take_up.new.board) c.args.own.now.locals.entries c.args.tag c.args.mode) seat
-          (subst (λ (its : Own). IsWaiting (g.B.Board.seat c.load_wait-shown.new.self).limit its.database its.uses (g.B.Board.view c.take_up.new.board) (g.B.Board.stack c.take_up.new.board) c.args.own.now.locals.entries c.args.tag c.args.mode)
+      waiting = subst (λ (s : Seated). IsWaiting s.groups s.limit c.args.own.now.database c.args.own.now.uses (g.B.Board.view c.take_up.new.board) (g.B.Board.stack c.take_up.new.board) c.args.own.now.locals.entries c.args.tag c.args.mode) seat
+          (subst (λ (its : Own). IsWaiting (g.B.Board.seat c.load_wait-shown.new.self).groups (g.B.Board.seat c.load_wait-shown.new.self).limit its.database its.uses (g.B.Board.view c.take_up.new.board) (g.B.Board.stack c.take_up.new.board) c.args.own.now.locals.entries c.args.tag c.args.mode)
           c.loop.invariant.own
-          (subst (λ (its : Own). IsWaiting (g.B.Board.seat c.load_wait-shown.new.self).limit c.loop.own.database c.loop.own.uses (g.B.Board.view c.take_up.new.board) (g.B.Board.stack c.take_up.new.board) its.locals.entries c.args.tag c.args.mode)
+          (subst (λ (its : Own). IsWaiting (g.B.Board.seat c.load_wait-shown.new.self).groups (g.B.Board.seat c.load_wait-shown.new.self).limit c.loop.own.database c.loop.own.uses (g.B.Board.view c.take_up.new.board) (g.B.Board.stack c.take_up.new.board) its.locals.entries c.args.tag c.args.mode)
           own (c.in-Still.ensures.waiting still_not_granted)));
       watching = watching-next (g.B.Board.seat c.args.board.now).number (g.B.Board.view c.args.board.now).trace (g.B.Board.view c.loop.board).trace (g.B.Board.view c.load_wait-shown.new.self).trace
           c.load_wait-shown.result c.loop.invariant.watching
@@ -32,7 +32,7 @@ sleep-requires g c =
     let now = g.B.Board.view c.loop.board in
     let seat = c.take_up.ensures.seat ∙ c.load_wait-shown.ensures.seat in
     record {
-      looked = just_looked _ _ _ (g.B.Board.seat c.take_up.new.board).number (g.B.Board.view c.take_up.new.board) _ _ _ _ c.load_wait-shown.result now.trace
+      looked = just_looked _ _ _ _ (g.B.Board.seat c.take_up.new.board).number (g.B.Board.view c.take_up.new.board) _ _ _ _ c.load_wait-shown.result now.trace
           (c.in-Still.ensures.waiting still_not_granted)
           (c.in-Still.ensures.no_step ∙ ap (λ (a : Account). a.trace) c.load_wait-shown.ensures.view
           ∙ ap (λ (s : Seated). now.trace ++ Loaded (Wait s.number) c.load_wait-shown.result ∷ []) (sym seat))

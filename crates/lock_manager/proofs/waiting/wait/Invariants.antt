@@ -5,7 +5,7 @@ use Rattle.lock_manager.proofs.waiting.wait.Given as goal
 
 abbrev pub invariant-loop : goal.invariant-loop
 invariant-loop g l = record {
-  waiting : IsWaiting (g.B.Board.seat l.fn.board).limit l.fn.own.database l.fn.own.uses (g.B.Board.view l.board) (g.B.Board.stack l.board)
+  waiting : IsWaiting (g.B.Board.seat l.fn.board).groups (g.B.Board.seat l.fn.board).limit l.fn.own.database l.fn.own.uses (g.B.Board.view l.board) (g.B.Board.stack l.board)
       l.fn.own.locals.entries l.tag l.mode;
   watching : IsWatching (g.B.Board.seat l.fn.board).number (g.B.Board.view l.fn.board).trace (g.B.Board.view l.board).trace;
   own : l.own ≡ l.fn.own;

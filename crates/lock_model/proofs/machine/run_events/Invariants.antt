@@ -7,4 +7,4 @@ use Rattle.lock_model.proofs.machine.run_events.Given as goal
 
 -- The machine shows the World that the events so far lead to.
 abbrev pub invariant-loop-event : goal.invariant-loop-event
-invariant-loop-event l = (w : World) × Runs (opening 64) (take l.event-index l.events) w × SafeWorld w × Shows l.machine w
+invariant-loop-event l = (w : World) × Runs (opening 64 l.groups) (take l.event-index l.events) w × SafeWorld w × Shows l.machine w

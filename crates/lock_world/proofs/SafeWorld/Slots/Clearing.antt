@@ -7,13 +7,13 @@ use Rattle.lock_table.specs.Content.{Holds, set_hold}
 use Rattle.lock_table.specs.Put.{set_at}
 use Rattle.lock_table.proofs.PutLemmas.{set_at-each}
 use Rattle.lock_table.proofs.HoldLemmas.{SetHoldAt, here, elsewhere, set_hold-at, set_hold-other_session, set_hold-was}
-use Rattle.lock_world.specs.SlotHolds.{OneSlotEach, InUseHasDatabase}
+use Rattle.lock_world.specs.SlotHolds.{OneSlotEach, InUseHasDatabase, AreInGroups}
 use Rattle.lock_world.specs.Counted.{PastHasNoSlot}
 use Rattle.lock_world.specs.World.{World}
 use Rattle.lock_world.specs.Happens.Slots.{MayClearSlot, after_clearing_slot}
 use Rattle.lock_world.specs.SafeWorld.{SafeWorld, slots_of, own_but, tabled}
 use Rattle.lock_world.proofs.Slots.Eligible.{eligible-is, is_in-held}
-use Rattle.lock_world.proofs.Slots.Clearing.{slot_holds-clear, OneSlotEach-clear}
+use Rattle.lock_world.proofs.Slots.Clearing.{slot_holds-clear, OneSlotEach-clear, AreInGroups-clear}
 use Rattle.lock_world.proofs.Slots.Databases.{InUseHasDatabase-eligible}
 use Rattle.lock_world.proofs.Slots.Remembered.{remembered-both}
 use Rattle.lock_world.proofs.SafeWorld.Tabled.{with_own-safe}
@@ -61,6 +61,8 @@ module _ (w : World) (s i : ℕ) (t : Tag) (m : Mode) (safe : SafeWorld w) (may 
           (OneSlotEach-clear (w.words.slot s) m i (eligible-is (w.words.database s) t m may.held_in.eligible).2 (safe.slots.one_each s)) (λ k _. safe.slots.one_each k);
       has_database = set_at-each (λ k words. InUseHasDatabase (w.words.database k) words) w.words.slot s words'
           (InUseHasDatabase-eligible (w.words.database s) words' t m may.held_in.eligible) (λ k _. safe.slots.has_database k);
+      in_groups = set_at-each (λ k words. AreInGroups w.numbers.groups words) w.words.slot s words'
+          (AreInGroups-clear w.numbers.groups (w.words.slot s) m i (eligible-is (w.words.database s) t m may.held_in.eligible).2 (safe.slots.in_groups s)) (λ k _. safe.slots.in_groups k);
     };
     order = OwnIsInOrder-one own own' w.sessions.awaited w.sessions.awaited s own_else (λ _ _. refl) w.numbers.live w.sessions.counted may.steps.live safe.order
         (λ o n awaits. false_from_ne_true (own' s o n) (λ has. both_ways (own s o n) (safe.order.awaited_is_not_own s o n awaits) (set_hold-was own s t m o n has)));

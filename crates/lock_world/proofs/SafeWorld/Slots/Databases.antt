@@ -39,6 +39,7 @@ storing_database-safe_world w s d safe may = record {
   slots = record {
     are_own = subst (λ shown. (k : ℕ) (o : Tag) (n : Mode) → shown k o n ≡ true → w.sessions.own k o n ≡ true) (sym (storing-slots w s d may)) safe.slots.are_own;
     one_each = safe.slots.one_each;
+    in_groups = safe.slots.in_groups;
     has_database = set_at-each (λ k database. InUseHasDatabase database (w.words.slot k)) w.words.database s d
         (InUseHasDatabase-unused d (w.words.slot s) may.unused) (λ k _. safe.slots.has_database k);
   };

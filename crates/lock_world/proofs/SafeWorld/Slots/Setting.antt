@@ -11,13 +11,13 @@ use Rattle.lock_table.specs.OwnWait.{is_for}
 use Rattle.lock_table.specs.Put.{set_at}
 use Rattle.lock_table.proofs.PutLemmas.{set_at-each}
 use Rattle.lock_table.proofs.HoldLemmas.{SetHoldAt, here, elsewhere, set_hold-at, set_hold-other_session, set_hold-new}
-use Rattle.lock_world.specs.SlotHolds.{relation_of, OneSlotEach, InUseHasDatabase}
+use Rattle.lock_world.specs.SlotHolds.{relation_of, OneSlotEach, InUseHasDatabase, AreInGroups}
 use Rattle.lock_world.specs.Counted.{is_past, PastHasNoSlot}
 use Rattle.lock_world.specs.World.{World}
 use Rattle.lock_world.specs.Happens.Slots.{MaySetSlot, after_setting_slot}
 use Rattle.lock_world.specs.SafeWorld.{SafeWorld, slots_of, own_but, tabled}
 use Rattle.lock_world.proofs.Slots.Eligible.{eligible-is}
-use Rattle.lock_world.proofs.Slots.Setting.{slot_holds-set, OneSlotEach-set}
+use Rattle.lock_world.proofs.Slots.Setting.{slot_holds-set, OneSlotEach-set, AreInGroups-set}
 use Rattle.lock_world.proofs.Slots.Databases.{InUseHasDatabase-eligible}
 use Rattle.lock_world.proofs.Slots.Remembered.{remembered-both}
 use Rattle.lock_world.proofs.SafeWorld.Tabled.{with_own-safe, own_but-false}
@@ -50,7 +50,7 @@ module _ (w : World) (s i : ℕ) (t : Tag) (m : Mode) (safe : SafeWorld w) (may 
   -- What the slots show then.
   pub setting-slots : slots_of w.words.database (set_at w.words.slot s words') ≡ set_hold slots s t m true
   setting-slots = slots_of-set w.words.database w.words.slot s words' t m true
-      (slot_holds-set (w.words.database s) (w.words.slot s) t m i may.eligible may.fits may.takes)
+      (slot_holds-set w.numbers.groups (w.words.database s) (w.words.slot s) t m i may.eligible may.fits may.takes)
 
   own_else : (k : ℕ) (o : Tag) (n : Mode) → k ≢ s → own' k o n ≡ own k o n
   own_else = set_hold-other_session own s t m true
@@ -69,10 +69,14 @@ module _ (w : World) (s i : ℕ) (t : Tag) (m : Mode) (safe : SafeWorld w) (may 
     slots = record {
       are_own = subst (λ shown. (k : ℕ) (o : Tag) (n : Mode) → shown k o n ≡ true → own' k o n ≡ true) (sym setting-slots) (are_own-both own slots s t m true safe.slots.are_own);
       one_each = set_at-each (λ k words. OneSlotEach words) w.words.slot s words'
-          (OneSlotEach-set (w.words.slot s) (relation_of t) m i may.fits (eligible-is (w.words.database s) t m may.eligible).2 may.takes (safe.slots.one_each s))
+          (OneSlotEach-set w.numbers.groups (w.words.slot s) (relation_of t) m i may.fits (eligible-is (w.words.database s) t m may.eligible).2 may.takes
+          (safe.slots.in_groups s) (safe.slots.one_each s))
           (λ k _. safe.slots.one_each k);
       has_database = set_at-each (λ k words. InUseHasDatabase (w.words.database k) words) w.words.slot s words'
           (InUseHasDatabase-eligible (w.words.database s) words' t m may.eligible) (λ k _. safe.slots.has_database k);
+      in_groups = set_at-each (λ k words. AreInGroups w.numbers.groups words) w.words.slot s words'
+          (AreInGroups-set w.numbers.groups (w.words.slot s) (relation_of t) m i may.fits (eligible-is (w.words.database s) t m may.eligible).2 may.takes.usable
+          (safe.slots.in_groups s)) (λ k _. safe.slots.in_groups k);
     };
     order = OwnIsInOrder-one own own' w.sessions.awaited w.sessions.awaited s own_else (λ _ _. refl) w.numbers.live w.sessions.counted may.steps.live safe.order
         (λ o n awaits. absurd (false≢true (ap (λ a. is_for a o n) (sym may.no_wait) ∙ awaits)));

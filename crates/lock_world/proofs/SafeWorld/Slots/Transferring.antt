@@ -9,14 +9,14 @@ use Rattle.lock_table.specs.OwnWait.{is_for}
 use Rattle.lock_table.specs.Put.{set_at}
 use Rattle.lock_table.proofs.PutLemmas.{set_at-each}
 use Rattle.lock_table.proofs.HoldLemmas.{SetHoldAt, here, elsewhere, set_hold-at}
-use Rattle.lock_world.specs.SlotHolds.{OneSlotEach, InUseHasDatabase}
+use Rattle.lock_world.specs.SlotHolds.{OneSlotEach, InUseHasDatabase, AreInGroups}
 use Rattle.lock_world.specs.Counted.{PastHasNoSlot}
 use Rattle.lock_world.specs.World.{World}
 use Rattle.lock_world.specs.Happens.Transfers.{MayTransfer, after_transferring}
 use Rattle.lock_world.specs.Safe.{SafeButSlots}
 use Rattle.lock_world.specs.SafeWorld.{SafeWorld, slots_of, own_but, tabled}
 use Rattle.lock_world.proofs.Slots.Eligible.{eligible-is, is_in-held}
-use Rattle.lock_world.proofs.Slots.Clearing.{slot_holds-clear, OneSlotEach-clear}
+use Rattle.lock_world.proofs.Slots.Clearing.{slot_holds-clear, OneSlotEach-clear, AreInGroups-clear}
 use Rattle.lock_world.proofs.Slots.Databases.{InUseHasDatabase-eligible}
 use Rattle.lock_world.proofs.Slots.Remembered.{remembered-cleared}
 use Rattle.lock_world.proofs.FromSafeWorld.{no_conflict-slot_content}
@@ -93,6 +93,8 @@ module _ (w : World) (s owner i : ℕ) (t : Tag) (m strong : Mode) (safe : SafeW
           (OneSlotEach-clear (w.words.slot owner) m i (eligible-is (w.words.database owner) t m may.held_in.eligible).2 (safe.slots.one_each owner)) (λ k _. safe.slots.one_each k);
       has_database = set_at-each (λ k words. InUseHasDatabase (w.words.database k) words) w.words.slot owner words'
           (InUseHasDatabase-eligible (w.words.database owner) words' t m may.held_in.eligible) (λ k _. safe.slots.has_database k);
+      in_groups = set_at-each (λ k words. AreInGroups w.numbers.groups words) w.words.slot owner words'
+          (AreInGroups-clear w.numbers.groups (w.words.slot owner) m i (eligible-is (w.words.database owner) t m may.held_in.eligible).2 (safe.slots.in_groups owner)) (λ k _. safe.slots.in_groups k);
     };
     order = safe.order;
     counters = safe.counters;

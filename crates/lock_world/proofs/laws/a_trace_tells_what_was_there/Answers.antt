@@ -13,5 +13,5 @@ returns-clause-asked c =
 
 pub returns-clause-on_the_way : goal.returns-clause-on_the_way
 returns-clause-on_the_way c =
-    λ limit events worlds session before after entry below run stands.
-    each-told limit events worlds session before after entry (opening-safe limit below) run stands
+    λ limit groups events worlds session before after entry below run stands.
+    each-told limit groups events worlds session before after entry (opening-safe limit groups below) run stands

@@ -3,4 +3,4 @@ use Rattle.lock_world.proofs.laws.closed_numbers_are_forgotten.Goals as goal
 
 pub returns : goal.returns
 returns c =
-    λ limit events w session few run dead. closed-empty limit events w session few run dead
+    λ limit groups events w session few run dead. closed-empty limit groups events w session few run dead

@@ -1,4 +1,5 @@
 use Rattle.lock_world.proofs.Slots.Bits.{shown-held}
+use Rattle.lock_world.proofs.Slots.Used.{none_past-groups}
 use Rattle.modes_core.specs.declared.tags.Tag.TheVariants.{Relation}
 use Rattle.lock_world.proofs.FromSafeWorld.{held-in_table, shown-in_no_content, shown-in_one_slot}
 use Rattle.lock_world.proofs.laws.each_hold_in_one_place.Goals as goal
@@ -25,6 +26,15 @@ returns-clause-one_slot_of_a_relation c =
 pub returns-clause-in_use_has_database : goal.returns-clause-in_use_has_database
 returns-clause-in_use_has_database c =
     λ w safe s. safe.slots.has_database s
+
+pub returns-clause-in_its_group : goal.returns-clause-in_its_group
+returns-clause-in_its_group c =
+    λ w safe s. safe.slots.in_groups s
+
+pub returns-clause-none_past_the_groups : goal.returns-clause-none_past_the_groups
+returns-clause-none_past_the_groups c =
+    λ w safe some s i past within.
+    none_past-groups w.numbers.groups (w.words.slot s) (safe.slots.in_groups s) some i past within
 
 pub returns-clause-each_bit_is_a_hold : goal.returns-clause-each_bit_is_a_hold
 returns-clause-each_bit_is_a_hold c =

@@ -5,4 +5,4 @@ use Rattle.lock_world.proofs.laws.one_world_comes.Goals as goal
 
 pub returns : goal.returns
 returns c =
-    λ limit events w v few one two. one_run (opening limit) events w v (opening-safe limit few) one two
+    λ limit groups events w v few one two. one_run (opening limit groups) events w v (opening-safe limit groups few) one two

@@ -3,4 +3,4 @@ use Rattle.lock_world.proofs.laws.opening_is_safe.Goals as goal
 
 pub returns : goal.returns
 returns c =
-    λ limit few. opening-safe limit few
+    λ limit groups few. opening-safe limit groups few

@@ -1,6 +1,9 @@
-use Rattle.std.proofs.Common.{◌+◌, ◌<◌, length, slice_index, IfSome}
+use Rattle.std.proofs.Common.{ℕ, ◌+◌, ◌<◌, ◌≤◌, length, slice_index, IfSome, IfNone}
 use Rattle.script_orders.proofs.merges.last_ascent.Given as goal
 
 abbrev pub invariant-places : goal.invariant-places
-invariant-places l = IfSome l.found (λ place. (place + 1 < length l.merge)
-    × (slice_index l.merge place < slice_index l.merge (place + 1)))
+invariant-places l = record {
+  ascent : IfSome l.found (λ place. (place + 1 < length l.merge)
+      × (slice_index l.merge place < slice_index l.merge (place + 1)));
+  none : IfNone l.found ((k : ℕ) → k < l.place → slice_index l.merge (k + 1) ≤ slice_index l.merge k);
+}

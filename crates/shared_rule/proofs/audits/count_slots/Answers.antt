@@ -1,6 +1,6 @@
-use Rattle.std.proofs.Common.{◌≡◌, ◌+◌, arith, refl, sym, ap, ◌∙◌, subst}
+use Rattle.std.proofs.Common.{◌≡◌, ◌+◌, ◌*◌, arith, refl, sym, ap, ◌∙◌, subst}
 use Rattle.std.specs.Prelude.{IfSome}
-use Rattle.lock_world.specs.SlotHolds.{slot_count}
+use Rattle.lock_world.specs.SlotHolds.{group_size}
 use Rattle.shared_rule.specs.Audits.{SeesSlots}
 use Rattle.shared_rule.proofs.Auditing.{sees-no_session, sees-session, same-seat, same-seat_then}
 use Rattle.shared_rule.proofs.audits.count_slots.Goals as goal
@@ -9,7 +9,7 @@ pub loop-number-init : goal.loop-number-init
 loop-number-init g c = record {
   seat = same-seat c.args.place.now;
   slots = refl;
-  sees = sees-no_session g.T.PartTable.content c.args.place.now.me.0 c.requires.session;
+  sees = sees-no_session g.T.PartTable.content c.args.sizes.now.groups c.args.place.now.me.0 c.requires.session;
   few = omega arith;
 }
 
@@ -24,9 +24,9 @@ loop-number-preserved g c =
     record {
       seat = same-seat_then c.args.place.now c.loop-number.place c.count_slots_of-sum.new.place so_far.seat c.count_slots_of-sum.ensures.seat;
       slots = c.count_slots_of-sum.ensures.slots ∙ so_far.slots;
-      sees = sees-session content c.loop-number.number c.args.place.now.me.0 c.loop-number.place.me.0 c.count_slots_of-sum.new.place.me.0
+      sees = sees-session content c.args.sizes.now.groups c.loop-number.number c.args.place.now.me.0 c.loop-number.place.me.0 c.count_slots_of-sum.new.place.me.0
           c.loop-number.sum _ c.count_slots_of-sum.result c.requires.session so_far.sees
-          (subst (λ k. SeesSlots content k slot_count c.loop-number.place.me.0 c.count_slots_of-sum.new.place.me.0 c.count_slots_of-sum.result) owner c.count_slots_of-sum.ensures.sees)
+          (subst (λ k. SeesSlots content k (group_size * c.args.sizes.now.groups) c.loop-number.place.me.0 c.count_slots_of-sum.new.place.me.0 c.count_slots_of-sum.result) owner c.count_slots_of-sum.ensures.sees)
           refl;
       few = omega (arith, few, most);
     }

@@ -7,6 +7,6 @@ abbrev pub invariant-loop-number : goal.invariant-loop-number
 invariant-loop-number g l = record {
   seat : IsSameSeat l.fn.place l.place;
   slots : l.place.me.1 ≡ l.fn.place.me.1;
-  sees : SeesAllSlots g.T.PartTable.content l.number l.fn.place.me.0 l.place.me.0 l.sum;
-  few : l.sum ≤ 48 * l.number;
+  sees : SeesAllSlots g.T.PartTable.content l.sizes.groups l.number l.fn.place.me.0 l.place.me.0 l.sum;
+  few : l.sum ≤ 384 * l.number;
 }

@@ -2,6 +2,7 @@ use Rattle.std.proofs.Common.{rules, sym, subst}
 use Rattle.lock_world.specs.declared.events.Word.TheVariants.{Slot}
 use Rattle.shared_rule.specs.Gatherings.{KnowsOfAll}
 use Rattle.shared_rule.proofs.Events.Words.{IsAlwaysLawful}
+use Rattle.shared_rule.proofs.Shown.{may_be}
 use Rattle.shared_rule.proofs.Events.Loads.{loading_slot-lawful}
 use Rattle.shared_rule.proofs.Events.Gatherings.{looks_over_at}
 use Rattle.shared_rule.proofs.audits.look_over_slot.Goals as goal
@@ -21,4 +22,5 @@ look_over_as-requires-clause-allowed g c =
 pub returns-clause-knows : goal.returns-clause-knows
 returns-clause-knows g c = λ issued are.
     subst (KnowsOfAll g.T.PartTable.content c.args.place.now.me.0 (Slot c.args.owner c.args.slot)) (sym c.from_number.ensures)
-    (c.look_over_as.ensures.knows (Slot c.args.owner c.args.slot) issued (c.requires.within, search rules) c.slot_word.ensures.index are)
+    (c.look_over_as.ensures.knows (Slot c.args.owner c.args.slot) issued
+    (may_be c.args.top.now.key.groups c.requires.grouped.few (Slot c.args.owner c.args.slot) (c.requires.within, search rules)) c.slot_word.ensures.index are)

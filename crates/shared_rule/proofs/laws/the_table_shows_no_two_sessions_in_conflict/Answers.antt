@@ -3,5 +3,5 @@ use Rattle.shared_rule.proofs.laws.the_table_shows_no_two_sessions_in_conflict.G
 
 pub returns : goal.returns
 returns g c =
-    λ limit state rule.
+    λ sizes state rule.
     record { world = rule.world; events = rule.events; run = rule.run; words = rule.words; contents = rule.contents; seats = rule.seats; headline = headline rule.world rule.safe }

@@ -7,10 +7,10 @@ use Rattle.shared_rule.proofs.laws.what_an_account_tells_was_so.Goals as goal
 
 pub returns : goal.returns
 returns g c =
-    λ limit state rule seat place view history there stands before after entry told.
+    λ sizes state rule seat place view history there stands before after entry told.
     let shown = rule.seats.history seat place view history there stands in
-    let few : limit ≤ 64 = rule.few in
-    let was = each-told limit rule.events rule.run.0 history.number before after entry (opening-safe limit (omega (arith, few))) rule.run.1
+    let few : sizes.sessions ≤ 64 = rule.few in
+    let was = each-told sizes.sessions sizes.groups rule.events rule.run.0 history.number before after entry (opening-safe sizes.sessions sizes.groups (omega (arith, few))) rule.run.1
     (ap (λ (w : World). w.sessions.trace history.number) (sym rule.run.2) ∙ sym (ap (λ (a : Account). a.trace) shown.account) ∙ told) in
     record {
       events = rule.events;

@@ -16,7 +16,7 @@ fetch_or_as-requires-clause-allowed g c =
     let lock = c.args.lock.now in
     looks_at content g.T.PartTable.begun c.args.top.now.key c.args.top.now.table_id.slots place.id place.me
     session.history session.others session.sessions
-    (word_of_lock lock) (lock-word_there lock c.requires.there) c.word.result c.word.ensures.index (2 ^ 29)
+    (word_of_lock lock) (lock-word_there lock c.requires.there c.args.top.now.key.groups) c.word.result c.word.ensures.index (2 ^ 29)
     (λ n. bit_or n (2 ^ 29)) g.M.Marking.mark
     (subst (IsAlwaysLawful content c.args.top.now.key session.history (word_of_lock lock) (λ _. Unit {0})
     (λ n. bit_or n (2 ^ 29))) (sym c.requires.mark)

@@ -1,4 +1,6 @@
-use Rattle.std.proofs.Common.{rules}
+use Rattle.std.proofs.Common.{rules, subst}
+use Rattle.lw_word.specs.declared.words.LwMode.TheVariants.{Exclusive}
+use Rattle.shared_rule.specs.Acquires.{GetsSlots}
 use Rattle.shared_rule.proofs.Acquires.{took-slots}
 use Rattle.shared_rule.proofs.Events.Locks.{takes_fast_at}
 use Rattle.shared_rule.proofs.locks.attempt_fast.Goals as goal
@@ -11,12 +13,13 @@ compare_exchange-requires g c =
       search rules,
       takes_fast_at g.T.PartTable.content g.T.PartTable.begun c.args.top.now.key c.args.top.now.table_id.slots
           place.id place.me session.history session.others session.sessions
-          c.args.owner (search rules) c.args.shown c.args.taken c.requires.exists c.requires.free.0 c.requires.free.1
+          c.args.owner (search rules) g.G.Grouping.groups c.args.shown c.args.taken c.requires.groups c.requires.exists c.requires.free.0 c.requires.free.1
           c.fast_word.result c.fast_word.ensures.index,
     )
 
 pub returns-clause-won : goal.returns-clause-won
 returns-clause-won g c =
-    took-slots g.T.PartTable.content c.args.owner c.args.place.now c.compare_exchange.new.seat c.requires.session
+    subst (λ n. GetsSlots g.T.PartTable.content n Exclusive c.args.owner c.args.place.now c.compare_exchange.new.seat) c.requires.groups
+    (took-slots g.T.PartTable.content g.G.Grouping.groups c.args.owner c.args.place.now c.compare_exchange.new.seat c.requires.session
     (record { table_id = c.compare_exchange.ensures.0; id = c.compare_exchange.ensures.1 })
-    (c.compare_exchange.ensures.2.0 (search rules) c.args.owner (search rules) c.fast_word.ensures.index)
+    (c.compare_exchange.ensures.2.0 (search rules) c.args.owner (search rules) c.fast_word.ensures.index))

@@ -1,6 +1,7 @@
-use Rattle.std.proofs.Common.{rules, ◌≡◌, List, ap, ◌∙◌}
+use Rattle.std.proofs.Common.{rules, ◌≡◌, List, ap, ◌∙◌, subst}
 use Rattle.shared_rule.specs.declared.history.History.{History}
 use Rattle.shared_rule.specs.History.{first_number}
+use Rattle.shared_rule.specs.Plays.{TookSlots}
 use Rattle.shared_rule.proofs.Events.Locks.{tries_fast_at}
 use Rattle.shared_rule.proofs.locks.take_own_fast.Goals as goal
 
@@ -14,6 +15,11 @@ compare_exchange-requires g c =
       search rules,
       tries_fast_at g.T.PartTable.content g.T.PartTable.begun c.args.top.now.key c.args.top.now.table_id.slots
           place.id place.me session.history session.others session.sessions
-          c.args.number (search rules) c.args.shown c.args.taken own c.requires.free.0 c.requires.free.1
+          c.args.number (search rules) g.G.Grouping.groups c.args.shown c.args.taken c.requires.groups own c.requires.free.0 c.requires.free.1
           c.fast_word.result c.fast_word.ensures.index,
     )
+
+pub returns-clause-won : goal.returns-clause-won
+returns-clause-won g c = λ same.
+    subst (λ n. TookSlots g.T.PartTable.content n c.args.number c.args.place.now.me c.compare_exchange.new.seat.me) c.requires.groups
+    (c.compare_exchange.ensures.2.0 same c.args.number (search rules) c.fast_word.ensures.index)

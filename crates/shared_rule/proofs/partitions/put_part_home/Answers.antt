@@ -21,7 +21,7 @@ put_home_as-requires-clause-allowed g c =
     let set = c.exchange.ensures.3 in
     let is = ap (λ (m : Side g.row.T.Denot). m.0.sessions) set ∙ session.sessions in
     let slot = c.content_slot.ensures.slot in
-    let may = subst (λ (sessions : List (History g.row.T.Denot)). (mine : InHand) × MayPutPart c.args.top.now.key (first_number sessions) (first_account content sessions) c.args.part mine c.args.done.now (content c.args.content))
+    let may = subst (λ (sessions : List (History g.row.T.Denot)). (mine : InHand) × MayPutPart c.args.top.now.key.sessions (first_number sessions) (first_account content sessions) c.args.part mine c.args.done.now (content c.args.content))
     session.sessions c.requires.lawful in
     puts_part_at content g.T.PartTable.begun c.args.top.now.key place.id place.me session.history session.others is
     c.args.part c.requires.exists c.args.top.now.table_id.slots c.partition_word.result c.requires.table.sized.slots c.partition_word.ensures.index

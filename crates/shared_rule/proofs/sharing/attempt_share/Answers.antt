@@ -2,6 +2,8 @@ use Rattle.std.proofs.Common.{rules, List, subst}
 use Rattle.lock_world.specs.AccountLaw.{MayShareFastBy}
 use Rattle.shared_rule.specs.declared.history.History.{History}
 use Rattle.shared_rule.specs.History.{first_account}
+use Rattle.lw_word.specs.declared.words.LwMode.TheVariants.{Shared}
+use Rattle.shared_rule.specs.Acquires.{GetsSlots}
 use Rattle.shared_rule.proofs.Acquires.{shared-slots}
 use Rattle.shared_rule.proofs.Events.Locks.{shares_fast_at}
 use Rattle.shared_rule.proofs.sharing.attempt_share.Goals as goal
@@ -14,7 +16,7 @@ compare_exchange-requires g c =
       search rules,
       shares_fast_at g.T.PartTable.content g.T.PartTable.begun c.args.top.now.key c.args.top.now.table_id.slots
           place.id place.me session.history session.others session.sessions
-          c.args.owner (search rules) c.args.shown c.args.shared c.requires.exists c.requires.free.0 c.requires.free.1
+          c.args.owner (search rules) g.G.Grouping.groups c.args.shown c.args.shared c.requires.groups c.requires.exists c.requires.free.0 c.requires.free.1
           (subst (λ (sessions : List (History g.row.T.Denot)). MayShareFastBy (first_account g.T.PartTable.content sessions) c.args.owner)
           session.sessions c.requires.lawful)
           c.fast_word.result c.fast_word.ensures.index,
@@ -22,6 +24,7 @@ compare_exchange-requires g c =
 
 pub returns-clause-won : goal.returns-clause-won
 returns-clause-won g c =
-    shared-slots g.T.PartTable.content c.args.owner c.args.place.now c.compare_exchange.new.seat c.requires.session
+    subst (λ n. GetsSlots g.T.PartTable.content n Shared c.args.owner c.args.place.now c.compare_exchange.new.seat) c.requires.groups
+    (shared-slots g.T.PartTable.content g.G.Grouping.groups c.args.owner c.args.place.now c.compare_exchange.new.seat c.requires.session
     (record { table_id = c.compare_exchange.ensures.0; id = c.compare_exchange.ensures.1 })
-    (c.compare_exchange.ensures.2.0 (search rules) c.args.owner (search rules) c.fast_word.ensures.index)
+    (c.compare_exchange.ensures.2.0 (search rules) c.args.owner (search rules) c.fast_word.ensures.index))

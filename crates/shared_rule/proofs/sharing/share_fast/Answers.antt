@@ -10,4 +10,4 @@ get_slots_held-requires-clause-lawful g c =
 pub returns-then-not-attempt_free_share : goal.returns-then-not-attempt_free_share
 returns-then-not-attempt_free_share g c =
     nothing-then_slots g.T.PartTable.content c.args.place.now c.attempt_free_share.new.place c.get_slots_held.new.place
-    (c.if-not-attempt_free_share.ensures {u = tt}).lost Shared c.args.owner c.get_slots_held.ensures
+    (c.if-not-attempt_free_share.ensures {u = tt}).lost c.args.top.now.key.groups Shared c.args.owner c.get_slots_held.ensures

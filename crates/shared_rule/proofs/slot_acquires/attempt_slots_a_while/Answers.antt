@@ -3,7 +3,7 @@ use Rattle.shared_rule.proofs.slot_acquires.attempt_slots_a_while.Goals as goal
 
 pub returns-then-attempt_slots-clause-won : goal.returns-then-attempt_slots-clause-won
 returns-then-attempt_slots-clause-won g c =
-    nothing-then_slots g.T.PartTable.content c.args.place.now c.loop.place c.attempt_slots.new.place c.loop.invariant c.args.mode c.args.owner
+    nothing-then_slots g.T.PartTable.content c.args.place.now c.loop.place c.attempt_slots.new.place c.loop.invariant c.args.top.now.key.groups c.args.mode c.args.owner
     (c.if-attempt_slots.ensures {u = tt}).won
 
 pub loop-preserved : goal.loop-preserved

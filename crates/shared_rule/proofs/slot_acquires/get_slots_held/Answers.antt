@@ -3,7 +3,7 @@ use Rattle.shared_rule.proofs.slot_acquires.get_slots_held.Goals as goal
 
 pub returns-then-get_slots_in_turn : goal.returns-then-get_slots_in_turn
 returns-then-get_slots_in_turn g c =
-    nothing-then_slots g.T.PartTable.content c.args.place.now c.loop.place c.get_slots_in_turn.new.place c.loop.invariant c.args.mode c.args.owner
+    nothing-then_slots g.T.PartTable.content c.args.place.now c.loop.place c.get_slots_in_turn.new.place c.loop.invariant c.args.top.now.key.groups c.args.mode c.args.owner
     (c.if-get_slots_in_turn.ensures {u = tt}).won
 
 pub loop-preserved : goal.loop-preserved

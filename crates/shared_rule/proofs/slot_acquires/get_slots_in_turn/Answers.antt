@@ -5,7 +5,7 @@ pub returns-clause-won : goal.returns-clause-won
 returns-clause-won g c =
     where-true c.get_slots_or_sleep.result _ _
     (nothing-then_slots g.T.PartTable.content c.args.place.now c.attempt_slots_a_while.new.place
-    c.get_slots_or_sleep.new.place (c.if-attempt_slots_a_while.ensures {u = tt}).lost c.args.mode c.args.owner)
+    c.get_slots_or_sleep.new.place (c.if-attempt_slots_a_while.ensures {u = tt}).lost c.args.top.now.key.groups c.args.mode c.args.owner)
     c.get_slots_or_sleep.ensures.won
 
 pub returns-clause-lost : goal.returns-clause-lost

@@ -6,7 +6,7 @@ pub returns-then-attempt_slots_unless_held-clause-won : goal.returns-then-attemp
 returns-then-attempt_slots_unless_held-clause-won g c =
     got_slots-between g.T.PartTable.content (fast_lock c.args.owner) c.args.place.now c.queue_self.new.place c.attempt_slots_unless_held.new.place c.dequeue_self.new.place c.requires.idle
     c.queue_self.ensures.led c.queue_self.ensures.slots
-    c.args.mode c.args.owner (c.if-attempt_slots_unless_held.ensures {u = tt}).won c.dequeue_self.ensures.led
+    c.args.top.now.key.groups c.args.mode c.args.owner (c.if-attempt_slots_unless_held.ensures {u = tt}).won c.dequeue_self.ensures.led
     c.dequeue_self.ensures.slots
 
 pub returns-else-attempt_slots_unless_held-clause-lost : goal.returns-else-attempt_slots_unless_held-clause-lost
@@ -24,4 +24,4 @@ attempt_slots_unless_held-requires-clause-lawful g c =
 pub dequeue_self-requires-clause-queued : goal.dequeue_self-requires-clause-queued
 dequeue_self-requires-clause-queued g c =
     queued-slots g.T.PartTable.content (fast_lock c.args.owner) c.args.place.now c.queue_self.new.place c.attempt_slots_unless_held.new.place c.attempt_slots_unless_held.new.place c.requires.idle
-    c.queue_self.ensures.led c.queue_self.ensures.slots c.args.mode c.args.owner (c.if-attempt_slots_unless_held.ensures {u = tt}).won
+    c.queue_self.ensures.led c.queue_self.ensures.slots c.args.top.now.key.groups c.args.mode c.args.owner (c.if-attempt_slots_unless_held.ensures {u = tt}).won

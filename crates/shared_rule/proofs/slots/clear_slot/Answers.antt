@@ -32,9 +32,9 @@ store_as-requires-clause-allowed g c =
     ∙ sym c.number.ensures in
     stores_at content g.T.PartTable.begun key c.args.top.now.table_id.slots place.id place.me session.history
     session.others session.sessions
-    (Slot session.history.number c.args.slot) (may.1.within, exists) c.slot_word.result at c.number.result
+    (Slot session.history.number c.args.slot) (c.requires.within, exists) c.slot_word.result at c.number.result
     g.M.Marking.mark _ c.requires.mark
     (subst (λ n. IsAlwaysLawful content key session.history (Slot session.history.number c.args.slot) (λ _. Unit {0})
     (λ _. n) (λ _. mark.ClearedSlot c.args.slot c.args.tag.now c.args.mode)) new
-    (clearing_slot-lawful content key session.history may.0 c.args.slot c.args.tag.now c.args.mode c.args.shown may.1
-    may.2))
+    (clearing_slot-lawful content key session.history may.0 c.args.slot c.args.tag.now c.args.mode c.args.shown c.requires.within
+    may.1 may.2))

@@ -1,6 +1,7 @@
 use Rattle.std.proofs.Common.{rules, sym, ◌∙◌, subst, inl, inr}
 use Rattle.lock_world.specs.declared.events.Word.TheVariants.{Slot}
 use Rattle.shared_rule.proofs.Events.Words.{IsAlwaysLawful, looks_at}
+use Rattle.shared_rule.proofs.Shown.{may_be}
 use Rattle.shared_rule.proofs.Events.Loads.{loading_slot-lawful}
 use Rattle.shared_rule.proofs.slots.load_slot.Goals as goal
 
@@ -19,10 +20,12 @@ look_as-requires-clause-allowed g c =
 
 pub returns-clause-of_slots : goal.returns-clause-of_slots
 returns-clause-of_slots g c = λ slots has.
-    c.from_number.ensures ∙ c.look_as.ensures.knows (Slot c.args.owner c.args.slot) (c.requires.within, search rules)
+    c.from_number.ensures ∙ c.look_as.ensures.knows (Slot c.args.owner c.args.slot)
+    (may_be c.args.top.now.key.groups c.requires.grouped.few (Slot c.args.owner c.args.slot) (c.requires.within, search rules))
     c.slot_word.ensures.index slots (inl has)
 
 pub returns-clause-of_shared_slots : goal.returns-clause-of_shared_slots
 returns-clause-of_shared_slots g c = λ slots shares.
-    c.from_number.ensures ∙ c.look_as.ensures.knows (Slot c.args.owner c.args.slot) (c.requires.within, search rules)
+    c.from_number.ensures ∙ c.look_as.ensures.knows (Slot c.args.owner c.args.slot)
+    (may_be c.args.top.now.key.groups c.requires.grouped.few (Slot c.args.owner c.args.slot) (c.requires.within, search rules))
     c.slot_word.ensures.index slots (inr shares)

@@ -24,7 +24,7 @@ store_as-requires-clause-allowed g c =
     let session = c.requires.session in
     let key = c.args.top.now.key in
     let may = subst (λ (sessions : List (History g.row.T.Denot)). (its : SlotsInHand) × (mine : InHand)
-    × MayTransferBy key (first_account content sessions) c.args.owner c.args.slot its mine c.args.tag.now
+    × MayTransferBy key.sessions (first_account content sessions) c.args.owner c.args.slot its mine c.args.tag.now
     c.args.mode c.args.strong
     × (c.args.shown ≡ its.word c.args.slot)
     × (content c.args.content.now ≡ add_hold mine.now c.args.owner c.args.tag.now c.args.mode)) session.sessions
@@ -33,9 +33,9 @@ store_as-requires-clause-allowed g c =
     ∙ sym c.number.ensures in
     stores_at content g.T.PartTable.begun key c.args.top.now.table_id.slots place.id place.me session.history
     session.others session.sessions
-    (Slot c.args.owner c.args.slot) (may.2.within, search rules) c.slot_word.result c.slot_word.ensures.index
+    (Slot c.args.owner c.args.slot) (c.requires.within, search rules) c.slot_word.result c.slot_word.ensures.index
     c.number.result g.M.Marking.mark _ c.requires.mark
     (subst (λ n. IsAlwaysLawful content key session.history (Slot c.args.owner c.args.slot) (λ _. Unit {0}) (λ _. n)
     (λ _. mark.TransferredSlot c.args.owner c.args.slot c.args.tag.now c.args.mode)) new
     (transferring-lawful content key session.history c.args.owner c.args.slot may.0 may.1 c.args.tag.now c.args.mode
-    c.args.strong c.args.shown may.2 may.3))
+    c.args.strong c.args.shown c.requires.within may.2 may.3))

@@ -16,7 +16,7 @@ fetch_add_as-requires-clause-allowed g c =
     let content = g.T.PartTable.content in
     let place = c.args.place.now in
     let session = c.requires.session in
-    let may = subst (λ (sessions : List (History g.row.T.Denot)). (mine : InHand) × (granted : List contents.Wait) × (c.args.woken.now.items ≡ map whose_and_mode granted) × MayMarkBy c.args.top.now.key (first_number sessions) (first_account content sessions) c.args.part mine c.args.done.now granted (content c.args.content.now) c.args.other) session.sessions c.requires.lawful in
+    let may = subst (λ (sessions : List (History g.row.T.Denot)). (mine : InHand) × (granted : List contents.Wait) × (c.args.woken.now.items ≡ map whose_and_mode granted) × MayMarkBy c.args.top.now.key.sessions (first_number sessions) (first_account content sessions) c.args.part mine c.args.done.now granted (content c.args.content.now) c.args.other) session.sessions c.requires.lawful in
     let marked : g.M.Marking.mark ≡ (λ _. MarkedGranted c.args.part c.args.other c.args.done.now (map (λ (wait : contents.Wait). wait.session) may.1) c.args.content.now) =
     c.requires.mark ∙ ap (λ woken. λ _. MarkedGranted c.args.part c.args.other c.args.done.now woken c.args.content.now) (told-granted c.args.woken.now.items may.1 may.2) in
     marks_at content g.T.PartTable.begun c.args.top.now.key c.args.top.now.table_id.slots place.id place.me session.history session.others session.sessions

@@ -18,10 +18,11 @@ record IsShared (number own : ℕ) (account : Account) : Type 0 where
       (Loaded (Database own) database)) (Loaded (Slot own 15) shown)
 
 shared :
-    (number own database shown : ℕ) (a b c d e : Account) → a ≡ blank_account → b ≡ account_storing a 5 → SharesFast number b own c
+    (groups number own database shown : ℕ) (a b c d e : Account) → a ≡ blank_account → b ≡ account_storing a 5
+    → SharesFast groups number b own c
     → d ≡ account_tracing c (Loaded (Database own) database) → e ≡ account_tracing d (Loaded (Slot own 15) shown)
     → IsShared number own e
-shared number own database shown a b c d e blank stored shares first second = record {
+shared groups number own database shown a b c d e blank stored shares first second = record {
   slots = shares.slots;
   database = database;
   shown = shown;
@@ -45,7 +46,7 @@ pub unshare_fast-requires-clause-lawful : goal.unshare_fast-requires-clause-lawf
 unshare_fast-requires-clause-lawful g c =
     let view = g.B.Board.view in
     let own : ℕ = c.number-own.result in
-    let was = shared (g.B.Board.seat c.store_database.new.self).number own c.load_database-database.result c.load_slot-shown.result
+    let was = shared (g.B.Board.seat c.store_database.new.self).groups (g.B.Board.seat c.store_database.new.self).number own c.load_database-database.result c.load_slot-shown.result
     (view c.args.board.now) (view c.store_database.new.self) (view c.share_fast.new.self) (view c.load_database-database.new.self)
     (view c.load_slot-shown.new.self) c.requires.blank c.store_database.ensures.view c.share_fast.ensures.shared
     c.load_database-database.ensures.view c.load_slot-shown.ensures.view in (
@@ -60,7 +61,7 @@ returns-clause-none_shared g c =
     let view = g.B.Board.view in
     let own : ℕ = c.number-own.result in
     let number : ℕ = (g.B.Board.seat c.store_database.new.self).number in
-    let was = shared number own c.load_database-database.result c.load_slot-shown.result
+    let was = shared (g.B.Board.seat c.store_database.new.self).groups number own c.load_database-database.result c.load_slot-shown.result
     (view c.args.board.now) (view c.store_database.new.self) (view c.share_fast.new.self) (view c.load_database-database.new.self)
     (view c.load_slot-shown.new.self) c.requires.blank c.store_database.ensures.view c.share_fast.ensures.shared
     c.load_database-database.ensures.view c.load_slot-shown.ensures.view in
@@ -70,7 +71,7 @@ pub returns-clause-none_in_hand : goal.returns-clause-none_in_hand
 returns-clause-none_in_hand g c =
     let view = g.B.Board.view in
     let own : ℕ = c.number-own.result in
-    let was = shared (g.B.Board.seat c.store_database.new.self).number own c.load_database-database.result c.load_slot-shown.result
+    let was = shared (g.B.Board.seat c.store_database.new.self).groups (g.B.Board.seat c.store_database.new.self).number own c.load_database-database.result c.load_slot-shown.result
     (view c.args.board.now) (view c.store_database.new.self) (view c.share_fast.new.self) (view c.load_database-database.new.self)
     (view c.load_slot-shown.new.self) c.requires.blank c.store_database.ensures.view c.share_fast.ensures.shared
     c.load_database-database.ensures.view c.load_slot-shown.ensures.view in

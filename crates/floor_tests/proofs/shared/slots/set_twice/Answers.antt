@@ -19,10 +19,11 @@ record IsRead (own index shown : ℕ) (account : Account) : Type 0 where
   is : account ≡ ready_account own index shown slots
   unused : NoSlotInUse slots.word
 
-read : (number own index shown : ℕ) (a b c d : Account) → number ≡ own → a ≡ blank_account → b ≡ account_storing a 5
-    → TakesFast number b own c → d ≡ account_reading number c index shown → IsRead own index shown d
-read number own index shown a b c d same blank stored taken is =
-    let takes : TakesFast own b own c = subst (λ n. TakesFast n b own c) same taken in
+read : (groups number own index shown : ℕ) (a b c d : Account) → groups ≡ 1 → number ≡ own → a ≡ blank_account
+    → b ≡ account_storing a 5 → TakesFast groups number b own c → d ≡ account_reading number c index shown → IsRead own index shown d
+read groups number own index shown a b c d one same blank stored taken is =
+    let takes : TakesFast 1 own b own c = subst (λ n. TakesFast 1 n b own c) same
+    (subst (λ k. TakesFast k number b own c) one taken) in
     let first : b ≡ account_storing blank_account 5 = stored ∙ ap (λ (k : Account). account_storing k 5) blank in
     record {
       slots = takes.slots;
@@ -45,10 +46,13 @@ set_slot-requires g c =
     let reading = c.load_strong-counted.ensures.view
     ∙ ap (λ (s : Seated). account_reading s.number (view c.take_fast.new.self) c.strong_index.result
     c.load_strong-counted.result) c.take_fast.ensures.seat in
-    let was = read (seat c.store_database.new.self).number own c.strong_index.result c.load_strong-counted.result
+    let one_at_take = ap (λ (s : Seated). s.groups) c.store_database.ensures.seat ∙ c.requires.groups in
+    let was = read (seat c.store_database.new.self).groups (seat c.store_database.new.self).number own c.strong_index.result c.load_strong-counted.result
     (view c.args.board.now) (view c.store_database.new.self) (view c.take_fast.new.self)
     (view c.load_strong-counted.new.self)
-    at_take c.requires.blank c.store_database.ensures.view c.take_fast.ensures.taken reading in
+    one_at_take at_take c.requires.blank c.store_database.ensures.view c.take_fast.ensures.taken reading in
+    let one_at_load = ap (λ (s : Seated). s.groups) (c.load_slot-empty.ensures.seat ∙ c.load_strong-counted.ensures.seat
+    ∙ c.take_fast.ensures.seat) ∙ one_at_take in
     let index = c.strong_index.ensures.value in
     let none = c.if-counted-ne0.false in
     let known = ap (λ (k : Account). k.fast.slots own) was.is
@@ -57,10 +61,12 @@ set_slot-requires g c =
     ∙ ap (λ (k : Account). account_tracing k (Loaded (Slot own 0) c.load_slot-empty.result)) was.is in record {
       lawful = (
         was.slots,
-        subst (λ n. MaySetSlotBy n (view c.load_slot-empty.new.self) was.slots 0 table AccessShare) (sym at_load)
-            (subst (λ (k : Account). MaySetSlotBy own k was.slots 0 table AccessShare) (sym full)
+        subst (λ k. MaySetSlotBy k (seat c.load_slot-empty.new.self).number (view c.load_slot-empty.new.self) was.slots 0 table
+            AccessShare) (sym one_at_load)
+            (subst (λ n. MaySetSlotBy 1 n (view c.load_slot-empty.new.self) was.slots 0 table AccessShare) (sym at_load)
+            (subst (λ (k : Account). MaySetSlotBy 1 own k was.slots 0 table AccessShare) (sym full)
             (first-set own c.strong_index.result c.load_strong-counted.result was.slots index none
-            (Loaded (Slot own 0) c.load_slot-empty.result) was.unused)),
+            (Loaded (Slot own 0) c.load_slot-empty.result) was.unused))),
         c.load_slot-empty.ensures.of_slots was.slots known,
       );
     }
@@ -80,10 +86,13 @@ set_slot-requires-2 g c =
     let reading = c.load_strong-counted.ensures.view
     ∙ ap (λ (s : Seated). account_reading s.number (view c.take_fast.new.self) c.strong_index.result
     c.load_strong-counted.result) c.take_fast.ensures.seat in
-    let was = read (seat c.store_database.new.self).number own c.strong_index.result c.load_strong-counted.result
+    let one_at_take = ap (λ (s : Seated). s.groups) c.store_database.ensures.seat ∙ c.requires.groups in
+    let was = read (seat c.store_database.new.self).groups (seat c.store_database.new.self).number own c.strong_index.result c.load_strong-counted.result
     (view c.args.board.now) (view c.store_database.new.self) (view c.take_fast.new.self)
     (view c.load_strong-counted.new.self)
-    at_take c.requires.blank c.store_database.ensures.view c.take_fast.ensures.taken reading in
+    one_at_take at_take c.requires.blank c.store_database.ensures.view c.take_fast.ensures.taken reading in
+    let one_at_load = ap (λ (s : Seated). s.groups) (c.load_slot-shown.ensures.seat ∙ c.set_slot.ensures.seat
+    ∙ c.load_slot-empty.ensures.seat ∙ c.load_strong-counted.ensures.seat ∙ c.take_fast.ensures.seat) ∙ one_at_take in
     let index = c.strong_index.ensures.value in
     let none = c.if-counted-ne0.false in
     let entry = Loaded (Slot own 0) c.load_slot-empty.result in
@@ -98,9 +107,11 @@ set_slot-requires-2 g c =
     let full = c.load_slot-shown.ensures.view ∙ ap (λ (k : Account). account_tracing k later) set in record {
       lawful = (
         after_first was.slots,
-        subst (λ n. MaySetSlotBy n (view c.load_slot-shown.new.self) (after_first was.slots) 0 table RowExclusive)
+        subst (λ k. MaySetSlotBy k (seat c.load_slot-shown.new.self).number (view c.load_slot-shown.new.self)
+            (after_first was.slots) 0 table RowExclusive) (sym one_at_load)
+            (subst (λ n. MaySetSlotBy 1 n (view c.load_slot-shown.new.self) (after_first was.slots) 0 table RowExclusive)
             (sym at_load)
-            (subst (λ (k : Account). MaySetSlotBy own k (after_first was.slots) 0 table RowExclusive) (sym full) may),
+            (subst (λ (k : Account). MaySetSlotBy 1 own k (after_first was.slots) 0 table RowExclusive) (sym full) may)),
         c.load_slot-shown.ensures.of_slots (after_first was.slots) (ap (λ (k : Account). k.fast.slots own) set
             ∙ may.in_hand),
       );

@@ -7,7 +7,7 @@ pub invariant_of-self : goal.invariant_of-self
 invariant_of-self c =
     let old = c.self.inside in
     let counted = c.self.invariant.2 in
-    let same : c.session.new.self.closed ≡ old.numbers.closed = c.session.ensures.opener.2 in
+    let same : c.session.new.self.closed ≡ old.numbers.closed = c.session.ensures.opener.3 in
     let as_many = ap length same in
     let all = counted.all in
     let within = counted.issued_within in (
@@ -19,5 +19,5 @@ invariant_of-self c =
         issued_within = omega (arith, within, c.if-self.false);
         few = counted.few;
       },
-      c.session.ensures.opener.3 ∙ c.self.invariant.3,
+      c.session.ensures.opener.4 ∙ c.self.invariant.3,
     )

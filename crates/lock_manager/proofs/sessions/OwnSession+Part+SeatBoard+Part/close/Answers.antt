@@ -12,7 +12,7 @@ use Rattle.lock_manager.proofs.sessions.OwnSession+Part+SeatBoard+Part.close.Goa
 
 pub take_back-requires-clause-lawful : goal.take_back-requires-clause-lawful
 take_back-requires-clause-lawful g c =
-    MayCloseBy-rest _ _ _ _ _ _ c.end_all.ensures.rest (c.end_all.ensures.entries ∙ left_by-close c.deref_mut.result.now.locals.entries)
+    MayCloseBy-rest _ _ _ _ _ _ _ c.end_all.ensures.rest (c.end_all.ensures.entries ∙ left_by-close c.deref_mut.result.now.locals.entries)
 
 pub returns : goal.returns
 returns g c =
@@ -24,7 +24,7 @@ returns g c =
       closed = record {
         last = last;
         left = c.end_all.new.own.uses;
-        released = subst (λ (o : Own). ReleasesAll number before o.uses (ended_by Close o.locals.entries) last c.end_all.new.own.uses) own c.end_all.ensures.steps;
+        released = subst (λ (o : Own). ReleasesAll c.self.inside.board.sizes.groups number before o.uses (ended_by Close o.locals.entries) last c.end_all.new.own.uses) own c.end_all.ensures.steps;
         opener = subst (λ (seat : Seated). TakesBack seat.number last.trace c.args.opener.now c.take_back.new.self) c.end_all.ensures.kept.seat_ c.take_back.ensures.closed;
       };
     })

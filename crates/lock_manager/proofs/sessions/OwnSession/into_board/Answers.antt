@@ -8,13 +8,13 @@ use Rattle.lock_manager.proofs.sessions.OwnSession.into_board.Goals as goal
 
 pub returns-clause-closable : goal.returns-clause-closable
 returns-clause-closable g c =
-    MayCloseBy-rest _ _ _ _ _ _ c.end_all.ensures.rest (c.end_all.ensures.entries ∙ left_by-close c.deref_mut.result.now.locals.entries)
+    MayCloseBy-rest _ _ _ _ _ _ _ c.end_all.ensures.rest (c.end_all.ensures.entries ∙ left_by-close c.deref_mut.result.now.locals.entries)
 
 pub returns-clause-released : goal.returns-clause-released
 returns-clause-released g c =
     let after = g.B.Board.view c.end_all.new.board in
     let left = c.end_all.new.own.uses in
     let own = subst
-    (λ (own : Own). ReleasesAll (g.B.Board.seat c.self.inside.board).number (g.B.Board.view c.self.inside.board) own.uses (ended_by Close own.locals.entries) after left)
+    (λ (own : Own). ReleasesAll (g.B.Board.seat c.self.inside.board).groups (g.B.Board.seat c.self.inside.board).number (g.B.Board.view c.self.inside.board) own.uses (ended_by Close own.locals.entries) after left)
     c.deref_mut.ensures.value c.end_all.ensures.steps in
-    (left, subst (λ s. ReleasesAll (g.B.Board.seat s.board).number (g.B.Board.view s.board) s.uses (ended_by Close s.owned.entries) after left) c.self.view_is own)
+    (left, subst (λ s. ReleasesAll (g.B.Board.seat s.board).groups (g.B.Board.seat s.board).number (g.B.Board.view s.board) s.uses (ended_by Close s.owned.entries) after left) c.self.view_is own)

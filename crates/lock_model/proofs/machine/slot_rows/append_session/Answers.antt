@@ -22,7 +22,7 @@ pub returns : goal.returns
 returns c =
     let mine = get_or c.args.fast_path.now.slots c.args.session [] in
     let place : c.from.result ≡ c.args.session = c.from.ensures ∙ c.number.ensures.value in
-    let last : c.loop-place.place ≡ 16 = omega (arith, c.loop-place-test.false, c.loop-place.auto.place-end) in
+    let last : c.loop-place.place ≡ 128 = omega (arith, c.loop-place-test.false, c.loop-place.auto.place-end) in
     c.loop-place.invariant
     ∙ ap (λ n. c.args.list.now.items ++ lists_below n (λ k. slot_rows c.args.session (get_or c.args.fast_path.now.databases c.from.result 0) k (get_or mine k 0))) last
-    ∙ ap (λ s. c.args.list.now.items ++ lists_below 16 (λ k. slot_rows c.args.session (get_or c.args.fast_path.now.databases s 0) k (get_or mine k 0))) place
+    ∙ ap (λ s. c.args.list.now.items ++ lists_below 128 (λ k. slot_rows c.args.session (get_or c.args.fast_path.now.databases s 0) k (get_or mine k 0))) place

@@ -18,6 +18,7 @@ invariant_of-self g c =
     rw c.close.ensures.closed.2 (record {
       own = c.args.self.now.own;
       size = c.args.self.now.size;
+      groups = c.args.self.now.groups;
       named = c.args.self.now.named;
       few = c.args.self.now.few;
       within = omega (arith, c.args.self.now.within);

@@ -8,6 +8,7 @@ invariant_of-self g c =
     rw c.close.ensures.closed.2 (record {
       own = c.sessions.self.own;
       size = c.sessions.self.size;
+      groups = c.sessions.self.groups;
       named = c.sessions.self.named;
       few = c.sessions.self.few;
       within = omega (arith, c.sessions.self.within);

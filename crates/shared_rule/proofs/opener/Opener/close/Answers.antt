@@ -30,6 +30,6 @@ returns-clause-closed g c =
       last = last;
       number_ = refl;
       trace_ = ap (λ (view : View g.row.T.Denot). (first_account g.T.PartTable.content view.sessions).trace) (sym board.lone);
-      opener = (λ i. record { table = table i; issued = c.self.inside.issued; limit = c.self.inside.sessions; closed = closed i; gathered = gathered i })
+      opener = (λ i. record { table = table i; issued = c.self.inside.issued; limit = c.self.inside.sizes.sessions; groups = c.self.inside.sizes.groups; closed = closed i; gathered = gathered i })
           ∙ ap (λ (old : OpenerState g.row.T.Denot). record old { closed = last ∷ old.closed }) c.self.view_is;
     }

@@ -1,11 +1,12 @@
 use Rattle.std.proofs.Common.{◌≡◌, ◌+◌, List, [], ◌∷◌, length, refl, sym, ap, ◌∙◌, subst}
 use Rattle.std.specs.Prelude.{count_by, Ok, Err}
 use Rattle.lock_table.specs.declared.rows.TableRow.{TableRow}
+use Rattle.atomic_table.specs.Seated.{TableId}
 use Rattle.shared_rule.specs.declared.history.History.{History}
 use Rattle.shared_rule.specs.Audits.{CountsAll, CountsFrom}
 use Rattle.shared_rule.specs.Gatherings.{NoneWaits, AreAll, gathered_in}
 use Rattle.shared_rule.specs.Openers.{OpenerState}
-use Rattle.shared_rule.specs.Plays.{HasSession, IsSized}
+use Rattle.shared_rule.specs.Plays.{HasGroups, HasSession, IsSized}
 use Rattle.lock_world.specs.Account.{Account}
 use Rattle.shared_rule.proofs.Idle.{idle-further}
 use Rattle.shared_rule.proofs.AuditSums.{counts-all, counts-refused, has-first, are-all}
@@ -25,19 +26,20 @@ returns g c =
     let after : OpenerState g.row.T.Denot = record {
       table = c.count_from.new.place.table_id;
       issued = c.self.inside.issued;
-      limit = c.self.inside.sessions;
+      limit = c.self.inside.sizes.sessions;
+      groups = c.self.inside.sizes.groups;
       closed = v2.closed;
       gathered = v2.sessions;
     } in
-    let counts : CountsFrom content 0 c.self.inside.sessions c.count_counters-strong.new.place.me.0 [] c.count_from.result c.count_from.new.fast v2 c.count_from.new.rows.items =
-    subst (λ rows. CountsFrom content 0 c.self.inside.sessions c.count_counters-strong.new.place.me.0 rows c.count_from.result c.count_from.new.fast v2 c.count_from.new.rows.items)
+    let counts : CountsFrom content c.self.inside.sizes.groups 0 c.self.inside.sizes.sessions c.count_counters-strong.new.place.me.0 [] c.count_from.result c.count_from.new.fast v2 c.count_from.new.rows.items =
+    subst (λ rows. CountsFrom content c.self.inside.sizes.groups 0 c.self.inside.sizes.sessions c.count_counters-strong.new.place.me.0 rows c.count_from.result c.count_from.new.fast v2 c.count_from.new.rows.items)
     c.requires.empty c.count_from.ensures.counts in
     subst
     (λ (o : OpenerState g.row.T.Denot).
     CountsAll content o after (Ok (record { fast = c.count_from.new.fast; table = c.granted_in.result; strong = c.count_counters-strong.result })))
     c.self.view_is
-    (counts-all content c.self.inside.place.table_id c.count_from.new.place.table_id c.self.inside.sessions c.self.inside.issued
-    c.count_counters-strong.result c.count_from.new.fast v0 c.count_counters-strong.new.place.me.0 v2 c.count_from.new.rows.items c.count_from.result
+    (counts-all content c.self.inside.place.table_id c.count_from.new.place.table_id c.self.inside.sizes.sessions c.self.inside.sizes.groups c.self.inside.issued
+    c.count_counters-strong.result c.count_from.new.fast c.self.invariant.5.some c.self.invariant.5.few v0 c.count_counters-strong.new.place.me.0 v2 c.count_from.new.rows.items c.count_from.result
     (c.count_from.ensures.seat.table_id ∙ c.count_counters-strong.ensures.seat.table_id) has are c.self.invariant.1 nobody
     c.count_counters-strong.ensures.seen counts c.granted_in.result c.in_ok-count_from.was
     (c.granted_in.ensures ∙ ap (count_by (λ (row : TableRow). row.granted)) c.as_slice.ensures.value))
@@ -56,6 +58,7 @@ invariant_of-self g c =
       subst IsSized (sym (c.count_from.ensures.seat.table_id ∙ c.count_counters-strong.ensures.seat.table_id)) c.self.invariant.3,
       idle-further content v1 v2 counts.further (ap (λ (a : Account). a.lists) counts.account)
           (idle-further content v0 v1 seen.further (ap (λ (a : Account). a.lists) seen.account) c.self.invariant.4),
+      subst (λ (t : TableId). HasGroups t c.self.inside.sizes.groups) (sym (c.count_from.ensures.seat.table_id ∙ c.count_counters-strong.ensures.seat.table_id)) c.self.invariant.5,
     )
 
 pub invariant_of-self-2 : goal.invariant_of-self-2
@@ -72,4 +75,5 @@ invariant_of-self-2 g c =
       subst IsSized (sym (c.count_from.ensures.seat.table_id ∙ c.count_counters-strong.ensures.seat.table_id)) c.self.invariant.3,
       idle-further content v1 v2 counts.further (ap (λ (a : Account). a.lists) counts.account)
           (idle-further content v0 v1 seen.further (ap (λ (a : Account). a.lists) seen.account) c.self.invariant.4),
+      subst (λ (t : TableId). HasGroups t c.self.inside.sizes.groups) (sym (c.count_from.ensures.seat.table_id ∙ c.count_counters-strong.ensures.seat.table_id)) c.self.invariant.5,
     )

@@ -1,10 +1,11 @@
 use Rattle.std.proofs.Common.{◌≡◌, List, [], ◌∷◌, ◌++◌, refl, sym, ap, ◌∙◌, subst}
+use Rattle.atomic_table.specs.Seated.{TableId}
 use Rattle.shared_rule.specs.declared.history.History.{History}
 use Rattle.shared_rule.specs.declared.history.View.{View}
 use Rattle.shared_rule.specs.Boards.{first_marks, AreIdle}
 use Rattle.shared_rule.specs.History.{first_account}
 use Rattle.shared_rule.specs.Openers.{OpenerState}
-use Rattle.shared_rule.specs.Plays.{Side, IsSized}
+use Rattle.shared_rule.specs.Plays.{Side, HasGroups, IsSized}
 use Rattle.shared_rule.proofs.Idle.{idle-with, idle-lone}
 use Rattle.shared_rule.proofs.opener.Opener.gather.Goals as goal
 
@@ -21,6 +22,7 @@ invariant_of-self g c =
       subst (λ (view : View g.row.T.Denot). AreIdle view.sessions) (sym side)
           (idle-with c.self.inside.place.me.0.sessions c.into_place-place.result.1.me.0.sessions c.self.invariant.4
           (subst (λ (view : View g.row.T.Denot). AreIdle view.sessions) (sym came) its)),
+      subst (λ (t : TableId). HasGroups t c.self.inside.sizes.groups) (sym c.keep_apart.ensures.seat.table_id) c.self.invariant.5,
     )
 
 pub returns-clause-gathered : goal.returns-clause-gathered
@@ -38,6 +40,6 @@ returns-clause-gathered g c =
       last = last;
       number_ = refl;
       account_ = ap (λ (view : View g.row.T.Denot). first_account g.T.PartTable.content view.sessions) (sym board.lone);
-      opener = (λ i. record { table = table i; issued = c.self.inside.issued; limit = c.self.inside.sessions; closed = closed i; gathered = gathered i })
+      opener = (λ i. record { table = table i; issued = c.self.inside.issued; limit = c.self.inside.sizes.sessions; groups = c.self.inside.sizes.groups; closed = closed i; gathered = gathered i })
           ∙ ap (λ (old : OpenerState g.row.T.Denot). record old { gathered = old.gathered ++ last ∷ [] }) c.self.view_is;
     }

@@ -1,10 +1,11 @@
 use Rattle.std.proofs.Common.{◌≡◌, List, ◌∷◌, ◌++◌, [], sym, ap, ◌∙◌, subst}
+use Rattle.atomic_table.specs.Seated.{TableId}
 use Rattle.shared_rule.specs.declared.history.History.{History}
 use Rattle.shared_rule.specs.declared.history.View.{View}
 use Rattle.shared_rule.specs.Boards.{Seated, first_marks, IsIdle, AreIdle}
 use Rattle.shared_rule.specs.History.{lone, first_account}
 use Rattle.shared_rule.specs.Openers.{OpenerState}
-use Rattle.shared_rule.specs.Plays.{Side, IsSized}
+use Rattle.shared_rule.specs.Plays.{Side, HasGroups, IsSized}
 use Rattle.shared_rule.specs.Seats.{all_but_last, last_of}
 use Rattle.shared_rule.proofs.Idle.{idle-one, idle-last, idle-left}
 use Rattle.shared_rule.proofs.Meetings.{all_but_last-of, last_of-of, lone-last}
@@ -28,7 +29,7 @@ returns-clause-left g c = λ before last gathered.
     let closed = ap (λ (v : View g.row.T.Denot). v.closed) left in
     let rest = ap (λ (v : View g.row.T.Denot). v.sessions) left ∙ ap all_but_last is ∙ all_but_last-of before last in
     let there = ap (λ (v : View g.row.T.Denot). v.sessions) came ∙ ap last_of is ∙ last_of-of before last in (
-      (λ i. record { table = table i; issued = c.self.inside.issued; limit = c.self.inside.sessions; closed = closed i; gathered = rest i })
+      (λ i. record { table = table i; issued = c.self.inside.issued; limit = c.self.inside.sizes.sessions; groups = c.self.inside.sizes.groups; closed = closed i; gathered = rest i })
           ∙ ap (λ (o : OpenerState g.row.T.Denot). record o { gathered = before }) c.self.view_is,
       ap (λ place. first_account g.T.PartTable.content place.me.0.sessions) c.at.ensures.1 ∙ ap (first_account g.T.PartTable.content) there,
     )
@@ -47,4 +48,5 @@ invariant_of-self g c =
       c.self.invariant.2,
       subst IsSized (sym c.hand_back-place.ensures.seat.table_id) c.self.invariant.3,
       subst (λ (v : View g.row.T.Denot). AreIdle v.sessions) (sym left) (idle-left c.self.inside.place.me.0.sessions c.self.invariant.4),
+      subst (λ (t : TableId). HasGroups t c.self.inside.sizes.groups) (sym c.hand_back-place.ensures.seat.table_id) c.self.invariant.5,
     )

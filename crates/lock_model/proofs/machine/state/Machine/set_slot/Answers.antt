@@ -19,7 +19,7 @@ with-requires-clause-its_slot c =
     let below : c.args.session < 64 = omega arith in
     let may : may_set_slot now c.args.session c.args.slot c.args.tag c.args.mode ≡ true = ap (λ k. may_set_slot now c.args.session k c.args.tag c.args.mode) (sym place) ∙ sym c.if-may_set_slot.ensures in
     let within : c.args.slot < length (slots_at now c.args.session) =
-    subst (λ n. c.args.slot < n) (sym (c.requires.shown.2.fast_path.sixteen c.args.session below)) (set_within now c.args.session c.args.slot c.args.tag c.args.mode may) in
+    subst (λ n. c.args.slot < n) (sym (c.requires.shown.2.fast_path.each_slots c.args.session below)) (set_within now c.args.session c.args.slot c.args.tag c.args.mode may) in
     let read = slot_read now.fast_path.slots c.from-index.result c.args.session c.from-place.result c.args.slot c.index-self-index.result whose place within in
     λ used. ap relation_in read ∙ set_takes now c.args.session c.args.slot c.args.tag c.args.mode may (sym (ap in_use read) ∙ used) ∙ sym c.relation_number.ensures
 
@@ -31,7 +31,7 @@ returns-then-may_set_slot c = λ w safe shows.
     let below : c.args.session < 64 = omega arith in
     let may : may_set_slot now c.args.session c.args.slot c.args.tag c.args.mode ≡ true = ap (λ k. may_set_slot now c.args.session k c.args.tag c.args.mode) (sym place) ∙ sym c.if-may_set_slot.ensures in
     let within : c.args.slot < length (slots_at now c.args.session) =
-    subst (λ n. c.args.slot < n) (sym (shows.fast_path.sixteen c.args.session below)) (set_within now c.args.session c.args.slot c.args.tag c.args.mode may) in
+    subst (λ n. c.args.slot < n) (sym (shows.fast_path.each_slots c.args.session below)) (set_within now c.args.session c.args.slot c.args.tag c.args.mode may) in
     let read = slot_read now.fast_path.slots c.from-index.result c.args.session c.from-place.result c.args.slot c.index-self-index.result whose place within in
     let fits : relation_of c.args.tag < 2 ^ 32 = subst (λ r. r < 2 ^ 32) c.relation_number.ensures c.relation_number.type_inv in
     let word : c.with.result ≡ word_with (get_or (slots_at now c.args.session) c.args.slot 0) (relation_of c.args.tag) c.args.mode =

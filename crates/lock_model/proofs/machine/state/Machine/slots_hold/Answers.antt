@@ -19,5 +19,5 @@ returns-then-is_eligible c =
     c.some_slot_shows.ensures
     ∙ ap (λ r. list_any (λ word. shows word r c.args.mode) c.as_slice.result.now) c.relation_number.ensures
     ∙ ap (list_any (λ word. shows word (relation_of c.args.tag) c.args.mode)) (c.as_slice.ensures ∙ ap (λ i. get_or now.fast_path.slots i []) place)
-    ∙ any_slot-listed (λ word. shows word (relation_of c.args.tag) c.args.mode) mine 0 16 (shown.2.fast_path.sixteen c.args.session below)
-    ∙ ap (λ b. b && any_below 16 (λ place. shows (get_or mine place 0) (relation_of c.args.tag) c.args.mode)) eligible
+    ∙ any_slot-listed (λ word. shows word (relation_of c.args.tag) c.args.mode) mine 0 128 (shown.2.fast_path.each_slots c.args.session below)
+    ∙ ap (λ b. b && any_below 128 (λ place. shows (get_or mine place 0) (relation_of c.args.tag) c.args.mode)) eligible

@@ -98,7 +98,7 @@ returns-clause-followed c = λ w safe shows.
     let may : may_transfer now c.args.session c.args.owner c.args.slot c.args.tag c.args.mode c.args.strong ≡ true =
     ap (λ k. may_transfer now c.args.session c.args.owner k c.args.tag c.args.mode c.args.strong) (sym place) ∙ sym c.if-not-may_transfer.ensures in
     let within : c.args.slot < length (slots_at now c.args.owner) =
-    subst (λ n. c.args.slot < n) (sym (shows.fast_path.sixteen c.args.owner below)) (transfer_within now c.args.session c.args.owner c.args.slot c.args.tag c.args.mode c.args.strong may) in
+    subst (λ n. c.args.slot < n) (sym (shows.fast_path.each_slots c.args.owner below)) (transfer_within now c.args.session c.args.owner c.args.slot c.args.tag c.args.mode c.args.strong may) in
     let slots_read =
     ap (λ (m : Machine). get_or (get_or m.fast_path.slots c.from-index.result []) c.from-place.result c.index-self-index.result) c.record.ensures
     ∙ slot_read now.fast_path.slots c.from-index.result c.args.owner c.from-place.result c.args.slot c.index-self-index.result whose place within in

@@ -1,0 +1,46 @@
+//! How many of a session's slots are in use, by group.
+
+ghost use Rattle.std.specs.Prelude.{◌≡◌, ℕ, ◌<◌};
+ghost use Rattle.lock_world.specs.SlotHolds.{most_groups, group_of_relation};
+ghost use Rattle.fast_path.specs.Slots.{count_in, counting};
+
+/// How many slots of each of a session's groups are in use, or no fewer (`FastPathLocalUseCount` in lock.c, in version 18
+/// `FastPathLocalUseCounts`).
+#[derive(Clone, Copy)]
+pub struct UseCounts {
+    counts: [u8; 8],
+}
+
+impl UseCounts {
+    /// Those of a session that has no slot in use.
+    pub fn new() -> Self
+        ensures none { (group : ℕ) → count_in result group ≡ 0 }
+    {
+        UseCounts { counts: [0; 8] }
+    }
+
+    /// The count of one group.
+    pub(crate) fn of(&self, group: u8) -> u8
+        requires exists { group < most_groups }
+        ensures { result ≡ count_in self.now group }
+    {
+        self.counts[usize::from(group)]
+    }
+
+    /// Another count for one group.
+    pub(crate) fn set(&mut self, group: u8, count: u8)
+        requires exists { group < most_groups }
+        ensures { count_in self.new ≡ counting self.old group count }
+    {
+        self.counts[usize::from(group)] = count;
+    }
+}
+
+/// The group of a relation, of so many (`FAST_PATH_REL_GROUP` in lock.c of version 18, which multiplies the number first).
+pub(crate) fn group_of(relation: u32, groups: u8) -> u8
+    requires some { 0 < groups }
+    ensures value { result ≡ group_of_relation groups relation }
+    ensures exists { result < groups }
+{
+    (relation % u32::from(groups)) as u8
+}

@@ -1,0 +1,20 @@
+use Rattle.shared_rule.proofs.Stacks.{taken-last}
+use Rattle.floor_tests.proofs.Idle.{may_put, part-put}
+use Rattle.floor_tests.proofs.shared.latecomers.hold_part.Goals as goal
+
+pub put_part-requires-clause-in_hand : goal.put_part-requires-clause-in_hand
+put_part-requires-clause-in_hand g c =
+    taken-last (g.B.Board.stack c.args.board.now) (g.B.Board.stack c.take_part-content.new.self) 3
+    c.take_part-content.ensures.stack
+
+pub put_part-requires-clause-lawful : goal.put_part-requires-clause-lawful
+put_part-requires-clause-lawful g c =
+    let seat = g.B.Board.seat c.take_part-content.new.self in
+    may_put seat.limit seat.number (g.B.Board.view c.args.board.now) (g.B.Board.view c.take_part-content.new.self) 3
+    (g.T.PartTable.content c.take_part-content.result) c.take_part-content.ensures.view
+
+pub returns-clause-idle : goal.returns-clause-idle
+returns-clause-idle g c =
+    part-put (g.B.Board.view c.args.board.now) (g.B.Board.view c.take_part-content.new.self) (g.B.Board.view c.put_part.new.self)
+    3 (g.T.PartTable.content c.take_part-content.result) c.requires.idle c.take_part-content.ensures.view
+    c.put_part.ensures.view

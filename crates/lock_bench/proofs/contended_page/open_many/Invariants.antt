@@ -1,0 +1,10 @@
+use Rattle.std.proofs.Common.{◌≡◌, length}
+use Rattle.lock_manager.specs.Crews.{AreOf}
+use Rattle.lock_bench.proofs.contended_page.open_many.Given as goal
+
+abbrev pub invariant-sessions : goal.invariant-sessions
+invariant-sessions g l = record {
+  manager : g.D.Desk.manager l.desk ≡ g.D.Desk.manager l.fn.desk;
+  own : AreOf g.B.Board.seat (g.D.Desk.manager l.fn.desk) l.crew.items;
+  live : g.D.Desk.live l.desk ≡ length l.crew.items;
+}

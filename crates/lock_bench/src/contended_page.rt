@@ -1,0 +1,434 @@
+//! The page of contention: many threads beside each other on one object, on objects of their own in one partition, and by
+//! listings; and the same work under a standard mutex.
+
+ghost use Rattle.std.specs.Prelude.{◌≡◌, ◌++◌, ◌∷◌, [], length, MatchResult};
+ghost use Rattle.lock_manager.specs.Crews.{AreOf, KeepManagers, SeatsAre};
+
+use crate::contention::{Case, Job, MOST_THREADS, Taken, run_by_mutex, run_by_sessions};
+use crate::session_page::Asked;
+use anyhow::{Result, bail};
+use lock_manager::{Board, Config, Desk, Manager, ManagerDesk, OwnSession, Part};
+use std::alloc::{AllocError, AllocFailed, Global};
+use std::io;
+use std::sync::Wait;
+use std::thread::Threads;
+use std::time::{Clock, CpuClock};
+
+/// What sessions do.
+static OF_SESSIONS: [Case; 3] = [Case::OneObject, Case::OnePartition, Case::Listing];
+
+/// What is done without any.
+static OF_MUTEX: [Case; 1] = [Case::Mutex];
+
+/// How many threads there are.
+static THREADS: [u32; 4] = [2, 4, 16, 64];
+
+/// For how long something is held, and how often that is taken in a round by all threads together.
+#[derive(Clone, Copy)]
+struct Work {
+    nanos: u64,
+    acquires: u32,
+}
+
+static WORK: [Work; 3] = [
+    Work {
+        nanos: 0,
+        acquires: 48_000,
+    },
+    Work {
+        nanos: 1_000,
+        acquires: 19_200,
+    },
+    Work {
+        nanos: 20_000,
+        acquires: 4_800,
+    },
+];
+
+/// A listing has no work beside it.
+static LISTINGS: [Work; 1] = [Work {
+    nanos: 0,
+    acquires: 4_800,
+}];
+
+/// How often it is taken where nothing is timed.
+const CHECKED: u32 = 640;
+
+/// How many rounds there are, of which the one in the middle is printed.
+const ROUNDS: usize = 5;
+
+/// The work that is done in this case.
+fn work_of(case: Case) -> &'static [Work] {
+    match case {
+        Case::Listing => LISTINGS.as_slice(),
+        _ => WORK.as_slice(),
+    }
+}
+
+/// The jobs of so many threads: each of these cases with each length of work.
+fn jobs(alloc: Global, cases: &[Case], asked: Asked, threads: u32) -> Result<Vec<Job>, AllocError> {
+    let mut jobs = Vec::new(alloc);
+    for case in cases {
+        for work in work_of(*case) {
+            jobs.push(job(*case, *work, asked, threads))?;
+        }
+    }
+    Ok(jobs)
+}
+
+fn job(case: Case, work: Work, asked: Asked, threads: u32) -> Job {
+    let acquires = if asked.check { CHECKED } else { work.acquires };
+    Job {
+        case,
+        database: asked.database,
+        owner: asked.owner,
+        threads,
+        work: work.nanos,
+        laps: acquires / threads.max(1),
+    }
+}
+
+/// The times by the clock on the wall of several rounds, their longest waits and their processor times, in nanoseconds.
+#[derive(Clone, Copy)]
+struct Figures {
+    wall: [u64; ROUNDS],
+    longest: [u64; ROUNDS],
+    processor: [u64; ROUNDS],
+}
+
+impl Figures {
+    fn new() -> Self {
+        Figures {
+            wall: [0; ROUNDS],
+            longest: [0; ROUNDS],
+            processor: [0; ROUNDS],
+        }
+    }
+
+    /// Notes what the round with this number took.
+    fn note(&mut self, round: usize, taken: Taken) {
+        if round < ROUNDS {
+            self.wall[round] = taken.wall();
+            self.longest[round] = taken.longest;
+            self.processor[round] = taken.processor;
+        }
+    }
+}
+
+/// The figure in the middle of a few.
+fn middle(mut figures: [u64; ROUNDS]) -> u64 {
+    figures.sort_unstable();
+    figures[ROUNDS / 2]
+}
+
+/// Sees that every request was granted: else the figures are not of the job.
+fn see_granted(job: Job, taken: Taken) -> Result<()> {
+    let (asked, granted) = (job.acquires(), taken.granted);
+    if granted != asked {
+        bail!(
+            "{}: of {asked} requests {granted} were granted",
+            job.case.name()
+        );
+    }
+    Ok(())
+}
+
+/// One round by these sessions.
+fn run_whole<B: Board<Part> + Send, R: Threads + Wait + Clock + CpuClock + Sync>(
+    rt: &R,
+    crew: &mut Vec<OwnSession<Part, B>>,
+    job: Job,
+) -> Result<Taken>
+    ensures own { KeepManagers B.seat crew.old.items crew.new.items }
+    ensures as_many { length crew.new.items ≡ length crew.old.items }
+{
+    let taken = run_by_sessions(rt, crew, job);
+    see_granted(job, taken)?;
+    Ok(taken)
+}
+
+/// Several rounds by these sessions.
+fn run_rounds<B: Board<Part> + Send, R: Threads + Wait + Clock + CpuClock + Sync>(
+    rt: &R,
+    crew: &mut Vec<OwnSession<Part, B>>,
+    job: Job,
+) -> Result<Figures>
+    ensures own { KeepManagers B.seat crew.old.items crew.new.items }
+    ensures as_many { length crew.new.items ≡ length crew.old.items }
+{
+    let mut figures = Figures::new();
+    'rounds: for round in 0..ROUNDS {
+        let taken = run_whole(rt, crew, job)?;
+        figures.note(round, taken);
+    }
+    Ok(figures)
+}
+
+/// Several rounds under a mutex.
+fn run_mutex_rounds<R: Threads + Wait + Clock + CpuClock + Sync>(rt: &R, job: Job) -> Figures {
+    let mut figures = Figures::new();
+    for round in 0..ROUNDS {
+        figures.note(round, run_by_mutex(rt, job));
+    }
+    figures
+}
+
+/// So many nanoseconds for each of so many, in tenths.
+fn tenths(nanos: u64, of: u64) -> u64 {
+    nanos.saturating_mul(10).checked_div(of).unwrap_or(0)
+}
+
+/// Prints what the rounds took, of each figure the one in the middle.
+fn print_figures<R: Print>(rt: &R, job: Job, figures: Figures) -> io::Result<()> {
+    let wall = tenths(middle(figures.wall), job.acquires());
+    let processor = tenths(middle(figures.processor), job.acquires());
+    println!(rt;
+        "        {:<30} {:>3} us {:>9}.{} {:>9}.{} {:>9}",
+        job.case.name(),
+        job.work / 1_000,
+        wall / 10,
+        wall % 10,
+        processor / 10,
+        processor % 10,
+        middle(figures.longest) / 1_000
+    )
+}
+
+/// Prints the figures of a job, or with a check that its steps were made.
+fn print_job<B: Board<Part> + Send, R: Threads + Wait + Clock + CpuClock + Print + Sync>(
+    rt: &R,
+    crew: &mut Vec<OwnSession<Part, B>>,
+    job: Job,
+    check: bool,
+) -> Result<()>
+    ensures own { KeepManagers B.seat crew.old.items crew.new.items }
+    ensures as_many { length crew.new.items ≡ length crew.old.items }
+{
+    if check {
+        let taken = run_whole(rt, crew, job)?;
+        print_checked(rt, job, taken)?;
+    } else {
+        let figures = run_rounds(rt, crew, job)?;
+        print_figures(rt, job, figures)?;
+    }
+    Ok(())
+}
+
+/// Tells how many requests were granted.
+fn print_checked<R: Print>(rt: &R, job: Job, taken: Taken) -> io::Result<()> {
+    let (name, work) = (job.case.name(), job.work / 1_000);
+    let (acquires, granted) = (job.acquires(), taken.granted);
+    println!(rt; "        {name}, {work} us: {acquires} acquires, granted {granted}")
+}
+
+/// Prints the figures of all jobs.
+fn print_jobs<B: Board<Part> + Send, R: Threads + Wait + Clock + CpuClock + Print + Sync>(
+    rt: &R,
+    crew: &mut Vec<OwnSession<Part, B>>,
+    jobs: &[Job],
+    check: bool,
+) -> Result<()>
+    ensures own { KeepManagers B.seat crew.old.items crew.new.items }
+    ensures as_many { length crew.new.items ≡ length crew.old.items }
+{
+    'jobs: for job in jobs {
+        print_job(rt, crew, *job, check)?;
+    }
+    Ok(())
+}
+
+/// Prints the figures of all jobs under a mutex.
+fn print_mutex_jobs<R: Threads + Wait + Clock + CpuClock + Print + Sync>(
+    rt: &R,
+    jobs: &[Job],
+    check: bool,
+) -> io::Result<()> {
+    for job in jobs {
+        if check {
+            print_checked(rt, *job, run_by_mutex(rt, *job))?;
+        } else {
+            print_figures(rt, *job, run_mutex_rounds(rt, *job))?;
+        }
+    }
+    Ok(())
+}
+
+/// Opens so many sessions behind those that there are. Where memory is wanting fewer are open.
+fn open_many<B: Board<Part>, D: Desk<OwnSession<Part, B>>, R: Wait>(
+    rt: &R,
+    desk: &mut D,
+    crew: &mut Vec<OwnSession<Part, B>>,
+    database: u32,
+    number: u32,
+) -> Result<()>
+    requires seats { SeatsAre B.seat D.seat }
+    requires own { AreOf B.seat (D.manager desk.old) crew.old.items }
+    requires live { D.live desk.old ≡ length crew.old.items }
+    ensures manager { D.manager desk.new ≡ D.manager desk.old }
+    ensures own { AreOf B.seat (D.manager desk.old) crew.new.items }
+    ensures live { D.live desk.new ≡ length crew.new.items }
+{
+    'sessions: for _ in 0..number {
+        open_behind(rt, desk, crew, database)?;
+    }
+    Ok(())
+}
+
+/// Opens a session, and puts it behind the others. It is closed again where there is no memory to keep it.
+fn open_behind<B: Board<Part>, D: Desk<OwnSession<Part, B>>, R: Wait>(
+    rt: &R,
+    desk: &mut D,
+    crew: &mut Vec<OwnSession<Part, B>>,
+    database: u32,
+) -> Result<()>
+    requires seats { SeatsAre B.seat D.seat }
+    requires own { AreOf B.seat (D.manager desk.old) crew.old.items }
+    requires live { D.live desk.old ≡ length crew.old.items }
+    ensures manager { D.manager desk.new ≡ D.manager desk.old }
+    ensures own { AreOf B.seat (D.manager desk.old) crew.new.items }
+    ensures live { D.live desk.new ≡ length crew.new.items }
+{
+    let Ok(session) = desk.open(database) else {
+        bail!("a session could not be opened");
+    };
+    match append(crew, session) {
+        Ok(()) => Ok(()),
+        Err(session) => {
+            desk.close(rt, session);
+            bail!("out of memory")
+        }
+    }
+}
+
+/// Puts it behind the others. Where memory is wanting it comes back, and the list is as before.
+fn append<S>(list: &mut Vec<S>, session: S) -> Result<(), S>
+    ensures { MatchResult result (λ _. list.new.items ≡ list.old.items ++ session ∷ [])
+        (λ back. (back ≡ session) × (list.new.items ≡ list.old.items)) }
+{
+    match list.push(session) {
+        Ok(()) => Ok(()),
+        Err(AllocFailed { value }) => Err(value),
+    }
+}
+
+/// Closes them all.
+fn close_many<B: Board<Part>, D: Desk<OwnSession<Part, B>>, R: Wait>(
+    rt: &R,
+    desk: &mut D,
+    mut crew: Vec<OwnSession<Part, B>>,
+)
+    requires seats { SeatsAre B.seat D.seat }
+    requires own { AreOf B.seat (D.manager desk.old) crew.items }
+    requires live { D.live desk.old ≡ length crew.items }
+    ensures manager { D.manager desk.new ≡ D.manager desk.old }
+    ensures none_live { D.live desk.new ≡ 0 }
+{
+    'sessions: while let Some(session) = crew.pop() {
+        desk.close(rt, session);
+    }
+    crew.destroy_empty();
+}
+
+/// Prints the jobs of sessions of the manager that the desk has.
+fn print_at_work<
+    B: Board<Part> + Send,
+    D: Desk<OwnSession<Part, B>>,
+    R: Threads + Wait + Clock + CpuClock + Print + Sync,
+>(rt: &R, _desk: &D, crew: &mut Vec<OwnSession<Part, B>>, jobs: &[Job], check: bool) -> Result<()>
+    requires own { AreOf B.seat (D.manager _desk.now) crew.old.items }
+    requires live { D.live _desk.now ≡ length crew.old.items }
+    ensures own { AreOf B.seat (D.manager _desk.now) crew.new.items }
+    ensures live { D.live _desk.now ≡ length crew.new.items }
+{
+    print_jobs(rt, crew, jobs, check)
+}
+
+/// Prints the jobs of so many threads, each with a session from the desk, which has none open before and after.
+fn print_crew<
+    B: Board<Part> + Send,
+    D: Desk<OwnSession<Part, B>>,
+    R: Threads + Wait + Clock + CpuClock + AllocGlobal + Print + Sync,
+>(rt: &R, desk: &mut D, jobs: &[Job], asked: Asked, threads: u32) -> Result<()>
+    requires seats { SeatsAre B.seat D.seat }
+    requires none_live { D.live desk.old ≡ 0 }
+    ensures manager { D.manager desk.new ≡ D.manager desk.old }
+    ensures none_live { D.live desk.new ≡ 0 }
+{
+    let mut crew = Vec::new(rt.alloc());
+    match open_many(rt, desk, &mut crew, asked.database, threads) {
+        Ok(()) => {
+            let printed = print_at_work(rt, desk, &mut crew, jobs, asked.check);
+            close_many(rt, desk, crew);
+            printed
+        }
+        Err(error) => {
+            close_many(rt, desk, crew);
+            Err(error)
+        }
+    }
+}
+
+/// The same at the desk of a manager. The board of the shared table is named here alone: all that this calls is over any board.
+fn print_at_desk<R: Threads + Wait + Clock + CpuClock + AllocGlobal + Print + Sync>(
+    rt: &R,
+    desk: &mut ManagerDesk<'_>,
+    jobs: &[Job],
+    asked: Asked,
+    threads: u32,
+) -> Result<()>
+    requires none_live { desk.old.opener.live ≡ 0 }
+    ensures manager { desk.new.manager.now ≡ desk.old.manager.now }
+    ensures none_live { desk.new.opener.live ≡ 0 }
+{
+    print_crew(rt, desk, jobs, asked, threads)
+}
+
+/// The same at a manager of their own.
+fn print_sessions<R: Threads + Wait + Clock + CpuClock + AllocGlobal + Print + Sync>(
+    rt: &R,
+    asked: Asked,
+    threads: u32,
+) -> Result<()> {
+    let jobs = jobs(rt.alloc(), OF_SESSIONS.as_slice(), asked, threads)?;
+    let config = Config {
+        sessions: MOST_THREADS,
+        max_local: 1_024,
+        slot_groups: 1,
+    };
+    let (manager, opener) = Manager::new(rt.alloc(), config)?;
+    let mut desk = ManagerDesk::new(&manager, opener);
+    let printed = print_at_desk(rt, &mut desk, jobs.as_slice(), asked, threads);
+    let opener = desk.into_opener();
+    manager.finish(opener);
+    printed
+}
+
+/// What so many threads do: with sessions, and under a mutex.
+fn print_threads<R: Threads + Wait + Clock + CpuClock + AllocGlobal + Print + Sync>(
+    rt: &R,
+    asked: Asked,
+    threads: u32,
+) -> Result<()> {
+    println!(rt; "threads: {threads}")?;
+    print_sessions(rt, asked, threads)?;
+    let jobs = jobs(rt.alloc(), OF_MUTEX.as_slice(), asked, threads)?;
+    print_mutex_jobs(rt, jobs.as_slice(), asked.check)?;
+    Ok(())
+}
+
+/// Prints the table of figures, or with a check what the same steps leave.
+pub fn print<R: Threads + Wait + Clock + CpuClock + AllocGlobal + Print + Sync>(
+    rt: &R,
+    asked: Asked,
+) -> Result<()> {
+    println!(rt; "contention between threads")?;
+    if !asked.check {
+        println!(rt;
+            "for each acquire nanoseconds by the clock and of processor time, and the longest wait in microseconds; the middle one of {ROUNDS} rounds"
+        )?;
+    }
+    for threads in &THREADS {
+        print_threads(rt, asked, *threads)?;
+    }
+    Ok(())
+}
