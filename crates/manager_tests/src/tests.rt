@@ -182,7 +182,11 @@ fn expect_made<R: Abort>(rt: &R, refusal: Option<Refusal>, config: Config, is_in
         max_local,
         slot_groups,
     } = config;
-    assert_eq!(rt; refusal, expected, "{sessions}, {max_local} and {slot_groups}");
+    assert_eq!(rt;
+        refusal,
+        expected,
+        "{sessions}, {max_local} and {slot_groups}"
+    );
 }
 
 #[test]
