@@ -57,14 +57,14 @@ impl Pauses {
         }
     }
 
-    /// One pause in two is none, one in eight leaves the processor to others, and one in sixty-four is long.
+    /// One pause in two is none, one in eight leaves the processor to others, and one in thirty-two is long.
     fn pause(&self) {
         let number = mixed(self.turn.fetch_add(1, Ordering::SeqCst));
         let looks = number >> 8;
         match number % 64 {
-            0 => self.spin(looks % LONG),
-            1..=8 => thread::yield_now(),
-            9..=31 => self.spin(looks % SHORT),
+            0..=1 => self.spin(looks % LONG),
+            2..=9 => thread::yield_now(),
+            10..=31 => self.spin(looks % SHORT),
             _ => {}
         }
     }

@@ -22,6 +22,9 @@ pub const SESSIONS: u32 = 4;
 
 const LISTINGS: u32 = 1_000;
 
+/// How often a session disturbs the next one while it has its own hold, which so stands longer than a listing takes.
+const DISTURBANCES: u32 = 8;
+
 /// What each session says of its hold on its relation, by numbers that rise.
 #[derive(Drop)]
 struct Words {
@@ -89,7 +92,21 @@ fn disturb<T: PartTable, B: Board<T>, R: Abort + Wait>(
     }
 }
 
-/// Holds its own relation for a moment, if nobody is in the way, and disturbs the next session meanwhile.
+/// The same over and over.
+fn disturb_often<T: PartTable, B: Board<T>, R: Abort + Wait>(
+    rt: &R,
+    session: &mut OwnSession<T, B>,
+    next: usize,
+)
+    requires next { next < 4 }
+    ensures seat { B.seat session.new.board ≡ B.seat session.old.board }
+{
+    'disturbances: for _ in 0..DISTURBANCES {
+        disturb(rt, session, next);
+    }
+}
+
+/// Holds its own relation for a while, if nobody is in the way, and disturbs the next session meanwhile.
 fn hold_once<T: PartTable, B: Board<T>, R: Abort + Wait>(
     rt: &R,
     words: &Words,
@@ -103,7 +120,7 @@ fn hold_once<T: PartTable, B: Board<T>, R: Abort + Wait>(
     words.may_hold[place].fetch_add(1, Ordering::SeqCst);
     if session.try_lock(rt, tag, mode, Owner::Transaction).is_ok() {
         words.holds[place].fetch_add(1, Ordering::SeqCst);
-        disturb(rt, session, (place + 1) % 4);
+        disturb_often(rt, session, (place + 1) % 4);
         words.holds[place].fetch_add(1, Ordering::SeqCst);
         let released = session.unlock(rt, tag, mode, Owner::Transaction);
         expect_released(rt, released, tag, mode);
