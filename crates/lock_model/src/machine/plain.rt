@@ -112,7 +112,8 @@ impl Plain {
     {
         let index = usize::from(place);
         if index < 16 * usize::from(self.groups) {
-            match self.fast_path.slots[usize::from(session.number())].get(index) {
+            let row = self.fast_path.slots[usize::from(session.number())];
+            match row.get(index) {
                 Some(word) => word.number(),
                 None => 0,
             }
