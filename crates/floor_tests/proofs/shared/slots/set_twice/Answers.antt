@@ -33,8 +33,8 @@ read groups number own index shown a b c d one same blank stored taken is =
       unused = none-in_use own b takes.slots takes.knows (ap (λ (k : Account). k.own) first);
     }
 
-pub set_slot-requires : goal.set_slot-requires
-set_slot-requires g c =
+pub set_slot-requires-clause-lawful : goal.set_slot-requires-clause-lawful
+set_slot-requires-clause-lawful g c =
     let view = g.B.Board.view in
     let seat = g.B.Board.seat in
     let own : ℕ = c.number-own.result in
@@ -58,21 +58,19 @@ set_slot-requires g c =
     let known = ap (λ (k : Account). k.fast.slots own) was.is
     ∙ (ready own c.strong_index.result c.load_strong-counted.result was.slots index none).in_hand in
     let full = c.load_slot-empty.ensures.view
-    ∙ ap (λ (k : Account). account_tracing k (Loaded (Slot own 0) c.load_slot-empty.result)) was.is in record {
-      lawful = (
-        was.slots,
-        subst (λ k. MaySetSlotBy k (seat c.load_slot-empty.new.self).number (view c.load_slot-empty.new.self) was.slots 0 table
-            AccessShare) (sym one_at_load)
-            (subst (λ n. MaySetSlotBy 1 n (view c.load_slot-empty.new.self) was.slots 0 table AccessShare) (sym at_load)
-            (subst (λ (k : Account). MaySetSlotBy 1 own k was.slots 0 table AccessShare) (sym full)
-            (first-set own c.strong_index.result c.load_strong-counted.result was.slots index none
-            (Loaded (Slot own 0) c.load_slot-empty.result) was.unused))),
-        c.load_slot-empty.ensures.of_slots was.slots known,
-      );
-    }
+    ∙ ap (λ (k : Account). account_tracing k (Loaded (Slot own 0) c.load_slot-empty.result)) was.is in (
+      was.slots,
+      subst (λ k. MaySetSlotBy k (seat c.load_slot-empty.new.self).number (view c.load_slot-empty.new.self) was.slots 0 table
+          AccessShare) (sym one_at_load)
+          (subst (λ n. MaySetSlotBy 1 n (view c.load_slot-empty.new.self) was.slots 0 table AccessShare) (sym at_load)
+          (subst (λ (k : Account). MaySetSlotBy 1 own k was.slots 0 table AccessShare) (sym full)
+          (first-set own c.strong_index.result c.load_strong-counted.result was.slots index none
+          (Loaded (Slot own 0) c.load_slot-empty.result) was.unused))),
+      c.load_slot-empty.ensures.of_slots was.slots known,
+    )
 
-pub set_slot-requires-2 : goal.set_slot-requires-2
-set_slot-requires-2 g c =
+pub set_slot-requires-2-clause-lawful : goal.set_slot-requires-2-clause-lawful
+set_slot-requires-2-clause-lawful g c =
     let view = g.B.Board.view in
     let seat = g.B.Board.seat in
     let own : ℕ = c.number-own.result in
@@ -104,15 +102,13 @@ set_slot-requires-2 g c =
     ∙ ap (λ (k : Account). account_setting own k (slots_here (k.fast.slots own)) 0 table AccessShare) before in
     let may = second-set own c.strong_index.result c.load_strong-counted.result was.slots index none entry later
     was.unused in
-    let full = c.load_slot-shown.ensures.view ∙ ap (λ (k : Account). account_tracing k later) set in record {
-      lawful = (
-        after_first was.slots,
-        subst (λ k. MaySetSlotBy k (seat c.load_slot-shown.new.self).number (view c.load_slot-shown.new.self)
-            (after_first was.slots) 0 table RowExclusive) (sym one_at_load)
-            (subst (λ n. MaySetSlotBy 1 n (view c.load_slot-shown.new.self) (after_first was.slots) 0 table RowExclusive)
-            (sym at_load)
-            (subst (λ (k : Account). MaySetSlotBy 1 own k (after_first was.slots) 0 table RowExclusive) (sym full) may)),
-        c.load_slot-shown.ensures.of_slots (after_first was.slots) (ap (λ (k : Account). k.fast.slots own) set
-            ∙ may.in_hand),
-      );
-    }
+    let full = c.load_slot-shown.ensures.view ∙ ap (λ (k : Account). account_tracing k later) set in (
+      after_first was.slots,
+      subst (λ k. MaySetSlotBy k (seat c.load_slot-shown.new.self).number (view c.load_slot-shown.new.self)
+          (after_first was.slots) 0 table RowExclusive) (sym one_at_load)
+          (subst (λ n. MaySetSlotBy 1 n (view c.load_slot-shown.new.self) (after_first was.slots) 0 table RowExclusive)
+          (sym at_load)
+          (subst (λ (k : Account). MaySetSlotBy 1 own k (after_first was.slots) 0 table RowExclusive) (sym full) may)),
+      c.load_slot-shown.ensures.of_slots (after_first was.slots) (ap (λ (k : Account). k.fast.slots own) set
+          ∙ may.in_hand),
+    )
