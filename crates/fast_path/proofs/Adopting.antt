@@ -125,7 +125,7 @@ pub may_put-moved :
 may_put-moved limit number b c owner place word p tag taken now (Ok done) part moves =
     may_put-below b c owner place word p 4 tag taken now part moves limit number
 may_put-moved limit number b c owner place word p tag taken now (Err refusal) part some =
-    may_put-below b c owner place word p (number_of some.wanting) tag taken now part some.moves limit number
+    may_put-below b c owner place word p (number_of some.refused) tag taken now part some.moves limit number
 
 pub adopts-moved :
     (a b c after : Account) (owner place word p : ℕ) (tag : Tag) (taken now : Content)
@@ -137,9 +137,9 @@ adopts-moved a b c after owner place word p tag taken now (Ok done) part has too
     adopts-put a b c after owner place word 4 tag taken now has (took ∙ (λ i. account_taking a (part i) taken)) moves
     (put ∙ (λ i. account_putting c (part i) (taken_of (c.hand (part i))) now Keep))
 adopts-moved a b c after owner place word p tag taken now (Err refusal) part has took some put = record {
-  wanting = some.wanting;
+  refused = some.refused;
   in_slot = some.in_slot;
-  adopts = adopts-put a b c after owner place word (number_of some.wanting) tag taken now has
+  adopts = adopts-put a b c after owner place word (number_of some.refused) tag taken now has
       (took ∙ (λ i. account_taking a (part i) taken)) some.moves
       (put ∙ (λ i. account_putting c (part i) (taken_of (c.hand (part i))) now Keep));
 }

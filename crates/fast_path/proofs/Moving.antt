@@ -276,7 +276,7 @@ module _ (a : Account) (owner place word : ℕ) (tag : Tag) (taken : Content)
     -- stops there where memory runs out,
     pub moving-stops : has_mode left mode ≡ true → MovesSome a owner place word tag taken now b
     moving-stops shown = record {
-      wanting = mode;
+      refused = mode;
       in_slot = left-was below word left (relation_of tag) mode has.has.its so_far.still shown;
       moves = subst (λ k. MovesBelow a owner place word tag taken k now b) (sym next) so_far.moves;
     }

@@ -355,12 +355,12 @@ pub stops-adopting :
     → HasRelation found.slots place word tag → AdoptsSome b owner word tag c → d ≡ account_putting_fast number c owner
     → StopsAt groups a owner tag d
 stops-adopting groups number a b c d owner place word tag seen unlocked found has some put =
-    let below : ℕ = number_of some.wanting in
+    let below : ℕ = number_of some.refused in
     record {
       steps = adopting_steps groups owner tag found.slots.word word some.adopts.taken below;
       turn = record {
         shown = word;
-        wanting = some.wanting;
+        refused = some.refused;
         in_slot = some.in_slot;
         adopts = adopts-found groups a b owner place word below tag seen some.adopts.taken found has;
       };

@@ -72,7 +72,7 @@ pub record ReadsSlots (groups number : ℕ) (a : Account) (session database : �
 
 -- The rows of all sessions stand behind what the list had, and nothing else has changed but the trace, which has the loads
 -- that they tell of, and what the session remembers of its own slots: from its own turn on that is what it loaded there, which
--- is no more than before. The lock of each session's slots is shared while they are loaded. Where memory was wanting the list
+-- is no more than before. The lock of each session's slots is shared while they are loaded. Where memory ran out the list
 -- is as before, and sessions were loaded up to some number.
 pub record ListsSlots (groups number limit : ℕ) (a : Account) (before : List SlotRow)
     (result : Result (Unit {0}) NoMemory) (after : List SlotRow) (b : Account) : Type 0 where

@@ -1,4 +1,4 @@
-use Rattle.std.specs.Prelude.{◌≡◌, ◌≢◌, ◌⊎◌, ℕ, ◌<◌, nat_lt, zero, suc, ◌==◌, ◌&&◌, ◌||◌, true, false}
+use Rattle.std.specs.Prelude.{◌≡◌, ◌≢◌, ◌⊎◌, ℕ, ◌<◌, nat_lt, zero, suc, ◌==◌, ◌&&◌, ◌||◌, true}
 use Rattle.std.specs.Prelude.{List, [], ◌∷◌, ◌++◌, Result, Ok, Err}
 use Rattle.modes_core.specs.declared.modes.Mode.{Mode}
 use Rattle.modes_core.specs.declared.tags.Tag.{Tag}
@@ -61,12 +61,12 @@ IsTurn groups owner tag steps =
     SkipsSession owner tag steps
     ⊎ (FindsNothing groups owner tag steps ⊎ ((shown : ℕ) × Adopts groups owner tag shown 4 steps))
 
--- A turn that is cut short: memory was wanting for this mode of the slot.
+-- A turn that is cut short: there was no memory for this mode of the slot.
 pub record StopsTurn (groups owner : ℕ) (tag : Tag) (steps : List TraceEntry) : Type 0 where
   pub shown : ℕ
-  pub wanting : Mode
-  pub in_slot : has_mode shown wanting ≡ true
-  pub adopts : Adopts groups owner tag shown (number_of wanting) steps
+  pub refused : Mode
+  pub in_slot : has_mode shown refused ≡ true
+  pub adopts : Adopts groups owner tag shown (number_of refused) steps
 
 -- The turns of the sessions with numbers below this one, in rising order.
 abbrev pub AreTurns : ℕ → ℕ → Tag → List TraceEntry → Type 0
@@ -94,7 +94,7 @@ pub record IsAfterScan (a : Account) (counted : List Counted) (steps : List Trac
     trace = a.trace ++ steps;
   }
 
--- The strong lock is counted, and past every session; or memory was wanting, and it is counted no more. What was moved
+-- The strong lock is counted, and past every session; or memory ran out, and it is counted no more. What was moved
 -- until then stays moved.
 pub record Transfers (groups limit : ℕ) (a : Account) (tag : Tag) (mode : Mode) (b : Account) : Type 0 where
   pub steps : List TraceEntry

@@ -96,12 +96,12 @@ pub record MovesBelow (a : Account) (owner place word : ℕ) (tag : Tag) (taken 
     hand = set_at a.hand (partition_of tag) (Some (hand_moving taken now recorded));
   }
 
--- They are moved as far as before the mode that memory was wanting for.
+-- They are moved as far as before the mode that there was no memory for.
 pub record MovesSome (a : Account) (owner place word : ℕ) (tag : Tag) (taken now : Content) (b : Account) :
     Type 0 where
-  pub wanting : Mode
-  pub in_slot : has_mode word wanting ≡ true
-  pub moves : MovesBelow a owner place word tag taken (number_of wanting) now b
+  pub refused : Mode
+  pub in_slot : has_mode word refused ≡ true
+  pub moves : MovesBelow a owner place word tag taken (number_of refused) now b
 
 abbrev pub MovesOrNot :
     Account → ℕ → ℕ → ℕ → Tag → Content → Result (Unit {0}) NoMemory → Content → Account → Type 0
@@ -120,9 +120,9 @@ pub record AdoptsBelow (a : Account) (owner word : ℕ) (tag : Tag) (below : ℕ
   }
 
 pub record AdoptsSome (a : Account) (owner word : ℕ) (tag : Tag) (b : Account) : Type 0 where
-  pub wanting : Mode
-  pub in_slot : has_mode word wanting ≡ true
-  pub adopts : AdoptsBelow a owner word tag (number_of wanting) b
+  pub refused : Mode
+  pub in_slot : has_mode word refused ≡ true
+  pub adopts : AdoptsBelow a owner word tag (number_of refused) b
 
 abbrev pub AdoptsOrNot : Account → ℕ → ℕ → Tag → Result (Unit {0}) NoMemory → Account → Type 0
 AdoptsOrNot a owner word tag (Ok done) b = AdoptsBelow a owner word tag 4 b

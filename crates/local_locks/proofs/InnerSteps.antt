@@ -1,23 +1,22 @@
-use Rattle.std.proofs.Common.{◌≡◌, ◌≢◌, ℕ, ◌+◌, ◌-◌, ◌<◌, ◌≤◌, ◌⊎◌, true, false, cond, List, [], ◌∷◌, ◌++◌, length, set, take, suc, zero, refl, sym, ap, subst, ◌∙◌, inl, inr, arith}
-use Rattle.std.specs.Prelude.{Option, Some, None, IfSome, IsSomeAnd, is_some, find, map, ◌==◌}
+use Rattle.std.proofs.Common.{◌≡◌, ◌≢◌, ℕ, ◌<◌, ◌≤◌, ◌⊎◌, false, List, [], ◌∷◌, length, set, take, suc, zero, refl, sym, ap, subst, ◌∙◌, inl, inr, arith}
+use Rattle.std.specs.Prelude.{Option, Some, None, IfSome, is_some, find, map}
 use Rattle.std.specs.Option.{option_map}
-use Rattle.std.proofs.lemmas.Bool.{false≢true, cases_eq, cases_lt, ne_eqb, eq-eqb}
+use Rattle.std.proofs.lemmas.Bool.{cases_eq, cases_lt, ne_eqb, eq-eqb}
 use Rattle.std.proofs.lemmas.List.{length-set, length-take}
 use Rattle.modes_core.specs.declared.modes.Mode.{Mode}
 use Rattle.modes_core.specs.declared.tags.Tag.{Tag}
 use Rattle.place_index.specs.Notes.{Notes}
 use Rattle.local_locks.specs.declared.records.Entry.{Entry}
 use Rattle.local_locks.specs.declared.ends.Progress.{Progress}
-use Rattle.local_locks.specs.declared.ends.End.{End}
-use Rattle.local_locks.specs.declared.ends.End.TheVariants.{Commit, Abort, Close, Inner}
-use Rattle.local_locks.specs.Owned.{Owned, left_by, IsCounted, count_in_all, count_up_to, without_innermost, is_ended, after_end, with_next_ended, max_count}
-use Rattle.local_locks.specs.Slots.{Slots, opened, slot_at, present, key_at, IsIndexed, IsPast, IsKept, at_start}
-use Rattle.local_locks.specs.Levels.{Rows, row_at, had_in, told, had, outer_of, without_level, IsLeveled, AreSettled}
-use Rattle.local_locks.proofs.SlotLaws.{at_some, and_some, is_of-own, slot_at-set, slot_at-set_other, slot_at-within, slot_at-past}
+use Rattle.local_locks.specs.declared.ends.End.TheVariants.{Inner}
+use Rattle.local_locks.specs.Owned.{Owned, left_by, IsCounted, count_in_all, count_up_to, without_innermost, is_ended, after_end, with_next_ended}
+use Rattle.local_locks.specs.Slots.{Slots, slot_at, present, key_at, IsIndexed, IsKept, at_start}
+use Rattle.local_locks.specs.Levels.{Rows, row_at, had_in, told, outer_of, without_level, IsLeveled, AreSettled}
+use Rattle.local_locks.proofs.SlotLaws.{at_some, is_of-own, slot_at-set, slot_at-set_other, slot_at-within, slot_at-past}
 use Rattle.local_locks.proofs.IndexLaws.{indexed-alike}
-use Rattle.local_locks.proofs.EndLaws.{with_next_ended-none, Keeps, Stopped, Passed, present-same, present-stopped, find-stopped, present-passed, find-passed}
+use Rattle.local_locks.proofs.EndLaws.{with_next_ended-none, Stopped, Passed, present-same, present-stopped, find-stopped, present-passed, find-passed}
 use Rattle.local_locks.proofs.EndSteps.{length-present_alike, past-start}
-use Rattle.local_locks.proofs.LevelLaws.{owned_of, had-alike, told-same, outer-same, outer-at, length-outer, up_to-at}
+use Rattle.local_locks.proofs.LevelLaws.{owned_of, had-alike, told-same, outer-same, length-outer, up_to-at}
 use Rattle.local_locks.proofs.LevelSteps.{Rises, rises-now, rises-to, had-cut, rises-cut}
 
 -- The end of the innermost level, of which the slots and their lists are told here.

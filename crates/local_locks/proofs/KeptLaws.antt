@@ -1,19 +1,17 @@
-use Rattle.std.proofs.Common.{◌≡◌, ℕ, ◌+◌, ◌<◌, ◌≤◌, false, cond, List, [], ◌∷◌, true, suc, zero, min, refl, sym, ap, subst, ◌∙◌, inl, inr, arith}
+use Rattle.std.proofs.Common.{◌≡◌, ℕ, ◌+◌, ◌<◌, ◌≤◌, false, cond, [], ◌∷◌, true, suc, zero, min, refl, sym, ap, subst, ◌∙◌, inl, inr, arith}
 use Rattle.std.specs.Prelude.{◌==◌, Option, Some, None, IfSome}
 use Rattle.std.specs.Option.{option_map}
 use Rattle.std.specs.List.{AllByRecursion, IsDistinct}
 use Rattle.std.proofs.lemmas.Bool.{false≢true, cases_Bool, cases_eq, eqb-true}
 use Rattle.std.proofs.lemmas.Map.Keys.{IsDistinct-cons}
-use Rattle.std.proofs.lemmas.List.Elements.{All-from_recursion}
 use Rattle.modes_core.specs.declared.modes.Mode.{Mode}
 use Rattle.modes_core.specs.declared.tags.Tag.{Tag}
-use Rattle.place_index.specs.Notes.{Notes}
 use Rattle.local_locks.specs.declared.records.Entry.{Entry}
 use Rattle.local_locks.specs.declared.ends.End.{End}
 use Rattle.local_locks.specs.declared.ends.End.TheVariants.{Commit, Abort, Close, Inner}
 use Rattle.local_locks.specs.declared.ends.Progress.{Progress}
-use Rattle.local_locks.specs.Owned.{IsCounted, is_of, are_of_same, is_ended, after_end}
-use Rattle.local_locks.specs.Slots.{Slots, slot_at, present, key_at, IsOnce, IsPast, IsKept, number_of_end, reached, came_to, back_to}
+use Rattle.local_locks.specs.Owned.{is_of, are_of_same, is_ended, after_end}
+use Rattle.local_locks.specs.Slots.{Slots, slot_at, present, key_at, IsOnce, IsPast, number_of_end, reached, came_to, back_to}
 use Rattle.local_locks.proofs.SlotLaws.{if_some, at_some, is_of-own}
 use Rattle.local_locks.proofs.IndexLaws.{own_key, some_key, none_some}
 use Rattle.local_locks.proofs.EndLaws.{Keeps, after_end-after_end, is_ended-after_end}

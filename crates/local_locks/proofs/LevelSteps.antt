@@ -1,19 +1,19 @@
-use Rattle.std.proofs.Common.{◌≡◌, ◌≢◌, ℕ, ◌+◌, ◌-◌, ◌<◌, ◌≤◌, true, false, cond, List, [], ◌∷◌, ◌++◌, length, set, take, min, suc, zero, refl, sym, ap, subst, ◌∙◌, ◌⊎◌, inl, inr, arith}
+use Rattle.std.proofs.Common.{◌≡◌, ◌≢◌, ℕ, ◌+◌, ◌-◌, ◌<◌, ◌≤◌, true, false, List, [], ◌∷◌, ◌++◌, length, set, take, min, suc, zero, refl, sym, ap, subst, ◌∙◌, ◌⊎◌, inl, inr, arith}
 use Rattle.std.specs.Prelude.{Option, Some, None, Result, Ok, Err, OnOk, is_err}
 use Rattle.std.specs.Option.{option_map}
 use Rattle.std.proofs.lemmas.Bool.{false≢true, cases_eq, cases_lt}
-use Rattle.std.proofs.lemmas.List.{get_or_past, get_or_default, get_or-take, length-take, length-take-le, length_push}
+use Rattle.std.proofs.lemmas.List.{get_or_past, get_or_default, get_or-take, length-take, length_push}
 use Rattle.modes_core.specs.declared.modes.Mode.{Mode}
 use Rattle.modes_core.specs.declared.tags.Tag.{Tag}
 use Rattle.modes_core.specs.declared.sessions.Owner.{Owner}
 use Rattle.modes_core.specs.declared.sessions.Owner.TheVariants.{Session, Transaction}
 use Rattle.local_locks.specs.declared.records.Entry.{Entry}
 use Rattle.local_locks.specs.Owned.{raised, lowered, count_for, count_in_all, max_count, after_end}
-use Rattle.local_locks.specs.Slots.{Slots, opened, entry_at, slot_at, present, back_to, IsIndexed, IsPast, IsPlaceOf, IsTakenOut, IsTable}
+use Rattle.local_locks.specs.Slots.{Slots, opened, entry_at, slot_at, back_to, IsIndexed, IsPast, IsPlaceOf, IsTakenOut, IsTable}
 use Rattle.place_index.specs.Notes.{Notes, HasSameNotes, no_place}
 use Rattle.local_locks.specs.declared.ends.End.{End}
 use Rattle.local_locks.specs.declared.ends.Progress.{Progress}
-use Rattle.local_locks.specs.Levels.{Rows, row_at, had_in, own_count_in, told, had, outer_of, IsLeveled, IsLeveledTable, IsPaced, AreMoved}
+use Rattle.local_locks.specs.Levels.{Rows, row_at, had_in, own_count_in, told, outer_of, IsLeveled, IsLeveledTable, IsPaced, AreMoved}
 use Rattle.local_locks.proofs.SlotLaws.{at_some, slot_at-set, slot_at-set_other, slot_at-within, slot_at-past, slot_at-push, slot_at-push_before}
 use Rattle.local_locks.proofs.TableSteps.{raised-key, lowered-key, kept-taken, IsTable-raised}
 use Rattle.local_locks.proofs.EndSteps.{table-index}

@@ -1,5 +1,5 @@
-use Rattle.std.proofs.Common.{◌≡◌, ◌≢◌, ◌⊎◌, ℕ, ◌+◌, ◌-◌, ◌<◌, ◌≤◌, List, [], ◌∷◌, ◌++◌, length, set, take, suc, zero, refl, sym, ap, subst, ◌∙◌, inl, inr, arith}
-use Rattle.std.specs.Prelude.{Option, Some, None, IfSome, IsSomeAnd, ◌==◌}
+use Rattle.std.proofs.Common.{◌≡◌, ◌≢◌, ◌⊎◌, ℕ, ◌+◌, ◌<◌, ◌≤◌, List, [], ◌∷◌, ◌++◌, length, set, take, suc, zero, refl, sym, ap, subst, ◌∙◌, inl, inr, arith}
+use Rattle.std.specs.Prelude.{Option, Some, None, IfSome, IsSomeAnd}
 use Rattle.std.specs.Option.{option_map}
 use Rattle.std.proofs.lemmas.Bool.{cases_eq, cases_lt}
 use Rattle.std.proofs.lemmas.List.{get_or_past, get_or-set_same, get_or-set_other, length-set}
@@ -7,7 +7,7 @@ use Rattle.local_locks.specs.declared.records.Entry.{Entry}
 use Rattle.local_locks.specs.Owned.{count_in_all}
 use Rattle.local_locks.specs.Slots.{Slots, opened, entry_at, entry_in, slot_at}
 use Rattle.local_locks.specs.Levels.{Rows, row_at, told, had, without_level, AreEmpty, AreMoved, AreSettled}
-use Rattle.local_locks.proofs.SlotLaws.{slot_at-set, slot_at-set_other, slot_at-within}
+use Rattle.local_locks.proofs.SlotLaws.{slot_at-set, slot_at-set_other}
 use Rattle.local_locks.proofs.OpenLaws.{slot_at-opened, opened-set, entry_in-held, entry_in-empty, length-opened}
 
 -- ---- all lists

@@ -253,7 +253,7 @@ fn print_mutex_jobs<R: Threads + Wait + Clock + CpuClock + Print + Sync>(
     Ok(())
 }
 
-/// Opens so many sessions behind those that there are. Where memory is wanting fewer are open.
+/// Opens so many sessions behind those that there are. Where memory runs out fewer are open.
 fn open_many<B: Board<Part>, D: Desk<OwnSession<Part, B>>, R: Wait>(
     rt: &R,
     desk: &mut D,
@@ -300,7 +300,7 @@ fn open_behind<B: Board<Part>, D: Desk<OwnSession<Part, B>>, R: Wait>(
     }
 }
 
-/// Puts it behind the others. Where memory is wanting it comes back, and the list is as before.
+/// Puts it behind the others. Where memory runs out it comes back, and the list is as before.
 fn append<S>(list: &mut Vec<S>, session: S) -> Result<(), S>
     ensures { MatchResult result (λ _. list.new.items ≡ list.old.items ++ session ∷ [])
         (λ back. (back ≡ session) × (list.new.items ≡ list.old.items)) }

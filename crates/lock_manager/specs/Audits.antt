@@ -3,6 +3,7 @@ use Rattle.std.specs.List.{AllZip, AllByRecursion}
 use Rattle.modes_core.specs.Tag.{is_strong_on}
 use Rattle.lock_table.specs.declared.no_memory.NoMemory.{NoMemory}
 use Rattle.lock_manager.specs.Keeper.{PartView, content_of}
+use Rattle.local_locks.specs.declared.records.Entry.{Entry}
 use Rattle.local_locks.specs.Owned.{IsWellOwned}
 use Rattle.lock_world.specs.Account.{Account}
 use Rattle.shared_rule.specs.declared.audits.Audit.{Audit}
@@ -27,14 +28,15 @@ pub record MayCount (left : ℕ) (opener : OpenerState PartView) : Type 0 where
   pub nobody_waits : NoneWaits (gathered_in content_of opener.gathered)
   pub nothing_in_hand : MayBeKeptApartBy (first_account content_of opener.gathered)
 
+-- how many local entries sessions with these have, and how many of them are of strong modes
+module _ {S : Type 0} (entries : S → List Entry) where
+  abbrev pub entries_owned : List S → ℕ
+  entries_owned sessions = sum_by (λ session. length (entries session)) sessions
+
+  abbrev pub strong_owned : List S → ℕ
+  strong_owned sessions = sum_by (λ session. length (filter (λ entry. is_strong_on entry.tag entry.mode) (entries session))) sessions
+
 module _ {B : Type 0} (seat : B → Seated) (view : B → Account) (stack : B → Stack) where
-  -- how many local entries these sessions have, and how many of them are of strong modes
-  abbrev pub entries_owned : List (SessionView B) → ℕ
-  entries_owned sessions = sum_by (λ session. length session.owned.entries) sessions
-
-  abbrev pub strong_owned : List (SessionView B) → ℕ
-  strong_owned sessions = sum_by (λ session. length (filter (λ entry. is_strong_on entry.tag entry.mode) session.owned.entries)) sessions
-
   -- The session is as it was but for its trace.
   pub record HasTraced (old new : SessionView B) : Type 0 where
     pub seat_ : seat new.board ≡ seat old.board
@@ -54,8 +56,8 @@ module _ {B : Type 0} (seat : B → Seated) (view : B → Account) (stack : B �
     pub traced : HasTraced first first_after
     pub unchanged : AllZip (IsUnchanged seat view stack) others others_after
     pub counts : Counts limit groups (view first.board).trace result (view first_after.board).trace
-    pub holds : IfOk result (λ audit. audit.fast + audit.table ≡ entries_owned (first ∷ others))
-    pub strong : IfOk result (λ audit. audit.strong ≡ strong_owned (first ∷ others))
+    pub holds : IfOk result (λ audit. audit.fast + audit.table ≡ entries_owned (λ session. session.owned.entries) (first ∷ others))
+    pub strong : IfOk result (λ audit. audit.strong ≡ strong_owned (λ session. session.owned.entries) (first ∷ others))
 
   -- With no session there is no step, and nothing to count.
   abbrev pub Audits : {E : Type 0} → ℕ → ℕ → List (SessionView B) → List (SessionView B) → Result Audit E → Type 0

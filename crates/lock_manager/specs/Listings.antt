@@ -1,5 +1,5 @@
-use Rattle.std.specs.Prelude.{◌*◌, ◌≡◌, ◌⊎◌, ℕ, ◌<◌, ◌≤◌, ◌+◌, ◌^◌, ◌==◌, ◌&&◌, Bool, true, false, List, [], ◌∷◌, ◌++◌, length, count_by}
-use Rattle.std.specs.Prelude.{if◌then◌else◌, slice_get, Option, Some, None, Result, Err, IfOk, OnOk}
+use Rattle.std.specs.Prelude.{◌*◌, ◌≡◌, ◌⊎◌, ℕ, ◌<◌, ◌≤◌, ◌+◌, ◌^◌, Bool, true, false, List, [], ◌∷◌, ◌++◌, length, count_by}
+use Rattle.std.specs.Prelude.{slice_get, Option, Some, None, Result, Err, IfOk, OnOk}
 use Rattle.modes_core.specs.declared.modes.Mode.{Mode}
 use Rattle.modes_core.specs.declared.tags.Tag.{Tag}
 use Rattle.modes_core.specs.declared.tags.Tag.TheVariants.{Relation}
@@ -120,7 +120,7 @@ pub record ListsAll (groups limit number : ℕ) (a : Account) (result : Result L
   pub own : IfOk result (ListsOwn number a.own a.fast.database (word number))
   pub misses_none : IfOk result (MissesNone groups limit number a.trace b.trace)
 
--- One for whose slot rows memory was wanting: no partition is taken.
+-- One for whose slot rows memory ran out: no partition is taken.
 pub record StopsAtSlots (groups limit : ℕ) (a : Account) (result : Result Listing Refusal) (b : Account) : Type 0 where
   pub refused : result ≡ Err NoMemory
   pub database : ℕ → ℕ

@@ -1,6 +1,7 @@
 //! Desks, which open, count and close the sessions of a manager for a program that is written over any board.
 
-ghost use Rattle.std.specs.Prelude.{◌≡◌, ◌+◌, ◌-◌, All, length, IfOk, OnOk, OnErr};
+ghost use Rattle.std.specs.Prelude.{◌≡◌, ◌+◌, ◌-◌, All, length, map, IfOk, OnOk, OnErr};
+ghost use Rattle.lock_manager.specs.Audits.{entries_owned, strong_owned};
 ghost use Rattle.lock_manager.specs.Managers.{IsOpenerOf};
 
 use crate::keeper::Part;
@@ -13,7 +14,8 @@ use std::sync::Wait;
 /// Opens and closes the sessions of one manager, and counts what they have. A program that is written against it is over any
 /// board, which makes its proofs cheap, and names the board of the shared table in one call alone, to which the `ManagerDesk` is lent.
 pub trait Desk<S> {
-    ghost use Rattle.std.specs.Prelude.{ℕ};
+    ghost use Rattle.std.specs.Prelude.{ℕ, List};
+    ghost use Rattle.local_locks.specs.declared.records.Entry.{Entry};
     ghost use Rattle.shared_rule.specs.Boards.{Seated};
     ghost use Rattle.lock_manager.specs.Managers.{ManagerView};
 
@@ -25,6 +27,9 @@ pub trait Desk<S> {
 
     // At which table a session is, and under which number.
     ghost seat: { S → Seated };
+
+    // The local entries of a session.
+    ghost entries: { S → List Entry };
 
     /// Opens a session of this database. It is refused where all numbers are given out, and then where memory runs out.
     fn open(&mut self, database: u32) -> Result<S, Refusal>
@@ -43,12 +48,16 @@ pub trait Desk<S> {
         ensures kept { seat session.new ≡ seat session.old }
         ensures its_kept { seat result ≡ seat other };
 
-    /// Counts what stands in the manager, all of whose open sessions are lent (`Manager::audit`). It is refused where memory runs out.
+    /// Counts what stands in the manager, all of whose open sessions are lent (`Manager::audit`): slots and table have as many
+    /// holds as the sessions have local entries, and the counters count the strong ones. It is refused where memory runs out.
     fn audit<R: Wait>(&mut self, rt: &R, sessions: &mut Vec<S>) -> Result<Audit, Refusal>
         requires own { All (λ session. (seat session).table ≡ (manager self.old).table) sessions.old.items }
         requires all { length sessions.old.items ≡ live self.old }
         ensures manager { manager self.new ≡ manager self.old }
         ensures live { live self.new ≡ live self.old }
+        ensures holds { IfOk result (λ audit. audit.fast + audit.table ≡ entries_owned entries sessions.old.items) }
+        ensures strong { IfOk result (λ audit. audit.strong ≡ strong_owned entries sessions.old.items) }
+        ensures kept { map entries sessions.new.items ≡ map entries sessions.old.items }
         ensures own { All (λ session. (seat session).table ≡ (manager self.old).table) sessions.new.items }
         ensures as_many { length sessions.new.items ≡ length sessions.old.items };
 
@@ -100,6 +109,8 @@ impl<'a> Desk<Session<'a>> for ManagerDesk<'a> {
       table = session.board.table.now.table_id;
     } };
 
+    ghost entries = { λ session. session.owned.entries };
+
     fn open(&mut self, database: u32) -> Result<Session<'a>, Refusal> {
         self.opener.session(self.manager, database)
     }
@@ -125,6 +136,11 @@ impl<'a> Desk<Session<'a>> for ManagerDesk<'a> {
         requires all { length sessions.old.items ≡ self.old.opener.live }
         ensures manager { self.new.manager.now ≡ self.old.manager.now }
         ensures live { self.new.opener.live ≡ self.old.opener.live }
+        ensures holds { IfOk result (λ audit.
+            audit.fast + audit.table ≡ entries_owned (λ session. session.owned.entries) sessions.old.items) }
+        ensures strong { IfOk result (λ audit. audit.strong ≡ strong_owned (λ session. session.owned.entries) sessions.old.items) }
+        ensures kept { map (λ session. session.owned.entries) sessions.new.items
+            ≡ map (λ session. session.owned.entries) sessions.old.items }
         ensures own { let B = ⟦<SeatBoard<'a, Part> as Board<Part>>⟧ in
             All (λ session. (B.seat session.board).table ≡ self.old.manager.now.table) sessions.new.items }
         ensures as_many { length sessions.new.items ≡ length sessions.old.items }

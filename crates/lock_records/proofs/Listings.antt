@@ -1,10 +1,10 @@
 use Rattle.std.proofs.Common.{◌≡◌, ◌≢◌, ℕ, zero, suc, ◌+◌, ◌-◌, ◌<◌, ◌≤◌, Bool, true, false, ◌&&◌, ◌==◌, nat_lt, List, [], ◌∷◌, ◌++◌, length, take, get_or, Option, Some, None, arith, refl, sym, ap, ◌∙◌, inl, inr, append_assoc, add-one}
-use Rattle.std.specs.Prelude.{map, filter, count_by, if◌then◌else◌}
+use Rattle.std.specs.Prelude.{map, count_by, if◌then◌else◌}
 use Rattle.std.specs.List.{list_any}
 use Rattle.std.proofs.Common.{Result, Ok, Err, is_ok}
 use Rattle.std.specs.Result.{OnOk}
 use Rattle.std.proofs.Math.Bool.{and-true, and-false}
-use Rattle.std.proofs.lemmas.Bool.{cases_Bool, cases_eq, cases_lt, false≢true, both_ways, false_from_ne_true, eq-eqb, ne_eqb, eqb-true, lt-ltb, le-ltb, cond-true, cond-false, and_from, and_parts}
+use Rattle.std.proofs.lemmas.Bool.{cases_Bool, cases_eq, cases_lt, false≢true, both_ways, false_from_ne_true, eq-eqb, ne_eqb, lt-ltb, le-ltb, cond-true, cond-false, and_from, and_parts}
 use Rattle.std.proofs.lemmas.List.{append-nil, get_or_past}
 use Rattle.modes_core.specs.declared.modes.Mode.{Mode}
 use Rattle.modes_core.specs.declared.tags.Tag.{Tag}
@@ -19,9 +19,8 @@ use Rattle.lock_table.specs.Content.{Wait}
 use Rattle.lock_records.specs.Queues.{queue_at, waits_at, queue_on}
 use Rattle.lock_table.specs.Listing.{row_eq, has_row}
 use Rattle.lock_table.specs.Waiter.{shown_wait}
-use Rattle.lock_table.proofs.HoldLists.{count_by-cons, count_by-append, count_by-none, take_one_more}
-use Rattle.lock_table.proofs.ListLemmas.{any-counted}
-use Rattle.lock_table.proofs.ListingLemmas.{count_by-same, once_or_not}
+use Rattle.lock_table.proofs.HoldLists.{count_by-cons, count_by-append, take_one_more}
+use Rattle.lock_table.proofs.ListingLemmas.{once_or_not}
 use Rattle.lock_table.proofs.WaitLists.{eqb_comm}
 use Rattle.lock_records.specs.declared.holders.HolderRecord.{HolderRecord}
 use Rattle.lock_records.specs.Holders.{holder_at, slot_holds, holds_in, IsHolderAt, AreHolders}

@@ -1,7 +1,5 @@
-use Rattle.std.proofs.Common.{◌≡◌, ℕ, ◌+◌, ◌<◌, ◌≤◌, Bool, true, false, not, ◌||◌, List, [], ◌∷◌, length, Option, None, suc, arith, refl, sym, ap, ◌∙◌, subst, inl, inr}
-use Rattle.std.specs.Prelude.{filter}
-use Rattle.std.specs.List.{list_any}
-use Rattle.std.proofs.lemmas.Bool.{cases_Bool, both_ways, false≢true, false_from_ne_true, cond-true, cond-false}
+use Rattle.std.proofs.Common.{◌≡◌, ℕ, ◌<◌, ◌≤◌, true, false, not, List, [], length, Option, None, arith, refl, sym, ap, ◌∙◌, subst, inl, inr}
+use Rattle.std.proofs.lemmas.Bool.{cases_Bool, both_ways, false≢true, false_from_ne_true}
 use Rattle.modes_core.specs.declared.modes.Mode.{Mode}
 use Rattle.modes_core.specs.declared.tags.Tag.{Tag}
 use Rattle.place_index.specs.Notes.{Notes, times, HasSameNotes}
@@ -18,8 +16,8 @@ use Rattle.lock_records.specs.Objects.{IsLock, AreObjects}
 use Rattle.lock_records.proofs.Held.{held-from, holds-none}
 use Rattle.lock_records.proofs.IndexLaws.{same-lock, nothing-there}
 use Rattle.lock_records.proofs.ObjectLaws.{object-none, made-lock, no-holder, no-wait}
-use Rattle.lock_records.proofs.Queues.{awaits-there, any-filter, around, awaited-some, awaited-few, queue-short, without-nobody, wait-none}
-use Rattle.std.specs.Prelude.{find, option_map}
+use Rattle.lock_records.proofs.Queues.{any-filter, around, awaited-some, awaited-few, queue-short, without-nobody, wait-none}
+use Rattle.std.specs.Prelude.{option_map}
 use Rattle.lock_table.specs.Queue.{wait_in}
 use Rattle.lock_table.proofs.PutLemmas.{put_here, put_else}
 use Rattle.lock_records.proofs.Changes.{queues-put, queues-else}

@@ -1,4 +1,4 @@
-use Rattle.std.proofs.Common.{◌≡◌, ◌≢◌, ℕ, ◌+◌, ◌<◌, ◌≤◌, true, false, not, ◌==◌, List, length, Option, Some, None, arith, sym, ap, ◌∙◌, inl, inr}
+use Rattle.std.proofs.Common.{◌≡◌, ℕ, ◌+◌, ◌<◌, ◌≤◌, true, false, List, length, Option, Some, None, arith, sym, ap, ◌∙◌, inl, inr}
 use Rattle.std.proofs.Math.ListN.{set}
 use Rattle.std.specs.Prelude.{count_by, is_some}
 use Rattle.std.proofs.Common.{cond}

@@ -1,4 +1,4 @@
-use Rattle.std.proofs.Common.{◌≡◌, ◌≢◌, ℕ, zero, suc, ◌+◌, ◌<◌, true, false, ◌&&◌, ◌==◌, List, [], ◌∷◌, ◌++◌, length, arith, refl, sym, ap, ◌∙◌, inl, inr}
+use Rattle.std.proofs.Common.{◌≡◌, ◌≢◌, ℕ, zero, suc, ◌+◌, ◌<◌, true, false, ◌&&◌, ◌==◌, List, [], ◌∷◌, length, arith, refl, sym, ap, ◌∙◌, inl, inr}
 use Rattle.std.specs.Prelude.{count_by, if◌then◌else◌, IsSorted, IsPermutation, Result, Ok, Err, OnOk}
 use Rattle.std.specs.List.{list_any}
 use Rattle.std.specs.Result.{is_ok, is_err}

@@ -34,8 +34,8 @@ pub enum Answer {
 }
 
 impl Answer {
-    /// Whether memory was wanting.
-    pub fn is_wanting(self) -> bool {
+    /// Whether memory ran out.
+    pub fn ran_out(self) -> bool {
         self == Answer::Refused(Refusal::NoMemory.number())
     }
 }

@@ -99,13 +99,13 @@ fn ask<T: PartTable, B: Board<T>, R: Wait>(
     if !refused {
         return (
             session,
-            Told::of(false, answer.is_wanting(), answer == tale.answer),
+            Told::of(false, answer.ran_out(), answer == tale.answer),
         );
     }
     let same = see(rt, &mut session) == before;
     let (session, again) = make(rt, session, tale.call);
     let is_right = same && again == tale.answer;
-    (session, Told::of(true, answer.is_wanting(), is_right))
+    (session, Told::of(true, answer.ran_out(), is_right))
 }
 
 /// So many sessions open and wait for an object each that the asking one has. Once all of them do, it asks.

@@ -5,7 +5,7 @@
 pub enum Told {
     /// No growth of it was refused, and it answered as it is to.
     Answered,
-    /// One was. It answered that memory was wanting, left what stood, and the same call again answered as it is to.
+    /// One was. It answered that memory ran out, left what stood, and the same call again answered as it is to.
     Refused,
     /// It went otherwise.
     Otherwise,
@@ -13,8 +13,8 @@ pub enum Told {
 
 impl Told {
     /// How it went, by whether a growth was refused, whether it answered so, and whether all the rest was right.
-    pub fn of(was_refused: bool, is_wanting: bool, is_right: bool) -> Told {
-        match (was_refused, is_wanting, is_right) {
+    pub fn of(was_refused: bool, ran_out: bool, is_right: bool) -> Told {
+        match (was_refused, ran_out, is_right) {
             (true, true, true) => Told::Refused,
             (false, false, true) => Told::Answered,
             _ => Told::Otherwise,

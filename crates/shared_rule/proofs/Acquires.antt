@@ -13,12 +13,10 @@ use Rattle.shared_rule.specs.declared.history.View.{View}
 use Rattle.shared_rule.specs.Marks.{TookFast, SharedFast}
 use Rattle.shared_rule.specs.declared.kept.Kept.{Kept}
 use Rattle.shared_rule.specs.declared.kept.Kept.TheVariants.{Nothing}
-use Rattle.shared_rule.specs.Boards.{StaysLone}
 use Rattle.shared_rule.specs.History.{slots_shown}
 use Rattle.shared_rule.specs.Layout.{content_slot_of}
 use Rattle.shared_rule.specs.Led.{Led}
 use Rattle.shared_rule.specs.LwLocks.{no_lists, queued_for}
-use Rattle.shared_rule.specs.Slots.{TakesFast}
 use Rattle.shared_rule.specs.Acquires.{IsAsBefore, GetsSlots, MayGetSlots, account_getting, TakesPartition}
 use Rattle.shared_rule.specs.Plays.{Side, account_at, number_at, HasSession, IsSameSeat, TookSlots, SharedSlots}
 use Rattle.shared_rule.proofs.Led.{led-noted, led-as, led-then}

@@ -1,5 +1,5 @@
-use Rattle.std.proofs.Common.{◌≡◌, ◌≢◌, ◌⊎◌, ℕ, zero, suc, ◌+◌, ◌<◌, ◌≤◌, ◌^◌, Bool, true, false, not, ◌&&◌, List, [], ◌∷◌, map, length, Option, Some, None, refl, sym, ap, ◌∙◌, subst, inl, inr, arith}
-use Rattle.std.specs.Prelude.{◌==◌, slice_get, sum_by, if◌then◌else◌}
+use Rattle.std.proofs.Common.{◌≡◌, ◌≢◌, ◌⊎◌, ℕ, zero, suc, ◌+◌, ◌<◌, ◌≤◌, ◌^◌, Bool, true, false, not, ◌&&◌, List, [], ◌∷◌, length, Option, Some, None, refl, sym, ap, ◌∙◌, subst, inl, inr, arith}
+use Rattle.std.specs.Prelude.{◌==◌, slice_get, sum_by}
 use Rattle.std.proofs.lemmas.Bool.{cases_Bool, cases_eq, both_ways, cond-true, cond-false, eq-eqb, ne_eqb, and_right}
 use Rattle.std.proofs.lemmas.List.Sums.{sum_by-cons}
 use mathlib.Core.Option.{some}
@@ -20,16 +20,16 @@ use Rattle.lock_world.specs.Happens.{Runs}
 use Rattle.lock_world.specs.SlotHolds.{slot_count}
 use Rattle.lock_world.specs.SafeWorld.{SafeWorld}
 use Rattle.lock_world.specs.Account.{Account, InHand, account, own_hand}
-use Rattle.lock_world.specs.Counted.{Counted, count_at, counter}
+use Rattle.lock_world.specs.Counted.{count_at, counter}
 use Rattle.lock_world.specs.Tallies.{left_in_slots, OwnStand, ShowsLeft}
 use Rattle.lock_world.proofs.Remembered.{nothing-remembered, remembered-once, groups-of_run}
 use Rattle.lock_world.proofs.OwnStand.{own-stand, shows-left, spent-shows_nothing, spent-in_no_content}
 use Rattle.shared_rule.specs.declared.rule.Sizes.{Sizes}
 use Rattle.shared_rule.specs.declared.history.History.{History}
 use Rattle.shared_rule.specs.declared.history.View.{View}
-use Rattle.shared_rule.specs.History.{blank_account, told, first_account}
-use Rattle.shared_rule.specs.Ruled.{HistoryIsShown, SeatsAreShown, ClosedAreCounted, OpenerHasClosed}
-use Rattle.shared_rule.specs.Gatherings.{Gathered, account_among, IsNone, AreDistinct, NoneWaits, counted_at, HasAllInHand, AreAll, gathered_as, gathered_in}
+use Rattle.shared_rule.specs.History.{blank_account, told}
+use Rattle.shared_rule.specs.Ruled.{HistoryIsShown, SeatsAreShown, OpenerHasClosed}
+use Rattle.shared_rule.specs.Gatherings.{Gathered, account_among, IsNone, AreDistinct, NoneWaits, counted_at, HasAllInHand, AreAll, gathered_in}
 
 -- What a seat knows at which all sessions are.
 

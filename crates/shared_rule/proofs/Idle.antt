@@ -1,6 +1,5 @@
 use Rattle.std.proofs.Common.{◌≡◌, ℕ, List, [], ◌∷◌, ◌++◌, Option, Some, None, Ok, Err, refl, sym, ap, ◌∙◌, subst, inl, inr}
 use Rattle.std.specs.declared.result.Result.{Result}
-use Rattle.modes_core.specs.Tag.{partition_of}
 use Rattle.lock_table.specs.declared.moves.Move.{Move}
 use Rattle.lock_table.specs.Content.{Content}
 use Rattle.lock_table.specs.OwnWait.{OwnWait}
@@ -17,7 +16,7 @@ use Rattle.shared_rule.specs.LwLocks.{no_lists}
 use Rattle.shared_rule.specs.Slots.{TriesFast}
 use Rattle.shared_rule.specs.Seats.{all_but_last, last_of, behind_of}
 use Rattle.shared_rule.specs.History.{blank_account, noted, noted_words, told, first_account, lone}
-use Rattle.shared_rule.specs.History.{account_granting_by, account_granting, account_cleared, account_left, in_hand}
+use Rattle.shared_rule.specs.History.{account_granting_by, account_cleared, account_left, in_hand}
 
 -- What a history tells of wait lists doesn't depend on how contents are read.
 

@@ -1,15 +1,14 @@
-use Rattle.std.proofs.Common.{◌≡◌, ◌≢◌, ℕ, List, None, refl, sym, ap, ◌∙◌, subst}
+use Rattle.std.proofs.Common.{◌≡◌, ◌≢◌, ℕ, None, refl, sym, ap, ◌∙◌, subst}
 use Rattle.std.specs.Prelude.{if◌then◌else◌}
 use Rattle.std.proofs.lemmas.Bool.{ne_eqb}
 use Rattle.atomic_table.specs.declared.shared.Seat.{Seat}
 use Rattle.lock_table.specs.Content.{Content}
 use Rattle.lock_world.specs.Account.{Account}
 use Rattle.lock_world.specs.AccountSteps.{account_loading_sleep}
-use Rattle.shared_rule.specs.declared.history.History.{History}
 use Rattle.shared_rule.specs.declared.history.Mark.{Mark}
 use Rattle.shared_rule.specs.declared.history.View.{View}
 use Rattle.shared_rule.specs.declared.kept.Kept.{Kept}
-use Rattle.shared_rule.specs.Boards.{first_marks, StaysLone}
+use Rattle.shared_rule.specs.Boards.{StaysLone}
 use Rattle.shared_rule.specs.History.{noted, noting, first_account, first_number, lone}
 use Rattle.shared_rule.specs.Led.{Led}
 use Rattle.shared_rule.specs.Plays.{account_at, number_at, HasSession, IsSameSeat}

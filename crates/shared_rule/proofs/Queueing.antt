@@ -1,4 +1,4 @@
-use Rattle.std.proofs.Common.{◌≡◌, ℕ, ◌<◌, ◌≤◌, ◌+◌, false, List, [], ◌∷◌, drop, length, get_or, Some, None, refl, sym, ap, ◌∙◌, subst}
+use Rattle.std.proofs.Common.{◌≡◌, ℕ, ◌<◌, ◌≤◌, ◌+◌, List, ◌∷◌, drop, length, get_or, Some, None, sym, ap, ◌∙◌, subst}
 use Rattle.std.proofs.lemmas.List.{drop_more, drop_all}
 use Rattle.atomic_table.specs.declared.shared.Seat.{Seat}
 use Rattle.lw_word.specs.declared.wait_lists.LwWaiter.{LwWaiter}
@@ -11,7 +11,7 @@ use Rattle.shared_rule.specs.declared.kept.Kept.{Kept}
 use Rattle.shared_rule.specs.History.{list_here}
 use Rattle.shared_rule.specs.Led.{Led}
 use Rattle.shared_rule.specs.LwLocks.{no_lists, queued_for}
-use Rattle.shared_rule.specs.Plays.{account_at, number_at}
+use Rattle.shared_rule.specs.Plays.{account_at}
 use Rattle.shared_rule.specs.Wakeups.{all_taken_off, all_told, MayTakeAllOff, MayTellAll}
 use Rattle.shared_rule.proofs.Led.{led-as, led-then}
 

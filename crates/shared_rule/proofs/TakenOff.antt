@@ -1,4 +1,4 @@
-use Rattle.std.proofs.Common.{◌≡◌, ◌≢◌, ℕ, ◌+◌, ◌<◌, ◌≤◌, Bool, true, false, not, cond, ◌||◌, List, [], ◌∷◌, ◌++◌, filter, Option, Some, None}
+use Rattle.std.proofs.Common.{◌≡◌, ℕ, ◌+◌, ◌<◌, ◌≤◌, Bool, true, false, not, cond, ◌||◌, List, [], ◌∷◌, ◌++◌, filter, Some, None}
 use Rattle.std.proofs.Common.{refl, sym, ap, ◌∙◌, subst, inl, inr, arith}
 use Rattle.std.specs.Prelude.{if◌then◌else◌}
 use Rattle.std.proofs.lemmas.Bool.{cases_eq, cases_Bool, both_ways, false_from_ne_true, eq-eqb, ne_eqb, or_cases, or_left, or_right, cond-true, cond-false}
@@ -8,7 +8,7 @@ use Rattle.lw_word.specs.WaitList.{is_of, stands_in, times_in, without, wants_to
 use Rattle.lock_table.specs.Put.{set_at}
 use Rattle.lock_table.proofs.PutLemmas.{set_at-here, set_at-else}
 use Rattle.lock_table.proofs.HoldLists.{count_by-filter}
-use Rattle.lock_world.specs.Account.{Account, ListInHand, ListAccount}
+use Rattle.lock_world.specs.Account.{Account}
 use Rattle.lock_world.proofs.Counters.Lists.{any-filter, count-cons}
 use Rattle.shared_rule.specs.LwLocks.{no_lists}
 use Rattle.shared_rule.specs.Wakeups.{all_taken_off, all_told, MayTakeAllOff, MayTellAll}

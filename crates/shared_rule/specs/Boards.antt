@@ -1,4 +1,4 @@
-use Rattle.std.specs.Prelude.{◌≡◌, ℕ, ◌/◌, List, [], ◌∷◌, map, Option}
+use Rattle.std.specs.Prelude.{◌≡◌, ℕ, ◌/◌, List, [], ◌∷◌, map}
 use Rattle.atomic_table.specs.Seated.{TableId}
 use Rattle.lock_table.specs.Content.{Content, empty_content}
 use Rattle.lock_world.specs.Account.{ListAccount}

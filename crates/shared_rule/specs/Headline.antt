@@ -1,4 +1,4 @@
-use Rattle.std.specs.Prelude.{ℕ, List, Option}
+use Rattle.std.specs.Prelude.{List, Option}
 use Rattle.atomic_table.specs.Table.{State}
 use Rattle.lock_table.specs.declared.request.Request.{Request}
 use Rattle.lock_table.specs.Content.{Content}

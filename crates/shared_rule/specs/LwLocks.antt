@@ -1,9 +1,8 @@
-use Rattle.std.specs.Prelude.{◌≡◌, ℕ, ◌<◌, List, [], Option, Some, None}
-use Rattle.lw_word.specs.declared.wait_lists.LwWaiter.{LwWaiter}
+use Rattle.std.specs.Prelude.{ℕ, ◌<◌, Some, None}
 use Rattle.lock_world.specs.declared.events.Word.{Word}
 use Rattle.lock_world.specs.declared.events.Word.TheVariants.{Partition, Fast}
 use Rattle.lock_world.specs.WaitLists.{partition_lock, fast_lock}
-use Rattle.lock_world.specs.Account.{ListInHand, ListAccount}
+use Rattle.lock_world.specs.Account.{ListAccount}
 use Rattle.shared_rule.specs.declared.lw_lock.LwLock.{LwLock}
 use Rattle.shared_rule.specs.declared.lw_lock.LwLock.TheVariants.{OfPart, OfSlots}
 

@@ -40,7 +40,7 @@ use Rattle.shared_rule.specs.declared.rule.Sizes.{Sizes}
 use Rattle.shared_rule.specs.declared.history.View.{View}
 use Rattle.shared_rule.specs.declared.kept.Kept.{Kept}
 use Rattle.shared_rule.specs.Layout.{index_of_word}
-use Rattle.shared_rule.specs.Shown.{WordsAreShown, set_word}
+use Rattle.shared_rule.specs.Shown.{set_word}
 use Rattle.shared_rule.specs.History.{told, noting, first_account, first_number, slots_shown}
 use Rattle.shared_rule.specs.Ruled.{ContentsAreHome, Ruled}
 use Rattle.shared_rule.specs.Plays.{Side, SeesSlots, SeesSlotsOr, TookSlotsOr, SharedSlotsOr, unnoted, noted_load}

@@ -13,7 +13,7 @@ use Rattle.modes_core.specs.Tag.{tag_eq, is_strong_on}
 use Rattle.modes_core.proofs.Laws.{mode_eq-refl, mode_eq-same, tag_eq-refl, tag_eq-same}
 use Rattle.atomic_table.specs.Seated.{TableId}
 use Rattle.local_locks.specs.declared.records.Entry.{Entry}
-use Rattle.local_locks.specs.Owned.{is_of, has_entry, are_of_same, IsWellOwned}
+use Rattle.local_locks.specs.Owned.{Owned, is_of, has_entry, are_of_same, IsWellOwned}
 use Rattle.lock_table.specs.declared.no_memory.NoMemory.{NoMemory}
 use Rattle.fast_path.specs.declared.use_counts.UseCounts.{UseCounts}
 use Rattle.lock_manager.specs.Keeper.{PartView, content_of}
@@ -223,6 +223,9 @@ last-only old old1 new1 number a none gathers first is =
 
 -- ---- sessions
 
+abbrev owned-entries : {B : Type 0} → SessionView B → List Entry
+owned-entries session = session.owned.entries
+
 module _ {B : Type 0} (seat : B → Seated) (view : B → Account) (stack : B → Stack) where
   own-lists : (sessions : List (SessionView B)) → AreOwners seat view stack sessions → OwnSoMany (map (gathered_of seat view stack) sessions) (map (λ session. length session.owned.entries) sessions)
   own-lists [] own = tt
@@ -231,7 +234,7 @@ module _ {B : Type 0} (seat : B → Seated) (view : B → Account) (stack : B �
     own-lists sessions own.1,
   )
 
-  sum-entries : (sessions : List (SessionView B)) → sum (map (λ session. length session.owned.entries) sessions) ≡ entries_owned seat view stack sessions
+  sum-entries : (sessions : List (SessionView B)) → sum (map (λ session. length session.owned.entries) sessions) ≡ entries_owned owned-entries sessions
   sum-entries [] = refl
   sum-entries (s ∷ sessions) =
       let rest = sum-entries sessions in
@@ -240,7 +243,7 @@ module _ {B : Type 0} (seat : B → Seated) (view : B → Account) (stack : B �
       omega (arith, rest, one, whole)
 
   sum-strong : (sessions : List (SessionView B)) → AreOwners seat view stack sessions
-      → sum_by (λ (one : Gathered). length one.account.fast.counted) (map (gathered_of seat view stack) sessions) ≡ strong_owned seat view stack sessions
+      → sum_by (λ (one : Gathered). length one.account.fast.counted) (map (gathered_of seat view stack) sessions) ≡ strong_owned owned-entries sessions
   sum-strong [] own = refl
   sum-strong (s ∷ sessions) own =
       let rest = sum-strong sessions own.1 in
@@ -357,7 +360,7 @@ module _ {B : Type 0} (seat : B → Seated) (view : B → Account) (stack : B �
         ∙ (λ i. record { number = gathers.number_ i; account = gathers.account_ i } ∷ map (gathered_of seat view stack) (reverse rest))
 
     holds-of : (r : Result Audit NoMemory) → IfOk r (AddsUp (gathered_in content_of old1.gathered ++ map (gathered_of seat view stack) (reverse rest)))
-        → IfOk r (λ audit. audit.fast + audit.table ≡ entries_owned seat view stack (s ∷ reverse rest))
+        → IfOk r (λ audit. audit.fast + audit.table ≡ entries_owned owned-entries (s ∷ reverse rest))
     holds-of (Ok audit) up =
         up.held (map (λ session. length session.owned.entries) (s ∷ reverse rest))
         (subst (λ xs. OwnSoMany xs (map (λ session. length session.owned.entries) (s ∷ reverse rest))) (sym all-are) (own-lists (s ∷ reverse rest) owners))
@@ -365,7 +368,7 @@ module _ {B : Type 0} (seat : B → Seated) (view : B → Account) (stack : B �
     holds-of (Err e) up = tt
 
     strong-of : (r : Result Audit NoMemory) → IfOk r (AddsUp (gathered_in content_of old1.gathered ++ map (gathered_of seat view stack) (reverse rest)))
-        → IfOk r (λ audit. audit.strong ≡ strong_owned seat view stack (s ∷ reverse rest))
+        → IfOk r (λ audit. audit.strong ≡ strong_owned owned-entries (s ∷ reverse rest))
     strong-of (Ok audit) up =
         up.strong ∙ ap (sum_by (λ (one : Gathered). length one.account.fast.counted)) all-are ∙ sum-strong (s ∷ reverse rest) owners
     strong-of (Err e) up = tt
@@ -464,6 +467,35 @@ module _ {B : Type 0} (seat : B → Seated) (view : B → Account) (stack : B �
       let rest = zip-tables table others audits.others_after audits.unchanged at.1 in
       subst (λ xs. AllByRecursion (λ (s : SessionView B). (seat s.board).table ≡ table) xs × (length xs ≡ length (s ∷ others))) (sym audits.sessions)
       ((ap (λ (x : Seated). x.table) audits.traced.seat_ ∙ at.0, rest.0), ap suc rest.1)
+
+  -- The sum of slots and rows is how many local entries they have, the sum of counters how many strong ones.
+  pub audits-holds : {E : Type 0} (limit groups : ℕ) (old new : List (SessionView B)) (result : Result Audit E) → Audits seat view stack limit groups old new result
+      → IfOk result (λ audit. audit.fast + audit.table ≡ entries_owned owned-entries old)
+  audits-holds limit groups [] new result audits = subst (λ r. IfOk r (λ (a : Audit). a.fast + a.table ≡ 0)) (sym audits.1) refl
+  audits-holds limit groups (s ∷ others) new result audits = audits.holds
+
+  pub audits-strong : {E : Type 0} (limit groups : ℕ) (old new : List (SessionView B)) (result : Result Audit E) → Audits seat view stack limit groups old new result
+      → IfOk result (λ audit. audit.strong ≡ strong_owned owned-entries old)
+  audits-strong limit groups [] new result audits = subst (λ r. IfOk r (λ (a : Audit). a.strong ≡ 0)) (sym audits.1) refl
+  audits-strong limit groups (s ∷ others) new result audits = audits.strong
+
+  -- Each of them owns after it what it owned.
+  zip-entries : (old new : List (SessionView B)) → AllZip (IsUnchanged seat view stack) old new → map owned-entries new ≡ map owned-entries old
+  zip-entries [] [] same = refl
+  zip-entries [] (t ∷ new) same = absurd same
+  zip-entries (s ∷ old) [] same = absurd same
+  zip-entries (s ∷ old) (t ∷ new) same =
+      let rest = zip-entries old new same.1 in
+      let one = ap (λ (o : Owned). o.entries) same.0.owned in
+      λ i. one i ∷ rest i
+
+  pub audits-entries : {E : Type 0} (limit groups : ℕ) (old new : List (SessionView B)) (result : Result Audit E) → Audits seat view stack limit groups old new result
+      → map owned-entries new ≡ map owned-entries old
+  audits-entries limit groups [] new result audits = ap (map owned-entries) audits.0
+  audits-entries limit groups (s ∷ others) new result audits =
+      let one = ap (λ (o : Owned). o.entries) audits.traced.owned in
+      let rest = zip-entries others audits.others_after audits.unchanged in
+      ap (map owned-entries) audits.sessions ∙ (λ i. one i ∷ rest i)
 
 -- Sessions at one table are at another that is the same.
 pub all-tables : {B : Type 0} (seat : B → Seated) (old new : TableId) (sessions : List (SessionView B)) → old ≡ new → AllByRecursion (λ s. (seat s.board).table ≡ old) sessions

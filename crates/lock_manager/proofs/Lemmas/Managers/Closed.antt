@@ -1,4 +1,4 @@
-use Rattle.std.proofs.Common.{ℕ, ◌+◌, List, [], arith}
+use Rattle.std.proofs.Common.{ℕ, ◌+◌, List, arith}
 use Rattle.lock_manager.specs.Keeper.{PartView}
 use Rattle.shared_rule.specs.declared.history.History.{History}
 use Rattle.shared_rule.specs.Openers.{HaveClosed}

@@ -1,11 +1,10 @@
 use Rattle.std.proofs.Common.{◌≡◌, ◌+◌, [], ◌∷◌, ◌++◌, length, refl, sym, ap, ◌∙◌, subst, arith, length-append}
 use Rattle.std.specs.List.{AllByRecursion}
-use Rattle.atomic_table.specs.Seated.{TableId}
 use Rattle.lock_manager.specs.Keeper.{PartView}
 use Rattle.shared_rule.specs.Boards.{Seated}
 use Rattle.shared_rule.specs.Openers.{OpenerState}
 use Rattle.lock_manager.specs.Audits.{MayCount}
-use Rattle.std.proofs.Common.{◌≤◌, ◌<◌}
+use Rattle.std.proofs.Common.{◌≤◌}
 use Rattle.lock_manager.proofs.Lemmas.Audits.Counts.{no_wait-rest, kept_apart-rest, rest-unchanged, all-before, has-last, unchanged-last, counts-one}
 use Rattle.lock_manager.proofs.audit.+audit_others.Goals as goal
 

@@ -1,4 +1,4 @@
-use Rattle.std.proofs.Common.{◌≡◌, sym, ap, ◌∙◌}
+use Rattle.std.proofs.Common.{sym, ap, ◌∙◌}
 use Rattle.lock_manager.specs.Keeper.{KeptPart, PartView}
 use Rattle.shared_rule.specs.declared.seat_board.SeatBoard.{SeatBoard}
 use Rattle.shared_rule.specs.Openers.{OpenerState}

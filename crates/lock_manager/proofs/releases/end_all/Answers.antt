@@ -1,7 +1,6 @@
-use Rattle.std.proofs.Common.{◌≡◌, [], refl, sym, ap, ◌∙◌, subst, List, arith}
+use Rattle.std.proofs.Common.{◌≡◌, refl, sym, ap, ◌∙◌, subst}
 use Rattle.local_locks.specs.declared.ends.End.{End}
 use Rattle.local_locks.specs.declared.ends.End.TheVariants.{Commit, Abort, Close, Inner}
-use Rattle.local_locks.specs.declared.records.Entry.{Entry}
 use Rattle.local_locks.specs.Owned.{ended_by, found_by, outer_after}
 use Rattle.local_locks.proofs.EntryLaws.{distinct-found}
 use Rattle.shared_rule.specs.Boards.{Seated}

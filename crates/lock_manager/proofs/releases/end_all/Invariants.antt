@@ -1,4 +1,4 @@
-use Rattle.std.proofs.Common.{◌≡◌, ℕ, length}
+use Rattle.std.proofs.Common.{◌≡◌, length}
 use Rattle.local_locks.specs.declared.ends.End.TheVariants.{Inner}
 use Rattle.local_locks.specs.Owned.{level_of, found_by, ended_by, left_by}
 use Rattle.lock_world.specs.Account.{Account}

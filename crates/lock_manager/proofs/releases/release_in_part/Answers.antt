@@ -1,4 +1,4 @@
-use Rattle.std.proofs.Common.{◌≡◌, ◌≢◌, List, [], refl, sym, ap, subst}
+use Rattle.std.proofs.Common.{List, [], refl, sym, ap, subst}
 use Rattle.lock_table.specs.Content.{Wait, Content}
 use Rattle.lock_table.specs.Queue.{Wakes}
 use Rattle.lock_table.specs.declared.moves.Move.TheVariants.{Release}

@@ -1,4 +1,4 @@
-use Rattle.std.proofs.Common.{◌++◌, ◌∷◌, [], not, take, ap, ◌∙◌}
+use Rattle.std.proofs.Common.{not, take, ap, ◌∙◌}
 use Rattle.std.proofs.lemmas.Bool.{cond-true}
 use Rattle.lock_records.specs.Rows.{awaited_row, awaited_in}
 use Rattle.lock_records.proofs.Listings.{appends-one, awaited-more}

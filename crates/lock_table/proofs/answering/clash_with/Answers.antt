@@ -1,4 +1,3 @@
-use Rattle.std.proofs.Common.{not, sym, ap, ◌∙◌}
 use Rattle.lock_table.proofs.WalkLemmas.{clashes-nothing}
 use Rattle.lock_table.proofs.answering.clash_with.Goals as goal
 

@@ -1,4 +1,4 @@
-use Rattle.std.proofs.Common.{◌≡◌, ◌+◌, ap, sym, subst, arith}
+use Rattle.std.proofs.Common.{◌+◌, ap, sym, subst, arith}
 use Rattle.lock_table.specs.Content.{Content}
 use Rattle.lock_table.proofs.PartitionRows.{rows-then, rows-refused}
 use Rattle.shared_rule.specs.Audits.{holding_steps, all_slot_loads}

@@ -1,5 +1,4 @@
 use Rattle.std.proofs.Common.{◌-◌}
-use Rattle.shared_rule.specs.Marks.{PutPart}
 use Rattle.shared_rule.proofs.audits.+count_from.Given as goal
 
 abbrev pub decreases-count_from : goal.decreases-count_from

@@ -1,4 +1,4 @@
-use Rattle.std.proofs.Common.{arith, refl, ap, ◌∙◌}
+use Rattle.std.proofs.Common.{refl, ap, ◌∙◌}
 use Rattle.shared_rule.specs.Plays.{Side}
 use Rattle.shared_rule.proofs.Auditing.{counters-none, counters-load, same-seat, same-seat_then}
 use Rattle.shared_rule.proofs.audits.count_counters.Goals as goal

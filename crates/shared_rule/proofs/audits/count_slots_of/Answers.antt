@@ -1,10 +1,5 @@
 use Rattle.std.proofs.Common.{◌+◌, arith, refl, ap, ◌∙◌}
-use Rattle.lock_world.specs.declared.events.Word.TheVariants.{Slot}
-use Rattle.lock_world.specs.World.{Loaded}
-use Rattle.lock_world.specs.AccountSteps.{account_tracing}
-use Rattle.shared_rule.specs.Marks.{LoadedSlot}
-use Rattle.shared_rule.specs.History.{first_account}
-use Rattle.shared_rule.specs.Plays.{Side, IsSameSeat}
+use Rattle.shared_rule.specs.Plays.{Side}
 use Rattle.shared_rule.proofs.Auditing.{sees-none, sees-load, same-seat, same-seat_then}
 use Rattle.shared_rule.proofs.audits.count_slots_of.Goals as goal
 

@@ -1,4 +1,4 @@
-use Rattle.std.proofs.Common.{rules, ℕ, subst}
+use Rattle.std.proofs.Common.{rules, subst}
 use mathlib.Core.Option.{none}
 use Rattle.atomic_table.specs.Table.{step}
 use Rattle.shared_rule.specs.Gatherings.{KnowsAll}

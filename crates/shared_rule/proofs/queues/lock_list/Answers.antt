@@ -1,4 +1,4 @@
-use Rattle.std.proofs.Common.{ap, ◌∙◌}
+use Rattle.std.proofs.Common.{ap}
 use Rattle.lock_world.specs.AccountSteps.{account_locking_list}
 use Rattle.shared_rule.specs.LwLocks.{lock_number}
 use Rattle.shared_rule.specs.Plays.{Side, account_at}

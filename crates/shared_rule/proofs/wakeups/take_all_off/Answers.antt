@@ -1,5 +1,4 @@
 use Rattle.std.proofs.Common.{refl, sym, ◌∙◌, subst, arith, drop, ◌+◌}
-use Rattle.shared_rule.specs.History.{list_here}
 use Rattle.shared_rule.specs.Plays.{account_at, number_at}
 use Rattle.shared_rule.specs.Wakeups.{MayTakeAllOff}
 use Rattle.shared_rule.proofs.Led.{led-as, led-again, led-self}

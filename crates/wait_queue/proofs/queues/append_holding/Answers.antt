@@ -1,4 +1,4 @@
-use Rattle.std.proofs.Common.{◌≡◌, ℕ, ◌++◌, Some, sym, ap, ◌∙◌, arith, subst}
+use Rattle.std.proofs.Common.{◌≡◌, ℕ, ◌++◌, ap, ◌∙◌, arith, subst}
 use Rattle.std.specs.Prelude.{IfSome}
 use Rattle.wait_queue.specs.Queues.{holding_of, lists_below}
 use Rattle.wait_queue.proofs.BlockerLemmas.{lists_below-start, lists_below-more}

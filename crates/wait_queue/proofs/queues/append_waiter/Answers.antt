@@ -1,6 +1,5 @@
 use Rattle.std.proofs.Common.{◌≡◌, ◌++◌, ◌∷◌, [], true, false, sym, ap, ◌∙◌, append-nil}
 use Rattle.std.proofs.lemmas.Bool.{cond-true, cond-false}
-use Rattle.modes_core.specs.declared.modes.Mode.{Mode}
 use Rattle.modes_core.specs.Conflict.{conflict}
 use Rattle.wait_queue.specs.declared.queues.Blocker.{Blocker}
 use Rattle.wait_queue.specs.declared.queues.InTheWay.TheVariants.{StandsBefore}

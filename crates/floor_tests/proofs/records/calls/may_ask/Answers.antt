@@ -1,12 +1,11 @@
-use Rattle.std.proofs.Common.{◌≡◌, ◌∙◌, ℕ, true, false, not, List, sym, ap, ◌==◌}
+use Rattle.std.proofs.Common.{◌≡◌, ◌∙◌, ℕ, false, not, List, sym, ap, ◌==◌}
 use Rattle.std.proofs.lemmas.Bool.{both_ways, false_from_ne_true, not-true}
 use Rattle.std.proofs.lemmas.Map.Views.{any-filter_same}
-use Rattle.modes_core.specs.declared.modes.Mode.{Mode}
 use Rattle.modes_core.specs.declared.tags.Tag.{Tag}
 use Rattle.modes_core.specs.Tag.{tag_eq}
 use Rattle.modes_core.proofs.Laws.{tag_eq-refl}
 use Rattle.lock_table.specs.Content.{Wait, Content}
-use Rattle.lock_table.specs.Queue.{waits_there, awaits_mode, queue_without, remove_wait}
+use Rattle.lock_table.specs.Queue.{waits_there, queue_without, remove_wait}
 use Rattle.lock_table.proofs.PutLemmas.{put_here}
 use Rattle.lock_records.proofs.Queues.{awaits-there}
 use Rattle.floor_tests.proofs.records.calls.may_ask.Goals as goal

@@ -1,7 +1,7 @@
-use Rattle.std.proofs.Common.{◌≡◌, ◌+◌, ◌∷◌, ◌++◌, [], refl, ap, subst, ◌∙◌, length, arith, add-one}
+use Rattle.std.proofs.Common.{◌+◌, ◌∷◌, ◌++◌, [], refl, ap, subst, ◌∙◌, length, arith, add-one}
 use Rattle.local_locks.specs.Owned.{IsWellOwned, of_transaction}
-use Rattle.local_locks.specs.Slots.{opened, present}
-use Rattle.local_locks.specs.Levels.{row_at, outer_of, IsLeveledTable}
+use Rattle.local_locks.specs.Slots.{opened}
+use Rattle.local_locks.specs.Levels.{row_at, outer_of}
 use Rattle.local_locks.proofs.LevelLaws.{well_owned, length-outer, had-now}
 use Rattle.local_locks.proofs.LevelSteps.{leveled-begun, table-with}
 use Rattle.local_locks.proofs.tables.LocalTable.begin_nested.Goals as goal

@@ -1,20 +1,19 @@
-use Rattle.std.proofs.Common.{inl, Vec, Global, ◌≡◌, ◌≢◌, ℕ, ◌<◌, ◌-◌, List, length, min, refl, sym, ap, subst, ◌∙◌, arith}
+use Rattle.std.proofs.Common.{inl, Vec, Global, ◌≡◌, ◌≢◌, ℕ, ◌<◌, List, length, refl, sym, ap, subst, ◌∙◌, arith}
 use Rattle.std.proofs.lemmas.List.{get_or_default}
 use Rattle.modes_core.specs.declared.tags.Tag.{Tag}
 use Rattle.local_locks.specs.declared.answers.Unlocked.TheVariants.{Released, StillHeld}
-use Rattle.place_index.specs.Notes.{no_place}
 use Rattle.std.specs.Prelude.{vec_capacity, slice_index_or}
 use Rattle.modes_core.specs.declared.sessions.Owner.{Owner}
 use Rattle.local_locks.specs.declared.records.Entry.{Entry}
 use Rattle.local_locks.specs.Owned.{IsWellOwned, max_count, is_of, count_for, count_in_all, own_count_of, total_of, with_one_less}
-use Rattle.local_locks.specs.Levels.{row_at, own_count_in, IsLeveledTable}
+use Rattle.local_locks.specs.Levels.{row_at, IsLeveledTable}
 use Rattle.local_locks.proofs.LevelLaws.{owned_of, own_count-at}
 use Rattle.local_locks.proofs.LevelSteps.{paced-last, table-with, taken-table, leveled-first, first_lists, own_count-first}
 use Rattle.local_locks.specs.Slots.{Slots, IsIndexed, IsKept, IsTable, IsPlaceOf, opened, entry_at, present}
 use Rattle.local_locks.proofs.OpenLaws.{slot_at-opened, entry_in-held, more-by}
 use Rattle.local_locks.proofs.LookLaws.{place_read, some_held}
 use Rattle.local_locks.proofs.LevelLaws.{well_owned}
-use Rattle.local_locks.proofs.TableSteps.{kept-lowered, kept-taken, entries-lowered, entries-taken, total-lowered, owner_count-at, IsCounted-lowered}
+use Rattle.local_locks.proofs.TableSteps.{kept-lowered, entries-lowered, entries-taken, total-lowered, IsCounted-lowered}
 use Rattle.local_locks.proofs.tables.LocalTable.drop_at_once.Goals as goal
 use Rattle.local_locks.proofs.tables.LocalTable.drop_at_once.Goals.{Then-lower_held}
 

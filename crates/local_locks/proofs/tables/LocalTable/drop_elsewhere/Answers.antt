@@ -10,7 +10,7 @@ use Rattle.local_locks.specs.Slots.{Slots, IsKept, IsPlaceOf, key_hash, opened, 
 use Rattle.local_locks.specs.declared.records.Entry.{Entry}
 use Rattle.local_locks.proofs.LevelLaws.{well_owned}
 use Rattle.local_locks.proofs.SlotLaws.{is_of-same}
-use Rattle.local_locks.proofs.TableSteps.{kept-lowered, kept-taken, entries-lowered, entries-taken, total-lowered, IsCounted-lowered}
+use Rattle.local_locks.proofs.TableSteps.{kept-lowered, entries-lowered, entries-taken, total-lowered, IsCounted-lowered}
 use Rattle.local_locks.proofs.tables.LocalTable.drop_elsewhere.Goals as goal
 
 pub returns-in_default-clause-well_owned : goal.returns-in_default-clause-well_owned

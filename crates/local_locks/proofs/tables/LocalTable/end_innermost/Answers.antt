@@ -1,11 +1,11 @@
-use Rattle.std.proofs.Common.{◌≡◌, ◌≢◌, ◌-◌, ◌+◌, ◌<◌, ◌≤◌, ℕ, List, [], ◌∷◌, Some, None, length, take, suc, refl, sym, ap, subst, ◌∙◌, arith}
+use Rattle.std.proofs.Common.{◌≡◌, ◌-◌, ◌+◌, ◌<◌, List, ◌∷◌, Some, length, take, suc, refl, sym, ap, subst, ◌∙◌, arith}
 use Rattle.std.specs.Prelude.{vec_capacity}
 use Rattle.std.proofs.lemmas.List.{get_or_default}
 use Rattle.local_locks.specs.declared.ends.End.TheVariants.{Inner}
 use Rattle.local_locks.specs.declared.ends.Progress.{Progress}
 use Rattle.local_locks.specs.declared.records.Entry.{Entry}
-use Rattle.local_locks.specs.Owned.{IsWellOwned, count_in_all, ended_by, left_by, with_next_ended, without_innermost, outer_after}
-use Rattle.local_locks.specs.Slots.{opened, entry_at, slot_at, present, at_start, IsKept}
+use Rattle.local_locks.specs.Owned.{count_in_all, ended_by, left_by, with_next_ended, without_innermost}
+use Rattle.local_locks.specs.Slots.{opened, slot_at, present, at_start, IsKept}
 use Rattle.local_locks.specs.Levels.{row_at, had_in, outer_of, without_level, IsLeveled, IsLeveledTable}
 use Rattle.local_locks.proofs.SlotLaws.{and_some}
 use Rattle.local_locks.proofs.OpenLaws.{length-opened, opened_some}

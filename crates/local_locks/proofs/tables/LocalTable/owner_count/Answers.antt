@@ -4,7 +4,7 @@ use Rattle.std.proofs.lemmas.List.{get_or_default}
 use Rattle.local_locks.specs.declared.records.Entry.{Entry}
 use Rattle.local_locks.specs.Owned.{IsWellOwned, entry_for, own_count_of}
 use Rattle.local_locks.specs.Slots.{IsPlaceOf, opened, entry_at, present}
-use Rattle.local_locks.specs.Levels.{Rows, row_at, own_count_in}
+use Rattle.local_locks.specs.Levels.{row_at, own_count_in}
 use Rattle.local_locks.proofs.LevelLaws.{well_owned, own_count-at, own_count-none}
 use Rattle.local_locks.proofs.tables.LocalTable.owner_count.Goals as goal
 

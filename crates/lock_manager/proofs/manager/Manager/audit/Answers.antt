@@ -1,4 +1,4 @@
-use Rattle.std.proofs.Common.{◌≡◌, reverse, sym, ap, ◌∙◌}
+use Rattle.std.proofs.Common.{reverse, sym, ap, ◌∙◌}
 use Rattle.std.specs.Prelude.{Ok, Err}
 use Rattle.std.proofs.lemmas.List.{reverse-reverse}
 use Rattle.lock_manager.specs.Managers.{OpenerView}

@@ -1,7 +1,6 @@
 use Rattle.std.proofs.Common.{sym, ◌∙◌, subst}
 use Rattle.modes_core.proofs.Laws.{tag_eq-same}
 use Rattle.lock_records.specs.Locks.{HasNoLock}
-use Rattle.lock_records.specs.Holders.{holds_in}
 use Rattle.lock_records.specs.Queues.{queue_on}
 use Rattle.lock_records.proofs.ObjectLaws.{no-wait}
 use Rattle.lock_records.proofs.Parts.{nothing-held}

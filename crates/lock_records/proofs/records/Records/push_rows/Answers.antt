@@ -1,4 +1,4 @@
-use Rattle.std.proofs.Common.{◌+◌, not, List, length, ap, ◌∙◌}
+use Rattle.std.proofs.Common.{not, length, ap, ◌∙◌}
 use Rattle.std.proofs.lemmas.Result.{on_ok_weaker}
 use Rattle.lock_records.specs.Rows.{shown_below, awaited_below}
 use Rattle.lock_records.specs.View.{RecordView}

@@ -1,4 +1,4 @@
-use Rattle.std.proofs.Common.{◌≡◌, ◌<◌, false, length, ap, ◌∙◌, arith}
+use Rattle.std.proofs.Common.{◌≡◌, ◌<◌, false, ap, ◌∙◌, arith}
 use Rattle.modes_core.specs.ModeSet.{set_has}
 use Rattle.lock_table.specs.Content.{Wait}
 use Rattle.lock_table.specs.Queue.{awaits_mode, waits_there}

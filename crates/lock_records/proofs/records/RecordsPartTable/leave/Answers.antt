@@ -1,8 +1,5 @@
-use Rattle.std.proofs.Common.{◌≡◌, ◌≤◌, ◌+◌, true, Some, List, sym, ap, ◌∙◌, subst, arith}
-use Rattle.std.proofs.lemmas.Bool.{false≢true}
-use Rattle.std.specs.Prelude.{option_map}
-use Rattle.lock_table.specs.Content.{Wait}
-use Rattle.lock_table.specs.Queue.{awaits_mode, wait_in}
+use Rattle.std.proofs.Common.{◌≡◌, true, sym, ◌∙◌, subst, arith}
+use Rattle.lock_table.specs.Queue.{awaits_mode}
 use Rattle.lock_records.specs.Queues.{queue_on, IsQueueAt}
 use Rattle.lock_records.specs.Holders.{holds_in}
 use Rattle.lock_records.specs.View.{RecordView}

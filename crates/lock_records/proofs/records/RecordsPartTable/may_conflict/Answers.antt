@@ -1,10 +1,7 @@
-use Rattle.std.proofs.Common.{◌≡◌, false, List, sym, ap, ◌∙◌, subst}
+use Rattle.std.proofs.Common.{List, sym, ap, ◌∙◌, subst}
 use Rattle.std.proofs.lemmas.Bool.{both_ways}
-use Rattle.lock_table.specs.Clash.{NoConflictingHolder}
 use Rattle.lock_table.specs.Content.{Wait}
 use Rattle.lock_table.specs.Queue.{some_awaits_conflict}
-use Rattle.modes_core.specs.Conflict.{conflict}
-use Rattle.lock_records.specs.declared.locks.LockRecord.{LockRecord}
 use Rattle.lock_records.specs.Objects.{IsLock}
 use Rattle.lock_records.specs.Queues.{queue_on}
 use Rattle.lock_records.specs.Holders.{holds_in}

@@ -1,5 +1,4 @@
-use Rattle.std.proofs.Common.{◌≡◌, ◌≤◌, length, Option, None, slice_get, sym, ap, ◌∙◌, subst, arith}
-use Rattle.lock_table.specs.Content.{Wait}
+use Rattle.std.proofs.Common.{◌≡◌, length, slice_get, sym, ap, ◌∙◌, arith}
 use Rattle.lock_records.specs.Queues.{queue_on}
 use Rattle.lock_records.proofs.QueueRecords.{nobody-waits}
 use Rattle.lock_records.proofs.records.RecordsPartTable.waiter.Goals as goal

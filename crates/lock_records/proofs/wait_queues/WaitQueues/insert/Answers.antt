@@ -1,12 +1,9 @@
-use Rattle.std.proofs.Common.{◌≡◌, ◌≢◌, ℕ, ◌+◌, ◌<◌, ◌≤◌, List, [], length, map, Some, sym, ap, ◌∙◌, subst, arith}
-use Rattle.std.proofs.Common.{refl}
+use Rattle.std.proofs.Common.{◌≡◌, ◌≢◌, ◌+◌, ◌<◌, [], length, map, Some, sym, ap, ◌∙◌, subst, arith}
 use Rattle.std.proofs.Math.ListN.{set}
 use Rattle.std.proofs.lemmas.List.{length-map}
 use Rattle.slab.specs.Slab.{Slab}
-use Rattle.lock_table.specs.Content.{Wait}
 use Rattle.lock_table.specs.Queue.{joined}
 use Rattle.lock_table.specs.Waiter.{shown_wait}
-use Rattle.lock_table.specs.declared.waits.Waiter.{Waiter}
 use Rattle.lock_records.specs.declared.wait_queues.QueueRecord.{QueueRecord}
 use Rattle.lock_records.specs.Queues.{queue_on, waiting_in, IsQueueAt}
 use Rattle.lock_records.proofs.QueueRecords.{queue-record, queue-is, requeued-are, requeued-queue, requeued-total, set-here, set-else, shown-joined}

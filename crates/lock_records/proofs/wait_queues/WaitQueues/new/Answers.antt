@@ -1,4 +1,4 @@
-use Rattle.std.proofs.Common.{◌≡◌, List, Option, [], sym, subst}
+use Rattle.std.proofs.Common.{◌≡◌, List, Option, sym, subst}
 use Rattle.lock_records.specs.declared.wait_queues.QueueRecord.{QueueRecord}
 use Rattle.lock_records.specs.Queues.{AreQueues, waiting_in}
 use Rattle.lock_records.proofs.QueueRecords.{queues-none, total-none}

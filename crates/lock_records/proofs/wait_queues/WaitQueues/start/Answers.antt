@@ -1,4 +1,4 @@
-use Rattle.std.proofs.Common.{◌≡◌, ◌≢◌, ℕ, ◌+◌, ◌∷◌, ◌++◌, List, [], length, map, refl, sym, ap, ◌∙◌, arith}
+use Rattle.std.proofs.Common.{◌≡◌, ◌≢◌, ◌+◌, ◌∷◌, ◌++◌, List, [], length, map, refl, ap, ◌∙◌, arith}
 use Rattle.slab.specs.Slab.{Slab}
 use Rattle.lock_table.specs.Waiter.{shown_wait}
 use Rattle.lock_table.specs.declared.waits.Waiter.{Waiter}

@@ -1,4 +1,4 @@
-use Rattle.std.proofs.Common.{◌≡◌, get_or, sym, ap, ◌∙◌}
+use Rattle.std.proofs.Common.{get_or, sym, ap, ◌∙◌}
 use Rattle.shared_rule.specs.Boards.{Seated}
 use Rattle.manager_tests.proofs.tests.audits.audit.Goals as goal
 

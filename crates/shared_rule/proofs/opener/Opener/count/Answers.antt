@@ -1,16 +1,14 @@
-use Rattle.std.proofs.Common.{◌≡◌, ◌+◌, List, [], ◌∷◌, length, refl, sym, ap, ◌∙◌, subst}
-use Rattle.std.specs.Prelude.{count_by, Ok, Err}
+use Rattle.std.proofs.Common.{◌≡◌, ◌+◌, [], length, sym, ap, ◌∙◌, subst}
+use Rattle.std.specs.Prelude.{count_by, Ok}
 use Rattle.lock_table.specs.declared.rows.TableRow.{TableRow}
 use Rattle.atomic_table.specs.Seated.{TableId}
-use Rattle.shared_rule.specs.declared.history.History.{History}
 use Rattle.shared_rule.specs.Audits.{CountsAll, CountsFrom}
 use Rattle.shared_rule.specs.Gatherings.{NoneWaits, AreAll, gathered_in}
 use Rattle.shared_rule.specs.Openers.{OpenerState}
 use Rattle.shared_rule.specs.Plays.{HasGroups, HasSession, IsSized}
 use Rattle.lock_world.specs.Account.{Account}
 use Rattle.shared_rule.proofs.Idle.{idle-further}
-use Rattle.shared_rule.proofs.AuditSums.{counts-all, counts-refused, has-first, are-all}
-use Rattle.shared_rule.proofs.opener.Opener.count.Given.{Over}
+use Rattle.shared_rule.proofs.AuditSums.{counts-all, has-first, are-all}
 use Rattle.shared_rule.proofs.opener.Opener.count.Goals as goal
 
 pub returns : goal.returns
