@@ -1,14 +1,16 @@
 //! The page of contention: many threads beside each other on one object, on objects of their own in one partition, and by
 //! listings; and the same work under a standard mutex.
 
-ghost use Rattle.std.specs.Prelude.{◌≡◌, ◌++◌, ◌∷◌, [], length, MatchResult};
+ghost use Rattle.std.specs.Prelude.{◌≡◌, length};
 ghost use Rattle.lock_manager.specs.Crews.{AreOf, KeepManagers, SeatsAre};
 
 use crate::contention::{Case, Job, MOST_THREADS, Taken, run_by_mutex, run_by_sessions};
 use crate::session_page::Asked;
 use anyhow::{Result, bail};
-use lock_manager::{Board, Config, Desk, Manager, ManagerDesk, OwnSession, Part};
-use std::alloc::{AllocError, AllocFailed, Global};
+use lock_manager::{
+    Board, Config, Desk, Manager, ManagerDesk, OwnSession, Part, close_sessions, open_sessions,
+};
+use std::alloc::{AllocError, Global};
 use std::io;
 use std::sync::Wait;
 use std::thread::Threads;
@@ -253,82 +255,6 @@ fn print_mutex_jobs<R: Threads + Wait + Clock + CpuClock + Print + Sync>(
     Ok(())
 }
 
-/// Opens so many sessions behind those that there are. Where memory runs out fewer are open.
-fn open_many<B: Board<Part>, D: Desk<OwnSession<Part, B>>, R: Wait>(
-    rt: &R,
-    desk: &mut D,
-    crew: &mut Vec<OwnSession<Part, B>>,
-    database: u32,
-    number: u32,
-) -> Result<()>
-    requires seats { SeatsAre B.seat D.seat }
-    requires own { AreOf B.seat (D.manager desk.old) crew.old.items }
-    requires live { D.live desk.old ≡ length crew.old.items }
-    ensures manager { D.manager desk.new ≡ D.manager desk.old }
-    ensures own { AreOf B.seat (D.manager desk.old) crew.new.items }
-    ensures live { D.live desk.new ≡ length crew.new.items }
-{
-    'sessions: for _ in 0..number {
-        open_behind(rt, desk, crew, database)?;
-    }
-    Ok(())
-}
-
-/// Opens a session, and puts it behind the others. It is closed again where there is no memory to keep it.
-fn open_behind<B: Board<Part>, D: Desk<OwnSession<Part, B>>, R: Wait>(
-    rt: &R,
-    desk: &mut D,
-    crew: &mut Vec<OwnSession<Part, B>>,
-    database: u32,
-) -> Result<()>
-    requires seats { SeatsAre B.seat D.seat }
-    requires own { AreOf B.seat (D.manager desk.old) crew.old.items }
-    requires live { D.live desk.old ≡ length crew.old.items }
-    ensures manager { D.manager desk.new ≡ D.manager desk.old }
-    ensures own { AreOf B.seat (D.manager desk.old) crew.new.items }
-    ensures live { D.live desk.new ≡ length crew.new.items }
-{
-    let Ok(session) = desk.open(database) else {
-        bail!("a session could not be opened");
-    };
-    match append(crew, session) {
-        Ok(()) => Ok(()),
-        Err(session) => {
-            desk.close(rt, session);
-            bail!("out of memory")
-        }
-    }
-}
-
-/// Puts it behind the others. Where memory runs out it comes back, and the list is as before.
-fn append<S>(list: &mut Vec<S>, session: S) -> Result<(), S>
-    ensures { MatchResult result (λ _. list.new.items ≡ list.old.items ++ session ∷ [])
-        (λ back. (back ≡ session) × (list.new.items ≡ list.old.items)) }
-{
-    match list.push(session) {
-        Ok(()) => Ok(()),
-        Err(AllocFailed { value }) => Err(value),
-    }
-}
-
-/// Closes them all.
-fn close_many<B: Board<Part>, D: Desk<OwnSession<Part, B>>, R: Wait>(
-    rt: &R,
-    desk: &mut D,
-    mut crew: Vec<OwnSession<Part, B>>,
-)
-    requires seats { SeatsAre B.seat D.seat }
-    requires own { AreOf B.seat (D.manager desk.old) crew.items }
-    requires live { D.live desk.old ≡ length crew.items }
-    ensures manager { D.manager desk.new ≡ D.manager desk.old }
-    ensures none_live { D.live desk.new ≡ 0 }
-{
-    'sessions: while let Some(session) = crew.pop() {
-        desk.close(rt, session);
-    }
-    crew.destroy_empty();
-}
-
 /// Prints the jobs of sessions of the manager that the desk has.
 fn print_at_work<
     B: Board<Part> + Send,
@@ -355,15 +281,15 @@ fn print_crew<
     ensures none_live { D.live desk.new ≡ 0 }
 {
     let mut crew = Vec::new(rt.alloc());
-    match open_many(rt, desk, &mut crew, asked.database, threads) {
+    match open_sessions(rt, desk, &mut crew, asked.database, threads) {
         Ok(()) => {
             let printed = print_at_work(rt, desk, &mut crew, jobs, asked.check);
-            close_many(rt, desk, crew);
+            close_sessions(rt, desk, crew);
             printed
         }
-        Err(error) => {
-            close_many(rt, desk, crew);
-            Err(error)
+        Err(_) => {
+            close_sessions(rt, desk, crew);
+            bail!("the sessions could not be opened")
         }
     }
 }

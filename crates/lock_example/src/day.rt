@@ -6,12 +6,13 @@ ghost use Rattle.lock_manager.specs.Crews.{AreOf, IsOf, KeepManagers, KeepsSeat,
 
 use crate::bank::{Bank, DATABASE};
 use crate::connections::Connection;
-use crate::pool::{Pool, append};
+use crate::pool::Pool;
 use crate::report::Report;
 use crate::tellers::{migrate, serve};
 use crate::watch::{Watch, keep_watch};
 use lock_manager::{
     Board, Config, Desk, MOST_SESSIONS, Manager, ManagerDesk, OwnSession, Part, Refusal, SessionId,
+    append,
 };
 use std::alloc::Global;
 use std::sync::Wait;

@@ -1,27 +1,18 @@
 //! Sessions of one database that are handed from connection to connection: a manager gives out 64 over its life.
 
-ghost use Rattle.std.specs.Prelude.{◌≡◌, ◌++◌, ◌∷◌, [], IfOk, MatchResult};
+ghost use Rattle.std.specs.Prelude.{◌≡◌, [], IfOk};
 ghost use Rattle.lock_manager.specs.Crews.{AreOf, IsOf, SeatsAre};
 
-use lock_manager::{Board, Desk, MOST_SESSIONS, OwnSession, Part, Refusal};
-use std::alloc::{AllocFailed, Global};
+use lock_manager::{
+    Board, Desk, MOST_SESSIONS, OwnSession, Part, Refusal, append, close_sessions,
+};
+use std::alloc::Global;
 use std::sync::Wait;
 
 /// The idle sessions of one database. A server has one pool for each database that it serves.
 pub struct Pool<B: Board<Part>> {
     database: u32,
     idle: Vec<OwnSession<Part, B>>,
-}
-
-/// Puts it behind the others. Where memory runs out it comes back, and the list is as before: a session can't be let go.
-pub fn append<S>(list: &mut Vec<S>, session: S) -> Result<(), S>
-    ensures { MatchResult result (λ _. list.new.items ≡ list.old.items ++ session ∷ [])
-        (λ back. (back ≡ session) × (list.new.items ≡ list.old.items)) }
-{
-    match list.push(session) {
-        Ok(()) => Ok(()),
-        Err(AllocFailed { value }) => Err(value),
-    }
 }
 
 impl<B: Board<Part>> Pool<B> {
@@ -100,13 +91,7 @@ impl<B: Board<Part>> Pool<B> {
         requires idle { AreOf B.seat (D.manager desk.old) self.idle.items }
         ensures manager { D.manager desk.new ≡ D.manager desk.old }
     {
-        let Pool {
-            database: _,
-            mut idle,
-        } = self;
-        'sessions: while let Some(session) = idle.pop() {
-            desk.close(rt, session);
-        }
-        idle.destroy_empty();
+        let Pool { database: _, idle } = self;
+        close_sessions(rt, desk, idle);
     }
 }

@@ -4,6 +4,7 @@
 mod any_board;
 mod audit;
 mod config;
+mod crews;
 mod desk;
 mod keeper;
 mod listing;
@@ -16,6 +17,7 @@ mod waiting;
 mod waiting_sessions;
 
 pub use config::{Config, MOST_GROUPS, MOST_SESSIONS};
+pub use crews::{append, close_sessions, open_sessions};
 pub use desk::{Desk, ManagerDesk};
 pub use keeper::Part;
 pub use listing::Listing;

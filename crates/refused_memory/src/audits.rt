@@ -1,13 +1,15 @@
 //! Audits at a desk, over any board.
 
 ghost use Rattle.std.specs.Prelude.{◌≡◌};
-ghost use Rattle.lock_manager.specs.Crews.{AreOf, KeepsSeat, SeatsAre};
+ghost use Rattle.lock_manager.specs.Crews.{KeepsSeat, SeatsAre};
 
 use crate::allocator::{refuse, was_refused};
 use crate::tales::{ANOTHER_TABLE, TABLE, object};
 use crate::told::Told;
 use lock_manager::Mode::{AccessShare, RowShare, Share};
-use lock_manager::{Audit, Board, Desk, OwnSession, Owner, PartTable, Refusal};
+use lock_manager::{
+    Audit, Board, Desk, OwnSession, Owner, PartTable, Refusal, close_sessions,
+};
 use std::alloc::Global;
 use std::sync::Wait;
 
@@ -42,22 +44,6 @@ fn told_of(counted: Result<Audit, Refusal>, again: Result<Audit, Refusal>, refus
     }
 }
 
-/// Closes these sessions.
-fn close_each<T: PartTable, B: Board<T>, D: Desk<OwnSession<T, B>>, R: Wait>(
-    rt: &R,
-    desk: &mut D,
-    mut sessions: Vec<OwnSession<T, B>>,
-)
-    requires seats { SeatsAre B.seat D.seat }
-    requires own { AreOf B.seat (D.manager desk.old) sessions.items }
-    ensures manager { D.manager desk.new ≡ D.manager desk.old }
-{
-    'sessions: while let Some(session) = sessions.pop() {
-        desk.close(rt, session);
-    }
-    sessions.destroy_empty();
-}
-
 /// Counts what a session has with this growth refused, and once more.
 pub fn tell<T: PartTable, B: Board<T>, D: Desk<OwnSession<T, B>>, R: Wait>(
     rt: &R,
@@ -82,6 +68,6 @@ pub fn tell<T: PartTable, B: Board<T>, D: Desk<OwnSession<T, B>>, R: Wait>(
     let counted = desk.audit(rt, &mut sessions);
     let refused = was_refused(alloc);
     let again = desk.audit(rt, &mut sessions);
-    close_each(rt, desk, sessions);
+    close_sessions(rt, desk, sessions);
     told_of(counted, again, refused)
 }

@@ -1,14 +1,17 @@
 //! A hammer: sessions that lock and unlock in threads of their own, and what is counted when they have ended.
 
-ghost use Rattle.std.specs.Prelude.{◌≡◌, ◌≤◌, ◌++◌, ◌∷◌, [], length, MatchResult};
+ghost use Rattle.std.specs.Prelude.{◌≡◌, ◌≤◌, length};
 ghost use Rattle.lock_manager.specs.Crews.{AreOf, SeatsAre};
 
 use crate::arguments::Hammer;
 use crate::progress::{Progress, Unwatched};
 use crate::workers::{Act, DATABASE, Gate, Reports, all_act};
-use lock_manager::{Audit, Board, Config, Desk, Final, Manager, ManagerDesk, OwnSession, Part};
+use lock_manager::{
+    Audit, Board, Config, Desk, Final, Manager, ManagerDesk, OwnSession, Part, close_sessions,
+    open_sessions,
+};
 use lock_script::Fault;
-use std::alloc::{AllocFailed, Global};
+use std::alloc::Global;
 use std::io::Write;
 use std::sync::Wait;
 use std::thread::Threads;
@@ -88,12 +91,12 @@ fn hammer<
     ensures none_live { D.live desk.new ≡ 0 }
 {
     let mut crew = Vec::new(alloc);
-    let opened = open_many(rt, desk, &mut crew, size.sessions);
+    let opened = open_sessions(rt, desk, &mut crew, DATABASE, size.sessions);
     let hammered = match opened {
         Ok(()) => play(rt, gate, reports, desk, writer, &mut crew, size.rounds),
-        Err(fault) => Err(fault),
+        Err(_) => Err(Fault::NoMemory),
     };
-    close_many(rt, desk, crew);
+    close_sessions(rt, desk, crew);
     hammered
 }
 
@@ -130,80 +133,6 @@ fn play<
         Ok(audit) => print_audit(writer, audit),
         Err(_) => Err(Fault::NoMemory),
     }
-}
-
-/// Opens so many sessions, in the order of their numbers, behind those that there are. Where memory runs out fewer are open.
-fn open_many<B: Board<Part>, D: Desk<OwnSession<Part, B>>, R: Wait>(
-    rt: &R,
-    desk: &mut D,
-    crew: &mut Vec<OwnSession<Part, B>>,
-    number: u32,
-) -> Result<(), Fault>
-    requires seats { SeatsAre B.seat D.seat }
-    requires own { AreOf B.seat (D.manager desk.old) crew.old.items }
-    requires live { D.live desk.old ≡ length crew.old.items }
-    ensures manager { D.manager desk.new ≡ D.manager desk.old }
-    ensures own { AreOf B.seat (D.manager desk.old) crew.new.items }
-    ensures live { D.live desk.new ≡ length crew.new.items }
-{
-    'sessions: for _ in 0..number {
-        open_behind(rt, desk, crew)?;
-    }
-    Ok(())
-}
-
-/// Opens a session, and puts it behind the others. It is closed again where there is no memory to keep it.
-fn open_behind<B: Board<Part>, D: Desk<OwnSession<Part, B>>, R: Wait>(
-    rt: &R,
-    desk: &mut D,
-    crew: &mut Vec<OwnSession<Part, B>>,
-) -> Result<(), Fault>
-    requires seats { SeatsAre B.seat D.seat }
-    requires own { AreOf B.seat (D.manager desk.old) crew.old.items }
-    requires live { D.live desk.old ≡ length crew.old.items }
-    ensures manager { D.manager desk.new ≡ D.manager desk.old }
-    ensures own { AreOf B.seat (D.manager desk.old) crew.new.items }
-    ensures live { D.live desk.new ≡ length crew.new.items }
-{
-    let Ok(session) = desk.open(DATABASE) else {
-        return Err(Fault::NoMemory);
-    };
-    match append(crew, session) {
-        Ok(()) => Ok(()),
-        Err(session) => {
-            desk.close(rt, session);
-            Err(Fault::NoMemory)
-        }
-    }
-}
-
-/// Puts it behind the others. Where memory runs out it comes back, and the list is as before: a session can't be let go.
-fn append<S>(list: &mut Vec<S>, session: S) -> Result<(), S>
-    ensures { MatchResult result (λ _. list.new.items ≡ list.old.items ++ session ∷ [])
-        (λ back. (back ≡ session) × (list.new.items ≡ list.old.items)) }
-{
-    match list.push(session) {
-        Ok(()) => Ok(()),
-        Err(AllocFailed { value }) => Err(value),
-    }
-}
-
-/// Closes them all.
-fn close_many<B: Board<Part>, D: Desk<OwnSession<Part, B>>, R: Wait>(
-    rt: &R,
-    desk: &mut D,
-    mut crew: Vec<OwnSession<Part, B>>,
-)
-    requires seats { SeatsAre B.seat D.seat }
-    requires own { AreOf B.seat (D.manager desk.old) crew.items }
-    requires live { D.live desk.old ≡ length crew.items }
-    ensures manager { D.manager desk.new ≡ D.manager desk.old }
-    ensures none_live { D.live desk.new ≡ 0 }
-{
-    'sessions: while let Some(session) = crew.pop() {
-        desk.close(rt, session);
-    }
-    crew.destroy_empty();
 }
 
 /// What an audit counted.

@@ -4,14 +4,16 @@ ghost use Rattle.std.specs.Prelude.{◌≡◌, ◌+◌, ◌-◌, ◌<◌, length
 ghost use Rattle.lock_manager.specs.Crews.{AreOf, SeatsAre};
 
 use super::answers::expect_granted;
-use super::desk::{append, close_many, open};
+use super::desk::{append, open};
 use super::memory::is_out_of_memory;
 use lock_manager::Mode::{
     AccessExclusive, AccessShare, RowExclusive, RowShare, Share, ShareRowExclusive,
     ShareUpdateExclusive,
 };
 use lock_manager::Owner::{Session, Transaction};
-use lock_manager::{Audit, Desk, Listing, Mode, OwnSession, Owner, Refusal, TableRow, Tag};
+use lock_manager::{
+    Audit, Desk, Listing, Mode, OwnSession, Owner, Refusal, TableRow, Tag, close_sessions,
+};
 use lock_table::PartTable;
 use shared_rule::Board;
 use std::alloc::Global;
@@ -227,7 +229,7 @@ pub fn audit_often<T: PartTable, B: Board<T>, D: Desk<OwnSession<T, B>>, R: Abor
     let sessions = open_each(rt, alloc, desk);
     let sessions = end_each(rt, alloc, desk, sessions, true, COMMITTED);
     let sessions = end_each(rt, alloc, desk, sessions, false, NOTHING);
-    close_many(rt, desk, sessions);
+    close_sessions(rt, desk, sessions);
 }
 
 /// How many of the rows are of holds.
@@ -311,5 +313,5 @@ pub fn close_counted<T: PartTable, B: Board<T>, D: Desk<OwnSession<T, B>>, R: Ab
 {
     let seen = look_last(rt, desk, &mut sessions);
     count(rt, desk, &mut sessions, seen);
-    close_many(rt, desk, sessions);
+    close_sessions(rt, desk, sessions);
 }

@@ -1,6 +1,6 @@
 //! Sessions at a desk: opened, put in lists and closed, at the second attempt where there was no memory.
 
-ghost use Rattle.std.specs.Prelude.{◌≡◌, ◌+◌, ◌-◌, ◌++◌, ◌∷◌, [], vec_len};
+ghost use Rattle.std.specs.Prelude.{◌≡◌, ◌+◌, ◌++◌, ◌∷◌, [], vec_len};
 ghost use Rattle.lock_manager.specs.Crews.{AreOf, SeatsAre};
 
 use lock_manager::{Desk, OwnSession};
@@ -8,7 +8,6 @@ use lock_table::PartTable;
 use shared_rule::Board;
 use std::alloc::{AllocFailed, Global};
 use std::process::Abort;
-use std::sync::Wait;
 
 /// The database of all sessions.
 const DATABASE: u32 = 5;
@@ -76,21 +75,4 @@ pub fn open_many<T: PartTable, B: Board<T>, D: Desk<OwnSession<T, B>>, R: Abort>
         open_behind(rt, desk, &mut sessions);
     }
     sessions
-}
-
-/// Closes them all.
-pub fn close_many<T: PartTable, B: Board<T>, D: Desk<OwnSession<T, B>>, R: Wait>(
-    rt: &R,
-    desk: &mut D,
-    mut sessions: Vec<OwnSession<T, B>>,
-)
-    requires seats { SeatsAre B.seat D.seat }
-    requires own { AreOf B.seat (D.manager desk.old) sessions.items }
-    ensures manager { D.manager desk.new ≡ D.manager desk.old }
-    ensures live { D.live desk.new ≡ D.live desk.old - vec_len sessions }
-{
-    'sessions: while let Some(session) = sessions.pop() {
-        desk.close(rt, session);
-    }
-    sessions.destroy_empty();
 }

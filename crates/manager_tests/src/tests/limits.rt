@@ -5,8 +5,8 @@ ghost use Rattle.lock_manager.specs.Crews.{AreOf, SeatsAre};
 
 use super::answers::{expect_granted, expect_rows};
 use super::audits::{NOTHING, Numbers, count, end_each};
-use super::desk::{append, close_many, open};
-use lock_manager::{Desk, Mode, OwnSession, Owner, Refusal, Tag};
+use super::desk::{append, open};
+use lock_manager::{Desk, Mode, OwnSession, Owner, Refusal, Tag, close_sessions};
 use lock_table::PartTable;
 use shared_rule::Board;
 use std::alloc::Global;
@@ -133,5 +133,5 @@ pub fn hold_all<T: PartTable, B: Board<T>, D: Desk<OwnSession<T, B>>, R: Abort +
     count(rt, desk, &mut sessions, held);
     list_all(rt, desk, &mut sessions, held);
     let sessions = end_each(rt, alloc, desk, sessions, true, NOTHING);
-    close_many(rt, desk, sessions);
+    close_sessions(rt, desk, sessions);
 }

@@ -1,0 +1,12 @@
+use Rattle.std.proofs.Common.{◌≡◌, ◌+◌, length}
+use Rattle.lock_manager.specs.Crews.{AreOf}
+use Rattle.lock_manager.proofs.crews.open_sessions.Given as goal
+
+abbrev pub invariant-sessions : goal.invariant-sessions
+invariant-sessions g l = record {
+  manager : g.D.Desk.manager l.desk ≡ g.D.Desk.manager l.fn.desk;
+  own : AreOf g.B.Board.seat (g.D.Desk.manager l.fn.desk) l.crew.items;
+  live : g.D.Desk.live l.desk + length l.fn.crew.items ≡ g.D.Desk.live l.fn.desk + length l.crew.items;
+  all : length l.crew.items ≡ length l.fn.crew.items + l.opened;
+  end : l.opened-end ≡ l.fn.number;
+}

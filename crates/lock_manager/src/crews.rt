@@ -1,0 +1,87 @@
+//! Crews: lists of sessions that are opened at a desk, and closed there together.
+
+ghost use Rattle.std.specs.Prelude.{◌≡◌, ◌+◌, ◌-◌, ◌++◌, ◌∷◌, [], length, IfOk, MatchResult};
+ghost use Rattle.lock_manager.specs.Crews.{AreOf, SeatsAre};
+
+use crate::desk::Desk;
+use crate::sessions::OwnSession;
+use lock_table::PartTable;
+use modes_core::Refusal;
+use shared_rule::Board;
+use std::alloc::AllocFailed;
+use std::sync::Wait;
+
+/// Opens so many sessions of this database, in the order of their numbers, behind those of the list. Where all numbers are given
+/// out, or memory runs out, it ends with that refusal: then fewer are open, each of which is in the list.
+pub fn open_sessions<T: PartTable, B: Board<T>, D: Desk<OwnSession<T, B>>, R: Wait>(
+    rt: &R,
+    desk: &mut D,
+    crew: &mut Vec<OwnSession<T, B>>,
+    database: u32,
+    number: u32,
+) -> Result<(), Refusal>
+    requires seats { SeatsAre B.seat D.seat }
+    requires own { AreOf B.seat (D.manager desk.old) crew.old.items }
+    ensures manager { D.manager desk.new ≡ D.manager desk.old }
+    ensures own { AreOf B.seat (D.manager desk.old) crew.new.items }
+    ensures live { D.live desk.new + length crew.old.items ≡ D.live desk.old + length crew.new.items }
+    ensures all { IfOk result (λ _. length crew.new.items ≡ length crew.old.items + number) }
+{
+    'sessions: for opened in 0..number {
+        open_behind(rt, desk, crew, database)?;
+    }
+    Ok(())
+}
+
+// Opens one, and puts it behind the others. It is closed again where there is no memory to keep it.
+fn open_behind<T: PartTable, B: Board<T>, D: Desk<OwnSession<T, B>>, R: Wait>(
+    rt: &R,
+    desk: &mut D,
+    crew: &mut Vec<OwnSession<T, B>>,
+    database: u32,
+) -> Result<(), Refusal>
+    requires seats { SeatsAre B.seat D.seat }
+    requires own { AreOf B.seat (D.manager desk.old) crew.old.items }
+    ensures manager { D.manager desk.new ≡ D.manager desk.old }
+    ensures own { AreOf B.seat (D.manager desk.old) crew.new.items }
+    ensures live { D.live desk.new + length crew.old.items ≡ D.live desk.old + length crew.new.items }
+    ensures one_more { IfOk result (λ _. length crew.new.items ≡ length crew.old.items + 1) }
+{
+    let session = desk.open(database)?;
+    match append(crew, session) {
+        Ok(()) => Ok(()),
+        Err(session) => {
+            desk.close(rt, session);
+            Err(Refusal::NoMemory)
+        }
+    }
+}
+
+/// Puts it behind the others. Where memory runs out it comes back, and the list is as before: a session can't be let go, and
+/// `Vec::push` hands what it has no room for to whoever takes its error apart.
+pub fn append<S>(list: &mut Vec<S>, session: S) -> Result<(), S>
+    ensures { MatchResult result (λ _. list.new.items ≡ list.old.items ++ session ∷ [])
+        (λ back. (back ≡ session) × (list.new.items ≡ list.old.items)) }
+{
+    match list.push(session) {
+        Ok(()) => Ok(()),
+        Err(AllocFailed { value }) => Err(value),
+    }
+}
+
+/// Closes them all, the last one first. What they still hold is released.
+pub fn close_sessions<T: PartTable, B: Board<T>, D: Desk<OwnSession<T, B>>, R: Wait>(
+    rt: &R,
+    desk: &mut D,
+    mut crew: Vec<OwnSession<T, B>>,
+)
+    requires seats { SeatsAre B.seat D.seat }
+    requires own { AreOf B.seat (D.manager desk.old) crew.items }
+    ensures manager { D.manager desk.new ≡ D.manager desk.old }
+    ensures live { D.live desk.new ≡ D.live desk.old - length crew.items }
+{
+    'sessions: while let Some(session) = crew.pop() {
+        desk.close(rt, session);
+    }
+    crew.destroy_empty();
+}
