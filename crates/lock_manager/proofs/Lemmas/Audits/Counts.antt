@@ -468,17 +468,6 @@ module _ {B : Type 0} (seat : B → Seated) (view : B → Account) (stack : B �
       subst (λ xs. AllByRecursion (λ (s : SessionView B). (seat s.board).table ≡ table) xs × (length xs ≡ length (s ∷ others))) (sym audits.sessions)
       ((ap (λ (x : Seated). x.table) audits.traced.seat_ ∙ at.0, rest.0), ap suc rest.1)
 
-  -- The sum of slots and rows is how many local entries they have, the sum of counters how many strong ones.
-  pub audits-holds : {E : Type 0} (limit groups : ℕ) (old new : List (SessionView B)) (result : Result Audit E) → Audits seat view stack limit groups old new result
-      → IfOk result (λ audit. audit.fast + audit.table ≡ entries_owned owned-entries old)
-  audits-holds limit groups [] new result audits = subst (λ r. IfOk r (λ (a : Audit). a.fast + a.table ≡ 0)) (sym audits.1) refl
-  audits-holds limit groups (s ∷ others) new result audits = audits.holds
-
-  pub audits-strong : {E : Type 0} (limit groups : ℕ) (old new : List (SessionView B)) (result : Result Audit E) → Audits seat view stack limit groups old new result
-      → IfOk result (λ audit. audit.strong ≡ strong_owned owned-entries old)
-  audits-strong limit groups [] new result audits = subst (λ r. IfOk r (λ (a : Audit). a.strong ≡ 0)) (sym audits.1) refl
-  audits-strong limit groups (s ∷ others) new result audits = audits.strong
-
   -- Each of them owns after it what it owned.
   zip-entries : (old new : List (SessionView B)) → AllZip (IsUnchanged seat view stack) old new → map owned-entries new ≡ map owned-entries old
   zip-entries [] [] same = refl
