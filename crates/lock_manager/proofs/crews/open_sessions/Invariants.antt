@@ -8,5 +8,4 @@ invariant-sessions g l = record {
   own : AreOf g.B.Board.seat (g.D.Desk.manager l.fn.desk) l.crew.items;
   live : g.D.Desk.live l.desk + length l.fn.crew.items ≡ g.D.Desk.live l.fn.desk + length l.crew.items;
   all : length l.crew.items ≡ length l.fn.crew.items + l.opened;
-  end : l.opened-end ≡ l.fn.number;
 }
