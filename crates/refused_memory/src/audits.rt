@@ -7,9 +7,7 @@ use crate::allocator::{refuse, was_refused};
 use crate::tales::{ANOTHER_TABLE, TABLE, object};
 use crate::told::Told;
 use lock_manager::Mode::{AccessShare, RowShare, Share};
-use lock_manager::{
-    Audit, Board, Desk, OwnSession, Owner, PartTable, Refusal, close_sessions,
-};
+use lock_manager::{Audit, Board, Desk, OwnSession, Owner, PartTable, Refusal, close_sessions};
 use std::alloc::Global;
 use std::sync::Wait;
 
