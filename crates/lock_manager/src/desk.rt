@@ -3,6 +3,7 @@
 ghost use Rattle.std.specs.Prelude.{◌≡◌, ◌+◌, ◌-◌, All, length, map, IfOk, OnOk, OnErr};
 ghost use Rattle.lock_manager.specs.Audits.{entries_owned, strong_owned};
 ghost use Rattle.lock_manager.specs.Managers.{IsOpenerOf};
+ghost use Rattle.lock_manager.specs.Sessions.{DontConflict};
 
 use crate::keeper::Part;
 use crate::manager::{Manager, Opener};
@@ -42,11 +43,15 @@ pub trait Desk<S> {
     fn live(&self) -> u32
         ensures { result ≡ live self.now };
 
-    /// Two sessions meet (`Session::meet`): no hold of the one conflicts with a hold of the other. The other comes back.
+    /// Two sessions meet (`Session::meet`): no hold of the one conflicts with a hold of the other, and they keep them. The other
+    /// comes back.
     fn meet(&self, session: &mut S, other: S) -> S
         requires same_manager { (seat other).table ≡ (seat session.old).table }
+        ensures told { DontConflict (entries session.old) (entries other) }
         ensures kept { seat session.new ≡ seat session.old }
-        ensures its_kept { seat result ≡ seat other };
+        ensures its_kept { seat result ≡ seat other }
+        ensures same_entries { entries session.new ≡ entries session.old }
+        ensures its_entries { entries result ≡ entries other };
 
     /// Counts what stands in the manager, all of whose open sessions are lent (`Manager::audit`): slots and table have as many
     /// holds as the sessions have local entries, and the counters count the strong ones. It is refused where memory runs out.
@@ -122,10 +127,13 @@ impl<'a> Desk<Session<'a>> for ManagerDesk<'a> {
     fn meet(&self, session: &mut Session<'a>, other: Session<'a>) -> Session<'a>
         requires same_manager { let B = ⟦<SeatBoard<'a, Part> as Board<Part>>⟧ in
             (B.seat other.board).table ≡ (B.seat session.old.board).table }
+        ensures told { DontConflict session.old.owned.entries other.entry.owned.entries }
         ensures kept { let B = ⟦<SeatBoard<'a, Part> as Board<Part>>⟧ in
             B.seat session.new.board ≡ B.seat session.old.board }
         ensures its_kept { let B = ⟦<SeatBoard<'a, Part> as Board<Part>>⟧ in
             B.seat result.board ≡ B.seat other.entry.board }
+        ensures same_entries { session.new.owned.entries ≡ session.old.owned.entries }
+        ensures its_entries { result.owned.entries ≡ other.entry.owned.entries }
     {
         session.meet(other)
     }
