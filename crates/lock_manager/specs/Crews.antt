@@ -1,4 +1,5 @@
-use Rattle.std.specs.Prelude.{◌≡◌, All, List}
+use Rattle.std.specs.Prelude.{◌≡◌, ℕ, All, List, ◌++◌}
+use Rattle.std.specs.List.{AllByRecursion}
 use Rattle.shared_rule.specs.Boards.{Seated}
 use Rattle.lock_manager.specs.Managers.{ManagerView}
 use Rattle.lock_manager.specs.Sessions.{SessionView}
@@ -30,3 +31,9 @@ module _ {B : Type 0} (seat : B → Seated) where
   -- A desk sees the seats that the boards of sessions have.
   abbrev pub SeatsAre : (SessionView B → Seated) → Type 0
   SeatsAre its_seat = (session : SessionView B) → its_seat session ≡ seat session.board
+
+-- A list of sessions has those that it had, and behind them some of this database.
+pub record AddsOf {S : Type 0} (database_of : S → ℕ) (database : ℕ) (old new : List S) : Type 0 where
+  pub added : List S
+  pub list : new ≡ old ++ added
+  pub databases : AllByRecursion (λ session. database_of session ≡ database) added

@@ -1,7 +1,7 @@
 //! Crews: lists of sessions that are opened at a desk, and closed there together.
 
 ghost use Rattle.std.specs.Prelude.{◌≡◌, ◌+◌, ◌-◌, ◌++◌, ◌∷◌, [], length, IfOk, MatchResult};
-ghost use Rattle.lock_manager.specs.Crews.{AreOf, SeatsAre};
+ghost use Rattle.lock_manager.specs.Crews.{AddsOf, AreOf, SeatsAre};
 
 use crate::desk::Desk;
 use crate::sessions::OwnSession;
@@ -25,6 +25,7 @@ pub fn open_sessions<T: PartTable, B: Board<T>, D: Desk<OwnSession<T, B>>, R: Wa
     ensures manager { D.manager desk.new ≡ D.manager desk.old }
     ensures own { AreOf B.seat (D.manager desk.old) crew.new.items }
     ensures live { D.live desk.new + length crew.old.items ≡ D.live desk.old + length crew.new.items }
+    ensures added { AddsOf D.database_of database crew.old.items crew.new.items }
     ensures all { IfOk result (λ _. length crew.new.items ≡ length crew.old.items + number) }
 {
     'sessions: for opened in 0..number {
@@ -45,6 +46,7 @@ fn open_behind<T: PartTable, B: Board<T>, D: Desk<OwnSession<T, B>>, R: Wait>(
     ensures manager { D.manager desk.new ≡ D.manager desk.old }
     ensures own { AreOf B.seat (D.manager desk.old) crew.new.items }
     ensures live { D.live desk.new + length crew.old.items ≡ D.live desk.old + length crew.new.items }
+    ensures added { AddsOf D.database_of database crew.old.items crew.new.items }
     ensures one_more { IfOk result (λ _. length crew.new.items ≡ length crew.old.items + 1) }
 {
     let session = desk.open(database)?;

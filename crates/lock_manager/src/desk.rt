@@ -1,6 +1,6 @@
 //! Desks, which open, count and close the sessions of a manager for a program that is written over any board.
 
-ghost use Rattle.std.specs.Prelude.{◌≡◌, ◌+◌, ◌-◌, All, length, map, IfOk, OnOk, OnErr};
+ghost use Rattle.std.specs.Prelude.{◌≡◌, ◌+◌, ◌-◌, [], All, length, map, IfOk, OnOk, OnErr};
 ghost use Rattle.lock_manager.specs.Audits.{entries_owned, strong_owned};
 ghost use Rattle.lock_manager.specs.Managers.{IsOpenerOf};
 ghost use Rattle.lock_manager.specs.Sessions.{DontConflict};
@@ -29,13 +29,18 @@ pub trait Desk<S> {
     // At which table a session is, and under which number.
     ghost seat: { S → Seated };
 
-    // The local entries of a session.
+    // The database of a session, and its local entries.
+    ghost database_of: { S → ℕ };
+
     ghost entries: { S → List Entry };
 
-    /// Opens a session of this database. It is refused where all numbers are given out, and then where memory runs out.
+    /// Opens a session of this database, which holds nothing. It is refused where all numbers are given out, and then where memory
+    /// runs out.
     fn open(&mut self, database: u32) -> Result<S, Refusal>
         ensures manager { manager self.new ≡ manager self.old }
         ensures own { IfOk result (λ session. (seat session).table ≡ (manager self.old).table) }
+        ensures database { IfOk result (λ session. database_of session ≡ database) }
+        ensures nothing { IfOk result (λ session. entries session ≡ []) }
         ensures live { OnOk result (live self.new ≡ live self.old + 1) }
         ensures refused { OnErr result (live self.new ≡ live self.old) };
 
@@ -113,6 +118,8 @@ impl<'a> Desk<Session<'a>> for ManagerDesk<'a> {
       groups = session.board.sizes.groups;
       table = session.board.table.now.table_id;
     } };
+
+    ghost database_of = { λ session. session.database };
 
     ghost entries = { λ session. session.owned.entries };
 

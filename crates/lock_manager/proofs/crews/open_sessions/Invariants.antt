@@ -1,5 +1,5 @@
 use Rattle.std.proofs.Common.{◌≡◌, ◌+◌, length}
-use Rattle.lock_manager.specs.Crews.{AreOf}
+use Rattle.lock_manager.specs.Crews.{AddsOf, AreOf}
 use Rattle.lock_manager.proofs.crews.open_sessions.Given as goal
 
 abbrev pub invariant-sessions : goal.invariant-sessions
@@ -7,5 +7,6 @@ invariant-sessions g l = record {
   manager : g.D.Desk.manager l.desk ≡ g.D.Desk.manager l.fn.desk;
   own : AreOf g.B.Board.seat (g.D.Desk.manager l.fn.desk) l.crew.items;
   live : g.D.Desk.live l.desk + length l.fn.crew.items ≡ g.D.Desk.live l.fn.desk + length l.crew.items;
+  added : AddsOf g.D.Desk.database_of l.database l.fn.crew.items l.crew.items;
   all : length l.crew.items ≡ length l.fn.crew.items + l.opened;
 }
