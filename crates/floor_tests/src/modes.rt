@@ -70,6 +70,13 @@ fn sets_have_what_was_put_in(rt: HostRuntime) {
     assert!(rt; !set.meets(conflicts(Mode::Exclusive)));
 }
 
+#[test]
+fn the_lowest_mode_in_both_sets_is_found(rt: HostRuntime) {
+    let both = conflicts(Mode::Share).lowest_in_both(conflicts(Mode::ShareUpdateExclusive));
+    assert!(rt; both == Some(Mode::ShareUpdateExclusive));
+    assert!(rt; access_share_alone().lowest_in_both(conflicts(Mode::Share)).is_none());
+}
+
 /// Tags, their hashes, partitions and strong lock counters, and their texts. The hashes are worked examples of the rule,
 /// not this code's answers.
 const TAGS: [(Tag, u32, u8, u16, &str); 6] = [

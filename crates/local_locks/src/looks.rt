@@ -10,7 +10,7 @@ use place_index::PlaceIndex;
 /// as evenly as can be; its upper half is 2^32 by the square root of two, less one, so that modes do, and none with those.
 const MULTIPLIER: u64 = 0x6A09_E667_9E37_79B9;
 
-/// What a glance at an index tells of a relation in a mode.
+/// What a glance at an index tells of an object and mode.
 pub(crate) enum Glance {
     /// It has no entry.
     Nothing,
@@ -89,20 +89,16 @@ pub(crate) fn key_hash(tag: &Tag, mode: Mode) -> u32
     hash_of(object_bits(tag), mode)
 }
 
-/// What the first place of a look for a relation tells of it: that it isn't held in the mode, or the place of its slot, which
-/// may be empty.
+/// What the first place of a look tells of an object and mode: that it isn't held, or the place of its slot, which may be empty.
 #[inline(always)]
 pub(crate) fn glance_at(slots: &[Entry], index: &PlaceIndex, tag: &Tag, mode: Mode) -> Glance
     requires { IsIndexed (opened slots.now) index.now }
     ensures { IsGlance slots.now tag.now mode result }
 {
-    let Tag::Relation { database, relation } = *tag else {
-        return Glance::Unknown;
-    };
-    match index.first(hash_of(pair_bits(database, relation), mode)) {
+    match index.first(key_hash(tag, mode)) {
         None => Glance::Nothing,
         Some(place) => {
-            if slots[place as usize].is_of_relation(database, relation, mode) {
+            if slots[place as usize].is_of(tag, mode) {
                 Glance::Place(place)
             } else {
                 Glance::Unknown

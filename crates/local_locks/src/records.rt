@@ -69,7 +69,12 @@ impl Entry {
     pub(crate) fn is_of(&self, tag: &Tag, mode: Mode) -> bool
         ensures { result ≡ is_of tag.now mode self.now }
     {
-        self.tag == *tag && self.mode == mode
+        match *tag {
+            Tag::Relation { database, relation } => self.is_of_relation(database, relation, mode),
+            Tag::Object { .. } | Tag::Advisory { .. } => {
+                self.tag.is_same(*tag) && self.mode.is_same(mode)
+            }
+        }
     }
 
     /// Whether it is of this relation and mode. A relation is compared as one number.

@@ -166,7 +166,7 @@ impl LocalTable {
         }
     }
 
-    /// `add_held` as far as the first place of the index goes, which mostly shows of a relation whether it is held in the mode, and
+    /// `add_held` as far as the first place of the index goes, which mostly shows whether the object is held in the mode, and
     /// where: `AtOnce::Unknown` says nothing, and `add_held` goes on from there. With neither a loop nor a call in it, it is
     /// short enough to stand in the code of each caller.
     #[inline(always)]
@@ -503,8 +503,8 @@ impl LocalTable {
         }
     }
 
-    /// `drop_held` as far as one slot goes, where a relation mostly is that is released: `None` says nothing, and `drop_held` goes
-    /// on from there. With neither a loop nor a call in it, it is short enough to stand in the code of each caller.
+    /// `drop_held` as far as one slot goes, where what is released mostly is: `None` says nothing, and `drop_held` goes on from
+    /// there. With neither a loop nor a call in it, it is short enough to stand in the code of each caller.
     #[inline(always)]
     pub fn drop_at_once(&mut self, tag: &Tag, mode: Mode, owner: Owner) -> Option<Unlocked>
         ensures held { IsSome result → 0 < own_count_of self.old tag.now mode owner }
@@ -521,10 +521,7 @@ impl LocalTable {
         if last >= self.slots.len() {
             return None;
         }
-        let Tag::Relation { database, relation } = *tag else {
-            return None;
-        };
-        if !self.slots[last].is_of_relation(database, relation, mode) {
+        if !self.slots[last].is_of(tag, mode) {
             return None;
         }
         if lower_held(&mut self.slots, last, owner) {

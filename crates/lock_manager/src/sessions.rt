@@ -181,6 +181,7 @@ impl<T: PartTable, B: Board<T>> OwnSession<T, B> {
     /// lock is counted. It is refused, in this order, where the owner's count is full, the local table is full,
     /// memory runs out, or the request conflicts with a hold or wait of another session. After a refusal the
     /// session holds what it held.
+    #[inline(always)]
     pub fn try_lock<R: Wait>(
         &mut self,
         rt: &R,

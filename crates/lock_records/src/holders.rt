@@ -211,18 +211,12 @@ fn considered(
 }
 
 /// The lowest mode that is in both sets.
+#[inline(never)]
 pub(crate) fn lowest_mode(modes: ModeSet, set: ModeSet) -> Mode
     requires { (mode : _) × (set_has modes mode ≡ true) × (set_has set mode ≡ true) }
     ensures held { set_has modes result ≡ true }
     ensures met { set_has set result ≡ true }
     ensures lowest { (mode : _) → number_of mode < number_of result → set_has modes mode ≡ true → set_has set mode ≡ false }
 {
-    for number in 1..9u8 {
-        if let Some(mode) = Mode::from_number(number) {
-            if modes.has(mode) && set.has(mode) {
-                return mode;
-            }
-        }
-    }
-    unreachable!()
+    modes.lowest_in_both(set).unwrap()
 }

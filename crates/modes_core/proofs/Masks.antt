@@ -1,9 +1,10 @@
-use Rattle.std.proofs.Common.{◌≡◌, ◌≢◌, ℕ, ◌-◌, ◌*◌, ◌%◌, ◌^◌, ◌<◌, Bool, false, not, ◌&&◌, ◌||◌, nat_eq, bit_and, bit_or, w16, arith, zero, suc, get_or, refl, sym, ap, ◌∙◌, inl, inr, rules, min}
-use Rattle.std.specs.Int.{bit_at}
+use Rattle.std.proofs.Common.{◌≡◌, ◌≢◌, ℕ, ◌-◌, ◌*◌, ◌%◌, ◌^◌, ◌<◌, ◌≤◌, Bool, true, false, not, ◌&&◌, ◌||◌, nat_eq, bit_and, bit_or, w16, arith, zero, suc, get_or, refl, sym, ap, ◌∙◌, inl, inr, rules, min}
+use Rattle.std.specs.Int.{bit_at, trailing_zeros}
+use Rattle.std.specs.Int.Count.{trailing_of_zero}
 use Rattle.std.proofs.lemmas.Nat.{one_shl, or_lt, and_le_l}
-use Rattle.std.proofs.lemmas.Nat.Bits.{and_pow, bit_at-lt, bit_at_set_same, bit_at_set_other, bit_at_clear_same, bit_at_clear_other, bit_at_and, bit_at-zero, same_from_bits_below}
+use Rattle.std.proofs.lemmas.Nat.Bits.{and_pow, bit_at-lt, bit_at_set_same, bit_at_set_other, bit_at_clear_same, bit_at_clear_other, bit_at_and, bit_at-zero, bit_at_above, bit_at-trailing_zeros, same_from_bits_below}
 use Rattle.std.proofs.Math.Pow.{pow-lt}
-use Rattle.std.proofs.lemmas.Bool.{cases_eq, cases_Bool, false≢true}
+use Rattle.std.proofs.lemmas.Bool.{cases_eq, cases_lt, cases_Bool, false≢true}
 use Rattle.std.specs.List.{list_any}
 use Rattle.std.proofs.lemmas.List.Folds.{list_any_none, list_any_at}
 use Rattle.std.proofs.lemmas.Bool.Decides.{nat_tests}
@@ -141,3 +142,57 @@ masks_meet a b is =
       at_mode : bit_and a b ≡ 0 → (mode : Mode) → (set_has a mode && set_has b mode) ≡ false
       at_mode apart mode =
           not_both_bits _ _ (sym (bit_at_and a b (number_of mode)) ∙ ap (λ n. bit_at n (number_of mode)) apart ∙ bit_at-zero (number_of mode))
+
+-- two bits of which the lower one is 1
+both_bits : (x y : ℕ) → x < 2 → y < 2 → min x y ≡ 1 → (nat_eq x 1 ≡ true) × (nat_eq y 1 ≡ true)
+both_bits x y x_bit y_bit low = (grind (arith, nat_tests), grind (arith, nat_tests))
+
+-- what is so of the lowest bit of `a & b`: it is a bit of both, and no bit below it is; where there is none it is past all modes
+record IsLowest (a b place : ℕ) : Type 0 where
+  within : place < 9 → (nat_eq (bit_at a place) 1 ≡ true) × (nat_eq (bit_at b place) 1 ≡ true)
+  none_below : (i : ℕ) → i < place → (nat_eq (bit_at a i) 1 && nat_eq (bit_at b i) 1) ≡ false
+  no_other : 9 ≤ place → (i : ℕ) → (nat_eq (bit_at a i) 1 && nat_eq (bit_at b i) 1) ≡ false
+
+lowest_bit : (a b : ℕ) → a < 2 ^ 9 → IsLowest a b (trailing_zeros w16 (bit_and a b))
+lowest_bit a b below =
+    elim (cases_eq (bit_and a b) 0) [
+      | inl apart ↦
+          let none : (i : ℕ) → (nat_eq (bit_at a i) 1 && nat_eq (bit_at b i) 1) ≡ false = λ i. not_both_bits _ _ (sym (bit_at_and a b i) ∙ ap (λ n. bit_at n i) apart ∙ bit_at-zero i) in
+          let past : trailing_zeros w16 (bit_and a b) ≡ 16 = ap (trailing_zeros w16) apart ∙ trailing_of_zero 16 in
+          record {
+            within = λ low. absurd (omega (arith, past, low));
+            none_below = λ i _. none i;
+            no_other = λ _ i. none i;
+          }
+      | inr some ↦
+          let small : bit_and a b < 2 ^ 9 = omega (arith, and_le_l a b, below) in
+          let found = bit_at-trailing_zeros w16 (bit_and a b) (omega (arith, some)) (omega (arith, small)) in
+          let place = trailing_zeros w16 (bit_and a b) in
+          record {
+            within = λ _. both_bits _ _ (bit_at-lt a place) (bit_at-lt b place) (sym (bit_at_and a b place) ∙ found.1);
+            none_below = λ i low. not_both_bits _ _ (sym (bit_at_and a b i) ∙ found.2 i low);
+            no_other = λ past. absurd (omega (arith, bit_at_above (bit_and a b) 9 place small past, found.1));
+          }
+    ]
+
+-- `(a & b).trailing_zeros()` is the number of the lowest mode that is in both masks, and no mode's where there is none
+pub lowest_in : (a b : ℕ) → IsModeMask a → (mode : Mode) → number_of mode ≡ trailing_zeros w16 (bit_and a b) → (set_has a mode ≡ true) × (set_has b mode ≡ true)
+lowest_in a b is mode e =
+    let low : number_of mode < 9 = (number_of-within mode).1 in
+    rw e ((lowest_bit a b is.below).within (omega (arith, low, e)))
+
+pub lowest_below : (a b : ℕ) → IsModeMask a → (mode lower : Mode) → number_of mode ≡ trailing_zeros w16 (bit_and a b) → number_of lower < number_of mode → (set_has a lower && set_has b lower) ≡ false
+lowest_below a b is mode lower e under = (lowest_bit a b is.below).none_below (number_of lower) (omega (arith, under, e))
+
+pub lowest_none : (a b : ℕ) → IsModeMask a → ((mode : Mode) → number_of mode ≢ trailing_zeros w16 (bit_and a b)) → (mode : Mode) → (set_has a mode && set_has b mode) ≡ false
+lowest_none a b is unknown mode = at_place (trailing_zeros w16 (bit_and a b)) (lowest_bit a b is.below) unknown where
+  at_place : (place : ℕ) → IsLowest a b place → ((mode : Mode) → number_of mode ≢ place) → (set_has a mode && set_has b mode) ≡ false
+  at_place place low unknown =
+      elim (cases_lt place 9) [
+        | inl below ↦
+            elim (cases_eq place 0) [
+              | inl none ↦ absurd (false≢true (sym (rw (none, is.no_mode_zero) refl) ∙ (low.within below).0))
+              | inr some ↦ let found = mode_numbered place (omega (arith, some)) below in absurd (unknown found.0 found.1)
+            ]
+        | inr past ↦ low.no_other past (number_of mode)
+      ]

@@ -1,4 +1,4 @@
-ghost use Rattle.std.specs.Prelude.{◌≡◌, ◌≤◌, ◌||◌, ◌&&◌, not, ℕ, true, false};
+ghost use Rattle.std.specs.Prelude.{◌≡◌, ◌<◌, ◌≤◌, ◌||◌, ◌&&◌, not, ℕ, true, false, IfSome, IfNone};
 ghost use Rattle.std.specs.List.{list_any};
 ghost use Rattle.modes_core.specs.Mode.{mode_eq, number_of};
 ghost use Rattle.modes_core.specs.Conflict.{conflict};
@@ -62,6 +62,16 @@ impl ModeSet {
         ensures { result ≡ list_any (λ mode. set_has self mode && set_has other mode) all_modes }
     {
         self.mask & other.mask != 0
+    }
+
+    /// The mode with the lowest number that is in both sets, or `None` where there is none.
+    pub fn lowest_in_both(self, other: Self) -> Option<Mode>
+        ensures in_both { IfSome result (λ mode. (set_has self mode ≡ true) × (set_has other mode ≡ true)) }
+        ensures lowest { IfSome result (λ mode. (lower : _) → number_of lower < number_of mode →
+            (set_has self lower && set_has other lower) ≡ false) }
+        ensures none { IfNone result ((mode : _) → (set_has self mode && set_has other mode) ≡ false) }
+    {
+        Mode::from_number((self.mask & other.mask).trailing_zeros() as u8)
     }
 
     /// The mask, in which bit `1 << number` is set for each mode of the set.

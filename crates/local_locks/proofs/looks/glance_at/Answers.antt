@@ -1,9 +1,7 @@
 use Rattle.std.proofs.Common.{◌<◌, sym, ap, ◌∙◌, length, arith}
 use Rattle.std.proofs.lemmas.List.{get_or_default}
-use Rattle.modes_core.specs.declared.tags.Tag.{Tag}
-use Rattle.modes_core.specs.declared.tags.Tag.TheVariants.{Relation}
 use Rattle.local_locks.specs.Owned.{is_of}
-use Rattle.local_locks.specs.Slots.{opened, entry_at, object_bits, hash_of}
+use Rattle.local_locks.specs.Slots.{opened}
 use Rattle.local_locks.proofs.IndexLaws.{noted_within}
 use Rattle.local_locks.proofs.OpenLaws.{length-opened}
 use Rattle.local_locks.proofs.LookLaws.{missing_of}
@@ -15,16 +13,13 @@ bounds-slots-place c =
 
 pub returns-in-None : goal.returns-in-None
 returns-in-None c =
-    missing_of c.args.slots.now c.args.index.now c.requires c.args.tag.now c.args.mode c.hash_of.result
-    (c.hash_of.ensures ∙ ap (λ object. hash_of object c.args.mode) (c.pair_bits.ensures ∙ sym (ap object_bits c.in-Relation.is)))
+    missing_of c.args.slots.now c.args.index.now c.requires c.args.tag.now c.args.mode c.key_hash.result c.key_hash.ensures
     (λ place some. absurd (omega (arith, c.in-None.ensures {u = tt} place, some)))
 
-pub returns-then-is_of_relation : goal.returns-then-is_of_relation
-returns-then-is_of_relation c =
+pub returns-then-is_of : goal.returns-then-is_of
+returns-then-is_of c =
     let es = c.args.slots.now in
     let within : c.in-Some.place < length es = omega (arith, noted_within (opened es) c.args.index.now c.requires c.in-Some.place (c.in-Some.ensures {u = tt}).0 (c.in-Some.ensures {u = tt}).1, length-opened es) in (
       within,
-      ap (λ (tag : Tag). is_of tag c.args.mode (entry_at es c.in-Some.place)) c.in-Relation.is
-          ∙ (ap (is_of (Relation c.in-Relation.database c.in-Relation.relation) c.args.mode) (sym (get_or_default es c.in-Some.place _ _ within))
-          ∙ (sym c.is_of_relation.ensures ∙ c.if-is_of_relation.true)),
+      ap (is_of c.args.tag.now c.args.mode) (sym (get_or_default es c.in-Some.place _ _ within)) ∙ (sym c.is_of.ensures ∙ c.if-is_of.true),
     )

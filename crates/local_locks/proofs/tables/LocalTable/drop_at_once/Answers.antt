@@ -1,11 +1,10 @@
 use Rattle.std.proofs.Common.{inl, Vec, Global, ◌≡◌, ◌≢◌, ℕ, ◌<◌, List, length, refl, sym, ap, subst, ◌∙◌, arith}
 use Rattle.std.proofs.lemmas.List.{get_or_default}
-use Rattle.modes_core.specs.declared.tags.Tag.{Tag}
 use Rattle.local_locks.specs.declared.answers.Unlocked.TheVariants.{Released, StillHeld}
 use Rattle.std.specs.Prelude.{vec_capacity, slice_index_or}
 use Rattle.modes_core.specs.declared.sessions.Owner.{Owner}
 use Rattle.local_locks.specs.declared.records.Entry.{Entry}
-use Rattle.local_locks.specs.Owned.{IsWellOwned, max_count, is_of, count_for, count_in_all, own_count_of, total_of, with_one_less}
+use Rattle.local_locks.specs.Owned.{IsWellOwned, max_count, count_for, count_in_all, own_count_of, total_of, with_one_less}
 use Rattle.local_locks.specs.Levels.{row_at, IsLeveledTable}
 use Rattle.local_locks.proofs.LevelLaws.{owned_of, own_count-at}
 use Rattle.local_locks.proofs.LevelSteps.{paced-last, table-with, taken-table, leveled-first, first_lists, own_count-first}
@@ -22,11 +21,8 @@ use Rattle.local_locks.proofs.tables.LocalTable.drop_at_once.Goals.{Then-lower_h
 pub returns-then-last-len-clause-well_owned : goal.returns-then-last-len-clause-well_owned
 returns-then-last-len-clause-well_owned c = subst IsWellOwned c.self.view_is (well_owned _ _ _ _ _ _ _ _ _ _ _ c.self.invariant.0)
 
-pub returns-in_default-clause-well_owned : goal.returns-in_default-clause-well_owned
-returns-in_default-clause-well_owned c = subst IsWellOwned c.self.view_is (well_owned _ _ _ _ _ _ _ _ _ _ _ c.self.invariant.0)
-
-pub returns-then-not-is_of_relation-clause-well_owned : goal.returns-then-not-is_of_relation-clause-well_owned
-returns-then-not-is_of_relation-clause-well_owned c = subst IsWellOwned c.self.view_is (well_owned _ _ _ _ _ _ _ _ _ _ _ c.self.invariant.0)
+pub returns-then-not-is_of-clause-well_owned : goal.returns-then-not-is_of-clause-well_owned
+returns-then-not-is_of-clause-well_owned c = subst IsWellOwned c.self.view_is (well_owned _ _ _ _ _ _ _ _ _ _ _ c.self.invariant.0)
 
 pub returns-then-not-is_only-clause-well_owned : goal.returns-then-not-is_only-clause-well_owned
 returns-then-not-is_only-clause-well_owned c =
@@ -51,7 +47,7 @@ at c =
     let within : c.self.inside.last < length es = omega (arith, c.if-last-len.false, c.len.ensures, c.self.inside.slots.ok.0) in
     place_read es c.self.inside.index c.self.invariant.0.table.kept.indexed c.args.tag.now c.args.mode c.args.owner c.self.inside.last
     c.index.result.now (c.index.ensures ∙ get_or_default es c.self.inside.last c.index.result.now _ within)
-    (ap (λ (tag : Tag). is_of tag c.args.mode c.index.result.now) c.in-Relation.is ∙ (sym c.is_of_relation.ensures ∙ c.if-not-is_of_relation.false)) (omega (arith, above_one c))
+    (sym c.is_of.ensures ∙ c.if-not-is_of.false) (omega (arith, above_one c))
 
 more : (c : Then-lower_held) → count_in_all (entry_at c.self.inside.slots.items c.self.inside.last) ≢ 1
 more c = more-by c.args.owner (entry_at c.self.inside.slots.items c.self.inside.last) (above_one c)
@@ -148,7 +144,7 @@ at_only c =
     let within : c.self.inside.last < length es = omega (arith, c.if-last-len.false, c.len.ensures, c.self.inside.slots.ok.0) in
     place_read c.lower_held.new.slots.items c.self.inside.index (still c).kept.indexed c.args.tag.now c.args.mode c.args.owner c.self.inside.last c.index.result.now
     (c.index.ensures ∙ (get_or_default es c.self.inside.last c.index.result.now _ within ∙ ap (λ (l : List Entry). entry_at l c.self.inside.last) (sym (same c))))
-    (ap (λ (tag : Tag). is_of tag c.args.mode c.index.result.now) c.in-Relation.is ∙ (sym c.is_of_relation.ensures ∙ c.if-not-is_of_relation.false)) (omega (arith, (only c).0))
+    (sym c.is_of.ensures ∙ c.if-not-is_of.false) (omega (arith, (only c).0))
 
 -- and the first level
 first_too : (c : goal.After-self-2-1) → (c.self.inside.depth ≡ 0) × (c.self.inside.at_once ≡ max_count)

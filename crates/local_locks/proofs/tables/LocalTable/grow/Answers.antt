@@ -1,4 +1,4 @@
-use Rattle.std.proofs.Common.{◌≤◌, ◌∙◌, false, sym, refl, subst, arith, length}
+use Rattle.std.proofs.Common.{◌≤◌, ◌∙◌, sym, refl, subst, arith, length}
 use Rattle.std.specs.Prelude.{vec_capacity}
 use Rattle.local_locks.specs.Owned.{IsWellOwned}
 use Rattle.local_locks.specs.Levels.{IsLeveledTable}

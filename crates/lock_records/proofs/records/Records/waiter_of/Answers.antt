@@ -1,1 +1,0 @@
-use Rattle.lock_records.proofs.records.Records.waiter_of.Goals as goal

@@ -1,5 +1,5 @@
 use Rattle.std.proofs.lemmas.Bool.{true≢false}
-use Rattle.std.specs.Prelude.{is_some, not, IfNone, Option, Some, true}
+use Rattle.std.specs.Prelude.{is_some, not, IfNone, Option, Some}
 use Rattle.std.proofs.Common.{◌≡◌, false, None, List, sym, ap, ◌∙◌, subst, arith}
 use Rattle.slab.specs.Slab.{Slab, slab_len}
 use Rattle.lock_table.specs.declared.request.Request.{Request}
