@@ -244,6 +244,7 @@ impl<T: PartTable, B: Board<T>> OwnSession<T, B> {
 
     /// Gives one count of an owner back, and with the last one the hold (`LockRelease` in lock.c). Refused where the owner
     /// has no count; nothing has changed then.
+    #[inline(always)]
     pub fn unlock<R: Wait>(
         &mut self,
         rt: &R,
