@@ -1,6 +1,6 @@
 //! Desks, which open, count and close the sessions of a manager for a program that is written over any board.
 
-ghost use Rattle.std.specs.Prelude.{◌≡◌, ◌+◌, ◌-◌, [], All, length, map, IfOk, OnOk, OnErr};
+ghost use Rattle.std.specs.Prelude.{◌≡◌, ◌<◌, ◌+◌, ◌-◌, [], All, length, map, IfOk, OnOk, OnErr};
 ghost use Rattle.lock_manager.specs.Audits.{entries_owned, strong_owned};
 ghost use Rattle.lock_manager.specs.Managers.{IsOpenerOf};
 ghost use Rattle.lock_manager.specs.Sessions.{DontConflict};
@@ -23,7 +23,9 @@ pub trait Desk<S> {
     // Whose sessions they are.
     ghost manager: { Self → ManagerView };
 
-    // How many of them are open.
+    // How many of them were opened, and how many are open.
+    ghost issued: { Self → ℕ };
+
     ghost live: { Self → ℕ };
 
     // At which table a session is, and under which number.
@@ -42,7 +44,10 @@ pub trait Desk<S> {
         ensures database { IfOk result (λ session. database_of session ≡ database) }
         ensures nothing { IfOk result (λ session. entries session ≡ []) }
         ensures live { OnOk result (live self.new ≡ live self.old + 1) }
-        ensures refused { OnErr result (live self.new ≡ live self.old) };
+        ensures refused { OnErr result (live self.new ≡ live self.old) }
+        ensures few { OnOk result (issued self.old < 64) }
+        ensures issued { OnOk result (issued self.new ≡ issued self.old + 1) }
+        ensures none_issued { OnErr result (issued self.new ≡ issued self.old) };
 
     /// How many are open.
     fn live(&self) -> u32
@@ -65,6 +70,7 @@ pub trait Desk<S> {
         requires all { length sessions.old.items ≡ live self.old }
         ensures manager { manager self.new ≡ manager self.old }
         ensures live { live self.new ≡ live self.old }
+        ensures issued { issued self.new ≡ issued self.old }
         ensures holds { IfOk result (λ audit. audit.fast + audit.table ≡ entries_owned entries sessions.old.items) }
         ensures strong { IfOk result (λ audit. audit.strong ≡ strong_owned entries sessions.old.items) }
         ensures kept { map entries sessions.new.items ≡ map entries sessions.old.items }
@@ -75,7 +81,8 @@ pub trait Desk<S> {
     fn close<R: Wait>(&mut self, rt: &R, session: S)
         requires own { (seat session).table ≡ (manager self.old).table }
         ensures manager { manager self.new ≡ manager self.old }
-        ensures live { live self.new ≡ live self.old - 1 };
+        ensures live { live self.new ≡ live self.old - 1 }
+        ensures issued { issued self.new ≡ issued self.old };
 }
 
 /// The desk of a manager: the manager with its opener.
@@ -109,6 +116,8 @@ impl<'a> ManagerDesk<'a> {
 
 impl<'a> Desk<Session<'a>> for ManagerDesk<'a> {
     ghost manager = { λ desk. desk.manager.now };
+
+    ghost issued = { λ desk. desk.opener.issued };
 
     ghost live = { λ desk. desk.opener.live };
 
@@ -151,6 +160,7 @@ impl<'a> Desk<Session<'a>> for ManagerDesk<'a> {
         requires all { length sessions.old.items ≡ self.old.opener.live }
         ensures manager { self.new.manager.now ≡ self.old.manager.now }
         ensures live { self.new.opener.live ≡ self.old.opener.live }
+        ensures issued { self.new.opener.issued ≡ self.old.opener.issued }
         ensures holds { IfOk result (λ audit.
             audit.fast + audit.table ≡ entries_owned (λ session. session.owned.entries) sessions.old.items) }
         ensures strong { IfOk result (λ audit. audit.strong ≡ strong_owned (λ session. session.owned.entries) sessions.old.items) }
@@ -168,6 +178,7 @@ impl<'a> Desk<Session<'a>> for ManagerDesk<'a> {
             ≡ self.old.manager.now.table }
         ensures manager { self.new.manager.now ≡ self.old.manager.now }
         ensures live { self.new.opener.live ≡ self.old.opener.live - 1 }
+        ensures issued { self.new.opener.issued ≡ self.old.opener.issued }
     {
         session.close(rt, &mut self.opener);
     }

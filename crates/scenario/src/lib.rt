@@ -3,7 +3,6 @@
 #![tactic(auto)]
 
 mod arguments;
-mod desk;
 mod hammer;
 mod hints;
 mod json;
@@ -22,7 +21,6 @@ mod style;
 mod workers;
 
 pub use arguments::{Hammer, Limits, NoRun, Task, parse_arguments};
-pub use desk::{Desk, SharedDesk};
 pub use hammer::{run_hammer, run_watched_hammer};
 pub use modes::print_modes;
 pub use output::Output;

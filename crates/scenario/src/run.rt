@@ -1,16 +1,14 @@
 //! Scripts: a line is read, run and answered before the next one is read.
 ghost use Rattle.std.specs.Prelude.{◌≡◌, ◌≤◌, ◌<◌, [], true, length, Ok, IfOk};
-ghost use Rattle.lock_manager.specs.Managers.{IsOpenerOf};
+ghost use Rattle.lock_manager.specs.Crews.{SeatsAre};
 ghost use Rattle.lock_script.specs.Command.{Addresses, NamesCounter};
 ghost use Rattle.lock_script.specs.Sessions.{IsThere, MayAct};
-ghost use Rattle.scenario.specs.Stage.{SeatsAre};
 
-use crate::desk::{Desk, SharedDesk};
 use crate::output::Output;
 use crate::sessions::{Began, Looked, Stage};
 use crate::shell::Shell;
 use crate::style::Style;
-use lock_manager::{Config, Manager, Opener, OwnSession, Owner, Refusal, TableRow, Tag};
+use lock_manager::{Config, Desk, Manager, ManagerDesk, OwnSession, Owner, Refusal, TableRow, Tag};
 use lock_script::{Caller, Command, Fault, LineReader, Name, Opened, Target, parse};
 use lock_table::PartTable;
 use shared_rule::Board;
@@ -83,143 +81,121 @@ fn act_out<H: AllocGlobal + Wait, R: Read + Drop, W: Write + Drop>(
         return Err(Fault::NoMemory);
     };
     let output = Output::styled(alloc, writer, style);
-    let played = play(
-        rt,
-        alloc,
-        &SharedDesk,
-        &manager,
-        opener,
-        reader,
-        output,
-        shell,
-    );
-    let Ok((opener, ended)) = played else {
+    let desk = ManagerDesk::new(&manager, opener);
+    let Ok((desk, ended)) = play(rt, alloc, desk, reader, output, shell) else {
         return Err(Fault::NoMemory);
     };
+    let opener = desk.into_opener();
     manager.finish(opener);
     ended
 }
 
-/// Runs a script with the sessions that the desk opens for this manager, of which none is open after it. It is not begun
-/// where there is no memory for the list of them.
+/// Runs a script with the sessions that the desk opens, of which none is open after it. It is not begun where there is no
+/// memory for the list of them.
 fn play<
-    'a,
     T: PartTable,
     B: Board<T>,
-    D: Desk<'a, OwnSession<T, B>>,
+    D: Desk<OwnSession<T, B>> + Drop,
     H: Wait,
     R: Read + Drop,
     W: Write + Drop,
 >(
     rt: &H,
     alloc: Global,
-    desk: &D,
-    manager: &'a Manager,
-    opener: Opener,
+    desk: D,
     reader: R,
     output: Output<W>,
     shell: Option<Shell>,
-) -> Result<(Opener, Result<(), Fault>), AllocError>
+) -> Result<(D, Result<(), Fault>), AllocError>
     requires seats { SeatsAre B.seat D.seat }
-    requires own { IsOpenerOf opener manager.now }
-    requires none_issued { opener.issued ≡ 0 }
-    requires none_live { opener.live ≡ 0 }
-    ensures own { IfOk result (λ played. IsOpenerOf played.0 manager.now) }
-    ensures none_live { IfOk result (λ played. played.0.live ≡ 0) }
+    requires none_issued { D.issued desk ≡ 0 }
+    requires none_live { D.live desk ≡ 0 }
+    ensures manager { IfOk result (λ played. D.manager played.0 ≡ D.manager desk) }
+    ensures none_live { IfOk result (λ played. D.live played.0 ≡ 0) }
 {
-    let stage = Stage::new(alloc, manager, opener)?;
-    let mut scene = Scene { stage, output };
-    let ended = scene.act_out(desk, rt, reader, shell);
-    Ok((scene.into_stage().into_opener(), ended))
+    let mut scene = Scene::new(alloc, desk, output)?;
+    let ended = scene.act_out(rt, reader, shell);
+    let Scene { stage, output: _ } = scene;
+    let Stage {
+        desk,
+        names: _,
+        sessions,
+    } = stage;
+    sessions.finish();
+    Ok((desk, ended))
 }
 
-/// What the lines of a script act on: a lock manager with its sessions, and the output.
-pub struct Scene<'a, T: PartTable, B: Board<T>, W: Write + Drop> {
-    pub stage: Stage<'a, T, B>,
-    pub(crate) output: Output<W>,
+/// What the lines of a script act on: a desk with its sessions, and the output.
+pub struct Scene<T: PartTable, B: Board<T>, D: Desk<OwnSession<T, B>>, W: Write + Drop> {
+    pub stage: Stage<T, B, D>,
+    pub output: Output<W>,
 }
 
-impl<'a, T: PartTable, B: Board<T>, W: Write + Drop> Scene<'a, T, B, W> {
-    /// A scene whose answers go to this writer.
-    pub fn new(stage: Stage<'a, T, B>, writer: W) -> Self
-        ensures { result.stage ≡ stage.entry }
+impl<T: PartTable, B: Board<T>, D: Desk<OwnSession<T, B>>, W: Write + Drop> Scene<T, B, D, W> {
+    /// A scene at a desk at which no session was opened yet. The desk is let go where there is no memory for the list of sessions.
+    pub fn new(alloc: Global, desk: D, output: Output<W>) -> Result<Self, AllocError>
+    where
+        D: Drop,
+        requires none_issued { D.issued desk ≡ 0 }
+        requires none_live { D.live desk ≡ 0 }
+        ensures desk { IfOk result (λ scene. scene.stage.desk ≡ desk) }
+        ensures none_waits { IfOk result (λ scene. scene.stage.sessions.waiting ≡ []) }
+        ensures none_open { IfOk result (λ scene. scene.stage.sessions.resting ≡ []) }
     {
-        Scene {
-            stage,
-            output: Output::new(writer),
-        }
-    }
-
-    /// The stage, where the scene is over.
-    pub fn into_stage(self) -> Stage<'a, T, B>
-        ensures { result ≡ self.entry.stage }
-    {
-        let Scene { stage, output: _ } = self;
-        stage
+        let stage = Stage::new(alloc, desk)?;
+        Ok(Scene { stage, output })
     }
 
     /// Plays a script: runs its lines to their end or to the first fault, and then closes the sessions that
     /// are open.
-    pub fn play<D: Desk<'a, OwnSession<T, B>>, H: Wait, R: Read + Drop>(
-        &mut self,
-        desk: &D,
-        rt: &H,
-        reader: R,
-    ) -> Result<(), Fault>
+    pub fn play<H: Wait, R: Read + Drop>(&mut self, rt: &H, reader: R) -> Result<(), Fault>
         requires seats { SeatsAre B.seat D.seat }
-        ensures manager { self.new.stage.manager.now ≡ self.old.stage.manager.now }
+        ensures manager { D.manager self.new.stage.desk ≡ D.manager self.old.stage.desk }
         ensures none_waits { self.new.stage.sessions.waiting ≡ [] }
         ensures none_open { self.new.stage.sessions.resting ≡ [] }
-        ensures none_live { self.new.stage.opener.live ≡ 0 }
+        ensures none_live { D.live self.new.stage.desk ≡ 0 }
     {
-        self.act_out(desk, rt, reader, None)
+        self.act_out(rt, reader, None)
     }
 
     /// Plays a script, or has a shell, and then closes the sessions that are open.
-    fn act_out<D: Desk<'a, OwnSession<T, B>>, H: Wait, R: Read + Drop>(
+    fn act_out<H: Wait, R: Read + Drop>(
         &mut self,
-        desk: &D,
         rt: &H,
         reader: R,
         shell: Option<Shell>,
     ) -> Result<(), Fault>
         requires seats { SeatsAre B.seat D.seat }
-        ensures manager { self.new.stage.manager.now ≡ self.old.stage.manager.now }
+        ensures manager { D.manager self.new.stage.desk ≡ D.manager self.old.stage.desk }
         ensures none_waits { self.new.stage.sessions.waiting ≡ [] }
         ensures none_open { self.new.stage.sessions.resting ≡ [] }
-        ensures none_live { self.new.stage.opener.live ≡ 0 }
+        ensures none_live { D.live self.new.stage.desk ≡ 0 }
     {
-        let ended = self.run_all(desk, rt, reader, shell);
-        self.stage.close_all(desk, rt);
+        let ended = self.run_all(rt, reader, shell);
+        self.stage.close_all(rt);
         ended
     }
 
     /// Runs the lines of a script, or of a shell.
-    fn run_all<D: Desk<'a, OwnSession<T, B>>, H: Wait, R: Read + Drop>(
+    fn run_all<H: Wait, R: Read + Drop>(
         &mut self,
-        desk: &D,
         rt: &H,
         reader: R,
         shell: Option<Shell>,
     ) -> Result<(), Fault>
         requires seats { SeatsAre B.seat D.seat }
-        ensures manager { self.new.stage.manager.now ≡ self.old.stage.manager.now }
+        ensures manager { D.manager self.new.stage.desk ≡ D.manager self.old.stage.desk }
     {
         match shell {
-            None => self.run_lines(desk, rt, reader),
-            Some(shell) => self.converse(desk, rt, reader, shell),
+            None => self.run_lines(rt, reader),
+            Some(shell) => self.converse(rt, reader, shell),
         }
     }
 
     /// Runs the lines of the reader, to its end or to the first fault.
-    fn run_lines<D: Desk<'a, OwnSession<T, B>>, H: Wait, R: Read + Drop>(
-        &mut self,
-        desk: &D,
-        rt: &H,
-        reader: R,
-    ) -> Result<(), Fault>
+    fn run_lines<H: Wait, R: Read + Drop>(&mut self, rt: &H, reader: R) -> Result<(), Fault>
         requires seats { SeatsAre B.seat D.seat }
-        ensures manager { self.new.stage.manager.now ≡ self.old.stage.manager.now }
+        ensures manager { D.manager self.new.stage.desk ≡ D.manager self.old.stage.desk }
     {
         let mut lines = LineReader::new(reader);
         'lines: for _ in 0..u64::MAX {
@@ -234,58 +210,43 @@ impl<'a, T: PartTable, B: Board<T>, W: Write + Drop> Scene<'a, T, B, W> {
                 },
             )?;
             if let Some(command) = command {
-                self.run(desk, rt, command)?;
+                self.run(rt, command)?;
             }
         }
         Ok(())
     }
 
     /// Runs a command and then polls those who wait, and passes on what both print.
-    pub(crate) fn run<D: Desk<'a, OwnSession<T, B>>, H: Wait>(
-        &mut self,
-        desk: &D,
-        rt: &H,
-        command: Command,
-    ) -> Result<(), Fault>
+    pub(crate) fn run<H: Wait>(&mut self, rt: &H, command: Command) -> Result<(), Fault>
         requires seats { SeatsAre B.seat D.seat }
         requires addressed { Addresses self.old.stage.sessions command }
         requires counter { NamesCounter command }
-        ensures manager { self.new.stage.manager.now ≡ self.old.stage.manager.now }
+        ensures manager { D.manager self.new.stage.desk ≡ D.manager self.old.stage.desk }
     {
-        self.act(desk, rt, command)?;
+        self.act(rt, command)?;
         self.poll_all(rt)?;
         self.output.flush()
     }
 
     /// Runs a command.
-    fn act<D: Desk<'a, OwnSession<T, B>>, H: Wait>(
-        &mut self,
-        desk: &D,
-        rt: &H,
-        command: Command,
-    ) -> Result<(), Fault>
+    fn act<H: Wait>(&mut self, rt: &H, command: Command) -> Result<(), Fault>
         requires seats { SeatsAre B.seat D.seat }
         requires addressed { Addresses self.old.stage.sessions command }
         requires counter { NamesCounter command }
-        ensures manager { self.new.stage.manager.now ≡ self.old.stage.manager.now }
+        ensures manager { D.manager self.new.stage.desk ≡ D.manager self.old.stage.desk }
     {
         match command {
-            Command::Session { name, database } => self.open(desk, name, database),
-            Command::Close(caller) => self.close(desk, rt, caller),
+            Command::Session { name, database } => self.open(name, database),
+            Command::Close(caller) => self.close(rt, caller),
             _ => self.call(rt, command),
         }
     }
 
-    fn open<D: Desk<'a, OwnSession<T, B>>>(
-        &mut self,
-        desk: &D,
-        name: Name,
-        database: u32,
-    ) -> Result<(), Fault>
+    fn open(&mut self, name: Name, database: u32) -> Result<(), Fault>
         requires seats { SeatsAre B.seat D.seat }
-        ensures manager { self.new.stage.manager.now ≡ self.old.stage.manager.now }
+        ensures manager { D.manager self.new.stage.desk ≡ D.manager self.old.stage.desk }
     {
-        match self.stage.open(desk, name, database) {
+        match self.stage.open(name, database) {
             Ok(session) => self.output.opened(&name, session, database),
             Err(refusal) => {
                 let stage = &self.stage;
@@ -294,17 +255,12 @@ impl<'a, T: PartTable, B: Board<T>, W: Write + Drop> Scene<'a, T, B, W> {
         }
     }
 
-    fn close<D: Desk<'a, OwnSession<T, B>>, H: Wait>(
-        &mut self,
-        desk: &D,
-        rt: &H,
-        caller: Caller,
-    ) -> Result<(), Fault>
+    fn close<H: Wait>(&mut self, rt: &H, caller: Caller) -> Result<(), Fault>
         requires seats { SeatsAre B.seat D.seat }
         requires place { MayAct self.old.stage.sessions caller.place }
-        ensures manager { self.new.stage.manager.now ≡ self.old.stage.manager.now }
+        ensures manager { D.manager self.new.stage.desk ≡ D.manager self.old.stage.desk }
     {
-        self.stage.close(desk, rt, caller.place);
+        self.stage.close(rt, caller.place);
         self.output.closed(&caller.name)
     }
 
@@ -312,7 +268,7 @@ impl<'a, T: PartTable, B: Board<T>, W: Write + Drop> Scene<'a, T, B, W> {
     fn call<H: Wait>(&mut self, rt: &H, command: Command) -> Result<(), Fault>
         requires addressed { Addresses self.old.stage.sessions command }
         requires counter { NamesCounter command }
-        ensures manager { self.new.stage.manager.now ≡ self.old.stage.manager.now }
+        ensures manager { D.manager self.new.stage.desk ≡ D.manager self.old.stage.desk }
     {
         match command {
             Command::Try(target, owner) => self.try_lock(rt, target, owner),
@@ -339,7 +295,7 @@ impl<'a, T: PartTable, B: Board<T>, W: Write + Drop> Scene<'a, T, B, W> {
     /// Polls those who wait, pass by pass, until a pass finds none that goes on. A pass in which one goes on
     /// leaves fewer who wait.
     fn poll_all<H: Wait>(&mut self, rt: &H) -> Result<(), Fault>
-        ensures manager { self.new.stage.manager.now ≡ self.old.stage.manager.now }
+        ensures manager { D.manager self.new.stage.desk ≡ D.manager self.old.stage.desk }
     {
         'passes: while self.poll_each(rt)? {}
         Ok(())
@@ -349,7 +305,7 @@ impl<'a, T: PartTable, B: Board<T>, W: Write + Drop> Scene<'a, T, B, W> {
     fn poll_each<H: Wait>(&mut self, rt: &H) -> Result<bool, Fault>
         ensures fewer { result ≡ Ok true →
             length self.new.stage.sessions.waiting < length self.old.stage.sessions.waiting }
-        ensures manager { self.new.stage.manager.now ≡ self.old.stage.manager.now }
+        ensures manager { D.manager self.new.stage.desk ≡ D.manager self.old.stage.desk }
     {
         let mut went_on = false;
         let mut place = 0;
@@ -370,7 +326,7 @@ impl<'a, T: PartTable, B: Board<T>, W: Write + Drop> Scene<'a, T, B, W> {
         ensures fewer { result ≡ Ok true →
             length self.new.stage.sessions.waiting < length self.old.stage.sessions.waiting }
         ensures no_more { length self.new.stage.sessions.waiting ≤ length self.old.stage.sessions.waiting }
-        ensures manager { self.new.stage.manager.now ≡ self.old.stage.manager.now }
+        ensures manager { D.manager self.new.stage.desk ≡ D.manager self.old.stage.desk }
     {
         match self.stage.look(rt, place) {
             Looked::Waits => Ok(false),
@@ -387,7 +343,7 @@ impl<'a, T: PartTable, B: Board<T>, W: Write + Drop> Scene<'a, T, B, W> {
 
     /// Says that a call was refused, and why.
     fn refuse(&mut self, name: &Name, refusal: Refusal) -> Result<(), Fault>
-        ensures manager { self.new.stage.manager.now ≡ self.old.stage.manager.now }
+        ensures manager { D.manager self.new.stage.desk ≡ D.manager self.old.stage.desk }
     {
         let stage = &self.stage;
         self.output.refused(&stage.names, name, refusal)
@@ -395,7 +351,7 @@ impl<'a, T: PartTable, B: Board<T>, W: Write + Drop> Scene<'a, T, B, W> {
 
     fn try_lock<H: Wait>(&mut self, rt: &H, target: Target, owner: Owner) -> Result<(), Fault>
         requires { MayAct self.old.stage.sessions target.caller.place }
-        ensures manager { self.new.stage.manager.now ≡ self.old.stage.manager.now }
+        ensures manager { D.manager self.new.stage.desk ≡ D.manager self.old.stage.desk }
     {
         let Caller { name, place } = target.caller;
         match self
@@ -409,7 +365,7 @@ impl<'a, T: PartTable, B: Board<T>, W: Write + Drop> Scene<'a, T, B, W> {
 
     fn try_fast(&mut self, target: Target, owner: Owner) -> Result<(), Fault>
         requires { MayAct self.old.stage.sessions target.caller.place }
-        ensures manager { self.new.stage.manager.now ≡ self.old.stage.manager.now }
+        ensures manager { D.manager self.new.stage.desk ≡ D.manager self.old.stage.desk }
     {
         let Caller { name, place } = target.caller;
         match self.stage.try_fast(place, target.tag, target.mode, owner) {
@@ -420,7 +376,7 @@ impl<'a, T: PartTable, B: Board<T>, W: Write + Drop> Scene<'a, T, B, W> {
 
     fn lock<H: Wait>(&mut self, rt: &H, target: Target, owner: Owner) -> Result<(), Fault>
         requires { MayAct self.old.stage.sessions target.caller.place }
-        ensures manager { self.new.stage.manager.now ≡ self.old.stage.manager.now }
+        ensures manager { D.manager self.new.stage.desk ≡ D.manager self.old.stage.desk }
     {
         let Caller { name, place } = target.caller;
         match self.stage.lock(rt, place, target.tag, target.mode, owner) {
@@ -432,7 +388,7 @@ impl<'a, T: PartTable, B: Board<T>, W: Write + Drop> Scene<'a, T, B, W> {
 
     fn waiters<H: Wait>(&mut self, rt: &H, target: Target) -> Result<(), Fault>
         requires { MayAct self.old.stage.sessions target.caller.place }
-        ensures manager { self.new.stage.manager.now ≡ self.old.stage.manager.now }
+        ensures manager { D.manager self.new.stage.desk ≡ D.manager self.old.stage.desk }
     {
         let Caller { name, place } = target.caller;
         match self.stage.has_waiters(rt, place, target.tag, target.mode) {
@@ -444,7 +400,7 @@ impl<'a, T: PartTable, B: Board<T>, W: Write + Drop> Scene<'a, T, B, W> {
     fn cancel(&mut self, by: Caller, other: Opened) -> Result<(), Fault>
         requires by { MayAct self.old.stage.sessions by.place }
         requires other { IsThere self.old.stage.sessions other.place }
-        ensures manager { self.new.stage.manager.now ≡ self.old.stage.manager.now }
+        ensures manager { D.manager self.new.stage.desk ≡ D.manager self.old.stage.desk }
     {
         let asked = self.stage.ask_cancel(by.place, other.place);
         self.output.asked(&by.name, &other.name, asked)
@@ -452,7 +408,7 @@ impl<'a, T: PartTable, B: Board<T>, W: Write + Drop> Scene<'a, T, B, W> {
 
     fn unlock<H: Wait>(&mut self, rt: &H, target: Target, owner: Owner) -> Result<(), Fault>
         requires { MayAct self.old.stage.sessions target.caller.place }
-        ensures manager { self.new.stage.manager.now ≡ self.old.stage.manager.now }
+        ensures manager { D.manager self.new.stage.desk ≡ D.manager self.old.stage.desk }
     {
         let Caller { name, place } = target.caller;
         match self.stage.unlock(rt, place, target.tag, target.mode, owner) {
@@ -463,7 +419,7 @@ impl<'a, T: PartTable, B: Board<T>, W: Write + Drop> Scene<'a, T, B, W> {
 
     fn commit<H: Wait>(&mut self, rt: &H, caller: Caller) -> Result<(), Fault>
         requires { MayAct self.old.stage.sessions caller.place }
-        ensures manager { self.new.stage.manager.now ≡ self.old.stage.manager.now }
+        ensures manager { D.manager self.new.stage.desk ≡ D.manager self.old.stage.desk }
     {
         self.stage.commit(rt, caller.place);
         self.output.committed(&caller.name)
@@ -471,7 +427,7 @@ impl<'a, T: PartTable, B: Board<T>, W: Write + Drop> Scene<'a, T, B, W> {
 
     fn abort<H: Wait>(&mut self, rt: &H, caller: Caller) -> Result<(), Fault>
         requires { MayAct self.old.stage.sessions caller.place }
-        ensures manager { self.new.stage.manager.now ≡ self.old.stage.manager.now }
+        ensures manager { D.manager self.new.stage.desk ≡ D.manager self.old.stage.desk }
     {
         self.stage.abort(rt, caller.place);
         self.output.aborted(&caller.name)
@@ -479,7 +435,7 @@ impl<'a, T: PartTable, B: Board<T>, W: Write + Drop> Scene<'a, T, B, W> {
 
     fn begin(&mut self, caller: Caller) -> Result<(), Fault>
         requires { MayAct self.old.stage.sessions caller.place }
-        ensures manager { self.new.stage.manager.now ≡ self.old.stage.manager.now }
+        ensures manager { D.manager self.new.stage.desk ≡ D.manager self.old.stage.desk }
     {
         let answer = self.stage.begin_nested(caller.place);
         self.say_level(&caller.name, answer)
@@ -487,7 +443,7 @@ impl<'a, T: PartTable, B: Board<T>, W: Write + Drop> Scene<'a, T, B, W> {
 
     fn commit_nested(&mut self, caller: Caller) -> Result<(), Fault>
         requires { MayAct self.old.stage.sessions caller.place }
-        ensures manager { self.new.stage.manager.now ≡ self.old.stage.manager.now }
+        ensures manager { D.manager self.new.stage.desk ≡ D.manager self.old.stage.desk }
     {
         let answer = self.stage.commit_nested(caller.place);
         self.say_level(&caller.name, answer)
@@ -495,7 +451,7 @@ impl<'a, T: PartTable, B: Board<T>, W: Write + Drop> Scene<'a, T, B, W> {
 
     fn abort_nested<H: Wait>(&mut self, rt: &H, caller: Caller) -> Result<(), Fault>
         requires { MayAct self.old.stage.sessions caller.place }
-        ensures manager { self.new.stage.manager.now ≡ self.old.stage.manager.now }
+        ensures manager { D.manager self.new.stage.desk ≡ D.manager self.old.stage.desk }
     {
         let answer = self.stage.abort_nested(rt, caller.place);
         self.say_level(&caller.name, answer)
@@ -503,7 +459,7 @@ impl<'a, T: PartTable, B: Board<T>, W: Write + Drop> Scene<'a, T, B, W> {
 
     /// The level that a session's transaction is at now, or why it is as it was.
     fn say_level(&mut self, name: &Name, answer: Result<u8, Refusal>) -> Result<(), Fault>
-        ensures manager { self.new.stage.manager.now ≡ self.old.stage.manager.now }
+        ensures manager { D.manager self.new.stage.desk ≡ D.manager self.old.stage.desk }
     {
         match answer {
             Ok(level) => self.output.level(name, level),
@@ -513,7 +469,7 @@ impl<'a, T: PartTable, B: Board<T>, W: Write + Drop> Scene<'a, T, B, W> {
 
     fn owned(&mut self, target: Target) -> Result<(), Fault>
         requires { MayAct self.old.stage.sessions target.caller.place }
-        ensures manager { self.new.stage.manager.now ≡ self.old.stage.manager.now }
+        ensures manager { D.manager self.new.stage.desk ≡ D.manager self.old.stage.desk }
     {
         let Target { caller, tag, mode } = target;
         let Caller { name, place } = caller;
@@ -524,7 +480,7 @@ impl<'a, T: PartTable, B: Board<T>, W: Write + Drop> Scene<'a, T, B, W> {
 
     fn list<H: Wait>(&mut self, rt: &H, caller: Caller) -> Result<(), Fault>
         requires { MayAct self.old.stage.sessions caller.place }
-        ensures manager { self.new.stage.manager.now ≡ self.old.stage.manager.now }
+        ensures manager { D.manager self.new.stage.desk ≡ D.manager self.old.stage.desk }
     {
         match self.stage.list(rt, caller.place) {
             Ok(listing) => {
@@ -539,7 +495,7 @@ impl<'a, T: PartTable, B: Board<T>, W: Write + Drop> Scene<'a, T, B, W> {
     /// Draws who waits for whom, by the rows of the table, if that is wanted.
     fn draw<H: Wait>(&mut self, rt: &H, caller: Caller, rows: &[TableRow]) -> Result<(), Fault>
         requires { MayAct self.old.stage.sessions caller.place }
-        ensures manager { self.new.stage.manager.now ≡ self.old.stage.manager.now }
+        ensures manager { D.manager self.new.stage.desk ≡ D.manager self.old.stage.desk }
     {
         let Some(pen) = self.output.pen() else {
             return Ok(());
@@ -555,7 +511,7 @@ impl<'a, T: PartTable, B: Board<T>, W: Write + Drop> Scene<'a, T, B, W> {
 
     fn queue<H: Wait>(&mut self, rt: &H, caller: Caller, tag: Tag) -> Result<(), Fault>
         requires { MayAct self.old.stage.sessions caller.place }
-        ensures manager { self.new.stage.manager.now ≡ self.old.stage.manager.now }
+        ensures manager { D.manager self.new.stage.desk ≡ D.manager self.old.stage.desk }
     {
         match self.stage.queue(rt, caller.place, tag) {
             Ok(rows) => {
@@ -575,7 +531,7 @@ impl<'a, T: PartTable, B: Board<T>, W: Write + Drop> Scene<'a, T, B, W> {
     ) -> Result<(), Fault>
         requires by { MayAct self.old.stage.sessions by.place }
         requires other { IsThere self.old.stage.sessions other.place }
-        ensures manager { self.new.stage.manager.now ≡ self.old.stage.manager.now }
+        ensures manager { D.manager self.new.stage.desk ≡ D.manager self.old.stage.desk }
     {
         match self.stage.blockers(rt, by.place, other.place, tag) {
             Ok(found) => {
@@ -590,7 +546,7 @@ impl<'a, T: PartTable, B: Board<T>, W: Write + Drop> Scene<'a, T, B, W> {
     fn count(&mut self, caller: Caller, index: u16) -> Result<(), Fault>
         requires by { MayAct self.old.stage.sessions caller.place }
         requires exists { index < 1024 }
-        ensures manager { self.new.stage.manager.now ≡ self.old.stage.manager.now }
+        ensures manager { D.manager self.new.stage.desk ≡ D.manager self.old.stage.desk }
     {
         let shown = self.stage.strong_count(caller.place, index);
         self.output.strong(index, shown)

@@ -1,15 +1,14 @@
-//! The lock manager of a script with its open sessions, which are called by their places. All is over any board: a desk
-//! opens and closes the sessions.
+//! The desk of a script with its open sessions, which are called by their places. All is over any board: the desk opens and
+//! closes the sessions.
 ghost use Rattle.std.specs.Prelude.{◌≡◌, ◌≤◌, ◌<◌, ◌+◌, [], All, length, IfOk, IfErr};
-ghost use Rattle.lock_manager.specs.Managers.{IsOpenerOf};
-ghost use Rattle.scenario.specs.Stage.{SeatsAre, going_on};
+ghost use Rattle.lock_manager.specs.Crews.{SeatsAre};
+ghost use Rattle.scenario.specs.Stage.{going_on};
 
-use crate::desk::Desk;
 use crate::picture::Picture;
 use crate::style::Pen;
 use lock_manager::{
-    Acquired, Asked, Blocker, Cancelled, Listing, Manager, Mode, Opener, OwnSession, OwnWaiting,
-    Owner, Polled, QueueRow, Refusal, SessionId, Started, TableRow, Tag, Unlocked,
+    Acquired, Asked, Blocker, Cancelled, Desk, Listing, Mode, OwnSession, OwnWaiting, Owner,
+    Polled, QueueRow, Refusal, SessionId, Started, TableRow, Tag, Unlocked,
 };
 use lock_script::{Name, Named, Names, OpenSessions, Place};
 use lock_table::PartTable;
@@ -35,56 +34,47 @@ pub enum Looked {
     Cancelled(Name),
 }
 
-/// A lock manager, its opener, the names of all sessions that were opened, and the open ones. Each of these is the
-/// manager's, and the opener counts them. It ends by `into_opener`, once no session is open.
-pub struct Stage<'a, T: PartTable, B: Board<T>> {
-    pub manager: &'a Manager,
-    pub opener: Opener,
+/// A desk, the names of all sessions that were opened there, and the open ones. Each of these is the desk's manager's, and the
+/// desk counts them. It is taken apart at its end, once no session is open.
+pub struct Stage<T: PartTable, B: Board<T>, D: Desk<OwnSession<T, B>>> {
+    pub desk: D,
     pub names: Names,
     pub sessions: OpenSessions<OwnSession<T, B>, OwnWaiting<T, B>>,
-    ghost own: { opener.table ≡ manager.now.table },
-    ghost size: { opener.limit ≡ manager.now.limit },
-    ghost groups: { opener.groups ≡ manager.now.groups },
-    ghost named: { length names ≡ opener.issued },
-    ghost few: { opener.issued ≤ 64 },
-    ghost within: { opener.live ≤ opener.issued },
-    ghost counted: { opener.live ≡ length sessions.resting + length sessions.waiting },
-    ghost resting: { All (λ one. (B.seat one.session.board).table ≡ opener.table) sessions.resting },
-    ghost waiting: { All (λ one. (B.seat one.session.board).table ≡ opener.table) sessions.waiting },
+    ghost named: { length names ≡ D.issued desk },
+    ghost few: { D.issued desk ≤ 64 },
+    ghost within: { D.live desk ≤ D.issued desk },
+    ghost counted: { D.live desk ≡ length sessions.resting + length sessions.waiting },
+    ghost resting: { All (λ one. (B.seat one.session.board).table ≡ (D.manager desk).table) sessions.resting },
+    ghost waiting: { All (λ one. (B.seat one.session.board).table ≡ (D.manager desk).table) sessions.waiting },
 }
 
-impl<'a, T: PartTable, B: Board<T>> Stage<'a, T, B> {
+impl<T: PartTable, B: Board<T>, D: Desk<OwnSession<T, B>>> Stage<T, B, D> {
     ghost use Rattle.lock_script.specs.Sessions.{IsThere, MayAct};
 
-    /// A manager that has no session yet, with its opener.
-    pub fn new(alloc: Global, manager: &'a Manager, opener: Opener) -> Result<Self, AllocError>
-        requires own { IsOpenerOf opener manager.now }
-        requires none_issued { opener.issued ≡ 0 }
-        requires none_live { opener.live ≡ 0 }
-        ensures manager { IfOk result (λ stage. stage.manager.now ≡ manager.now) }
+    /// A desk at which no session was opened yet. It is let go where there is no memory for the list of them.
+    pub fn new(alloc: Global, desk: D) -> Result<Self, AllocError>
+    where
+        D: Drop,
+        requires none_issued { D.issued desk ≡ 0 }
+        requires none_live { D.live desk ≡ 0 }
+        ensures desk { IfOk result (λ stage. stage.desk ≡ desk) }
         ensures none_waits { IfOk result (λ stage. stage.sessions.waiting ≡ []) }
         ensures none_open { IfOk result (λ stage. stage.sessions.resting ≡ []) }
     {
         let sessions = OpenSessions::new(alloc)?;
         Ok(Stage {
-            manager,
-            opener,
+            desk,
             names: Names::new(),
             sessions,
         })
     }
 
-    /// Has the desk open a session of this database under this name, and gives its number.
-    pub fn open<D: Desk<'a, OwnSession<T, B>>>(
-        &mut self,
-        desk: &D,
-        name: Name,
-        database: u32,
-    ) -> Result<SessionId, Refusal>
+    /// Opens a session of this database under this name, and gives its number.
+    pub fn open(&mut self, name: Name, database: u32) -> Result<SessionId, Refusal>
         requires seats { SeatsAre B.seat D.seat }
-        ensures manager { self.new.manager.now ≡ self.old.manager.now }
+        ensures manager { D.manager self.new.desk ≡ D.manager self.old.desk }
     {
-        match desk.open(self.manager, &mut self.opener, database) {
+        match self.desk.open(database) {
             Ok(session) => {
                 let number = session.id();
                 self.names.push(name);
@@ -95,46 +85,29 @@ impl<'a, T: PartTable, B: Board<T>> Stage<'a, T, B> {
         }
     }
 
-    /// Has the desk close a session. Its name is free again, and its number is not.
-    pub fn close<D: Desk<'a, OwnSession<T, B>>, H: Wait>(&mut self, desk: &D, rt: &H, place: usize)
+    /// Closes a session. Its name is free again, and its number is not.
+    pub fn close<H: Wait>(&mut self, rt: &H, place: usize)
         requires seats { SeatsAre B.seat D.seat }
         requires place { MayAct self.old.sessions place }
-        ensures manager { self.new.manager.now ≡ self.old.manager.now }
-        ensures live { self.new.opener.live + 1 ≡ self.old.opener.live }
+        ensures manager { D.manager self.new.desk ≡ D.manager self.old.desk }
+        ensures live { D.live self.new.desk + 1 ≡ D.live self.old.desk }
     {
         let Named { session, .. } = self.sessions.resting.take(place);
-        desk.close(rt, &mut self.opener, session);
+        self.desk.close(rt, session);
     }
 
     /// Cancels the waits of those that wait, and then closes all sessions, in the byte order of their names.
-    pub fn close_all<D: Desk<'a, OwnSession<T, B>>, H: Wait>(&mut self, desk: &D, rt: &H)
+    pub fn close_all<H: Wait>(&mut self, rt: &H)
         requires seats { SeatsAre B.seat D.seat }
-        ensures manager { self.new.manager.now ≡ self.old.manager.now }
+        ensures manager { D.manager self.new.desk ≡ D.manager self.old.desk }
         ensures none_waits { self.new.sessions.waiting ≡ [] }
         ensures none_open { self.new.sessions.resting ≡ [] }
-        ensures none_live { self.new.opener.live ≡ 0 }
+        ensures none_live { D.live self.new.desk ≡ 0 }
     {
         self.cancel_all(rt);
         'sessions: while let Some(first) = self.sessions.resting.take_first() {
-            desk.close(rt, &mut self.opener, first.session);
+            self.desk.close(rt, first.session);
         }
-    }
-
-    /// The opener, where the scene is over and no session is open.
-    pub fn into_opener(self) -> Opener
-        requires none_waits { self.sessions.waiting ≡ [] }
-        requires none_open { self.sessions.resting ≡ [] }
-        ensures opener { result ≡ self.entry.opener }
-        ensures own { IsOpenerOf result self.entry.manager.now }
-    {
-        let Stage {
-            manager: _,
-            opener,
-            names: _,
-            sessions,
-        } = self;
-        sessions.finish();
-        opener
     }
 
     /// Takes a mode on an object for an owner, or refuses at once.
@@ -147,7 +120,7 @@ impl<'a, T: PartTable, B: Board<T>> Stage<'a, T, B> {
         owner: Owner,
     ) -> Result<Acquired, Refusal>
         requires { MayAct self.old.sessions place }
-        ensures manager { self.new.manager.now ≡ self.old.manager.now }
+        ensures manager { D.manager self.new.desk ≡ D.manager self.old.desk }
     {
         self.sessions
             .resting
@@ -164,7 +137,7 @@ impl<'a, T: PartTable, B: Board<T>> Stage<'a, T, B> {
         owner: Owner,
     ) -> Result<Acquired, Refusal>
         requires { MayAct self.old.sessions place }
-        ensures manager { self.new.manager.now ≡ self.old.manager.now }
+        ensures manager { D.manager self.new.desk ≡ D.manager self.old.desk }
     {
         self.sessions
             .resting
@@ -182,7 +155,7 @@ impl<'a, T: PartTable, B: Board<T>> Stage<'a, T, B> {
         owner: Owner,
     ) -> Result<Began, Refusal>
         requires { MayAct self.old.sessions place }
-        ensures manager { self.new.manager.now ≡ self.old.manager.now }
+        ensures manager { D.manager self.new.desk ≡ D.manager self.old.desk }
     {
         let Named { name, session } = self.sessions.resting.take(place);
         match begin(rt, session, tag, mode, owner) {
@@ -206,7 +179,7 @@ impl<'a, T: PartTable, B: Board<T>> Stage<'a, T, B> {
         mode: Mode,
     ) -> Result<bool, Refusal>
         requires { MayAct self.old.sessions place }
-        ensures manager { self.new.manager.now ≡ self.old.manager.now }
+        ensures manager { D.manager self.new.desk ≡ D.manager self.old.desk }
     {
         self.sessions
             .resting
@@ -224,7 +197,7 @@ impl<'a, T: PartTable, B: Board<T>> Stage<'a, T, B> {
         owner: Owner,
     ) -> Result<Unlocked, Refusal>
         requires { MayAct self.old.sessions place }
-        ensures manager { self.new.manager.now ≡ self.old.manager.now }
+        ensures manager { D.manager self.new.desk ≡ D.manager self.old.desk }
     {
         self.sessions
             .resting
@@ -235,7 +208,7 @@ impl<'a, T: PartTable, B: Board<T>> Stage<'a, T, B> {
     /// Ends a transaction that succeeded.
     pub fn commit<H: Wait>(&mut self, rt: &H, place: usize)
         requires { MayAct self.old.sessions place }
-        ensures manager { self.new.manager.now ≡ self.old.manager.now }
+        ensures manager { D.manager self.new.desk ≡ D.manager self.old.desk }
     {
         self.sessions.resting.session_mut(place).commit(rt);
     }
@@ -243,7 +216,7 @@ impl<'a, T: PartTable, B: Board<T>> Stage<'a, T, B> {
     /// Ends a transaction that failed.
     pub fn abort<H: Wait>(&mut self, rt: &H, place: usize)
         requires { MayAct self.old.sessions place }
-        ensures manager { self.new.manager.now ≡ self.old.manager.now }
+        ensures manager { D.manager self.new.desk ≡ D.manager self.old.desk }
     {
         self.sessions.resting.session_mut(place).abort(rt);
     }
@@ -251,7 +224,7 @@ impl<'a, T: PartTable, B: Board<T>> Stage<'a, T, B> {
     /// Begins a level of the transaction, and answers which.
     pub fn begin_nested(&mut self, place: usize) -> Result<u8, Refusal>
         requires { MayAct self.old.sessions place }
-        ensures manager { self.new.manager.now ≡ self.old.manager.now }
+        ensures manager { D.manager self.new.desk ≡ D.manager self.old.desk }
     {
         self.sessions.resting.session_mut(place).begin_nested()
     }
@@ -259,7 +232,7 @@ impl<'a, T: PartTable, B: Board<T>> Stage<'a, T, B> {
     /// Ends the innermost level with success, and answers which is left.
     pub fn commit_nested(&mut self, place: usize) -> Result<u8, Refusal>
         requires { MayAct self.old.sessions place }
-        ensures manager { self.new.manager.now ≡ self.old.manager.now }
+        ensures manager { D.manager self.new.desk ≡ D.manager self.old.desk }
     {
         self.sessions.resting.session_mut(place).commit_nested()
     }
@@ -267,7 +240,7 @@ impl<'a, T: PartTable, B: Board<T>> Stage<'a, T, B> {
     /// Ends the innermost level with failure, and answers which is left.
     pub fn abort_nested<H: Wait>(&mut self, rt: &H, place: usize) -> Result<u8, Refusal>
         requires { MayAct self.old.sessions place }
-        ensures manager { self.new.manager.now ≡ self.old.manager.now }
+        ensures manager { D.manager self.new.desk ≡ D.manager self.old.desk }
     {
         self.sessions.resting.session_mut(place).abort_nested(rt)
     }
@@ -286,7 +259,7 @@ impl<'a, T: PartTable, B: Board<T>> Stage<'a, T, B> {
     /// All that is held and awaited.
     pub fn list<H: Wait>(&mut self, rt: &H, place: usize) -> Result<Listing, Refusal>
         requires { MayAct self.old.sessions place }
-        ensures manager { self.new.manager.now ≡ self.old.manager.now }
+        ensures manager { D.manager self.new.desk ≡ D.manager self.old.desk }
         ensures may_act { MayAct self.new.sessions place }
     {
         self.sessions.resting.session_mut(place).list(rt)
@@ -300,7 +273,7 @@ impl<'a, T: PartTable, B: Board<T>> Stage<'a, T, B> {
         tag: Tag,
     ) -> Result<Vec<QueueRow>, Refusal>
         requires { MayAct self.old.sessions place }
-        ensures manager { self.new.manager.now ≡ self.old.manager.now }
+        ensures manager { D.manager self.new.desk ≡ D.manager self.old.desk }
     {
         self.sessions.resting.session_mut(place).queue(rt, tag)
     }
@@ -315,7 +288,7 @@ impl<'a, T: PartTable, B: Board<T>> Stage<'a, T, B> {
     ) -> Result<Vec<Blocker>, Refusal>
         requires by { MayAct self.old.sessions place }
         requires other { IsThere self.old.sessions other }
-        ensures manager { self.new.manager.now ≡ self.old.manager.now }
+        ensures manager { D.manager self.new.desk ≡ D.manager self.old.desk }
     {
         let number = self.number_at(other);
         self.sessions
@@ -333,7 +306,7 @@ impl<'a, T: PartTable, B: Board<T>> Stage<'a, T, B> {
         rows: &[TableRow],
     ) -> Result<Picture, Refusal>
         requires { MayAct self.old.sessions place }
-        ensures manager { self.new.manager.now ≡ self.old.manager.now }
+        ensures manager { D.manager self.new.desk ≡ D.manager self.old.desk }
     {
         let session = self.sessions.resting.session_mut(place);
         draw(rt, session, pen, rows)
@@ -343,7 +316,7 @@ impl<'a, T: PartTable, B: Board<T>> Stage<'a, T, B> {
     pub fn strong_count(&mut self, place: usize, index: u16) -> u64
         requires by { MayAct self.old.sessions place }
         requires exists { index < 1024 }
-        ensures manager { self.new.manager.now ≡ self.old.manager.now }
+        ensures manager { D.manager self.new.desk ≡ D.manager self.old.desk }
     {
         self.sessions.resting.session_mut(place).strong_count(index)
     }
@@ -352,7 +325,7 @@ impl<'a, T: PartTable, B: Board<T>> Stage<'a, T, B> {
     pub fn ask_cancel(&mut self, place: usize, other: Place) -> Asked
         requires by { MayAct self.old.sessions place }
         requires other { IsThere self.old.sessions other }
-        ensures manager { self.new.manager.now ≡ self.old.manager.now }
+        ensures manager { D.manager self.new.desk ≡ D.manager self.old.desk }
     {
         let number = self.number_at(other);
         self.sessions.resting.session_mut(place).ask_cancel(number)
@@ -372,7 +345,7 @@ impl<'a, T: PartTable, B: Board<T>> Stage<'a, T, B> {
     pub fn look<H: Wait>(&mut self, rt: &H, place: usize) -> Looked
         requires { place < length self.old.sessions.waiting }
         ensures waiting { length self.new.sessions.waiting + going_on result ≡ length self.old.sessions.waiting }
-        ensures manager { self.new.manager.now ≡ self.old.manager.now }
+        ensures manager { D.manager self.new.desk ≡ D.manager self.old.desk }
     {
         let Named { name, session } = self.sessions.waiting.take(place);
         match look_at(rt, name, session) {
@@ -389,7 +362,7 @@ impl<'a, T: PartTable, B: Board<T>> Stage<'a, T, B> {
 
     /// Cancels the waits of those that wait.
     fn cancel_all<H: Wait>(&mut self, rt: &H)
-        ensures manager { self.new.manager.now ≡ self.old.manager.now }
+        ensures manager { D.manager self.new.desk ≡ D.manager self.old.desk }
         ensures none_waits { self.new.sessions.waiting ≡ [] }
     {
         'waits: while let Some(first) = self.sessions.waiting.take_first() {

@@ -1,11 +1,10 @@
 //! A shell: the lines of a script as somebody types them, with help, and with what is wrong with a bad one.
 ghost use Rattle.std.specs.Prelude.{◌≡◌};
-ghost use Rattle.scenario.specs.Stage.{SeatsAre};
+ghost use Rattle.lock_manager.specs.Crews.{SeatsAre};
 
-use crate::desk::Desk;
 use crate::hints::{correction, help};
 use crate::run::Scene;
-use lock_manager::OwnSession;
+use lock_manager::{Desk, OwnSession};
 use lock_script::{Defect, Fault, LineReader, Name, OpenSessions, parse, split_words};
 use lock_table::PartTable;
 use shared_rule::Board;
@@ -61,17 +60,16 @@ fn names_of<S, W>(alloc: Global, sessions: &OpenSessions<S, W>) -> Result<Vec<Na
     Ok(names)
 }
 
-impl<'a, T: PartTable, B: Board<T>, W: Write + Drop> Scene<'a, T, B, W> {
+impl<T: PartTable, B: Board<T>, D: Desk<OwnSession<T, B>>, W: Write + Drop> Scene<T, B, D, W> {
     /// Runs the lines of a shell, to the line that ends it, the end of the reader, or a fault that is no bad line's.
-    pub fn converse<D: Desk<'a, OwnSession<T, B>>, H: Wait, R: Read + Drop>(
+    pub fn converse<H: Wait, R: Read + Drop>(
         &mut self,
-        desk: &D,
         rt: &H,
         reader: R,
         shell: Shell,
     ) -> Result<(), Fault>
         requires seats { SeatsAre B.seat D.seat }
-        ensures manager { self.new.stage.manager.now ≡ self.old.stage.manager.now }
+        ensures manager { D.manager self.new.stage.desk ≡ D.manager self.old.stage.desk }
     {
         let mut lines = LineReader::new(reader);
         self.prompt(shell, GREETING)?;
@@ -79,7 +77,7 @@ impl<'a, T: PartTable, B: Board<T>, W: Write + Drop> Scene<'a, T, B, W> {
             self.prompt(shell, PROMPT)?;
             match lines.next_line() {
                 Ok(Some(line)) => {
-                    if self.answer(desk, rt, line.as_str(), shell)? {
+                    if self.answer(rt, line.as_str(), shell)? {
                         return Ok(());
                     }
                 }
@@ -92,7 +90,7 @@ impl<'a, T: PartTable, B: Board<T>, W: Write + Drop> Scene<'a, T, B, W> {
 
     /// Says something at a terminal.
     fn prompt(&mut self, shell: Shell, text: &'static str) -> Result<(), Fault>
-        ensures manager { self.new.stage.manager.now ≡ self.old.stage.manager.now }
+        ensures manager { D.manager self.new.stage.desk ≡ D.manager self.old.stage.desk }
     {
         if shell.is_terminal {
             self.output.tell(text)
@@ -103,7 +101,7 @@ impl<'a, T: PartTable, B: Board<T>, W: Write + Drop> Scene<'a, T, B, W> {
 
     /// Goes on behind a line that isn't ASCII text, which was read to its end. Other faults end the shell.
     fn pass_over(&mut self, fault: Fault) -> Result<(), Fault>
-        ensures manager { self.new.stage.manager.now ≡ self.old.stage.manager.now }
+        ensures manager { D.manager self.new.stage.desk ≡ D.manager self.old.stage.desk }
     {
         match fault {
             Fault::BadLine {
@@ -115,15 +113,9 @@ impl<'a, T: PartTable, B: Board<T>, W: Write + Drop> Scene<'a, T, B, W> {
     }
 
     /// Answers a line, and says whether it ends the shell.
-    fn answer<D: Desk<'a, OwnSession<T, B>>, H: Wait>(
-        &mut self,
-        desk: &D,
-        rt: &H,
-        line: &str,
-        shell: Shell,
-    ) -> Result<bool, Fault>
+    fn answer<H: Wait>(&mut self, rt: &H, line: &str, shell: Shell) -> Result<bool, Fault>
         requires seats { SeatsAre B.seat D.seat }
-        ensures manager { self.new.stage.manager.now ≡ self.old.stage.manager.now }
+        ensures manager { D.manager self.new.stage.desk ≡ D.manager self.old.stage.desk }
     {
         match shell.understand(line) {
             Ok(Asked::End) => Ok(true),
@@ -132,7 +124,7 @@ impl<'a, T: PartTable, B: Board<T>, W: Write + Drop> Scene<'a, T, B, W> {
                 Ok(false)
             }
             Ok(Asked::Line) => {
-                self.answer_line(desk, rt, line, shell)?;
+                self.answer_line(rt, line, shell)?;
                 Ok(false)
             }
             Err(_) => Err(Fault::NoMemory),
@@ -140,18 +132,12 @@ impl<'a, T: PartTable, B: Board<T>, W: Write + Drop> Scene<'a, T, B, W> {
     }
 
     /// Runs a line of a script, or tells what is wrong with it.
-    fn answer_line<D: Desk<'a, OwnSession<T, B>>, H: Wait>(
-        &mut self,
-        desk: &D,
-        rt: &H,
-        line: &str,
-        shell: Shell,
-    ) -> Result<(), Fault>
+    fn answer_line<H: Wait>(&mut self, rt: &H, line: &str, shell: Shell) -> Result<(), Fault>
         requires seats { SeatsAre B.seat D.seat }
-        ensures manager { self.new.stage.manager.now ≡ self.old.stage.manager.now }
+        ensures manager { D.manager self.new.stage.desk ≡ D.manager self.old.stage.desk }
     {
         match parse(line, &self.stage.sessions) {
-            Ok(Some(command)) => self.run(desk, rt, command),
+            Ok(Some(command)) => self.run(rt, command),
             Ok(None) => Ok(()),
             Err(what) => self.correct(line, what, shell),
         }
@@ -159,7 +145,7 @@ impl<'a, T: PartTable, B: Board<T>, W: Write + Drop> Scene<'a, T, B, W> {
 
     /// Tells what is wrong with a line.
     fn correct(&mut self, line: &str, what: Defect, shell: Shell) -> Result<(), Fault>
-        ensures manager { self.new.stage.manager.now ≡ self.old.stage.manager.now }
+        ensures manager { D.manager self.new.stage.desk ≡ D.manager self.old.stage.desk }
     {
         let stage = &self.stage;
         match correct_text(shell.alloc, line, what, &stage.sessions) {

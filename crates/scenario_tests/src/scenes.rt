@@ -1,12 +1,11 @@
 //! Scripts of as many sessions as there can be, and what is left when a script has ended.
 ghost use Rattle.std.specs.Prelude.{◌≡◌};
-ghost use Rattle.lock_manager.specs.Managers.{IsOpenerOf};
-ghost use Rattle.scenario.specs.Stage.{SeatsAre};
+ghost use Rattle.lock_manager.specs.Crews.{SeatsAre};
 
 use crate::scripts::{ALL_SESSIONS, expect_run};
-use lock_manager::{Manager, Opener, OwnSession};
+use lock_manager::{Desk, Manager, ManagerDesk, OwnSession};
 use lock_table::PartTable;
-use scenario::{Desk, Scene, SharedDesk, Stage};
+use scenario::{Output, Scene, Stage};
 use shared_rule::Board;
 use std::alloc::Global;
 use std::process::Abort;
@@ -63,28 +62,30 @@ const PRINTED: &str = "b: session 0 database 5\na: session 1 database 5\nc: sess
     b: granted\na: granted\na: waits\nc: waits\na: session 3 database 6\na: granted\n\
     a: session 4 database 7\nrows 0\na: granted\n";
 
-/// Plays them on one stage, whose sessions the desk opens for this manager.
-fn play_in_turn<'a, T: PartTable, B: Board<T>, D: Desk<'a, OwnSession<T, B>>, R: Abort + Wait>(
+/// Plays them on one stage, whose sessions this desk opens.
+fn play_in_turn<T: PartTable, B: Board<T>, D: Desk<OwnSession<T, B>> + Drop, R: Abort + Wait>(
     rt: &R,
     alloc: Global,
-    desk: &D,
-    manager: &'a Manager,
-    opener: Opener,
+    desk: D,
     output: &mut Vec<u8>,
 ) -> Result<(), Fail>
     requires seats { SeatsAre B.seat D.seat }
-    requires own { IsOpenerOf opener manager.now }
-    requires none_issued { opener.issued ≡ 0 }
-    requires none_live { opener.live ≡ 0 }
+    requires none_issued { D.issued desk ≡ 0 }
+    requires none_live { D.live desk ≡ 0 }
 {
-    let stage = Stage::new(alloc, manager, opener)?;
-    let mut scene = Scene::new(stage, output);
+    let mut scene = Scene::new(alloc, desk, Output::new(output))?;
     'turns: for turn in &IN_TURN {
         let (script, is_good) = *turn;
-        let ended = scene.play(desk, rt, script.as_bytes());
+        let ended = scene.play(rt, script.as_bytes());
         assert_eq!(rt; ended.is_ok(), is_good, "{script:?}");
     }
-    scene.into_stage().into_opener();
+    let Scene { stage, output: _ } = scene;
+    let Stage {
+        desk: _,
+        names: _,
+        sessions,
+    } = stage;
+    sessions.finish();
     Ok(())
 }
 
@@ -93,7 +94,8 @@ fn an_end_closes_every_session(rt: HostRuntime) -> Result<(), Fail> {
     let alloc = rt.alloc();
     let mut output = Vec::new(alloc);
     let (manager, opener) = Manager::new(alloc, ALL_SESSIONS)?;
-    play_in_turn(&rt, alloc, &SharedDesk, &manager, opener, &mut output)?;
+    let desk = ManagerDesk::new(&manager, opener);
+    play_in_turn(&rt, alloc, desk, &mut output)?;
     assert_eq!(rt; output.as_slice(), PRINTED.as_bytes());
     Ok(())
 }

@@ -2,4 +2,4 @@ use Rattle.std.proofs.Common.{◌≡◌}
 use Rattle.scenario.proofs.run.Scene.run_lines.Given as goal
 
 abbrev pub invariant-lines : goal.invariant-lines
-invariant-lines g l = l.self.stage.manager.now ≡ l.fn.self.stage.manager.now
+invariant-lines g l = g.D.Desk.manager l.self.stage.desk ≡ g.D.Desk.manager l.fn.self.stage.desk

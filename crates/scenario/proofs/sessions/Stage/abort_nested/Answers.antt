@@ -10,5 +10,5 @@ invariant_of-self-clause-counted g c =
 pub invariant_of-self-clause-resting : goal.invariant_of-self-clause-resting
 invariant_of-self-clause-resting g c =
     All-called c.args.self.now.sessions.resting c.args.place c.session_mut.result.now c.abort_nested.new.self c.requires c.session_mut.ensures.value
-    (λ session. (g.B.Board.seat session.board).table ≡ c.args.self.now.opener.table) c.args.self.now.resting
+    (λ session. (g.B.Board.seat session.board).table ≡ (g.D.Desk.manager c.args.self.now.desk).table) c.args.self.now.resting
     (λ h. ap (λ (seat : Seated). seat.table) c.abort_nested.ensures.same.seat_ ∙ h)

@@ -11,10 +11,10 @@ invariant_of-self-clause-counted g c =
 
 pub invariant_of-self-clause-resting : goal.invariant_of-self-clause-resting
 invariant_of-self-clause-resting g c =
-    All-put c.waits.self.sessions.resting c.put.new.self (record { name = c.in-Some.first.name; session = c.cancel-session.result.0 }) c.put.ensures (λ one. (g.B.Board.seat one.session.board).table ≡ c.waits.self.opener.table) c.waits.self.resting
+    All-put c.waits.self.sessions.resting c.put.new.self (record { name = c.in-Some.first.name; session = c.cancel-session.result.0 }) c.put.ensures (λ one. (g.B.Board.seat one.session.board).table ≡ (g.D.Desk.manager c.waits.self.desk).table) c.waits.self.resting
     (ap (λ (seat : Seated). seat.table) c.cancel-session.ensures.seat ∙
-    All-first c.waits.self.sessions.waiting c.take_first.new.self c.in-Some.first c.in-Some.ensures.first (λ one. (g.B.Board.seat one.session.board).table ≡ c.waits.self.opener.table) c.waits.self.waiting)
+    All-first c.waits.self.sessions.waiting c.take_first.new.self c.in-Some.first c.in-Some.ensures.first (λ one. (g.B.Board.seat one.session.board).table ≡ (g.D.Desk.manager c.waits.self.desk).table) c.waits.self.waiting)
 
 pub invariant_of-self-clause-waiting : goal.invariant_of-self-clause-waiting
 invariant_of-self-clause-waiting g c =
-    All-rest c.waits.self.sessions.waiting c.take_first.new.self c.in-Some.first c.in-Some.ensures.first (λ one. (g.B.Board.seat one.session.board).table ≡ c.waits.self.opener.table) c.waits.self.waiting
+    All-rest c.waits.self.sessions.waiting c.take_first.new.self c.in-Some.first c.in-Some.ensures.first (λ one. (g.B.Board.seat one.session.board).table ≡ (g.D.Desk.manager c.waits.self.desk).table) c.waits.self.waiting

@@ -1,20 +1,27 @@
-use Rattle.std.proofs.Common.{◌≡◌, arith}
-use Rattle.lock_script.proofs.SessionLemmas.{All-rest, length-rest}
+use Rattle.std.proofs.Common.{◌≡◌, ◌∙◌, ap, arith}
+use Rattle.shared_rule.specs.Boards.{Seated}
+use Rattle.lock_script.proofs.SessionLemmas.{All-first, All-rest, length-rest}
 use Rattle.scenario.proofs.sessions.Stage.close_all.Goals as goal
 
-pub invariant_of-self : goal.invariant_of-self
-invariant_of-self g c =
+pub close-requires : goal.close-requires
+close-requires g c =
+    let own =
+    ap (λ (seat : Seated). seat.table) (c.requires.seats c.in-Some.first.session) ∙
+    All-first c.sessions.self.sessions.resting c.take_first.new.self c.in-Some.first c.in-Some.ensures.first
+    (λ one. (g.B.Board.seat one.session.board).table ≡ (g.D.Desk.manager c.sessions.self.desk).table) c.sessions.self.resting
+    in
+    record { own = own }
+
+pub invariant_of-self-clause-counted : goal.invariant_of-self-clause-counted
+invariant_of-self-clause-counted g c =
     let left = length-rest c.sessions.self.sessions.resting c.take_first.new.self c.in-Some.first c.in-Some.ensures.first in
-    rw c.close.ensures.closed.2 (record {
-      own = c.sessions.self.own;
-      size = c.sessions.self.size;
-      groups = c.sessions.self.groups;
-      named = c.sessions.self.named;
-      few = c.sessions.self.few;
-      within = omega (arith, c.sessions.self.within);
-      counted = omega (arith, left, c.sessions.self.counted);
-      resting =
-          All-rest c.sessions.self.sessions.resting c.take_first.new.self c.in-Some.first c.in-Some.ensures.first
-          (λ one. (g.B.Board.seat one.session.board).table ≡ c.sessions.self.opener.table) c.sessions.self.resting;
-      waiting = c.sessions.self.waiting;
-    })
+    omega (arith, left, c.close.ensures.live, c.sessions.self.counted)
+
+pub invariant_of-self-clause-resting : goal.invariant_of-self-clause-resting
+invariant_of-self-clause-resting g c =
+    rw c.close.ensures.manager
+    (All-rest c.sessions.self.sessions.resting c.take_first.new.self c.in-Some.first c.in-Some.ensures.first
+    (λ one. (g.B.Board.seat one.session.board).table ≡ (g.D.Desk.manager c.sessions.self.desk).table) c.sessions.self.resting)
+
+pub invariant_of-self-clause-waiting : goal.invariant_of-self-clause-waiting
+invariant_of-self-clause-waiting g c = rw c.close.ensures.manager c.sessions.self.waiting

@@ -1,21 +1,19 @@
 use Rattle.std.proofs.Common.{◌≡◌, ◌∙◌, ap, arith, sym}
 use Rattle.shared_rule.specs.Boards.{Seated}
-use Rattle.lock_manager.specs.Managers.{OpenerView}
 use Rattle.lock_script.proofs.SessionLemmas.{All-put, length-put}
 use Rattle.scenario.proofs.sessions.Stage.open.Goals as goal
 
 pub invariant_of-self-clause-counted : goal.invariant_of-self-clause-counted
 invariant_of-self-clause-counted g c =
-    let live = ap (λ (opener : OpenerView). opener.live) c.in-Ok.ensures.counted in
     let more = length-put c.args.self.now.sessions.resting c.put.new.self (record { name = c.args.name; session = c.in-Ok.session }) c.put.ensures in
-    omega (arith, live, more, c.args.self.now.counted)
+    omega (arith, c.in-Ok.ensures.live, more, c.args.self.now.counted)
 
 pub invariant_of-self-clause-resting : goal.invariant_of-self-clause-resting
 invariant_of-self-clause-resting g c =
-    rw c.in-Ok.ensures.counted
+    rw c.open.ensures.manager
     (All-put c.args.self.now.sessions.resting c.put.new.self (record { name = c.args.name; session = c.in-Ok.session }) c.put.ensures
-    (λ one. (g.B.Board.seat one.session.board).table ≡ c.args.self.now.opener.table) c.args.self.now.resting
+    (λ one. (g.B.Board.seat one.session.board).table ≡ (g.D.Desk.manager c.args.self.now.desk).table) c.args.self.now.resting
     (ap (λ (seat : Seated). seat.table) (sym (c.requires.seats c.in-Ok.session)) ∙ c.in-Ok.ensures.own))
 
 pub invariant_of-self-clause-waiting : goal.invariant_of-self-clause-waiting
-invariant_of-self-clause-waiting g c = rw c.in-Ok.ensures.counted c.args.self.now.waiting
+invariant_of-self-clause-waiting g c = rw c.open.ensures.manager c.args.self.now.waiting
