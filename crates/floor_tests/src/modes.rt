@@ -74,7 +74,11 @@ fn sets_have_what_was_put_in(rt: HostRuntime) {
 fn the_lowest_mode_in_both_sets_is_found(rt: HostRuntime) {
     let both = conflicts(Mode::Share).lowest_in_both(conflicts(Mode::ShareUpdateExclusive));
     assert!(rt; both == Some(Mode::ShareUpdateExclusive));
-    assert!(rt; access_share_alone().lowest_in_both(conflicts(Mode::Share)).is_none());
+    assert!(rt;
+        access_share_alone()
+            .lowest_in_both(conflicts(Mode::Share))
+            .is_none()
+    );
 }
 
 /// Tags, their hashes, partitions and strong lock counters, and their texts. The hashes are worked examples of the rule,
