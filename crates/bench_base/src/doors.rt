@@ -26,8 +26,8 @@ pub fn acquire(table: &mut LocalTable, tag: &Tag, mode: Mode, owner: Owner) -> b
     known == AtOnce::AlreadyHeld || acquire_further(table, tag, mode, owner, known)
 }
 
-/// The same where a first look tells that it isn't held, or not whether it is. A call of its own, so that the other goes without
-/// what this one needs.
+/// The same where a first look tells that it isn't held, or not whether it is. A call of its own, so that the other
+/// goes without what this one needs.
 #[inline(never)]
 fn acquire_further(
     table: &mut LocalTable,

@@ -1,4 +1,5 @@
-//! The figures of all workloads together: the table at the end of a run, the same as lines for a spreadsheet, and as a picture.
+//! The figures of all workloads together: the table at the end of a run, the same as lines for a spreadsheet, and
+//! as a picture.
 
 use crate::rounds::{ROUNDS, Spread};
 use std::alloc::{AllocError, Global};
@@ -150,7 +151,8 @@ fn values_of(alloc: Global, it: &Figures) -> Result<String, AllocError> {
     )
 }
 
-/// The figures as a picture in SVG: three bars for each workload, the longest of which is as wide as that of any other workload.
+/// The figures as a picture in SVG: three bars for each workload, the longest of which is as wide as that of any
+/// other workload.
 pub fn svg(alloc: Global, figures: &[Figures]) -> Result<String, AllocError> {
     let mut text = heading_of(alloc, figures.len())?;
     let mut top = HEADING.saturating_add(16);
@@ -163,7 +165,8 @@ pub fn svg(alloc: Global, figures: &[Figures]) -> Result<String, AllocError> {
     Ok(text)
 }
 
-/// The head of a picture of so many workloads, and what it says above them. The ground is white, also where the page is dark.
+/// The head of a picture of so many workloads, and what it says above them. The ground is white, also where the
+/// page is dark.
 fn heading_of(alloc: Global, workloads: usize) -> Result<String, AllocError> {
     let height = workloads
         .saturating_mul(HEIGHT)

@@ -37,8 +37,8 @@ pub enum Kind {
     Modes,
 }
 
-/// How many sessions there can be, with how many groups of slots each, how many keys are held from the start, how many objects of one
-/// partition, and how many a few relations are.
+/// How many sessions there can be, with how many groups of slots each, how many keys are held from the start, how
+/// many objects of one partition, and how many a few relations are.
 #[derive(Clone, Copy)]
 pub struct Size {
     pub sessions: u32,

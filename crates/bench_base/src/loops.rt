@@ -1,5 +1,5 @@
-//! The loops that are timed: each goes through a list of keys so many times, and calls nothing but doors. None is inlined, so
-//! that its code does not depend on what calls it.
+//! The loops that are timed: each goes through a list of keys so many times, and calls nothing but doors. None is
+//! inlined, so that its code does not depend on what calls it.
 ghost use Rattle.std.specs.Prelude.{◌≢◌};
 
 use crate::doors::{KeyMap, acquire, end_next, insert, look_up, pass, release, remove};

@@ -1,8 +1,9 @@
 //! The play of a script, line by line.
 //!
-//! `test NAME` begins a test, with one group of slots a session, or as many as `groups N` says. `given EVENTS` adds events that all of its cases begin with, `case EVENTS` begins a case,
-//! `then EVENTS` adds events to it, and `see LOOKS` runs its events and looks at what the machine shows. Events and
-//! looks are parted by semicolons, their words by blanks; a line that begins with `#` is a comment.
+//! `test NAME` begins a test, with one group of slots a session, or as many as `groups N` says. `given EVENTS` adds
+//! events that all of its cases begin with, `case EVENTS` begins a case, `then EVENTS` adds events to it, and
+//! `see LOOKS` runs its events and looks at what the machine shows. Events and looks are parted by semicolons,
+//! their words by blanks; a line that begins with `#` is a comment.
 
 use crate::looks::look;
 use crate::steps::parse_step;

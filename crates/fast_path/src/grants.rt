@@ -15,9 +15,9 @@ use std::sync::Wait;
 
 /// Grants a mode that the session hasn't, on a relation of its database, in one of its slots
 /// (`FastPathGrantRelationLock` in lock.c, and the look at `FastPathStrongRelationLocks` before it in
-/// `LockAcquireExtended`). It waits until the lock of its own slots is free. Refused with `SlotsFull` where the use count of
-/// the relation's group is sixteen, which costs no step, and with `StrongCounted` where a strong lock is counted at the
-/// object's counter.
+/// `LockAcquireExtended`). It waits until the lock of its own slots is free. Refused with `SlotsFull` where the use
+/// count of the relation's group is sixteen, which costs no step, and with `StrongCounted` where a strong lock is
+/// counted at the object's counter.
 pub fn grant<T: PartTable, B: Board<T>, R: Wait>(
     rt: &R,
     board: &mut B,

@@ -15,9 +15,9 @@ use modes_core::{Mode, SessionId, Tag};
 use shared_rule::Board;
 use std::sync::Wait;
 
-/// Appends a row for each mode that a slot of any session shows: by session, by slot, by mode. The lock of each session's
-/// slots is shared while they are read, one session after another, so that other readers don't wait, and the rows are not of
-/// one moment. Only the list takes memory; where that is missing it has what it had.
+/// Appends a row for each mode that a slot of any session shows: by session, by slot, by mode. The lock of each
+/// session's slots is shared while they are read, one session after another, so that other readers don't wait, and
+/// the rows are not of one moment. Only the list takes memory; where that is missing it has what it had.
 pub fn slot_rows<T: PartTable, B: Board<T>, R: Wait>(
     rt: &R,
     board: &mut B,

@@ -16,8 +16,8 @@ use std::sync::Wait;
 
 /// Releases a mode on a relation of the session's database, where one of its slots has it, and says whether one did
 /// (`FastPathUnGrantRelationLock` in lock.c). It isn't tried where the use count of the relation's group is 0;
-/// where it is tried the use count is afterwards the number of that group's slots in use. Where no slot has it, it is in the
-/// lock table.
+/// where it is tried the use count is afterwards the number of that group's slots in use. Where no slot has it, it
+/// is in the lock table.
 pub fn ungrant<T: PartTable, B: Board<T>, R: Wait>(
     rt: &R,
     board: &mut B,

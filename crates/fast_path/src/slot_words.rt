@@ -11,7 +11,8 @@ use lw_word::SlotWord;
 use modes_core::SessionId;
 use shared_rule::Board;
 
-/// How many fast-path slots a group has (`FP_LOCK_SLOTS_PER_BACKEND` in proc.h, in version 18 `FP_LOCK_SLOTS_PER_GROUP`).
+/// How many fast-path slots a group has (`FP_LOCK_SLOTS_PER_BACKEND` in proc.h, in version 18
+/// `FP_LOCK_SLOTS_PER_GROUP`).
 pub const SLOTS: u8 = 16;
 
 /// Loads the words of the first so many of a session's slots, whose lock is shared.

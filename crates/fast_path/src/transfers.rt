@@ -19,10 +19,10 @@ use shared_rule::Board;
 use std::sync::Wait;
 
 /// Counts a strong lock, and goes past every session there can be, issued or not and its own too, once its locks on
-/// the object are out of its slots and in the lock table (`BeginStrongLockAcquire` and `FastPathTransferRelationLocks` in
-/// lock.c). Where memory for the lock table is missing it is counted no more; what was moved until then stays moved. Its
-/// cost is two atomic steps and a load for each session, and sixteen loads more, of the slots of the relation's group, for
-/// each of the object's database.
+/// the object are out of its slots and in the lock table (`BeginStrongLockAcquire` and
+/// `FastPathTransferRelationLocks` in lock.c). Where memory for the lock table is missing it is counted no more;
+/// what was moved until then stays moved. Its cost is two atomic steps and a load for each session, and sixteen
+/// loads more, of the slots of the relation's group, for each of the object's database.
 pub fn transfer<T: PartTable, B: Board<T>, R: Wait>(
     rt: &R,
     board: &mut B,
@@ -56,8 +56,8 @@ pub fn transfer<T: PartTable, B: Board<T>, R: Wait>(
     Ok(())
 }
 
-/// Goes past one session (a turn of the loop of `FastPathTransferRelationLocks`). Sessions of other databases, and those
-/// not issued, are gone past without a look at their slots.
+/// Goes past one session (a turn of the loop of `FastPathTransferRelationLocks`). Sessions of other databases, and
+/// those not issued, are gone past without a look at their slots.
 fn pass<T: PartTable, B: Board<T>, R: Wait>(
     rt: &R,
     board: &mut B,

@@ -81,8 +81,8 @@ fn the_lowest_mode_in_both_sets_is_found(rt: HostRuntime) {
     );
 }
 
-/// Tags, their hashes, partitions and strong lock counters, and their texts. The hashes are worked examples of the rule,
-/// not this code's answers.
+/// Tags, their hashes, partitions and strong lock counters, and their texts. The hashes are worked examples of the
+/// rule, not this code's answers.
 const TAGS: [(Tag, u32, u8, u16, &str); 6] = [
     (OBJECT, 2389211932, 12, 796, "5/16384"),
     (

@@ -1,5 +1,5 @@
-//! Lists of what is done to a plain part, each with what that leads to, worked by hand; and what a part lists, a copy of it,
-//! and the parts of a new table.
+//! Lists of what is done to a plain part, each with what that leads to, worked by hand; and what a part lists, a
+//! copy of it, and the parts of a new table.
 
 ghost use Rattle.std.specs.Prelude.{◌≡◌, IfOk, OnOk, OnErr, Some, None, false};
 ghost use Rattle.lock_table.specs.Queue.{waits_there};

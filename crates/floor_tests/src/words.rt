@@ -137,8 +137,8 @@ fn words_open_with_release_ok_and_count_by_mode(rt: HostRuntime) {
     assert!(rt; numbers == (0x2000_0000, 0x0100_0000, 1));
 }
 
-/// The flags has-waiters and release-ok as a list is unlocked, what is set for them, what is kept, and the word that comes
-/// of 0x3100_0000.
+/// The flags has-waiters and release-ok as a list is unlocked, what is set for them, what is kept, and the word
+/// that comes of 0x3100_0000.
 const UNLOCKS: [(bool, bool, u64, u64, u64); 4] = [
     (true, true, 0x6000_0000, 0xFFFF_FFFF_EFFF_FFFF, 0x6100_0000),
     (true, false, 0x4000_0000, 0xFFFF_FFFF_CFFF_FFFF, 0x4100_0000),

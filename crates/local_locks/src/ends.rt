@@ -8,13 +8,13 @@ use modes_core::LockMethod;
 pub enum End {
     /// A commit drops the transaction's counts and keeps the session's.
     Commit,
-    /// An abort drops the transaction's counts, and in the default lock method the session's too. In the user method it keeps
-    /// the session's: an advisory lock that the session owns survives a failed transaction.
+    /// An abort drops the transaction's counts, and in the default lock method the session's too. In the user
+    /// method it keeps the session's: an advisory lock that the session owns survives a failed transaction.
     Abort,
     /// The close of the session drops both.
     Close,
-    /// The end of the innermost level of a transaction, whose counts go; those of the levels outside it and of the session stay
-    /// (`LockReleaseCurrentOwner` in lock.c).
+    /// The end of the innermost level of a transaction, whose counts go; those of the levels outside it and of the
+    /// session stay (`LockReleaseCurrentOwner` in lock.c).
     Inner,
 }
 

@@ -1,5 +1,6 @@
-//! What tells the levels of a transaction apart: beside each slot a list of what the transaction had of its entry when each
-//! inner level began. In a transaction with one level all of these lists are empty, and nobody reads or writes them.
+//! What tells the levels of a transaction apart: beside each slot a list of what the transaction had of its entry
+//! when each inner level began. In a transaction with one level all of these lists are empty, and nobody reads or
+//! writes them.
 
 ghost use Rattle.std.specs.Prelude.{◌≡◌, ◌≢◌, ◌⊎◌, ◌<◌, ◌≤◌, ◌-◌, ℕ, [], length, take, OnOk};
 ghost use Rattle.local_locks.specs.Owned.{max_count};
@@ -17,8 +18,8 @@ pub const MOST_LEVELS: u8 = 16;
 /// How many of them may be within the first.
 pub(crate) const MOST_INNER: u8 = 15;
 
-/// What the transaction had of an entry when each inner level began, the first one first, up to the last that has counted
-/// the entry. Contracts see the list.
+/// What the transaction had of an entry when each inner level began, the first one first, up to the last that has
+/// counted the entry. Contracts see the list.
 #[derive(Debug, Drop)]
 pub(crate) struct OuterCounts {
     len: u8,
@@ -78,8 +79,8 @@ impl OuterCounts {
     }
 }
 
-/// How often an owner can give an entry back, where so many inner levels have begun: for the transaction, what the innermost
-/// level has. In a transaction with one level the lists are not read.
+/// How often an owner can give an entry back, where so many inner levels have begun: for the transaction, what the
+/// innermost level has. In a transaction with one level the lists are not read.
 #[inline(always)]
 pub(crate) fn own_count(
     entry: &Entry,
@@ -213,8 +214,8 @@ pub(crate) fn lengthen(outer: &mut Vec<OuterCounts>, number: usize) -> Result<()
     Ok(())
 }
 
-/// Where an entry is looked for first from now on: in an inner level nowhere, so that what is usual in the first one asks for
-/// no level.
+/// Where an entry is looked for first from now on: in an inner level nowhere, so that what is usual in the first
+/// one asks for no level.
 #[inline(always)]
 pub(crate) fn look_first(last: &mut usize, depth: u8, place: usize)
     ensures first { depth ≡ 0 → last.new ≡ place }

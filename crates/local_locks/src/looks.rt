@@ -6,8 +6,9 @@ use crate::Entry;
 use modes_core::{Mode, Tag};
 use place_index::PlaceIndex;
 
-/// What a key is multiplied by. Its lower half is 2^32 by the golden ratio, so that relations numbered in equal steps lie apart
-/// as evenly as can be; its upper half is 2^32 by the square root of two, less one, so that modes do, and none with those.
+/// What a key is multiplied by. Its lower half is 2^32 by the golden ratio, so that relations numbered in equal
+/// steps lie apart as evenly as can be; its upper half is 2^32 by the square root of two, less one, so that modes
+/// do, and none with those.
 const MULTIPLIER: u64 = 0x6A09_E667_9E37_79B9;
 
 /// What a glance at an index tells of an object and mode.
@@ -20,8 +21,8 @@ pub(crate) enum Glance {
     Unknown,
 }
 
-/// A database and a number in it as one number, the first in the lower half, as the two stand in a tag: so they are read
-/// and compared at once.
+/// A database and a number in it as one number, the first in the lower half, as the two stand in a tag: so they are
+/// read and compared at once.
 #[inline(always)]
 pub(crate) fn pair_bits(database: u32, number: u32) -> u64
     ensures { result ≡ pair_bits database number }
@@ -72,7 +73,8 @@ fn object_bits(tag: &Tag) -> u64
     }
 }
 
-/// The hash of an object in 64 bits and a mode: the upper half of a product, on the highest bits of which all of them tell.
+/// The hash of an object in 64 bits and a mode: the upper half of a product, on the highest bits of which all of
+/// them tell.
 #[inline(always)]
 pub(crate) fn hash_of(object: u64, mode: Mode) -> u32
     ensures { result ≡ hash_of object mode }
@@ -89,7 +91,8 @@ pub(crate) fn key_hash(tag: &Tag, mode: Mode) -> u32
     hash_of(object_bits(tag), mode)
 }
 
-/// What the first place of a look tells of an object and mode: that it isn't held, or the place of its slot, which may be empty.
+/// What the first place of a look tells of an object and mode: that it isn't held, or the place of its slot, which
+/// may be empty.
 #[inline(always)]
 pub(crate) fn glance_at(slots: &[Entry], index: &PlaceIndex, tag: &Tag, mode: Mode) -> Glance
     requires { IsIndexed (opened slots.now) index.now }

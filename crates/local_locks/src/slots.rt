@@ -40,8 +40,8 @@ pub(crate) fn lower(slots: &mut Vec<Entry>, place: usize, owner: Owner)
     slots[place].lower(owner);
 }
 
-/// Raises the count of an owner in the entry at a place where it has one and less than so many, and says whether it did. Each
-/// owner has code of its own, so that none is chosen twice.
+/// Raises the count of an owner in the entry at a place where it has one and less than so many, and says whether it
+/// did. Each owner has code of its own, so that none is chosen twice.
 #[inline(always)]
 pub(crate) fn raise_held(slots: &mut Vec<Entry>, place: usize, owner: Owner, most: u16) -> bool
     requires { place < length slots.old.items }
@@ -80,8 +80,8 @@ fn raise_if_held(slots: &mut Vec<Entry>, place: usize, owner: Owner, most: u16) 
     true
 }
 
-/// Lowers the count of an owner in the entry at a place where it has more than one, and says whether it did. Each owner has
-/// code of its own here, too.
+/// Lowers the count of an owner in the entry at a place where it has more than one, and says whether it did. Each
+/// owner has code of its own here, too.
 #[inline(always)]
 pub(crate) fn lower_held(slots: &mut Vec<Entry>, place: usize, owner: Owner) -> bool
     requires { place < length slots.old.items }
@@ -139,8 +139,8 @@ pub(crate) fn push_entry(slots: &mut Vec<Entry>, index: &mut PlaceIndex, hash: u
     index.insert_last(hash, place as u32);
 }
 
-/// How many slots stay where the entry at a place goes and so many notes are left: none with the only entry, and else all
-/// but the last one where that was its slot.
+/// How many slots stay where the entry at a place goes and so many notes are left: none with the only entry, and
+/// else all but the last one where that was its slot.
 #[inline(always)]
 fn slots_left(slots: usize, notes: usize, place: usize) -> usize
     requires { place < slots }
@@ -155,8 +155,8 @@ fn slots_left(slots: usize, notes: usize, place: usize) -> usize
     slots
 }
 
-/// Takes the entry out of its slot and its place out of the index, and the slot away if it is the last one; with the only
-/// entry all slots go. The hash is that of its object and mode.
+/// Takes the entry out of its slot and its place out of the index, and the slot away if it is the last one; with
+/// the only entry all slots go. The hash is that of its object and mode.
 #[inline(never)]
 pub(crate) fn take_out(slots: &mut Vec<Entry>, index: &mut PlaceIndex, place: usize, hash: u32)
     requires indexed { IsIndexed (opened slots.old.items) index.old }
@@ -176,8 +176,8 @@ pub(crate) fn take_out(slots: &mut Vec<Entry>, index: &mut PlaceIndex, place: us
     slots.truncate(used);
 }
 
-/// The same of the last slot, with neither a loop nor a call: that slot alone goes, and empty ones before it stay until the
-/// entries are moved together, or until the last one goes by `take_out`.
+/// The same of the last slot, with neither a loop nor a call: that slot alone goes, and empty ones before it stay
+/// until the entries are moved together, or until the last one goes by `take_out`.
 #[inline(always)]
 pub(crate) fn take_last(slots: &mut Vec<Entry>, index: &mut PlaceIndex, place: usize)
     requires indexed { IsIndexed (opened slots.old.items) index.old }
@@ -196,9 +196,9 @@ pub(crate) fn take_last(slots: &mut Vec<Entry>, index: &mut PlaceIndex, place: u
     index.remove_last(place as u32);
 }
 
-/// Takes an entry that an end takes away out of its slot. Its place stays in the index where others have stayed, or where
-/// half of the slots are still to be gone through and the index is not much larger than what it has: then `tidy` takes
-/// them out at once, in time in proportion to the slots that the end goes through.
+/// Takes an entry that an end takes away out of its slot. Its place stays in the index where others have stayed, or
+/// where half of the slots are still to be gone through and the index is not much larger than what it has: then
+/// `tidy` takes them out at once, in time in proportion to the slots that the end goes through.
 #[inline(always)]
 pub(crate) fn take_ended(slots: &mut Vec<Entry>, index: &mut PlaceIndex, len: usize, place: usize)
     requires indexed { IsIndexed (opened slots.old.items) index.old }
@@ -248,9 +248,9 @@ pub(crate) fn settle(slots: &mut [Entry], end: End, from: usize) -> usize
     slots.len()
 }
 
-/// Goes on with the end of the innermost of so many inner levels from a place on: takes from each entry what this level has,
-/// up to the first entry that has nothing else, and gives the place of that one, or the number of slots. An end of that level
-/// has nothing to do before it any more.
+/// Goes on with the end of the innermost of so many inner levels from a place on: takes from each entry what this
+/// level has, up to the first entry that has nothing else, and gives the place of that one, or the number of slots.
+/// An end of that level has nothing to do before it any more.
 pub(crate) fn settle_inner(
     slots: &mut Vec<Entry>,
     outer: &mut Vec<OuterCounts>,

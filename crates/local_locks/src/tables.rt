@@ -21,8 +21,8 @@ use place_index::PlaceIndex;
 use std::alloc::Global;
 use std::marker::Model;
 
-/// How many slots there are room for at first, as `LockMethodLocalHash` of lock.c has. Fewer would let the tables of two
-/// sessions share a cache line, which each of them writes in every call.
+/// How many slots there are room for at first, as `LockMethodLocalHash` of lock.c has. Fewer would let the tables
+/// of two sessions share a cache line, which each of them writes in every call.
 const FIRST_SLOTS: usize = 16;
 
 /// How many entries a local table may have at most.
@@ -166,9 +166,9 @@ impl LocalTable {
         }
     }
 
-    /// `add_held` as far as the first place of the index goes, which mostly shows whether the object is held in the mode, and
-    /// where: `AtOnce::Unknown` says nothing, and `add_held` goes on from there. With neither a loop nor a call in it, it is
-    /// short enough to stand in the code of each caller.
+    /// `add_held` as far as the first place of the index goes, which mostly shows whether the object is held in the
+    /// mode, and where: `AtOnce::Unknown` says nothing, and `add_held` goes on from there. With neither a loop nor
+    /// a call in it, it is short enough to stand in the code of each caller.
     #[inline(always)]
     pub fn add_at_once(&mut self, tag: &Tag, mode: Mode, owner: Owner) -> AtOnce
         ensures held { result ≡ AtOnce.AlreadyHeld → (has_entry self.old.entries tag.now mode ≡ true)
@@ -310,8 +310,8 @@ impl LocalTable {
         used < self.slots.capacity() && used < self.index.places()
     }
 
-    /// Makes room for one more entry: uses slots again whose entries are gone, and grows only where more than half of all
-    /// slots have entries.
+    /// Makes room for one more entry: uses slots again whose entries are gone, and grows only where more than half
+    /// of all slots have entries.
     #[cold]
     #[inline(never)]
     fn make_room(&mut self) -> Result<(), Refusal>
@@ -407,8 +407,8 @@ impl LocalTable {
         }
     }
 
-    /// Enters the first acquire of an object and mode, for which room was reserved, with no look for it (`GrantLockLocal`
-    /// in lock.c after `LockAcquireExtended` made the entry).
+    /// Enters the first acquire of an object and mode, for which room was reserved, with no look for it
+    /// (`GrantLockLocal` in lock.c after `LockAcquireExtended` made the entry).
     #[inline(always)]
     pub fn add_new(&mut self, tag: &Tag, mode: Mode, owner: Owner)
         requires new { has_entry self.old.entries tag.now mode ≡ false }
@@ -503,8 +503,9 @@ impl LocalTable {
         }
     }
 
-    /// `drop_held` as far as one slot goes, where what is released mostly is: `None` says nothing, and `drop_held` goes on from
-    /// there. With neither a loop nor a call in it, it is short enough to stand in the code of each caller.
+    /// `drop_held` as far as one slot goes, where what is released mostly is: `None` says nothing, and `drop_held`
+    /// goes on from there. With neither a loop nor a call in it, it is short enough to stand in the code of each
+    /// caller.
     #[inline(always)]
     pub fn drop_at_once(&mut self, tag: &Tag, mode: Mode, owner: Owner) -> Option<Unlocked>
         ensures held { IsSome result → 0 < own_count_of self.old tag.now mode owner }
@@ -573,8 +574,8 @@ impl LocalTable {
         }
     }
 
-    /// Goes on with an end: gives the next object and mode, in the order of making, that the end takes
-    /// away, or `None` once there is no other (the loop of `LockReleaseAll` in lock.c). The step that gives `None` ends the
+    /// Goes on with an end: gives the next object and mode, in the order of making, that the end takes away, or
+    /// `None` once there is no other (the loop of `LockReleaseAll` in lock.c). The step that gives `None` ends the
     /// innermost level, or all of them.
     #[inline(always)]
     pub fn end_next(&mut self, end: End) -> Option<(Tag, Mode)>
@@ -588,7 +589,8 @@ impl LocalTable {
         ensures left { IfNone result (self.new.entries ≡ left_by end (found_by end self.old)) }
         ensures outlives { IsSome result → left_by end (found_by end self.new) ≡ left_by end (found_by end self.old) }
 
-        // The outer levels have what they had where only the innermost ends. Each has ended whose end it was once it gives `None`.
+        // The outer levels have what they had where only the innermost ends. Each has ended whose end it was once
+        // it gives `None`.
         ensures inner { IsSome result → end ≡ End.Inner → self.new.outer ≡ self.old.outer }
         ensures level { IsSome result → level_of self.new ≡ level_of self.old }
         ensures ended { IfNone result (self.new.outer ≡ outer_after end self.old.outer) }

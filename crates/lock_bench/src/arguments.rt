@@ -73,7 +73,8 @@ pub struct Wanted<'a> {
 }
 
 impl Wanted<'_> {
-    /// Whether this page is printed: none is named, or it is. That of the workloads is too where a file is to have its figures.
+    /// Whether this page is printed: none is named, or it is. That of the workloads is too where a file is to have
+    /// its figures.
     pub fn has(&self, page: Page) -> bool {
         let is_for_file = self.csv.is_some() || self.svg.is_some();
         match self.page {

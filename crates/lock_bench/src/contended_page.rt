@@ -1,5 +1,5 @@
-//! The page of contention: many threads beside each other on one object, on objects of their own in one partition, and by
-//! listings; and the same work under a standard mutex.
+//! The page of contention: many threads beside each other on one object, on objects of their own in one partition,
+//! and by listings; and the same work under a standard mutex.
 
 ghost use Rattle.std.specs.Prelude.{◌≡◌, length};
 ghost use Rattle.lock_manager.specs.Crews.{AreOf, KeepManagers, SeatsAre};
@@ -294,7 +294,8 @@ fn print_crew<
     }
 }
 
-/// The same at the desk of a manager. The board of the shared table is named here alone: all that this calls is over any board.
+/// The same at the desk of a manager. The board of the shared table is named here alone: all that this calls is
+/// over any board.
 fn print_at_desk<R: Threads + Wait + Clock + CpuClock + AllocGlobal + Print + Sync>(
     rt: &R,
     desk: &mut ManagerDesk<'_>,

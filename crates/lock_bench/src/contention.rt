@@ -1,5 +1,6 @@
-//! What threads do beside each other: each takes one object of all, or an object of its own in one partition, works, and
-//! releases it; or it lists what stands, for which all partitions are in hand for a while; or it takes a standard mutex.
+//! What threads do beside each other: each takes one object of all, or an object of its own in one partition,
+//! works, and releases it; or it lists what stands, for which all partitions are in hand for a while; or it takes a
+//! standard mutex.
 
 ghost use Rattle.std.specs.Prelude.{◌≡◌, length};
 ghost use Rattle.lock_manager.specs.Crews.{KeepManagers, KeepsSeat};
@@ -79,8 +80,8 @@ impl Job {
     }
 }
 
-/// What threads took: when the first of them began and the last one ended, the longest wait of a request, and the processor time
-/// of all, in nanoseconds; and how many requests were granted.
+/// What threads took: when the first of them began and the last one ended, the longest wait of a request, and the
+/// processor time of all, in nanoseconds; and how many requests were granted.
 #[derive(Clone, Copy)]
 pub struct Taken {
     from: u64,
@@ -152,7 +153,8 @@ impl Round {
         self.taken.into_inner()
     }
 
-    /// A thread waits until all have come, so that none works alone. It doesn't wait for ever for one that couldn't be started.
+    /// A thread waits until all have come, so that none works alone. It doesn't wait for ever for one that couldn't
+    /// be started.
     fn begin<R: Clock>(&self, rt: &R) {
         self.came.fetch_add(1, Ordering::SeqCst);
         for _ in 0..LOOKS {

@@ -148,8 +148,8 @@ impl Bed {
         Ok(0)
     }
 
-    /// A round of the row, made by the first session: its nanoseconds, and what it counted. Before and after it the first one
-    /// holds nothing, and the other one what it has for itself.
+    /// A round of the row, made by the first session: its nanoseconds, and what it counted. Before and after it the
+    /// first one holds nothing, and the other one what it has for itself.
     pub fn time<T: PartTable, B: Board<T>, R: Wait + CpuClock>(
         &self,
         rt: &R,

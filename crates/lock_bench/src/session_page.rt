@@ -93,7 +93,8 @@ fn print_size_header<R: Print>(rt: &R, size: Size) -> io::Result<()> {
     }
 }
 
-/// The rounds of all rows with a manager of this size, of which only one is made and told where the page asks for a check.
+/// The rounds of all rows with a manager of this size, of which only one is made and told where the page asks for a
+/// check.
 pub fn run_lines<R: Wait + CpuClock + AllocGlobal + Print>(
     rt: &R,
     asked: Asked,

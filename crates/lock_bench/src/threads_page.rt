@@ -153,7 +153,8 @@ fn time_round<B: Board<Part> + Send, R: Threads + Wait + Clock + Sync>(
     Ok((between.saturating_sub(from), to.saturating_sub(between)))
 }
 
-/// Prints the times of the sessions and of the map, and how many times the throughput of one thread that is, if there are more.
+/// Prints the times of the sessions and of the map, and how many times the throughput of one thread that is, if
+/// there are more.
 fn print_job<R: Print>(
     rt: &R,
     name: &str,

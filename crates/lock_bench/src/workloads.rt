@@ -185,8 +185,8 @@ fn row(name: &'static str, work: Work, list: KeyList, empty: Option<&'static str
     }
 }
 
-/// Prints the times of each workload and a table of them all, and gives the figures; with a check what fewer of the same steps
-/// leave, and no figures.
+/// Prints the times of each workload and a table of them all, and gives the figures; with a check what fewer of the
+/// same steps leave, and no figures.
 pub fn print<R: Wait + CpuClock + AllocGlobal + Print + Eprint>(
     rt: &R,
     asked: Asked,

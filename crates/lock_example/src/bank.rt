@@ -68,8 +68,8 @@ impl Bank {
         self.balances[to].store(its.saturating_add(amount), Ordering::SeqCst);
     }
 
-    /// Writes the whole table anew: each balance goes to the account before, and the first one to the last. The caller has
-    /// the table locked against all others, and no account.
+    /// Writes the whole table anew: each balance goes to the account before, and the first one to the last. The
+    /// caller has the table locked against all others, and no account.
     pub fn rewrite(&self) {
         let first = self.balances[0].load(Ordering::SeqCst);
         for place in 1..MANY {

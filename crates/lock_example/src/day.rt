@@ -154,8 +154,8 @@ fn work_if_any<
     }
 }
 
-/// The tellers make transfers, the last one of the staff watches them, and the migration alters the table beside them. Its
-/// session comes back. All are of the manager that the desk has.
+/// The tellers make transfers, the last one of the staff watches them, and the migration alters the table beside
+/// them. Its session comes back. All are of the manager that the desk has.
 fn work_beside<
     B: Board<Part> + Send,
     D: Desk<OwnSession<Part, B>>,
@@ -248,8 +248,8 @@ fn play_part<B: Board<Part>, R: Wait + Clock>(
     }
 }
 
-/// The migration's part. A request that may be given up takes its session by value, and no closure has one: so it is lent as
-/// an `Option`, out of which the thread takes it, and comes back as what the thread answers.
+/// The migration's part. A request that may be given up takes its session by value, and no closure has one: so it
+/// is lent as an `Option`, out of which the thread takes it, and comes back as what the thread answers.
 fn migrate_lent<B: Board<Part>, R: Wait + Clock>(
     rt: &R,
     bank: &Bank,
@@ -275,8 +275,8 @@ fn nobody<S>(taken: Option<S>)
     }
 }
 
-/// More connections come than there are sessions, one after another: what the one too many is told, and which session it
-/// has once another connection has ended.
+/// More connections come than there are sessions, one after another: what the one too many is told, and which
+/// session it has once another connection has ended.
 fn rush<B: Board<Part>, D: Desk<OwnSession<Part, B>>, R: Wait>(
     rt: &R,
     alloc: Global,

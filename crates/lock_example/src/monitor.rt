@@ -61,7 +61,8 @@ fn log_waits<B: Board<Part>, R: Wait + Print>(
     Ok(())
 }
 
-/// Logs a wait: those in its way, and the queue that it stands in. Nobody is in its way where it has ended since the listing.
+/// Logs a wait: those in its way, and the queue that it stands in. Nobody is in its way where it has ended since
+/// the listing.
 fn log_wait<B: Board<Part>, R: Wait + Print>(
     rt: &R,
     monitor: &mut OwnSession<Part, B>,
@@ -152,7 +153,8 @@ fn watch<
     logged
 }
 
-/// The first of these comes, asks for the accounts and waits, and the others come behind it. Once all wait, the monitor looks.
+/// The first of these comes, asks for the accounts and waits, and the others come behind it. Once all wait, the
+/// monitor looks.
 fn come<
     B: Board<Part> + Send,
     D: Desk<OwnSession<Part, B>>,

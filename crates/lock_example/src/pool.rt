@@ -24,9 +24,9 @@ impl<B: Board<Part>> Pool<B> {
         }
     }
 
-    /// A session for a connection: an idle one, or a new one. Where all 64 are given out, and none is idle, it is refused with
-    /// `NoMoreSessions`. The connection is then turned away, or it waits until another one ends: a closed session's
-    /// number never comes back, so it helps nobody to close one.
+    /// A session for a connection: an idle one, or a new one. Where all 64 are given out, and none is idle, it is
+    /// refused with `NoMoreSessions`. The connection is then turned away, or it waits until another one ends: a
+    /// closed session's number never comes back, so it helps nobody to close one.
     pub fn take<D: Desk<OwnSession<Part, B>>>(
         &mut self,
         desk: &mut D,
@@ -43,8 +43,8 @@ impl<B: Board<Part>> Pool<B> {
         }
     }
 
-    /// Takes the session of a connection back that has ended. What it still holds is released, also what the session itself
-    /// owns. It is kept for the next connection, or closed where there is no memory to keep it.
+    /// Takes the session of a connection back that has ended. What it still holds is released, also what the
+    /// session itself owns. It is kept for the next connection, or closed where there is no memory to keep it.
     pub fn give_back<D: Desk<OwnSession<Part, B>>, R: Wait>(
         &mut self,
         rt: &R,

@@ -1,4 +1,5 @@
-//! What the bank's threads do: transfers, each a transaction of three locks, and now and then an alteration of the table.
+//! What the bank's threads do: transfers, each a transaction of three locks, and now and then an alteration of the
+//! table.
 
 ghost use Rattle.std.specs.Prelude.{◌<◌};
 ghost use Rattle.lock_manager.specs.Crews.{KeepsSeat};
@@ -97,8 +98,8 @@ fn has_transferred<B: Board<Part>, R: Wait>(
     locked.is_ok()
 }
 
-/// Takes the locks of a transfer: the table for writing, and both accounts. Two tellers may wait for one another, each at
-/// the account that the other one has. So each wait shows to the watchdog.
+/// Takes the locks of a transfer: the table for writing, and both accounts. Two tellers may wait for one another,
+/// each at the account that the other one has. So each wait shows to the watchdog.
 fn lock_for<B: Board<Part>, R: Wait>(
     rt: &R,
     watch: &Watch,
@@ -143,8 +144,8 @@ fn end<B: Board<Part>, R: Wait>(rt: &R, session: &mut OwnSession<Part, B>, is_go
     }
 }
 
-/// Alters the table so often. Whoever wants to read or write meanwhile waits behind it, so it doesn't insist: where the table
-/// isn't had in time it lets the others go on, and tries again.
+/// Alters the table so often. Whoever wants to read or write meanwhile waits behind it, so it doesn't insist: where
+/// the table isn't had in time it lets the others go on, and tries again.
 pub fn migrate<B: Board<Part>, R: Wait + Clock>(
     rt: &R,
     bank: &Bank,

@@ -108,7 +108,8 @@ fn tell<R: Threads + Wait + Sync>(rt: &R, alloc: Global) -> Result<Story, Refusa
     })
 }
 
-/// Asks for a table on behalf of the session's transaction. The session stays one of the same manager, as its close wants.
+/// Asks for a table on behalf of the session's transaction. The session stays one of the same manager, as its close
+/// wants.
 fn ask<R: Wait>(rt: &R, session: &mut Session<'_>, table: Tag, mode: Mode) -> Answer
     ensures same_manager { session.new.board.table.now.table_id ≡ session.old.board.table.now.table_id }
 {
@@ -122,7 +123,8 @@ fn commit<R: Wait>(rt: &R, session: &mut Session<'_>)
     session.commit(rt);
 }
 
-/// Ends the session's transaction, and asks for a table on behalf of the next one. Where somebody is in the way it waits.
+/// Ends the session's transaction, and asks for a table on behalf of the next one. Where somebody is in the way it
+/// waits.
 fn commit_and_wait<R: Wait>(rt: &R, session: &mut Session<'_>, table: Tag, mode: Mode) -> Answer
     ensures same_manager { session.new.board.table.now.table_id ≡ session.old.board.table.now.table_id }
 {

@@ -9,7 +9,8 @@ use std::sync::atomic::{AtomicU64, Ordering};
 use std::thread;
 use std::time::{Clock, Duration};
 
-/// How many milliseconds the watchdog sleeps between two looks. Who is in the same wait at two looks has waited too long.
+/// How many milliseconds the watchdog sleeps between two looks. Who is in the same wait at two looks has waited too
+/// long.
 const PAUSE: u64 = 2;
 
 /// By session numbers.
@@ -48,7 +49,8 @@ impl Watch {
         self.working.load(Ordering::SeqCst) == 0
     }
 
-    /// Whether the session with this number was in a wait at the last look too. What is seen now stands for the next look.
+    /// Whether the session with this number was in a wait at the last look too. What is seen now stands for the
+    /// next look.
     fn waits_too_long(&self, place: usize, seen: &mut [u64; NUMBERS]) -> bool
         requires { place < 64 }
     {
@@ -88,8 +90,8 @@ fn look<B: Board<Part>>(watch: &Watch, session: &mut OwnSession<Part, B>, seen: 
     }
 }
 
-/// Asks the session with this number to cancel its wait. `Asked::Waiting` says that it waited as it was asked, and no more:
-/// where it is granted before it has cancelled, it has the lock.
+/// Asks the session with this number to cancel its wait. `Asked::Waiting` says that it waited as it was asked, and
+/// no more: where it is granted before it has cancelled, it has the lock.
 fn ask<B: Board<Part>>(session: &mut OwnSession<Part, B>, number: u8)
     ensures seat { KeepsSeat B.seat session.old session.new }
 {

@@ -18,19 +18,20 @@ use shared_rule::{Absent, Audit, Board, Opener as NumberOpener, SeatBoard, Top};
 use std::sync::Wait;
 
 impl Manager {
-    /// Counts what stands in the manager while nobody else can change it, since all of its open sessions are lent: `fast` is
-    /// how many modes the fast-path slots show, `table` how many holds the contents of all partitions have, `strong` the
-    /// sum of the strong lock counters. `fast + table` is how many local entries the sessions have, and `strong` how many of
-    /// them are of strong modes.
+    /// Counts what stands in the manager while nobody else can change it, since all of its open sessions are lent:
+    /// `fast` is how many modes the fast-path slots show, `table` how many holds the contents of all partitions
+    /// have, `strong` the sum of the strong lock counters. `fast + table` is how many local entries the sessions
+    /// have, and `strong` how many of them are of strong modes.
     ///
-    /// Call it with a list of all sessions that are open, in any order, as `manager.audit(rt, &mut opener, &mut sessions)`.
-    /// It takes them out of the list and puts them back, so a slice doesn't do. The first one makes all steps: it loads the
-    /// counters, takes the partitions in rising order, loads with all in hand each slot of each session that there can be, and
-    /// puts the partitions back. With no session it makes no step and counts nothing.
+    /// Call it with a list of all sessions that are open, in any order, as
+    /// `manager.audit(rt, &mut opener, &mut sessions)`. It takes them out of the list and puts them back, so a
+    /// slice doesn't do. The first one makes all steps: it loads the counters, takes the partitions in rising
+    /// order, loads with all in hand each slot of each session that there can be, and puts the partitions back.
+    /// With no session it makes no step and counts nothing.
     ///
-    /// Memory is taken for the rows of the partitions alone. Where it is missing the audit is refused; then, too, opener,
-    /// sessions and table are as before, but for the first session's trace. PostgreSQL has no such call; nearest is a sum
-    /// over the view `pg_locks`.
+    /// Memory is taken for the rows of the partitions alone. Where it is missing the audit is refused; then, too,
+    /// opener, sessions and table are as before, but for the first session's trace. PostgreSQL has no such call;
+    /// nearest is a sum over the view `pg_locks`.
     pub fn audit<'a, R: Wait>(
         &self,
         rt: &R,

@@ -17,8 +17,8 @@ pub struct Config {
     pub sessions: u32,
     /// How many local entries each may have, 1 to 65,536.
     pub max_local: u32,
-    /// How many groups of sixteen fast-path slots each has, 1 to 8 (`FastPathLockGroupsPerBackend` in proc.h of version 18;
-    /// version 16 has one).
+    /// How many groups of sixteen fast-path slots each has, 1 to 8 (`FastPathLockGroupsPerBackend` in proc.h of
+    /// version 18; version 16 has one).
     pub slot_groups: u32,
 }
 

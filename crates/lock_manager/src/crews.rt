@@ -11,8 +11,9 @@ use shared_rule::Board;
 use std::alloc::AllocFailed;
 use std::sync::Wait;
 
-/// Opens so many sessions of this database, in the order of their numbers, behind those of the list. Where all numbers are given
-/// out, or memory runs out, it ends with that refusal: then fewer are open, each of which is in the list.
+/// Opens so many sessions of this database, in the order of their numbers, behind those of the list. Where all
+/// numbers are given out, or memory runs out, it ends with that refusal: then fewer are open, each of which is in
+/// the list.
 pub fn open_sessions<T: PartTable, B: Board<T>, D: Desk<OwnSession<T, B>>, R: Wait>(
     rt: &R,
     desk: &mut D,
@@ -59,8 +60,8 @@ fn open_behind<T: PartTable, B: Board<T>, D: Desk<OwnSession<T, B>>, R: Wait>(
     }
 }
 
-/// Puts it behind the others. Where memory runs out it comes back, and the list is as before: a session can't be let go, and
-/// `Vec::push` hands what it has no room for to whoever takes its error apart.
+/// Puts it behind the others. Where memory runs out it comes back, and the list is as before: a session can't be
+/// let go, and `Vec::push` hands what it has no room for to whoever takes its error apart.
 pub fn append<S>(list: &mut Vec<S>, session: S) -> Result<(), S>
     ensures { MatchResult result (λ _. list.new.items ≡ list.old.items ++ session ∷ [])
         (λ back. (back ≡ session) × (list.new.items ≡ list.old.items)) }

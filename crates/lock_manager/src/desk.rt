@@ -12,8 +12,9 @@ use modes_core::Refusal;
 use shared_rule::{Audit, Board, SeatBoard};
 use std::sync::Wait;
 
-/// Opens and closes the sessions of one manager, and counts what they have. A program that is written against it is over any
-/// board, which makes its proofs cheap, and names the board of the shared table in one call alone, to which the `ManagerDesk` is lent.
+/// Opens and closes the sessions of one manager, and counts what they have. A program that is written against it is
+/// over any board, which makes its proofs cheap, and names the board of the shared table in one call alone, to
+/// which the `ManagerDesk` is lent.
 pub trait Desk<S> {
     ghost use Rattle.std.specs.Prelude.{ℕ, List};
     ghost use Rattle.local_locks.specs.declared.records.Entry.{Entry};
@@ -36,8 +37,8 @@ pub trait Desk<S> {
 
     ghost entries: { S → List Entry };
 
-    /// Opens a session of this database, which holds nothing. It is refused where all numbers are given out, and then where memory
-    /// runs out.
+    /// Opens a session of this database, which holds nothing. It is refused where all numbers are given out, and
+    /// then where memory runs out.
     fn open(&mut self, database: u32) -> Result<S, Refusal>
         ensures manager { manager self.new ≡ manager self.old }
         ensures own { IfOk result (λ session. (seat session).table ≡ (manager self.old).table) }
@@ -53,8 +54,8 @@ pub trait Desk<S> {
     fn live(&self) -> u32
         ensures { result ≡ live self.now };
 
-    /// Two sessions meet (`Session::meet`): no hold of the one conflicts with a hold of the other, and they keep them. The other
-    /// comes back.
+    /// Two sessions meet (`Session::meet`): no hold of the one conflicts with a hold of the other, and they keep
+    /// them. The other comes back.
     fn meet(&self, session: &mut S, other: S) -> S
         requires same_manager { (seat other).table ≡ (seat session.old).table }
         ensures told { DontConflict (entries session.old) (entries other) }
@@ -63,8 +64,9 @@ pub trait Desk<S> {
         ensures same_entries { entries session.new ≡ entries session.old }
         ensures its_entries { entries result ≡ entries other };
 
-    /// Counts what stands in the manager, all of whose open sessions are lent (`Manager::audit`): slots and table have as many
-    /// holds as the sessions have local entries, and the counters count the strong ones. It is refused where memory runs out.
+    /// Counts what stands in the manager, all of whose open sessions are lent (`Manager::audit`): slots and table
+    /// have as many holds as the sessions have local entries, and the counters count the strong ones. It is refused
+    /// where memory runs out.
     fn audit<R: Wait>(&mut self, rt: &R, sessions: &mut Vec<S>) -> Result<Audit, Refusal>
         requires own { All (λ session. (seat session).table ≡ (manager self.old).table) sessions.old.items }
         requires all { length sessions.old.items ≡ live self.old }

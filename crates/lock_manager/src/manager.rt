@@ -23,9 +23,9 @@ pub struct Final {
     pub strong: u32,
 }
 
-/// The lock manager: what all sessions share (the shared memory that `InitLocks` in lock.c sets up). Its sessions borrow
-/// it. Contracts see its table, how many sessions it may open, and how many groups of fast-path slots and how many local
-/// entries each may have.
+/// The lock manager: what all sessions share (the shared memory that `InitLocks` in lock.c sets up). Its sessions
+/// borrow it. Contracts see its table, how many sessions it may open, and how many groups of fast-path slots and
+/// how many local entries each may have.
 #[derive(Drop)]
 pub struct Manager {
     pub(crate) table: SharedTable<Part>,
@@ -50,8 +50,8 @@ impl Model for Manager {
         × (manager.max_local ≤ 65536) };
 }
 
-/// Gives the sessions of a manager out and takes them back. Contracts see at which table, how many sessions it has given
-/// out and may give out, how many of them are open, and the histories of those that have closed.
+/// Gives the sessions of a manager out and takes them back. Contracts see at which table, how many sessions it has
+/// given out and may give out, how many of them are open, and the histories of those that have closed.
 #[derive(Drop)]
 pub struct Opener {
     pub(crate) numbers: NumberOpener<Part>,
@@ -81,8 +81,8 @@ impl Model for Opener {
 }
 
 impl Manager {
-    /// A manager with no session yet, and its opener (`InitLocks` in lock.c with `InitProcGlobal` in proc.c). It is refused
-    /// where a number of the configuration is out of its range, and then where memory runs out.
+    /// A manager with no session yet, and its opener (`InitLocks` in lock.c with `InitProcGlobal` in proc.c). It is
+    /// refused where a number of the configuration is out of its range, and then where memory runs out.
     pub fn new(alloc: Global, config: Config) -> Result<(Manager, Opener), Refusal>
         ensures ok { IfOk result (λ made. IsNew made.0 made.1 config) }
         ensures bad_config { IsErrOf result Refusal.BadConfig ↔ (is_in_range config ≡ false) }
@@ -118,8 +118,8 @@ impl Manager {
         Ok((manager, opener))
     }
 
-    /// Ends the manager, all of whose sessions are closed. Nothing is held then, by what each of them had to show as it was
-    /// closed: the three numbers are 0, and nobody counts again.
+    /// Ends the manager, all of whose sessions are closed. Nothing is held then, by what each of them had to show
+    /// as it was closed: the three numbers are 0, and nobody counts again.
     pub fn finish(self, opener: Opener) -> Final
         requires own { IsOpenerOf opener self }
         requires none_live { opener.live ≡ 0 }

@@ -69,8 +69,9 @@ fn blockers<T: PartTable, B: Board<T>, R: Wait>(
 }
 
 impl<T: PartTable, B: Board<T>> OwnSession<T, B> {
-    /// The object's waits, in the order of its queue, with the modes that each held when it joined: by one episode in the
-    /// object's partition, which changes nothing. Only the list of the answer takes memory; where that runs out it is refused.
+    /// The object's waits, in the order of its queue, with the modes that each held when it joined: by one episode
+    /// in the object's partition, which changes nothing. Only the list of the answer takes memory; where that runs
+    /// out it is refused.
     pub fn queue<R: Wait>(&mut self, rt: &R, tag: Tag) -> Result<Vec<QueueRow>, Refusal>
         // What it is answered.
         ensures looked { LooksAt (λ taken. IfOk result (λ rows. IsQueue tag rows.items taken))
@@ -86,10 +87,11 @@ impl<T: PartTable, B: Board<T>> OwnSession<T, B> {
     }
 
     /// Those who stand in the way of a session that waits on the object (`GetBlockerStatusData` in lock.c, for
-    /// `pg_blocking_pids`): by session and mode those who hold a mode that conflicts with the awaited one, and then, in the order of
-    /// the queue, those before it who await one. Nobody where the session doesn't wait there. It is one episode in the object's
-    /// partition, which changes nothing. A hold in a fast-path slot conflicts with no mode that can wait until it is moved
-    /// into the table. Only the list of the answer takes memory; where that runs out it is refused.
+    /// `pg_blocking_pids`): by session and mode those who hold a mode that conflicts with the awaited one, and
+    /// then, in the order of the queue, those before it who await one. Nobody where the session doesn't wait there.
+    /// It is one episode in the object's partition, which changes nothing. A hold in a fast-path slot conflicts
+    /// with no mode that can wait until it is moved into the table. Only the list of the answer takes memory; where
+    /// that runs out it is refused.
     pub fn blockers<R: Wait>(
         &mut self,
         rt: &R,

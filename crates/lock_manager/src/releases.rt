@@ -24,8 +24,8 @@ use shared_rule::Board;
 use std::sync::Wait;
 use wait_queue::take_hold_out;
 
-/// Releases all that the end of a transaction, of its innermost level or of the session takes away, in the order of making
-/// (`LockReleaseAll` in lock.c, and `LockReleaseCurrentOwner` there).
+/// Releases all that the end of a transaction, of its innermost level or of the session takes away, in the order of
+/// making (`LockReleaseAll` in lock.c, and `LockReleaseCurrentOwner` there).
 pub fn end_all<T: PartTable, B: Board<T>, R: Wait>(rt: &R, board: &mut B, own: &mut Own, end: End)
     requires rest { IsAtRest (B.seat board.old).groups (B.seat board.old).limit own.old.database own.old.uses
         (B.view board.old) (B.stack board.old) own.old.locals.entries }
@@ -121,8 +121,9 @@ fn release_in_part<T: PartTable, B: Board<T>, R: Wait>(rt: &R, board: &mut B, ta
     }
 }
 
-/// Ends a move by a wakeup of the object's queue: tells those who may go, if any, and puts the partition (`ProcLockWakeup`
-/// in proc.c). A function of its own, since the list of those woken is large and mostly not needed.
+/// Ends a move by a wakeup of the object's queue: tells those who may go, if any, and puts the partition
+/// (`ProcLockWakeup` in proc.c). A function of its own, since the list of those woken is large and mostly not
+/// needed.
 #[cold]
 #[inline(never)]
 fn wake_and_put<T: PartTable, B: Board<T>>(
@@ -151,8 +152,8 @@ fn wake_and_put<T: PartTable, B: Board<T>>(
     }
 }
 
-/// Marks the wait of each session that the move granted, puts the partition, and wakes them (`ProcLockWakeup` in proc.c).
-/// The first mark makes the move, where it doesn't stand recorded already.
+/// Marks the wait of each session that the move granted, puts the partition, and wakes them (`ProcLockWakeup` in
+/// proc.c). The first mark makes the move, where it doesn't stand recorded already.
 pub fn put_with_woken<T: PartTable, B: Board<T>>(
     board: &mut B,
     part: u8,

@@ -31,9 +31,10 @@ pub enum Begun {
     Queued,
 }
 
-/// Acquires a mode on an object for an owner, or begins to wait for it where the request may wait (`LockAcquire` in lock.c, up to
-/// `WaitOnLock`). What the session has already is counted once more, with no step on shared state; a new mode is granted in
-/// a slot, or decided in the object's partition. While the session waits room is reserved for the entry.
+/// Acquires a mode on an object for an owner, or begins to wait for it where the request may wait (`LockAcquire` in
+/// lock.c, up to `WaitOnLock`). What the session has already is counted once more, with no step on shared state; a
+/// new mode is granted in a slot, or decided in the object's partition. While the session waits room is reserved
+/// for the entry.
 #[inline(always)]
 pub fn acquire<T: PartTable, B: Board<T>, R: Wait>(
     rt: &R,

@@ -45,8 +45,8 @@ pub struct Own {
     pub(crate) locals: LocalTable,
     // Its database (`MyDatabaseId` in globals.c).
     pub(crate) database: u32,
-    // No less than how many of its fast-path slots are in use, by group (`FastPathLocalUseCount` in lock.c, in version 18
-    // `FastPathLocalUseCounts`).
+    // No less than how many of its fast-path slots are in use, by group (`FastPathLocalUseCount` in lock.c, in
+    // version 18 `FastPathLocalUseCounts`).
     pub(crate) uses: UseCounts,
     pub(crate) alloc: Global,
     pub(crate) after: CachePadded<()>,
@@ -82,10 +82,9 @@ impl Own {
     }
 }
 
-/// A session, over any board and any keeper of the partitions. Contracts see its board, its database, its use
-/// count of its fast-path slots, and what it owns. It
-/// ends by `close` alone: the compiler refuses code that lets one go, which would leave its holds and its number taken for
-/// ever.
+/// A session, over any board and any keeper of the partitions. Contracts see its board, its database, its use count
+/// of its fast-path slots, and what it owns. It ends by `close` alone: the compiler refuses code that lets one go,
+/// which would leave its holds and its number taken for ever.
 pub struct OwnSession<T: PartTable, B: Board<T>> {
     pub(crate) board: B,
     pub(crate) own: Box<Own>,
@@ -167,8 +166,8 @@ impl<T: PartTable, B: Board<T>> OwnSession<T, B> {
         held
     }
 
-    /// How often the owner has the object in the mode and can give it back (`LOCALLOCKOWNER` in lock.h): the session, or the innermost
-    /// level of its transaction.
+    /// How often the owner has the object in the mode and can give it back (`LOCALLOCKOWNER` in lock.h): the
+    /// session, or the innermost level of its transaction.
     pub fn owner_count(&self, tag: Tag, mode: Mode, owner: Owner) -> u16
         ensures { result ≡ own_count_of self.now.owned tag mode owner }
     {
@@ -218,11 +217,11 @@ impl<T: PartTable, B: Board<T>> OwnSession<T, B> {
     }
 
     /// Takes a mode on an object for an owner in one of the session's fast-path slots, or refuses, and waits for
-    /// nobody (`FastPathGrantRelationLock` in lock.c, where the lock of its own slots is free). What the session has
-    /// already is counted once more, wherever it stands, unless the owner's count is full. It is refused, in this
-    /// order, where the mode on the object may not go by a slot, the local table is full, memory runs out, all
-    /// sixteen slots of the relation's group are in use, somebody has the lock of its own slots, or a strong lock is counted. After a refusal
-    /// the session holds what it held.
+    /// nobody (`FastPathGrantRelationLock` in lock.c, where the lock of its own slots is free). What the session
+    /// has already is counted once more, wherever it stands, unless the owner's count is full. It is refused, in
+    /// this order, where the mode on the object may not go by a slot, the local table is full, memory runs out, all
+    /// sixteen slots of the relation's group are in use, somebody has the lock of its own slots, or a strong lock
+    /// is counted. After a refusal the session holds what it held.
     pub fn try_fast(&mut self, tag: Tag, mode: Mode, owner: Owner) -> Result<Acquired, Refusal>
         // What it is answered.
         ensures answers { AnswersByOwned self.old.owned tag mode owner Acquired.AlreadyHeld
@@ -242,8 +241,8 @@ impl<T: PartTable, B: Board<T>> OwnSession<T, B> {
         acquire_by_slot(&mut self.board, &mut self.own, tag, mode, owner)
     }
 
-    /// Gives one count of an owner back, and with the last one the hold (`LockRelease` in lock.c). Refused where the owner
-    /// has no count; nothing has changed then.
+    /// Gives one count of an owner back, and with the last one the hold (`LockRelease` in lock.c). Refused where
+    /// the owner has no count; nothing has changed then.
     #[inline(always)]
     pub fn unlock<R: Wait>(
         &mut self,
@@ -282,8 +281,8 @@ impl<T: PartTable, B: Board<T>> OwnSession<T, B> {
         }
     }
 
-    /// Ends a transaction that succeeded, with all its levels: what it owns goes, and what the session owns stays (`LockReleaseAll` in lock.c
-    /// without `allLocks`). Holds are released in the order of making.
+    /// Ends a transaction that succeeded, with all its levels: what it owns goes, and what the session owns stays
+    /// (`LockReleaseAll` in lock.c without `allLocks`). Holds are released in the order of making.
     pub fn commit<R: Wait>(&mut self, rt: &R)
         ensures entries { self.new.owned.entries ≡ left_by End.Commit self.old.owned.entries }
         ensures released { ReleasesAll (B.seat self.old.board).groups (B.seat self.old.board).number
@@ -294,8 +293,9 @@ impl<T: PartTable, B: Board<T>> OwnSession<T, B> {
         end_all(rt, &mut self.board, &mut self.own, End::Commit);
     }
 
-    /// Ends a transaction that failed, with all its levels: all that it and the session own goes, but for the session's advisory locks, which stay
-    /// (`LockReleaseAll` in lock.c, with `allLocks` for the default lock method and without for the user method).
+    /// Ends a transaction that failed, with all its levels: all that it and the session own goes, but for the
+    /// session's advisory locks, which stay (`LockReleaseAll` in lock.c, with `allLocks` for the default lock
+    /// method and without for the user method).
     pub fn abort<R: Wait>(&mut self, rt: &R)
         ensures entries { self.new.owned.entries ≡ left_by End.Abort self.old.owned.entries }
         ensures released { ReleasesAll (B.seat self.old.board).groups (B.seat self.old.board).number
@@ -306,9 +306,10 @@ impl<T: PartTable, B: Board<T>> OwnSession<T, B> {
         end_all(rt, &mut self.board, &mut self.own, End::Abort);
     }
 
-    /// Begins a level of the transaction within the innermost one, and answers the new level (a savepoint: `PushTransaction` in
-    /// xact.c, with a resource owner of its own in resowner.c). What is acquired for the transaction from then on is that
-    /// level's, until it ends. A transaction begins at level 1, and has at most 16. It makes no step, and takes no memory.
+    /// Begins a level of the transaction within the innermost one, and answers the new level (a savepoint:
+    /// `PushTransaction` in xact.c, with a resource owner of its own in resowner.c). What is acquired for the
+    /// transaction from then on is that level's, until it ends. A transaction begins at level 1, and has at most
+    /// 16. It makes no step, and takes no memory.
     pub fn begin_nested(&mut self) -> Result<u8, Refusal>
         ensures too_deep { IsErrOf result Refusal.TooDeep ↔ (level_of self.old.owned ≡ max_level) }
         ensures no_other { IsOkUnless result Refusal.TooDeep }
@@ -324,9 +325,9 @@ impl<T: PartTable, B: Board<T>> OwnSession<T, B> {
         self.own.locals.begin_nested()
     }
 
-    /// Ends the innermost level, which succeeded, and answers the new level: what it has is that of the level that it was begun in
-    /// (`LockReassignCurrentOwner` in lock.c). Refused at level 1; nothing has changed then. It makes no step, and takes no
-    /// memory.
+    /// Ends the innermost level, which succeeded, and answers the new level: what it has is that of the level that
+    /// it was begun in (`LockReassignCurrentOwner` in lock.c). Refused at level 1; nothing has changed then. It
+    /// makes no step, and takes no memory.
     pub fn commit_nested(&mut self) -> Result<u8, Refusal>
         ensures no_nested { IsErrOf result Refusal.NoNested ↔ (level_of self.old.owned ≡ 1) }
         ensures no_other { IsOkUnless result Refusal.NoNested }
@@ -341,9 +342,9 @@ impl<T: PartTable, B: Board<T>> OwnSession<T, B> {
         self.own.locals.hand_up()
     }
 
-    /// Ends the innermost level, which failed, and answers the new level: what it has goes, and what the levels outside it and the
-    /// session have stays (`LockReleaseCurrentOwner` in lock.c). Holds that nobody else has are released, in the order of
-    /// making, whatever their lock method. Refused at level 1; nothing has changed then.
+    /// Ends the innermost level, which failed, and answers the new level: what it has goes, and what the levels
+    /// outside it and the session have stays (`LockReleaseCurrentOwner` in lock.c). Holds that nobody else has are
+    /// released, in the order of making, whatever their lock method. Refused at level 1; nothing has changed then.
     pub fn abort_nested<R: Wait>(&mut self, rt: &R) -> Result<u8, Refusal>
         ensures no_nested { IsErrOf result Refusal.NoNested ↔ (level_of self.old.owned ≡ 1) }
         ensures no_other { IsOkUnless result Refusal.NoNested }
@@ -365,7 +366,8 @@ impl<T: PartTable, B: Board<T>> OwnSession<T, B> {
         Ok(self.own.locals.level())
     }
 
-    /// The level of the transaction: 1, and one more for each that was begun within it (`GetCurrentTransactionNestLevel` in xact.c).
+    /// The level of the transaction: 1, and one more for each that was begun within it
+    /// (`GetCurrentTransactionNestLevel` in xact.c).
     pub fn level(&self) -> u8
         ensures { result ≡ level_of self.now.owned }
     {
@@ -381,10 +383,10 @@ impl<T: PartTable, B: Board<T>> OwnSession<T, B> {
         self.own.locals.level_count(tag, mode, level)
     }
 
-    /// All that is held and awaited (`GetLockStatusData` in lock.c): first what the slots show, session by session, then the
-    /// lock table at one moment, at which the session has all partitions in hand. A hold that is moved from a slot to the table
-    /// meanwhile may be in both; one that stands all the while is in one of them. Only the lists of the answer take memory; where
-    /// that is missing it is refused.
+    /// All that is held and awaited (`GetLockStatusData` in lock.c): first what the slots show, session by session,
+    /// then the lock table at one moment, at which the session has all partitions in hand. A hold that is moved
+    /// from a slot to the table meanwhile may be in both; one that stands all the while is in one of them. Only the
+    /// lists of the answer take memory; where that is missing it is refused.
     pub fn list<R: Wait>(&mut self, rt: &R) -> Result<Listing, Refusal>
         ensures listed { Lists (B.seat self.old.board).groups (B.seat self.old.board).limit
             (B.seat self.old.board).number (B.view self.old.board) result (B.view self.new.board) }
@@ -411,8 +413,8 @@ impl<T: PartTable, B: Board<T>> OwnSession<T, B> {
 }
 
 impl<'a> OwnSession<Part, SeatBoard<'a, Part>> {
-    /// Meets another session of the same manager, which comes back: no hold of the one conflicts with a hold of the other
-    /// on an object. Both are as before.
+    /// Meets another session of the same manager, which comes back: no hold of the one conflicts with a hold of the
+    /// other on an object. Both are as before.
     pub fn meet(&mut self, other: Session<'a>) -> Session<'a>
         requires same_manager { let B = ⟦<SeatBoard<'a, Part> as Board<Part>>⟧ in
             (B.seat other.board).table ≡ (B.seat self.old.board).table }

@@ -28,9 +28,9 @@ use wait_queue::Kind;
 /// A session of a manager that waits.
 pub type Waiting<'a> = OwnWaiting<Part, SeatBoard<'a, Part>>;
 
-/// A session that waits, over any board and any keeper of the partitions: it can make no call but those of its wait. It
-/// ends by one of them alone: the compiler refuses code that lets one go, which would stand in the queue for ever. Contracts
-/// see its board, its database, what it owns, and what it waits for.
+/// A session that waits, over any board and any keeper of the partitions: it can make no call but those of its
+/// wait. It ends by one of them alone: the compiler refuses code that lets one go, which would stand in the queue
+/// for ever. Contracts see its board, its database, what it owns, and what it waits for.
 pub struct OwnWaiting<T: PartTable, B: Board<T>> {
     board: B,
     own: Box<Own>,
@@ -236,8 +236,8 @@ impl<T: PartTable, B: Board<T>> OwnSession<T, B> {
         }
     }
 
-    /// `lock` on a session that is lent, so that `?` works at its answer (`LockAcquire` in lock.c without `dontWait`). The
-    /// session waits where it must, and can make no other call meanwhile.
+    /// `lock` on a session that is lent, so that `?` works at its answer (`LockAcquire` in lock.c without
+    /// `dontWait`). The session waits where it must, and can make no other call meanwhile.
     pub fn acquire<R: Wait>(
         &mut self,
         rt: &R,

@@ -9,8 +9,8 @@ use crate::sets::has_some;
 use modes_core::{Mode, ModeSet, SessionId, Tag};
 use slab::Slab;
 
-/// What a session holds of an object (`PROCLOCK` in lock.h, with its `holdMask`), and the place of the next holder record of
-/// the object.
+/// What a session holds of an object (`PROCLOCK` in lock.h, with its `holdMask`), and the place of the next holder
+/// record of the object.
 #[derive(Clone, Copy, Debug)]
 pub struct HolderRecord {
     pub tag: Tag,
@@ -19,7 +19,8 @@ pub struct HolderRecord {
     pub session: SessionId,
 }
 
-/// The holder records of an object: how many they are, and where the first one stands (`procLocks` of `LOCK` in lock.h).
+/// The holder records of an object: how many they are, and where the first one stands (`procLocks` of `LOCK` in
+/// lock.h).
 #[derive(Clone, Copy, Debug)]
 pub struct Holders {
     pub first: usize,
@@ -133,8 +134,8 @@ pub(crate) fn lower_holder(
     }
 }
 
-/// Takes the session's record of the object out, which stands at this place: the head of the chain goes, and what it says
-/// goes into the gap.
+/// Takes the session's record of the object out, which stands at this place: the head of the chain goes, and what
+/// it says goes into the gap.
 #[inline(always)]
 fn take_holder(
     slots: &mut Slab<HolderRecord>,
@@ -163,8 +164,8 @@ fn take_holder(
     gap.modes = head.modes;
 }
 
-/// The session with the lowest number, other than this one, that holds the object in one of these modes, with all the modes
-/// that it holds.
+/// The session with the lowest number, other than this one, that holds the object in one of these modes, with all
+/// the modes that it holds.
 pub(crate) fn lowest_holder(
     slots: &Slab<HolderRecord>,
     holders: Holders,

@@ -12,8 +12,8 @@ use modes_core::{Mode, Tag, conflicts};
 use place_index::PlaceIndex;
 use slab::Slab;
 
-/// What the table has of an object that is held or awaited (`LOCK` in lock.h): its holder records, how many holds there are of
-/// each mode, and how many waits.
+/// What the table has of an object that is held or awaited (`LOCK` in lock.h): its holder records, how many holds
+/// there are of each mode, and how many waits.
 #[derive(Debug, Drop)]
 pub struct LockRecord {
     pub tag: Tag,
@@ -69,8 +69,8 @@ impl LockRecord {
     }
 }
 
-/// What the index has an object under. The lowest bits of a tag's hash are those of its partition, and the index tells chains
-/// by the highest: the multiplication mixes them.
+/// What the index has an object under. The lowest bits of a tag's hash are those of its partition, and the index
+/// tells chains by the highest: the multiplication mixes them.
 #[inline(always)]
 fn key_of(tag: &Tag) -> u32
     ensures { result ≡ key_of tag.now }
@@ -78,8 +78,8 @@ fn key_of(tag: &Tag) -> u32
     tag.hash().wrapping_mul(2_654_435_761)
 }
 
-/// Whether both tags are the same one. They are compared where they stand: a copy is stored field by field, and the comparison
-/// waits for that.
+/// Whether both tags are the same one. They are compared where they stand: a copy is stored field by field, and the
+/// comparison waits for that.
 #[inline(always)]
 fn is_tag(tag: &Tag, other: &Tag) -> bool
     ensures { result ≡ tag_eq tag.now other.now }

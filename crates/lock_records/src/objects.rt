@@ -108,8 +108,8 @@ pub(crate) fn remove_hold(
     lock.granted.lower(mode);
 }
 
-/// The lowest-numbered other session that holds the object in a mode in conflict with the mode, with its lowest such mode. Where
-/// nobody holds one, the mask says so.
+/// The lowest-numbered other session that holds the object in a mode in conflict with the mode, with its lowest
+/// such mode. Where nobody holds one, the mask says so.
 #[inline(always)]
 pub(crate) fn holder_in_the_way(
     locks: &Slab<LockRecord>,

@@ -6,8 +6,9 @@ use modes_core::{Mode, ModeSet, SessionId, Tag};
 use std::alloc::Global;
 use std::marker::Model;
 
-/// One partition of the lock table as lock.c keeps it, with lock and holder records. They are on the heap, so that the part is
-/// one pointer wide: who takes a partition gets it by value, and puts it back so. The boxes of two parts share no cache line.
+/// One partition of the lock table as lock.c keeps it, with lock and holder records. They are on the heap, so that
+/// the part is one pointer wide: who takes a partition gets it by value, and puts it back so. The boxes of two
+/// parts share no cache line.
 #[derive(Drop)]
 pub struct RecordPart {
     records: Box<CachePadded<Records>>,
@@ -38,8 +39,8 @@ impl RecordPart {
         Ok(RecordPart { records })
     }
 
-    /// The counts of an object, or that nobody holds or awaits it. No record is kept of such an object: there is something to
-    /// count wherever there are counts.
+    /// The counts of an object, or that nobody holds or awaits it. No record is kept of such an object: there is
+    /// something to count wherever there are counts.
     pub fn counts(&self, tag: &Tag) -> Option<Counts>
         ensures found { IfSome result (AreCountsOf (content_of self.now) tag.now) }
         ensures used { IfSome result (λ counts. 0 < counts.requested_total) }

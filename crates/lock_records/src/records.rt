@@ -15,8 +15,8 @@ use slab::Slab;
 use std::alloc::Global;
 use std::marker::Model;
 
-/// One partition of the lock table as lock.c keeps it: lock records, found through an index by the hash of the tag, holder
-/// records, and queue records of the objects that somebody awaits.
+/// One partition of the lock table as lock.c keeps it: lock records, found through an index by the hash of the tag,
+/// holder records, and queue records of the objects that somebody awaits.
 #[derive(Drop)]
 pub struct Records {
     locks: Slab<LockRecord>,
@@ -69,8 +69,8 @@ impl Records {
     ghost use Rattle.lock_records.specs.View.{content_of};
     ghost use Rattle.lock_records.specs.Counts.{AreCountsOf, IsUntouched};
 
-    /// The counts of an object, or that nobody holds or awaits it. No record is kept of such an object: there is something to
-    /// count wherever there are counts.
+    /// The counts of an object, or that nobody holds or awaits it. No record is kept of such an object: there is
+    /// something to count wherever there are counts.
     pub fn counts(&self, tag: &Tag) -> Option<Counts>
         ensures found { IfSome result (AreCountsOf (content_of self.now) tag.now) }
         ensures used { IfSome result (λ counts. 0 < counts.requested_total) }

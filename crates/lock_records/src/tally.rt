@@ -7,9 +7,9 @@ use crate::sets::has_some;
 use modes_core::{Mode, ModeSet};
 use std::marker::Model;
 
-/// How many there are of each mode, with their total and the mask of the modes of which there is one: what lock.h keeps for a
-/// lock in `granted`, `nGranted` and `grantMask`, and in `requested`, `nRequested` and `waitMask`. Contracts see the numbers
-/// by mode, of which the first stands for no mode.
+/// How many there are of each mode, with their total and the mask of the modes of which there is one: what lock.h
+/// keeps for a lock in `granted`, `nGranted` and `grantMask`, and in `requested`, `nRequested` and `waitMask`.
+/// Contracts see the numbers by mode, of which the first stands for no mode.
 #[derive(Debug, Drop)]
 pub struct Tally {
     by_mode: [u8; 9],

@@ -19,15 +19,16 @@ use slab::Slab;
 use std::alloc::Global;
 use std::marker::Model;
 
-/// The waits for an object (`waitProcs` of `LOCK` in lock.h), the first one first. There are at most 64 sessions, and each
-/// waits for it once at most.
+/// The waits for an object (`waitProcs` of `LOCK` in lock.h), the first one first. There are at most 64 sessions,
+/// and each waits for it once at most.
 #[derive(Drop)]
 pub struct QueueRecord {
     pub tag: Tag,
     pub waiters: ArrayVec<Waiter, 64>,
 }
 
-/// The queue records of a partition, and how many waits they have together. An object has one only while somebody awaits it.
+/// The queue records of a partition, and how many waits they have together. An object has one only while somebody
+/// awaits it.
 #[derive(Drop)]
 pub struct WaitQueues {
     slots: Slab<QueueRecord>,
@@ -88,8 +89,8 @@ impl WaitQueues {
         }
     }
 
-    /// Where the object's record is. The place that its lock record notes is looked at, and the others only where it isn't
-    /// there.
+    /// Where the object's record is. The place that its lock record notes is looked at, and the others only where
+    /// it isn't there.
     pub(crate) fn find(&self, noted: usize, tag: &Tag) -> Option<usize>
         ensures found { IfSome result (IsQueueAt self.now.slots tag.now) }
         ensures absent { IfNone result (queue_on self.now.slots tag.now ≡ []) }
@@ -152,7 +153,8 @@ impl WaitQueues {
             .insert_reserved(QueueRecord { tag: *tag, waiters })
     }
 
-    /// Takes the session's wait out of the object's queue, whose record is at the place, and the record with its last wait.
+    /// Takes the session's wait out of the object's queue, whose record is at the place, and the record with its
+    /// last wait.
     pub(crate) fn leave(&mut self, at: usize, tag: &Tag, session: SessionId)
         requires there { IsQueueAt self.old.slots tag.now at }
         requires waits { waits_there (queue_on self.old.slots tag.now) session ≡ true }

@@ -112,8 +112,8 @@ fn has_digits(word: &str) -> bool
     word.as_bytes().iter().all(|byte| byte.is_ascii_digit())
 }
 
-/// A tag: `DB/REL` is a relation, `DB/CLASS/OBJ/SUB` an object and `adv/DB/K1/K2/SUB` what an advisory lock is on. SUB is at
-/// most 65535.
+/// A tag: `DB/REL` is a relation, `DB/CLASS/OBJ/SUB` an object and `adv/DB/K1/K2/SUB` what an advisory lock is on.
+/// SUB is at most 65535.
 pub fn parse_tag(word: &str) -> Option<Tag>
     ensures { result ≡ tag_of word.now }
 {

@@ -37,8 +37,8 @@ ghost use Rattle.lock_world.specs.Listing.{StandsThereOrInContent, TellsHold};
 ghost use Rattle.lock_world.specs.Account.{IsLeftAlone, account};
 ghost use Rattle.lock_world.specs.Closed.{empty_account};
 
-/// The World before the first event is safe, of any number of sessions that the count of a lightweight word can hold, with
-/// any number of groups of slots.
+/// The World before the first event is safe, of any number of sessions that the count of a lightweight word can
+/// hold, with any number of groups of slots.
 pub fn opening_is_safe()
     ensures { (limit groups : ℕ) → limit < 2 ^ 24 → SafeWorld (opening limit groups) }
 {}
@@ -400,9 +400,9 @@ pub fn others_are_untouched()
 {}
 
 /// In each World of a run the holds of a session that waits for nothing stand in its slots or in contents: what
-/// contents have of it is own, and the word of each of its slots shows just its own holds that it remembers there and that
-/// no content has. What it remembers has one slot at most for a relation, in its group, and there are as many groups all
-/// the time.
+/// contents have of it is own, and the word of each of its slots shows just its own holds that it remembers there
+/// and that no content has. What it remembers has one slot at most for a relation, in its group, and there are as
+/// many groups all the time.
 pub fn own_holds_are_in_slots_or_contents()
     ensures stand { (limit groups : ℕ) (events : List Event) (w : World) (session : ℕ) → limit < 2 ^ 24 →
         Runs (opening limit groups) events w → w.sessions.awaited session ≡ None →

@@ -2,8 +2,8 @@
 
 ghost use Rattle.std.specs.Prelude.{◌≡◌, ◌%◌, ◌/◌, ◌==◌};
 
-/// Bits 0 to 1 of a wait word: 0 where its session doesn't wait, 1 where it waits, 2 where its wait was granted (`waitStatus`
-/// in proc.h).
+/// Bits 0 to 1 of a wait word: 0 where its session doesn't wait, 1 where it waits, 2 where its wait was granted
+/// (`waitStatus` in proc.h).
 pub fn wait_state(word: u64) -> u64
     ensures { result ≡ word % 4 }
 {

@@ -152,7 +152,8 @@ fn expect_nothing<R: Abort>(rt: &R, stood: Final) {
     assert_eq!(rt; stood, nothing);
 }
 
-/// How many sessions, with how many entries and groups of slots each, and whether a manager has a range for all of them.
+/// How many sessions, with how many entries and groups of slots each, and whether a manager has a range for all of
+/// them.
 static CONFIGURATIONS: [(u32, u32, u32, bool); 14] = [
     (0, 8, 1, false),
     (65, 8, 1, false),

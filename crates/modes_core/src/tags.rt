@@ -17,8 +17,9 @@ pub const PARTITIONS: u32 = 16;
 /// How many strong lock counters there are (`FAST_PATH_STRONG_LOCK_HASH_PARTITIONS` in lock.c).
 pub const STRONG_COUNTERS: u32 = 1024;
 
-/// Whose rules a lock follows (`LOCKMETHODID` in lock.h): the server's own locks have the default method, those that applications
-/// name have the user method. Both have the same modes and conflicts; they differ in what an abort leaves to the session.
+/// Whose rules a lock follows (`LOCKMETHODID` in lock.h): the server's own locks have the default method, those
+/// that applications name have the user method. Both have the same modes and conflicts; they differ in what an
+/// abort leaves to the session.
 #[derive(Clone, Copy, Debug, PartialEq, Eq)]
 pub enum LockMethod {
     /// `DEFAULT_LOCKMETHOD`.
@@ -27,8 +28,8 @@ pub enum LockMethod {
     User,
 }
 
-/// What a lock is on (`LOCKTAG` in lock.h). Relations and objects have the default lock method, advisory locks the user method. The
-/// smallest field stands first, beside the number of the variant, so that a tag takes 16 bytes.
+/// What a lock is on (`LOCKTAG` in lock.h). Relations and objects have the default lock method, advisory locks the
+/// user method. The smallest field stands first, beside the number of the variant, so that a tag takes 16 bytes.
 #[derive(Clone, Copy, Debug, PartialEq, Eq, Hash)]
 pub enum Tag {
     /// A table or an index (`LOCKTAG_RELATION`).
@@ -72,8 +73,8 @@ impl Tag {
         }
     }
 
-    /// The tag of an advisory lock (`SET_LOCKTAG_ADVISORY` in lock.h): two numbers of the application's own in a database, and a
-    /// third one, by which PostgreSQL's functions tell one key of 64 bits (1) from two of 32 (2).
+    /// The tag of an advisory lock (`SET_LOCKTAG_ADVISORY` in lock.h): two numbers of the application's own in a
+    /// database, and a third one, by which PostgreSQL's functions tell one key of 64 bits (1) from two of 32 (2).
     pub fn advisory(database: u32, key1: u32, key2: u32, sub: u16) -> Self
         ensures { result ≡ Tag.Advisory sub database key1 key2 }
     {
@@ -129,8 +130,8 @@ impl Tag {
         }
     }
 
-    /// Whether both tags are the same one: `==`, in the word that contracts use. The numbers that differ most often are compared
-    /// first, without asking for the kind of both, so that a walk over tags stays short.
+    /// Whether both tags are the same one: `==`, in the word that contracts use. The numbers that differ most often
+    /// are compared first, without asking for the kind of both, so that a walk over tags stays short.
     #[inline(always)]
     pub fn is_same(self, other: Self) -> bool
         ensures { result ≡ tag_eq self other }

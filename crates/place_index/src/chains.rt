@@ -4,8 +4,8 @@ ghost use Rattle.place_index.specs.Chains.{end_of_chain, free_link, link_at, is_
 
 use crate::links::{END, Link};
 
-/// Where the chain of the hash begins, of so many starts: a multiplication parts the hashes among them in their order, so
-/// the highest bits of a hash tell.
+/// Where the chain of the hash begins, of so many starts: a multiplication parts the hashes among them in their
+/// order, so the highest bits of a hash tell.
 #[inline(always)]
 pub(crate) fn start_of(starts: usize, hash: u32) -> usize
     requires { starts ≤ 2 ^ 32 }

@@ -11,7 +11,8 @@ use std::marker::Model;
 /// How many places there is room for at first.
 const FIRST_PLACES: usize = 16;
 
-/// How many starts there are beside two for each place, so that in a small table too most chains have one place or none.
+/// How many starts there are beside two for each place, so that in a small table too most chains have one place or
+/// none.
 const MORE_STARTS: usize = 96;
 
 /// How many places there can be.
@@ -74,8 +75,8 @@ impl PlaceIndex {
         find(self.heads.as_slice(), self.links.as_slice(), hash, is_it)
     }
 
-    /// The place that a `find` for this hash comes to first, which may be noted under another one, or that there is none. A
-    /// caller that goes on with `find` where it isn't the one looked for has no loop in its own code.
+    /// The place that a `find` for this hash comes to first, which may be noted under another one, or that there is
+    /// none. A caller that goes on with `find` where it isn't the one looked for has no loop in its own code.
     #[inline(always)]
     pub fn first(&self, hash: u32) -> Option<u32>
         ensures { IsFirst self.now hash result }
@@ -115,8 +116,8 @@ impl PlaceIndex {
         place < self.links.len() && self.links[place].is_noted()
     }
 
-    /// Makes room for the place. Beside `new`, nothing else takes memory. The error is that memory was refused, or that the
-    /// place is 2^30 or above.
+    /// Makes room for the place. Beside `new`, nothing else takes memory. The error is that memory was refused, or
+    /// that the place is 2^30 or above.
     #[inline(always)]
     pub fn reserve(&mut self, place: u32) -> Result<(), AllocError>
         ensures ok { OnOk result (place < self.new.places) }

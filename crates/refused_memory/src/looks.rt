@@ -1,4 +1,5 @@
-//! Looks at a queue, over any board: a session waits for what another one has, which lists the queue or those in the way.
+//! Looks at a queue, over any board: a session waits for what another one has, which lists the queue or those in
+//! the way.
 
 ghost use Rattle.std.specs.Prelude.{◌≡◌};
 ghost use Rattle.lock_manager.specs.Crews.{KeepsSeat, SeatsAre};

@@ -1,6 +1,6 @@
-//! Tells what calls do for which memory is refused: each growth of a call in turn, and every growth of sessions that go on as
-//! they did before. `.ci/refused_memory` runs it with an allocator that refuses growths as it is asked to. Any other one refuses
-//! none, and then each call is made once.
+//! Tells what calls do for which memory is refused: each growth of a call in turn, and every growth of sessions
+//! that go on as they did before. `.ci/refused_memory` runs it with an allocator that refuses growths as it is
+//! asked to. Any other one refuses none, and then each call is made once.
 #![tactic(auto)]
 
 mod acts;
@@ -41,8 +41,8 @@ fn refused_in_turn<R: Wait>(rt: &R, alloc: Global, story: Story<'_>) -> Option<u
     None
 }
 
-/// Tells a story with each of its growths refused in turn, of which there are so many. Where the allocator doesn't listen it is
-/// told once, and none is refused.
+/// Tells a story with each of its growths refused in turn, of which there are so many. Where the allocator doesn't
+/// listen it is told once, and none is refused.
 fn tell_in_turn<R: Wait + Print>(
     rt: &R,
     alloc: Global,

@@ -90,7 +90,8 @@ pub static TALES: [Tale; 15] = [
         answer: Answer::Granted,
         growths: 7,
     },
-    // Four in the local table, and four in a partition that is full: both lists of its index, lock records, holder records.
+    // Four in the local table, and four in a partition that is full: both lists of its index, lock records, holder
+    // records.
     Tale {
         name: "try_lock, the seventeenth object of a partition",
         others: NOBODY,
@@ -109,8 +110,9 @@ pub static TALES: [Tale; 15] = [
         answer: Answer::Granted,
         growths: 4,
     },
-    // Past the slots of three readers, with so many objects in the same partition: the record that has to grow is now that of the
-    // first reader, now the session's own, now that of the third one, now of the second one. At last the first one is in the way.
+    // Past the slots of three readers, with so many objects in the same partition: the record that has to grow is
+    // now that of the first reader, now the session's own, now that of the third one, now of the second one. At
+    // last the first one is in the way.
     Tale {
         name: "try_lock, a strong mode, with nothing beside",
         others: READERS,

@@ -14,9 +14,9 @@ use std::sync::Wait;
 /// The database of all sessions.
 const DATABASE: u32 = 5;
 
-/// What is seen before and after a call: the modes that the asking session has the table in, how many rows a listing has, what
-/// the table's strong lock counter shows, and whether of those who have the table the first ones have it in the lock table, and the
-/// others in slots.
+/// What is seen before and after a call: the modes that the asking session has the table in, how many rows a
+/// listing has, what the table's strong lock counter shows, and whether of those who have the table the first ones
+/// have it in the lock table, and the others in slots.
 #[derive(Clone, Copy, PartialEq, Eq)]
 struct Seen {
     held: u16,

@@ -312,8 +312,8 @@ impl NoRun {
     }
 }
 
-/// What the words ask for, with each limit in its range: 1 to 64 sessions, 1 to 65,536 local entries, 1 to 8 groups of slots,
-/// 1 to 1,000,000 rounds. The first word is the program's name.
+/// What the words ask for, with each limit in its range: 1 to 64 sessions, 1 to 65,536 local entries, 1 to 8 groups
+/// of slots, 1 to 1,000,000 rounds. The first word is the program's name.
 pub fn parse_arguments(alloc: Global, words: &[String]) -> Result<Task, NoRun>
     ensures sessions { IfOk result (λ task. OfRun task (λ limits. (1 ≤ limits.sessions) × (limits.sessions ≤ 64))) }
     ensures max_local { IfOk result (λ task. OfRun task
@@ -334,8 +334,8 @@ pub fn parse_arguments(alloc: Global, words: &[String]) -> Result<Task, NoRun>
     }
 }
 
-/// Whether the first word behind the program's name is the option that prints the man page. No subcommand is wanted then, as
-/// none is for the help.
+/// Whether the first word behind the program's name is the option that prints the man page. No subcommand is wanted
+/// then, as none is for the help.
 fn asks_for_man(words: &[String]) -> bool {
     match words.get(1) {
         Some(word) => word.as_str() == MAN,

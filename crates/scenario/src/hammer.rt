@@ -19,12 +19,13 @@ use std::thread::Threads;
 /// How many local entries a session may have.
 const MAX_LOCAL: u32 = 16;
 
-/// So many sessions of a lock manager of its own play so many rounds, each in a thread of its own, once the gate lets it pass. In
-/// round `r` session `s` asks relation `5/(16384 + r % 4)` for the mode with number `1 + (s + r) % 8`, and unlocks what it is granted;
-/// every sixteenth time it waits, and else it is refused where something is in the way. When all threads have ended, each
-/// session takes AccessShareLock on `5/16384`, the first one ShareLock on `5/16385`, and two lines are written: what an audit
-/// counts, and, when all sessions are closed, what the manager has then. Where a gate answered no, or memory ran out, it ends
-/// with `GateHeld` or `NoMemory` when all threads have ended and all sessions are closed.
+/// So many sessions of a lock manager of its own play so many rounds, each in a thread of its own, once the gate
+/// lets it pass. In round `r` session `s` asks relation `5/(16384 + r % 4)` for the mode with number
+/// `1 + (s + r) % 8`, and unlocks what it is granted; every sixteenth time it waits, and else it is refused where
+/// something is in the way. When all threads have ended, each session takes AccessShareLock on `5/16384`, the first
+/// one ShareLock on `5/16385`, and two lines are written: what an audit counts, and, when all sessions are closed,
+/// what the manager has then. Where a gate answered no, or memory ran out, it ends with `GateHeld` or `NoMemory`
+/// when all threads have ended and all sessions are closed.
 pub fn run_hammer<H: AllocGlobal + Threads + Wait + Sync, G: Gate + Sync, W: Write + Drop>(
     rt: &H,
     gate: &G,
@@ -38,8 +39,8 @@ pub fn run_hammer<H: AllocGlobal + Threads + Wait + Sync, G: Gate + Sync, W: Wri
     run_watched_hammer(rt, gate, &Unwatched, writer, Hammer { sessions, rounds })
 }
 
-/// The same, with somebody who is told how far it is: of each round that a worker has played, by the worker, and when all have
-/// ended, before anything is written.
+/// The same, with somebody who is told how far it is: of each round that a worker has played, by the worker, and
+/// when all have ended, before anything is written.
 pub fn run_watched_hammer<
     H: AllocGlobal + Threads + Wait + Sync,
     G: Gate + Sync,
@@ -68,7 +69,8 @@ pub fn run_watched_hammer<
     print_final(&mut writer, last)
 }
 
-/// Opens the sessions, has them play, and closes them. The board of the shared table is named above alone: this is over any board.
+/// Opens the sessions, has them play, and closes them. The board of the shared table is named above alone: this is
+/// over any board.
 fn hammer<
     B: Board<Part> + Send,
     D: Desk<OwnSession<Part, B>>,

@@ -1,5 +1,5 @@
-//! Scripts on the lock manager: the words of the command line, what each command of a script does to its sessions, what it prints,
-//! and the program that runs one.
+//! Scripts on the lock manager: the words of the command line, what each command of a script does to its sessions,
+//! what it prints, and the program that runs one.
 #![tactic(auto)]
 
 mod arguments;

@@ -49,8 +49,8 @@ fn push_section(page: &mut String, title: &str, text: &str) -> Result<(), AllocE
     page.push_str(".fi\n")
 }
 
-/// Adds a line of text. What `troff` would read as a request of its own, or print as another character, is written so that it
-/// prints what stands there.
+/// Adds a line of text. What `troff` would read as a request of its own, or print as another character, is written
+/// so that it prints what stands there.
 fn push_line(page: &mut String, line: &str) -> Result<(), AllocError> {
     if line.starts_with('.') {
         page.push_str("\\&")?;

@@ -75,8 +75,8 @@ impl Picture {
         Ok(())
     }
 
-    /// Its text: a node for each session by its number, with what it awaits, an arrow for each that is in another's way, and
-    /// a mark for each that waits in a circle.
+    /// Its text: a node for each session by its number, with what it awaits, an arrow for each that is in another's
+    /// way, and a mark for each that waits in a circle.
     pub fn text(&self, names: &Names) -> Result<String, AllocError> {
         let mut text = String::new(self.pen.alloc);
         match self.pen.drawing {

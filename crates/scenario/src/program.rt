@@ -40,10 +40,10 @@ pub struct Errors<'a, E> {
     pub is_terminal: bool,
 }
 
-/// Runs the program. The words are those of the command line, or the error of reading them; the script
-/// comes from `input`, what it prints goes to `output`, as the texts do that are asked for, and why the
-/// program ends early to `errors`, with a word that it reads a terminal where it does, and how far a hammer is where that is
-/// read at one. Answers the status: 0, 3 for a bad line of the script, 2 for refused words, and 1 for any other fault.
+/// Runs the program. The words are those of the command line, or the error of reading them; the script comes from
+/// `input`, what it prints goes to `output`, as the texts do that are asked for, and why the program ends early to
+/// `errors`, with a word that it reads a terminal where it does, and how far a hammer is where that is read at one.
+/// Answers the status: 0, 3 for a bad line of the script, 2 for refused words, and 1 for any other fault.
 pub fn run_program<
     H: AllocGlobal + Clock + Threads + Wait + Sync,
     R: Read + Drop,

@@ -30,8 +30,9 @@ impl Progress for Unwatched {
     fn end(&self) {}
 }
 
-/// One line on a terminal, written anew a few times a second: how many rounds of all are played, and how many that is a
-/// second. A hammer that ends before the line's time has come writes none. Nothing of it is in the lock manager's table.
+/// One line on a terminal, written anew a few times a second: how many rounds of all are played, and how many that
+/// is a second. A hammer that ends before the line's time has come writes none. Nothing of it is in the lock
+/// manager's table.
 #[derive(Drop)]
 pub struct ProgressLine<'a, C, E> {
     clock: &'a C,

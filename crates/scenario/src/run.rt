@@ -45,8 +45,9 @@ pub fn run_styled_script<H: AllocGlobal + Wait, R: Read + Drop, W: Write + Drop>
     act_out(rt, reader, writer, config, style, None)
 }
 
-/// Runs the lines that the reader gives as a shell does: a bad line is told, with the nearest good word, and the shell goes
-/// on. It ends with the line `end`, the input, or another fault, and then the sessions that are open are closed in silence.
+/// Runs the lines that the reader gives as a shell does: a bad line is told, with the nearest good word, and the
+/// shell goes on. It ends with the line `end`, the input, or another fault, and then the sessions that are open are
+/// closed in silence.
 pub fn run_shell<H: AllocGlobal + Wait, R: Read + Drop, W: Write + Drop>(
     rt: &H,
     reader: R,
@@ -90,8 +91,8 @@ fn act_out<H: AllocGlobal + Wait, R: Read + Drop, W: Write + Drop>(
     ended
 }
 
-/// Runs a script with the sessions that the desk opens, of which none is open after it. It is not begun where there is no
-/// memory for the list of them.
+/// Runs a script with the sessions that the desk opens, of which none is open after it. It is not begun where there
+/// is no memory for the list of them.
 fn play<
     T: PartTable,
     B: Board<T>,
@@ -132,7 +133,8 @@ pub struct Scene<T: PartTable, B: Board<T>, D: Desk<OwnSession<T, B>>, W: Write 
 }
 
 impl<T: PartTable, B: Board<T>, D: Desk<OwnSession<T, B>>, W: Write + Drop> Scene<T, B, D, W> {
-    /// A scene at a desk at which no session was opened yet. The desk is let go where there is no memory for the list of sessions.
+    /// A scene at a desk at which no session was opened yet. The desk is let go where there is no memory for the
+    /// list of sessions.
     pub fn new(alloc: Global, desk: D, output: Output<W>) -> Result<Self, AllocError>
     where
         D: Drop,

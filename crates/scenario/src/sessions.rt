@@ -1,5 +1,5 @@
-//! The desk of a script with its open sessions, which are called by their places. All is over any board: the desk opens and
-//! closes the sessions.
+//! The desk of a script with its open sessions, which are called by their places. All is over any board: the desk
+//! opens and closes the sessions.
 ghost use Rattle.std.specs.Prelude.{◌≡◌, ◌≤◌, ◌<◌, ◌+◌, [], All, length, IfOk, IfErr};
 ghost use Rattle.lock_manager.specs.Crews.{SeatsAre};
 ghost use Rattle.scenario.specs.Stage.{going_on};
@@ -34,8 +34,8 @@ pub enum Looked {
     Cancelled(Name),
 }
 
-/// A desk, the names of all sessions that were opened there, and the open ones. Each of these is the desk's manager's, and the
-/// desk counts them. It is taken apart at its end, once no session is open.
+/// A desk, the names of all sessions that were opened there, and the open ones. Each of these is the desk's
+/// manager's, and the desk counts them. It is taken apart at its end, once no session is open.
 pub struct Stage<T: PartTable, B: Board<T>, D: Desk<OwnSession<T, B>>> {
     pub desk: D,
     pub names: Names,
@@ -373,7 +373,8 @@ impl<T: PartTable, B: Board<T>, D: Desk<OwnSession<T, B>>> Stage<T, B, D> {
     }
 }
 
-/// The picture of who waits for whom, by the rows of the table in a listing, as a session finds those in each one's way.
+/// The picture of who waits for whom, by the rows of the table in a listing, as a session finds those in each one's
+/// way.
 fn draw<T: PartTable, B: Board<T>, H: Wait>(
     rt: &H,
     session: &mut OwnSession<T, B>,
@@ -414,8 +415,8 @@ fn begin<T: PartTable, B: Board<T>, H: Wait>(
     }
 }
 
-/// A look at a wait, which carries a cancel out that was asked: the session that waits no more with what came of it, or the
-/// wait that goes on.
+/// A look at a wait, which carries a cancel out that was asked: the session that waits no more with what came of
+/// it, or the wait that goes on.
 fn look_at<T: PartTable, B: Board<T>, H: Wait>(
     rt: &H,
     name: Name,

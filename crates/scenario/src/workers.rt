@@ -121,8 +121,8 @@ pub fn all_act<B: Board<Part> + Send, G: Gate + Sync, P: Progress + Sync, R: Thr
     each_acts(rt, gate, reports, act, sessions.as_mut_slice());
 }
 
-/// The same for a slice. Rounds are played in as many threads as there are sessions, and all else in one, in the order of
-/// the sessions.
+/// The same for a slice. Rounds are played in as many threads as there are sessions, and all else in one, in the
+/// order of the sessions.
 fn each_acts<B: Board<Part> + Send, G: Gate + Sync, P: Progress + Sync, R: Threads + Wait + Sync>(
     rt: &R,
     gate: &G,
@@ -190,7 +190,8 @@ fn work<B: Board<Part>, G: Gate, P: Progress, R: Wait>(
     }
 }
 
-/// A round: the worker asks for a mode on a relation, and gives back what it was granted. Answers whether there was memory.
+/// A round: the worker asks for a mode on a relation, and gives back what it was granted. Answers whether there was
+/// memory.
 fn has_played<B: Board<Part>, R: Wait>(
     rt: &R,
     worker: u32,

@@ -1,4 +1,5 @@
-//! Hammers: what they print, gates that show in which threads the workers run, and the line that tells how far they are.
+//! Hammers: what they print, gates that show in which threads the workers run, and the line that tells how far they
+//! are.
 use crate::pipes::Pipe;
 use lock_manager::MOST_SESSIONS;
 use lock_script::Fault;
@@ -75,8 +76,8 @@ impl Gate for GateShutFor {
     }
 }
 
-/// Runs a hammer, and checks what it prints and the fault that ends it, both as text. Its numbers are put in their ranges, where
-/// they aren't.
+/// Runs a hammer, and checks what it prints and the fault that ends it, both as text. Its numbers are put in their
+/// ranges, where they aren't.
 fn expect_hammer<G: Gate + Sync>(
     rt: &(impl Abort + AllocGlobal + Threads + Wait + Sync),
     gate: &G,
@@ -237,8 +238,8 @@ impl Clock for Ticks {
     }
 }
 
-/// How many rounds one session plays, how often the clock can be read, and what the line says. It is read at first, after each 64
-/// rounds, and at the end.
+/// How many rounds one session plays, how often the clock can be read, and what the line says. It is read at first,
+/// after each 64 rounds, and at the end.
 static LINES: [(u32, u64, &str); 4] = [
     (100, 100, ""),
     (

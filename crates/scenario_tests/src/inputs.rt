@@ -1,4 +1,5 @@
-//! Inputs as they come: bytes that are no text, ends of lines, numbers at their bounds, and a script for streams that fail.
+//! Inputs as they come: bytes that are no text, ends of lines, numbers at their bounds, and a script for streams
+//! that fail.
 
 use crate::rows::Row;
 

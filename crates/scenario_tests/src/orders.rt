@@ -194,8 +194,8 @@ struct Counts {
     left_out: u32,
 }
 
-/// The lines in the order that the digits of this number say, one of which says whose line comes next. There is none where
-/// a digit names a session whose lines are all taken.
+/// The lines in the order that the digits of this number say, one of which says whose line comes next. There is
+/// none where a digit names a session whose lines are all taken.
 fn script_of(alloc: Global, tale: &Tale, lines: u32, code: u32) -> Result<Option<String>, Fail> {
     let (opening, actors, _) = *tale;
     let many = u32::try_from(actors.len()).unwrap_or(0);

@@ -1,7 +1,8 @@
 //! Scripts that ask for an object's queue, and for those in a waiter's way, as rows.
 use crate::rows::{BadRow, Row};
 
-/// How many sessions, `a` to `e`, are opened first, the lines that follow, what they print, and the fault that ends them.
+/// How many sessions, `a` to `e`, are opened first, the lines that follow, what they print, and the fault that ends
+/// them.
 pub static QUEUES: [Row<'static>; 6] = [
     // Nobody waits.
     (
@@ -36,7 +37,8 @@ waits 0
 ",
         "",
     ),
-    // Who holds a conflicting mode, and who awaits one in front; not who stands behind, nor one's own holds, nor modes that don't conflict.
+    // Who holds a conflicting mode, and who awaits one in front; not who stands behind, nor one's own holds, nor
+    // modes that don't conflict.
     (
         5,
         "\

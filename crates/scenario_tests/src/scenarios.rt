@@ -1,4 +1,5 @@
-//! The scripts of `scenarios/` with what they print, a module for each theme (`.ci/scenarios` writes them and this list).
+//! The scripts of `scenarios/` with what they print, a module for each theme (`.ci/scenarios` writes them and this
+//! list).
 pub mod deadlocks;
 pub mod owners;
 pub mod the_fast_path;

@@ -275,8 +275,8 @@ fn fill_all_groups(alloc: Global) -> Result<(String, String), Fail> {
     Ok((script, printed))
 }
 
-/// Lines by which a strong lock of another session moves each of 128 relations, and those of the listing behind them: all stand in the
-/// table then.
+/// Lines by which a strong lock of another session moves each of 128 relations, and those of the listing behind
+/// them: all stand in the table then.
 fn move_all_slots(
     alloc: Global,
     script: &mut String,
@@ -301,7 +301,8 @@ fn move_all_slots(
     printed.push_str("rows 129\n")
 }
 
-/// What is released in the table leaves its group's slots free to be counted anew, and those of other groups as they are.
+/// What is released in the table leaves its group's slots free to be counted anew, and those of other groups as
+/// they are.
 const AFTER_MOVES: &str = "fast a 5/16520 AccessShareLock\n\
     unlock a 5/16384 AccessShareLock\n\
     fast a 5/16520 AccessShareLock\n\

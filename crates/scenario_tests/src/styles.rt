@@ -170,8 +170,8 @@ rows 1
 ",
 );
 
-/// Two who wait for one another, and one who waits for both of two holds of one of them: the circle is marked, and who only
-/// leads to it isn't.
+/// Two who wait for one another, and one who waits for both of two holds of one of them: the circle is marked, and
+/// who only leads to it isn't.
 const CIRCLE: StyledRow<'static> = (
     DOT,
     "\

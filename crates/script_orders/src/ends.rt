@@ -68,7 +68,8 @@ impl Ends {
         Ok(())
     }
 
-    /// Writes the table of all, as a script of comments in which the orders are. Where not all orders were run it says so.
+    /// Writes the table of all, as a script of comments in which the orders are. Where not all orders were run it
+    /// says so.
     pub fn write<W: Write>(&self, output: &mut W, is_whole: bool) -> io::Result<()> {
         let (possible, left_out) = (self.possible, self.left_out);
         let run = possible.saturating_add(left_out);

@@ -1,5 +1,5 @@
-//! Every order of a small script: the lines of its sessions merged in each way that keeps every session's own order, and how
-//! often each way to end comes.
+//! Every order of a small script: the lines of its sessions merged in each way that keeps every session's own
+//! order, and how often each way to end comes.
 #![tactic(auto)]
 
 mod ends;

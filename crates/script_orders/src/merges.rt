@@ -1,12 +1,12 @@
-//! The merges of several sessions' lines. A merge is a list of sessions, each as often as it has lines: whose line comes when. So
-//! each session's lines keep their order in every merge.
+//! The merges of several sessions' lines. A merge is a list of sessions, each as often as it has lines: whose line
+//! comes when. So each session's lines keep their order in every merge.
 
 ghost use Rattle.std.specs.Prelude.{◌≡◌, ◌<◌, ◌≤◌, ◌+◌, true, false, length, take, slice_index, IfSome, IfNone};
 ghost use Rattle.std.specs.List.Sorted.{IsPermutation};
 ghost use Rattle.script_orders.specs.Merges.{ComesLater, IsInDescendingOrder};
 
-/// Goes on to the next merge of the same sessions, or answers that there is none. The first merge of all has the sessions in
-/// ascending order. Each merge comes later than the one before, so none comes twice.
+/// Goes on to the next merge of the same sessions, or answers that there is none. The first merge of all has the
+/// sessions in ascending order. Each merge comes later than the one before, so none comes twice.
 pub fn next_merge(merge: &mut [usize]) -> bool
     ensures same { IsPermutation merge.old merge.new }
     ensures later { result ≡ true → ComesLater merge.old merge.new }

@@ -21,9 +21,9 @@ pub trait Player {
     ) -> Result<(), Fault>;
 }
 
-/// Has the player play the orders of the reader's script, so many at most, and writes how often each way to end came. An
-/// order in which a line addresses a session that waits is none, and is counted apart. A line that is bad otherwise ends it,
-/// with its number in the reader's script.
+/// Has the player play the orders of the reader's script, so many at most, and writes how often each way to end
+/// came. An order in which a line addresses a session that waits is none, and is counted apart. A line that is bad
+/// otherwise ends it, with its number in the reader's script.
 pub fn run_orders<P: Player, H: AllocGlobal + Wait, R: Read + Drop, W: Write + Drop, E: Write>(
     rt: &H,
     player: &P,

@@ -84,8 +84,8 @@ impl Story {
         Ok(story)
     }
 
-    /// Adds a line of the script. The line that opens a session of a new name stands before all orders; where the name was
-    /// closed before, it is that session's.
+    /// Adds a line of the script. The line that opens a session of a new name stands before all orders; where the
+    /// name was closed before, it is that session's.
     fn add(&mut self, alloc: Global, number: u32, line: &str) -> Result<(), AllocError> {
         let text = String::from_str(alloc, line)?;
         let added = StoryLine { number, text };

@@ -123,9 +123,9 @@ pub trait Board<T: PartTable> {
         ensures view { view self.new ≡ account_putting_fast (seat self.old).number (view self.old) owner }
         ensures stack { stack self.new ≡ stack self.old };
 
-    /// Shares the lock of a session's fast-path slots, whether its number is issued or not, so that nobody changes them
-    /// while others may read them too (`fpInfoLock` in `LW_SHARED`, as `GetLockStatusData` in lock.c takes it). It waits
-    /// until nobody holds the lock exclusively.
+    /// Shares the lock of a session's fast-path slots, whether its number is issued or not, so that nobody changes
+    /// them while others may read them too (`fpInfoLock` in `LW_SHARED`, as `GetLockStatusData` in lock.c takes
+    /// it). It waits until nobody holds the lock exclusively.
     fn share_fast<R: Wait>(&mut self, rt: &R, owner: SessionId)
         requires exists { owner < (seat self.old).limit }
         requires nothing_due { stack self.old ≡ nothing_due }
@@ -143,8 +143,8 @@ pub trait Board<T: PartTable> {
         ensures view { view self.new ≡ account_unsharing_fast (view self.old) owner }
         ensures stack { stack self.new ≡ stack self.old };
 
-    /// Puts a lock that it holds exclusively, and goes past its session with a strong lock that is counted (the end of a turn of the loop in
-    /// `FastPathTransferRelationLocks` in lock.c).
+    /// Puts a lock that it holds exclusively, and goes past its session with a strong lock that is counted (the end
+    /// of a turn of the loop in `FastPathTransferRelationLocks` in lock.c).
     fn pass_fast(&mut self, owner: SessionId, tag: &Tag, mode: Mode)
         requires exists { owner < (seat self.old).limit }
         requires lawful { (slots : SlotsInHand) × MayPassBy (view self.old) owner slots tag.now mode }

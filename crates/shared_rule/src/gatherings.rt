@@ -1,5 +1,5 @@
-//! Sessions gathered at the opener's seat, and sent back. While a session is there it makes no step of its own; the first
-//! to come is the one that makes steps.
+//! Sessions gathered at the opener's seat, and sent back. While a session is there it makes no step of its own; the
+//! first to come is the one that makes steps.
 
 ghost use Rattle.std.specs.Prelude.{◌≡◌, ◌++◌, List, [], ◌∷◌};
 ghost use Rattle.shared_rule.specs.Boards.{nothing_due, Seated};
@@ -17,8 +17,8 @@ use lock_table::PartTable;
 use modes_core::SessionId;
 use std::marker::Model;
 
-/// A session whose seat is gathered at the opener's: what is left of its board. It is no `Drop`, so that nobody lets one
-/// go, which would leave its session there for ever. Contracts see whose board it was, and at which table.
+/// A session whose seat is gathered at the opener's: what is left of its board. It is no `Drop`, so that nobody
+/// lets one go, which would leave its session there for ever. Contracts see whose board it was, and at which table.
 pub struct Absent<'a, T: PartTable> {
     table: &'a Top<T>,
     number: SessionId,

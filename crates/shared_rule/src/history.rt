@@ -7,7 +7,8 @@ use lw_word::{LwMode, LwWaiter};
 use modes_core::{Mode, Tag};
 use std::collections::LinkedList;
 
-/// A step that tells of no content, as its session's history has it. A type of its own: it doesn't depend on who keeps contents.
+/// A step that tells of no content, as its session's history has it. A type of its own: it doesn't depend on who
+/// keeps contents.
 pub enum WordMark {
     /// It took the lock of a session's fast-path slots, which show these numbers with this database.
     TookFast {
@@ -179,8 +180,9 @@ pub struct History<T> {
 }
 
 /// What a seat knows: the histories of the sessions that it is for, and, if it is the opener's, the number that the
-/// next session gets, and the histories of those that closed, the last one first. A seat is one session's, which makes its
-/// steps with it. Where two sessions meet, the first one's seat has the other's history behind its own for that time.
+/// next session gets, and the histories of those that closed, the last one first. A seat is one session's, which
+/// makes its steps with it. Where two sessions meet, the first one's seat has the other's history behind its own
+/// for that time.
 pub struct View<T> {
     pub next: Option<u8>,
     pub closed: LinkedList<History<T>>,

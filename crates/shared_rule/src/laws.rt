@@ -57,8 +57,9 @@ pub fn a_word_is_set_alone()
         WordsAreShown groups (slice_set table (index_of_word word) n) (set_word words word n) }
 {}
 
-/// Where the rule holds, whatever a session's account tells of what it has seen was so: each entry of its trace tells of a
-/// World on the way of events that lead from the World before the first step to the one that the table shows now.
+/// Where the rule holds, whatever a session's account tells of what it has seen was so: each entry of its trace
+/// tells of a World on the way of events that lead from the World before the first step to the one that the table
+/// shows now.
 pub fn what_an_account_tells_was_so<T: PartTable>()
     ensures { (sizes : Sizes) (state : State (Kept T) (View T)) (rule : Ruled T.content T.begun sizes state)
         (seat place : ℕ) (view : View T) (history : History T) → get_elem? state.views seat ≡ some view →

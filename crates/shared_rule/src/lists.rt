@@ -1,5 +1,6 @@
-//! The steps of a session on the wait lists of lightweight locks, and on the sleep words of those who stand there. A list
-//! is in hand while its bit in the lock's word is set; changes of it are made in memory beside the step that is told.
+//! The steps of a session on the wait lists of lightweight locks, and on the sleep words of those who stand there.
+//! A list is in hand while its bit in the lock's word is set; changes of it are made in memory beside the step that
+//! is told.
 
 ghost use Rattle.std.specs.Prelude.{◌≡◌, ◌≢◌, ◌∷◌, ℕ, Some, None, IfSome, IfNone, true};
 ghost use Rattle.atomic_table.specs.Table.{rest};
@@ -29,8 +30,8 @@ use lw_word::{LwMode, LwWord, WaitList};
 use modes_core::SessionId;
 use std::marker::Brand;
 
-/// One attempt to lock the wait list of a lightweight lock (`LWLockWaitListLock` in lwlock.c). Who gets it is told that the
-/// session stands there only if it knows that it waits for that lock.
+/// One attempt to lock the wait list of a lightweight lock (`LWLockWaitListLock` in lwlock.c). Who gets it is told
+/// that the session stands there only if it knows that it waits for that lock.
 pub(crate) fn try_lock_list<T: PartTable>(
     top: &Top<T>,
     place: &mut Place<T>,
@@ -59,8 +60,8 @@ pub(crate) fn try_lock_list<T: PartTable>(
     }
 }
 
-/// Puts the list in hand home and unlocks it; of the two flags those go that are not to stay (`LWLockWaitListUnlock`, and
-/// the end of `LWLockWakeup`, in lwlock.c).
+/// Puts the list in hand home and unlocks it; of the two flags those go that are not to stay
+/// (`LWLockWaitListUnlock`, and the end of `LWLockWakeup`, in lwlock.c).
 pub(crate) fn unlock_list<T: PartTable>(
     top: &Top<T>,
     place: &mut Place<T>,

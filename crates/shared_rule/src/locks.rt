@@ -179,8 +179,8 @@ fn put_fast_home<T: PartTable, M: Marking<T>>(
     fetch_sub_as::<T, M>(top, place, fast_word(owner), LwMode::Exclusive.amount())
 }
 
-/// Puts the lock of a session's fast-path slots (`LWLockRelease` of `fpInfoLock`). Where the word says so it wakes those
-/// who wait for it.
+/// Puts the lock of a session's fast-path slots (`LWLockRelease` of `fpInfoLock`). Where the word says so it wakes
+/// those who wait for it.
 pub(crate) fn put_fast<T: PartTable, M: Marking<T>>(
     top: &Top<T>,
     place: &mut Place<T>,
@@ -223,8 +223,8 @@ fn pass_fast_home<T: PartTable, M: Marking<T>>(
 }
 
 /// Puts that lock, and goes past its session with a strong lock that is counted (the end of a turn of the loop in
-/// `FastPathTransferRelationLocks` in lock.c): the session has no slot on the object. Where the word says so it wakes those
-/// who wait for the lock.
+/// `FastPathTransferRelationLocks` in lock.c): the session has no slot on the object. Where the word says so it
+/// wakes those who wait for the lock.
 pub(crate) fn pass_fast<T: PartTable, M: Marking<T>>(
     top: &Top<T>,
     place: &mut Place<T>,

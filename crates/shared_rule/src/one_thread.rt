@@ -47,7 +47,8 @@ pub struct OneThread<T: PartTable> {
 }
 
 impl<T: PartTable> OneThread<T> {
-    /// Session 0 at a new table for so many sessions, with so many groups of slots each. Without memory the parts come back.
+    /// Session 0 at a new table for so many sessions, with so many groups of slots each. Without memory the parts
+    /// come back.
     pub fn new(
         alloc: Global,
         sizes: &Sizes,

@@ -115,9 +115,9 @@ impl<T: PartTable> Opener<T> {
         Some(SeatBoard::at(table, place, number, self.sizes))
     }
 
-    /// Takes a session's board back, which has nothing any more (`ProcKill` in proc.c). Its number is that of a closed
-    /// session from then on, with all that it did, and all else of the opener is as before. Of those that have closed it
-    /// tells that each was given out, and none closed twice.
+    /// Takes a session's board back, which has nothing any more (`ProcKill` in proc.c). Its number is that of a
+    /// closed session from then on, with all that it did, and all else of the opener is as before. Of those that
+    /// have closed it tells that each was given out, and none closed twice.
     pub fn close<'a>(&mut self, board: SeatBoard<'a, T>)
         requires table { (⟦<SeatBoard<'a, T> as Board<T>>⟧.seat board).table ≡ self.old.table }
         requires stack { ⟦<SeatBoard<'a, T> as Board<T>>⟧.stack board ≡ nothing_due }

@@ -80,8 +80,8 @@ fn attempt_free_part<T: PartTable>(top: &Top<T>, place: &mut Place<T>, part: u8)
     }
 }
 
-/// Takes a partition while all sessions that are open are gathered at one seat: nobody holds its lock then, so the attempt
-/// is repeated only where its exchange is lost to a flag of the word.
+/// Takes a partition while all sessions that are open are gathered at one seat: nobody holds its lock then, so the
+/// attempt is repeated only where its exchange is lost to a flag of the word.
 pub(crate) fn take_part_alone<T: PartTable, R: Wait>(
     rt: &R,
     top: &Top<T>,
@@ -151,8 +151,8 @@ fn attempt_part_unless_held<T: PartTable, R: Wait>(
     unreachable!()
 }
 
-// Queues the session for a partition's lock and attempts it again. Where that is lost it sleeps until somebody takes it off
-// the list and tells it, and lets releases wake others again, before it goes on.
+// Queues the session for a partition's lock and attempts it again. Where that is lost it sleeps until somebody
+// takes it off the list and tells it, and lets releases wake others again, before it goes on.
 fn take_part_or_sleep<T: PartTable, R: Wait>(
     rt: &R,
     top: &Top<T>,
@@ -207,8 +207,8 @@ fn take_part_in_turn<T: PartTable, R: Wait>(
     }
 }
 
-/// Takes a partition's lightweight lock exclusively, and its content in hand (`LWLockAcquire` in lwlock.c). It waits in the
-/// lock's list until the lock is free. Of the content it tells what the session's account knows of it.
+/// Takes a partition's lightweight lock exclusively, and its content in hand (`LWLockAcquire` in lwlock.c). It
+/// waits in the lock's list until the lock is free. Of the content it tells what the session's account knows of it.
 #[inline]
 pub(crate) fn take_part<T: PartTable, R: Wait>(
     rt: &R,
@@ -255,8 +255,8 @@ fn take_part_held<T: PartTable, R: Wait>(
     unreachable!()
 }
 
-/// Puts a partition's content home, after this move, and its lightweight lock, and tells what the lock's word showed. It
-/// wakes nobody.
+/// Puts a partition's content home, after this move, and its lightweight lock, and tells what the lock's word
+/// showed. It wakes nobody.
 pub(crate) fn put_part_home<T: PartTable, M: Marking<T>>(
     top: &Top<T>,
     place: &mut Place<T>,
@@ -282,8 +282,8 @@ pub(crate) fn put_part_home<T: PartTable, M: Marking<T>>(
     }
 }
 
-/// Puts a partition's content home, after this move, and its lightweight lock (`LWLockRelease` in lwlock.c). Where the word
-/// says so it wakes those who wait for the lock.
+/// Puts a partition's content home, after this move, and its lightweight lock (`LWLockRelease` in lwlock.c). Where
+/// the word says so it wakes those who wait for the lock.
 pub(crate) fn put_part<T: PartTable, M: Marking<T>>(
     top: &Top<T>,
     place: &mut Place<T>,

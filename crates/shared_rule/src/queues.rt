@@ -1,10 +1,11 @@
 //! Waiting for a lightweight lock in its list (`LWLockAcquire` in lwlock.c, from the first lost attempt on).
 //!
-//! No wake-up is lost, by these six, of which no clause tells: has-waiters is set before the attempt that follows the
-//! queueing (`queue_self`), so that whoever holds the lock then sees it; that attempt is repeated until it wins or sees the
-//! lock held; whoever was woken sets release-ok before it attempts again; nobody leaves another list than the one it stands
-//! in (`dequeue_self` requires it); a release that finds the list locked may go, since whoever has the list attempts the lock
-//! afterwards, holds it, or has taken somebody off; and `park` looks at the sleep word again in the kernel.
+//! No wake-up is lost, by these six, of which no clause tells: has-waiters is set before the attempt that follows
+//! the queueing (`queue_self`), so that whoever holds the lock then sees it; that attempt is repeated until it wins
+//! or sees the lock held; whoever was woken sets release-ok before it attempts again; nobody leaves another list
+//! than the one it stands in (`dequeue_self` requires it); a release that finds the list locked may go, since
+//! whoever has the list attempts the lock afterwards, holds it, or has taken somebody off; and `park` looks at the
+//! sleep word again in the kernel.
 
 ghost use Rattle.std.specs.Prelude.{◌≡◌, ◌∷◌, true, None, Some};
 ghost use Rattle.lw_word.specs.WaitList.{stands_in};
@@ -28,8 +29,8 @@ use modes_core::SessionId;
 use std::marker::Brand;
 use std::sync::Wait;
 
-/// How many attempts a session makes before it queues, with a short pause before each, each twice as long as the one before
-/// (PostgreSQL spins so for spin locks, `perform_spin_delay` in s_lock.c).
+/// How many attempts a session makes before it queues, with a short pause before each, each twice as long as the
+/// one before (PostgreSQL spins so for spin locks, `perform_spin_delay` in s_lock.c).
 pub(crate) const SPINS: u32 = 6;
 
 /// Locks the wait list of a lightweight lock: it tries until it has it, with pauses between (`LWLockWaitListLock` in
@@ -89,8 +90,8 @@ pub(crate) fn queue_self<T: PartTable, R: Wait>(
 }
 
 /// Sleeps until its own sleep word shows 0: whoever took the session off its list has told it so (the sleep on the
-/// semaphore in `LWLockAcquire` in lwlock.c). The kernel compares the word before a thread sleeps, so nothing that is told
-/// meanwhile is slept through.
+/// semaphore in `LWLockAcquire` in lwlock.c). The kernel compares the word before a thread sleeps, so nothing that
+/// is told meanwhile is slept through.
 pub(crate) fn sleep_until_told<T: PartTable, R: Wait>(
     rt: &R,
     top: &Top<T>,
@@ -116,8 +117,9 @@ pub(crate) fn sleep_until_told<T: PartTable, R: Wait>(
     unreachable!()
 }
 
-/// Leaves the list of a lock that the session has got meanwhile. Where somebody has taken it off already, it is told so in
-/// any case: it waits for that, and sets release-ok in that one's stead (`LWLockDequeueSelf` in lwlock.c).
+/// Leaves the list of a lock that the session has got meanwhile. Where somebody has taken it off already, it is
+/// told so in any case: it waits for that, and sets release-ok in that one's stead (`LWLockDequeueSelf` in
+/// lwlock.c).
 pub(crate) fn dequeue_self<T: PartTable, R: Wait>(
     rt: &R,
     top: &Top<T>,

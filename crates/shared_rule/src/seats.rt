@@ -1,5 +1,5 @@
-//! Seats that are cut in two and joined: a session opens and closes, and sessions meet at one seat. What each does to the
-//! views is in specs/Seats.
+//! Seats that are cut in two and joined: a session opens and closes, and sessions meet at one seat. What each does
+//! to the views is in specs/Seats.
 
 ghost use Rattle.std.specs.Prelude.{◌≡◌, []};
 ghost use Rattle.shared_rule.specs.History.{first_account};

@@ -1,5 +1,5 @@
-//! Waiting for the lock of a session's fast-path slots, exclusively or to share it (`LWLockAcquire` of `fpInfoLock`, from the
-//! first lost attempt on).
+//! Waiting for the lock of a session's fast-path slots, exclusively or to share it (`LWLockAcquire` of
+//! `fpInfoLock`, from the first lost attempt on).
 
 ghost use Rattle.std.specs.Bool.{OnTrue, OnFalse};
 ghost use Rattle.std.specs.Prelude.{◌≡◌, ◌<◌};
@@ -107,8 +107,8 @@ fn attempt_slots_unless_held<T: PartTable, R: Wait>(
     unreachable!()
 }
 
-// Queues the session for the lock of a session's slots and attempts it again. Where that is lost it sleeps until it is told,
-// and lets releases wake others again, before it goes on.
+// Queues the session for the lock of a session's slots and attempts it again. Where that is lost it sleeps until it
+// is told, and lets releases wake others again, before it goes on.
 fn get_slots_or_sleep<T: PartTable, R: Wait>(
     rt: &R,
     top: &Top<T>,
@@ -164,8 +164,8 @@ fn get_slots_in_turn<T: PartTable, R: Wait>(
     get_slots_or_sleep(rt, top, place, number, owner, mode)
 }
 
-/// Gets the lock of a session's slots in this mode, after an attempt that was lost. It waits in the lock's list until nobody
-/// holds the lock in its way.
+/// Gets the lock of a session's slots in this mode, after an attempt that was lost. It waits in the lock's list
+/// until nobody holds the lock in its way.
 #[cold]
 #[inline(never)]
 pub(crate) fn get_slots_held<T: PartTable, R: Wait>(

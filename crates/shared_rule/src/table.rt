@@ -106,8 +106,9 @@ pub fn in_slots<T: PartTable + Drop>(
     Ok(slots)
 }
 
-/// Makes the table for so many sessions, with so many groups of slots each, and the opener at it (`InitProcGlobal` in proc.c, `InitLocks` in lock.c).
-/// The parts come each in its slot of the table, as `in_slots` puts them. Without memory they come back.
+/// Makes the table for so many sessions, with so many groups of slots each, and the opener at it (`InitProcGlobal`
+/// in proc.c, `InitLocks` in lock.c). The parts come each in its slot of the table, as `in_slots` puts them.
+/// Without memory they come back.
 pub fn open<T: PartTable>(
     alloc: Global,
     sizes: &Sizes,

@@ -53,8 +53,8 @@ fn take_all_off<T: PartTable>(top: &Top<T>, place: &mut Place<T>, taken: &[LwWai
     }
 }
 
-// Tells each of these that it may go on, and wakes it: the sleep word shows 0 before the wake, so that nobody sleeps through
-// it.
+// Tells each of these that it may go on, and wakes it: the sleep word shows 0 before the wake, so that nobody
+// sleeps through it.
 fn tell_all<T: PartTable>(top: &Top<T>, place: &mut Place<T>, taken: &[LwWaiter])
     requires table { FitsTable place.old top.now.table_id }
     requires session { HasSession place.old.me.0 }
@@ -111,9 +111,9 @@ fn unlock_after_wakeup<T: PartTable>(
     unlock_list(top, place, lock, list, some_left, release_ok);
 }
 
-/// Wakes those first in a lock's wait list: one who wants it exclusively, or all who want to share it (`LWLockWakeup`). Where
-/// another session has the list, it leaves that to it: who has a list in hand attempts the lock afterwards, holds it, or has
-/// taken somebody off.
+/// Wakes those first in a lock's wait list: one who wants it exclusively, or all who want to share it
+/// (`LWLockWakeup`). Where another session has the list, it leaves that to it: who has a list in hand attempts the
+/// lock afterwards, holds it, or has taken somebody off.
 #[cold]
 #[inline(never)]
 pub(crate) fn wake_waiters<T: PartTable>(top: &Top<T>, place: &mut Place<T>, lock: &LwLock)

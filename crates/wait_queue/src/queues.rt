@@ -39,9 +39,9 @@ pub fn queue_of<P: PartTable>(alloc: Global, part: &P, tag: &Tag) -> Result<Vec<
     Ok(rows)
 }
 
-/// Those that stand in the way of a session's wait on an object (`GetBlockerStatusData` in lock.c, for `pg_blocking_pids`):
-/// who holds a mode that conflicts with the awaited one, by session and mode, and then who awaits one before it in the queue.
-/// Nobody where the session doesn't wait there.
+/// Those that stand in the way of a session's wait on an object (`GetBlockerStatusData` in lock.c, for
+/// `pg_blocking_pids`): who holds a mode that conflicts with the awaited one, by session and mode, and then who
+/// awaits one before it in the queue. Nobody where the session doesn't wait there.
 pub fn blockers_of<P: PartTable>(
     alloc: Global,
     part: &P,

@@ -16,8 +16,8 @@ fn relation(round: u32) -> Tag {
     Tag::relation(5, round)
 }
 
-/// Takes the relation of this round, for which the one of the round before is given back: its slot, which isn't the last one, is
-/// empty from then on.
+/// Takes the relation of this round, for which the one of the round before is given back: its slot, which isn't the
+/// last one, is empty from then on.
 fn go_on(rt: &impl Abort, table: &mut LocalTable, round: u32) {
     let taken = acquire(rt, table, relation(round), AccessShare, Owner::Transaction);
     assert!(rt; taken.is_ok(), "{round}");
@@ -26,7 +26,8 @@ fn go_on(rt: &impl Abort, table: &mut LocalTable, round: u32) {
     assert!(rt; given_back == Ok(Unlocked::Released), "{round}");
 }
 
-/// In each round but some in a hundred the table has room. Once it is full it uses slots again, so it soon is full again.
+/// In each round but some in a hundred the table has room. Once it is full it uses slots again, so it soon is full
+/// again.
 fn expect_few_slots(rt: &impl Abort, table: &mut LocalTable) {
     let mut with_room = 0u32;
     for round in 2..ROUNDS {

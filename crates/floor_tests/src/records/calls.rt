@@ -68,7 +68,8 @@ pub fn hold_beside<P: PartTable>(
     Ok(true)
 }
 
-/// The session comes to wait on the object, at this place of its queue, or first where there is no wait before that place.
+/// The session comes to wait on the object, at this place of its queue, or first where there is no wait before that
+/// place.
 pub fn wait<P: PartTable>(
     part: &mut P,
     session: SessionId,

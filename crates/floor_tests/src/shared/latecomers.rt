@@ -1,5 +1,6 @@
-//! A session has a lightweight lock and puts it just as another one, which came for it, goes on its way from its last attempt to the
-//! lock's wait list. There no release wakes it. So it attempts once more behind that, and nobody is left asleep.
+//! A session has a lightweight lock and puts it just as another one, which came for it, goes on its way from its
+//! last attempt to the lock's wait list. There no release wakes it. So it attempts once more behind that, and
+//! nobody is left asleep.
 
 ghost use Rattle.std.specs.Prelude.{◌≡◌, ◌<◌};
 ghost use Rattle.shared_rule.specs.Boards.{nothing_due};
@@ -15,8 +16,9 @@ use std::sync::atomic::{AtomicU64, Ordering};
 use std::thread::{self, Threads, join_mut, sleep};
 use std::time::{Clock, Duration};
 
-/// How often two threads begin for a lock, and how many rounds they have each time. Threads that begin are given processors of their
-/// own; later on whoever is woken often shares the waker's, and then no step of one falls between two of the other.
+/// How often two threads begin for a lock, and how many rounds they have each time. Threads that begin are given
+/// processors of their own; later on whoever is woken often shares the waker's, and then no step of one falls
+/// between two of the other.
 const BEGINNINGS: u64 = 2_500;
 
 const ROUNDS: u64 = 8;
@@ -24,8 +26,9 @@ const ROUNDS: u64 = 8;
 /// The partition that they race for.
 const PART: u8 = 3;
 
-/// How often a session looks for the other one before it leaves its processor between looks, and before it sleeps between them.
-/// Whoever sleeps for a lock has it later than after so many looks, and whoever attempts it once more has it sooner.
+/// How often a session looks for the other one before it leaves its processor between looks, and before it sleeps
+/// between them. Whoever sleeps for a lock has it later than after so many looks, and whoever attempts it once more
+/// has it sooner.
 const SOON: u64 = 4_000;
 
 const LATE: u64 = 8_000;
@@ -35,8 +38,9 @@ const PAUSES: u32 = 2_000;
 
 const PAUSE: u64 = 10;
 
-/// The lock stays in hand for so many looks more after a round in which the other one had it soon, and for so many fewer after one
-/// in which it slept. So rounds end close to the moment at which it goes to sleep, some looks sooner or later by chance.
+/// The lock stays in hand for so many looks more after a round in which the other one had it soon, and for so many
+/// fewer after one in which it slept. So rounds end close to the moment at which it goes to sleep, some looks
+/// sooner or later by chance.
 const LONGER: u64 = 16;
 
 const SHORTER: u64 = 96;
@@ -137,8 +141,8 @@ impl Rounds {
         is_soon
     }
 
-    /// The lock was put, and the other session has had it too. Where that came soon, how soon it had the lock says how long the
-    /// lock stays in hand in the next round.
+    /// The lock was put, and the other session has had it too. Where that came soon, how soon it had the lock says
+    /// how long the lock stays in hand in the next round.
     fn expect_over<R: Abort + Clock>(&self, rt: &R, round: u64, came_soon: bool) {
         let is_soon = comes_soon(&self.over, round);
         assert!(rt;

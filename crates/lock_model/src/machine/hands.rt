@@ -45,7 +45,8 @@ impl InHand {
         }
     }
 
-    /// Whether a mode may be moved from the owner's slot to the content: no move is recorded, or the adopt of this slot.
+    /// Whether a mode may be moved from the owner's slot to the content: no move is recorded, or the adopt of this
+    /// slot.
     pub fn may_adopt(&self, owner: u8, slot: u8) -> bool
         ensures { result ≡ may_adopt self.now.recorded owner slot }
     {

@@ -42,8 +42,8 @@ fn may_use(groups: u8, relation: u32, place: usize) -> bool
     place / 16 == (relation % u32::from(groups)) as usize
 }
 
-/// Whether a grant for the relation takes the slot, with so many groups: it is of the relation's group, and in use for the
-/// relation, or not in use and none is for it.
+/// Whether a grant for the relation takes the slot, with so many groups: it is of the relation's group, and in use
+/// for the relation, or not in use and none is for it.
 fn is_slot_to_grant(groups: u8, slots: &[SlotWord], relation: u32, place: usize) -> bool
     requires groups { 0 < groups }
     requires within { place < length slots.now }

@@ -1,5 +1,5 @@
-//! What calls are answered, beside what they are to be. These functions have no session: where one lives a comparison is
-//! dearer to prove.
+//! What calls are answered, beside what they are to be. These functions have no session: where one lives a
+//! comparison is dearer to prove.
 
 use lock_manager::{Acquired, Listing, Mode, Refusal, Tag, Unlocked};
 use std::process::Abort;

@@ -1,4 +1,5 @@
-//! Audits, with all open sessions lent, beside numbers that were counted by hand, and beside what one of the sessions sees.
+//! Audits, with all open sessions lent, beside numbers that were counted by hand, and beside what one of the
+//! sessions sees.
 
 ghost use Rattle.std.specs.Prelude.{◌≡◌, ◌+◌, ◌-◌, ◌<◌, length};
 ghost use Rattle.lock_manager.specs.Crews.{AreOf, SeatsAre};
@@ -59,7 +60,8 @@ pub type Numbers = (u64, u64, u64);
 /// Once so many sessions have taken theirs.
 static TAKEN: [Numbers; 3] = [(3, 2, 1), (4, 4, 1), (4, 7, 3)];
 
-/// Once all have committed: in slots the first one has two of its own and the second one has one, in the table each has one.
+/// Once all have committed: in slots the first one has two of its own and the second one has one, in the table each
+/// has one.
 const COMMITTED: Numbers = (3, 3, 2);
 
 pub const NOTHING: Numbers = (0, 0, 0);

@@ -24,7 +24,8 @@ fn is_busy<R: Abort>(rt: &R, answer: Answer) -> bool {
     }
 }
 
-/// Tries a weak mode by a slot, and gives it back. Whether the lock of the slots was found taken, which is not waited for.
+/// Tries a weak mode by a slot, and gives it back. Whether the lock of the slots was found taken, which is not
+/// waited for.
 fn find_busy<T: PartTable, B: Board<T>, R: Abort + Wait>(
     rt: &R,
     session: &mut OwnSession<T, B>,

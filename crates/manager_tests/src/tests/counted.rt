@@ -1,5 +1,5 @@
-//! What makes no step on shared state: a board that counts all that is done on it shows that no shared word is loaded or
-//! written.
+//! What makes no step on shared state: a board that counts all that is done on it shows that no shared word is
+//! loaded or written.
 
 ghost use Rattle.std.specs.Prelude.{◌≡◌, ◌<◌, ◌≤◌, IfOk};
 ghost use Rattle.shared_rule.specs.Boards.{nothing_due};

@@ -1,5 +1,5 @@
-//! As many sessions as there can be on one partition, each in a thread of its own, under a watchdog that ends the test where
-//! nobody goes on. So no session sleeps for ever in the wait list of the partition's lightweight lock.
+//! As many sessions as there can be on one partition, each in a thread of its own, under a watchdog that ends the
+//! test where nobody goes on. So no session sleeps for ever in the wait list of the partition's lightweight lock.
 
 ghost use Rattle.std.specs.Prelude.{◌≡◌};
 ghost use Rattle.lock_manager.specs.Crews.{KeepManagers};

@@ -5,8 +5,9 @@ use std::sync::Wait;
 use std::sync::atomic::{AtomicU64, Ordering};
 use std::thread;
 
-/// How often a thread looks whether the others have come before it leaves its processor to them: soon where they only have to
-/// come, and late where all are to go on at the same moment, since who is given a processor again comes long after the others.
+/// How often a thread looks whether the others have come before it leaves its processor to them: soon where they
+/// only have to come, and late where all are to go on at the same moment, since who is given a processor again
+/// comes long after the others.
 const SOON: u64 = 2_000;
 
 const LATE: u64 = 20_000;
@@ -14,7 +15,8 @@ const LATE: u64 = 20_000;
 /// How many steps a thread pauses at most behind a gate: some two microseconds.
 const STEPS: u64 = 2_048;
 
-/// How often it leaves its processor at most in some rounds, for each side in others, so that the other side is woken and wins.
+/// How often it leaves its processor at most in some rounds, for each side in others, so that the other side is
+/// woken and wins.
 const TURNS: u64 = 64;
 
 /// Where threads meet, over and over.

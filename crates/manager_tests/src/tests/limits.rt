@@ -32,7 +32,8 @@ impl Limits {
     }
 }
 
-/// What the entry of this number locks: the first ones go by slots, and the others, which no other session has, stand in the table.
+/// What the entry of this number locks: the first ones go by slots, and the others, which no other session has,
+/// stand in the table.
 fn entry(session: u16, number: u32) -> (Tag, Mode) {
     if number < BY_SLOT {
         (Tag::relation(5, number), Mode::AccessShare)

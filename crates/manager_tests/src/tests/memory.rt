@@ -133,8 +133,8 @@ const TABLE: Tag = Tag::Relation {
 /// How many times a strong mode is asked for.
 const TRANSFERS: u32 = 6;
 
-/// How many locks more are in its partition each time: so its list has to grow now for the first mode that is moved, now
-/// for the second one, now for the strong mode itself.
+/// How many locks more are in its partition each time: so its list has to grow now for the first mode that is
+/// moved, now for the second one, now for the strong mode itself.
 const BESIDE: u32 = 3;
 
 /// How many entries the second session has at the end.

@@ -1,4 +1,5 @@
-//! Sessions in one queue, each asleep in a thread of its own, and each woken by the one before it, or all by one release.
+//! Sessions in one queue, each asleep in a thread of its own, and each woken by the one before it, or all by one
+//! release.
 
 ghost use Rattle.std.specs.Prelude.{◌≡◌};
 ghost use Rattle.lock_manager.specs.Managers.{ManagerView};
@@ -32,8 +33,8 @@ struct Tally {
 }
 
 impl Tally {
-    /// One more was woken. Where each is woken by the one before it, so many were as its number says: the holder's is 0,
-    /// and those in the queue follow in its order.
+    /// One more was woken. Where each is woken by the one before it, so many were as its number says: the holder's
+    /// is 0, and those in the queue follow in its order.
     fn wake<R: Abort>(&self, rt: &R, number: SessionId) {
         let before = self.woken.fetch_add(1, Ordering::SeqCst);
         if self.mode == Mode::AccessExclusive {
@@ -57,8 +58,8 @@ impl Tally {
     }
 }
 
-/// Lets those go before whose numbers are lower: it is time once the one before stands in the queue. The first of them stands
-/// behind the holder.
+/// Lets those go before whose numbers are lower: it is time once the one before stands in the queue. The first of
+/// them stands behind the holder.
 fn see_turn<T: PartTable, B: Board<T>, R: Wait>(
     rt: &R,
     tally: &Tally,
@@ -76,8 +77,8 @@ fn see_turn<T: PartTable, B: Board<T>, R: Wait>(
     }
 }
 
-/// Stands in the queue in its turn, sleeps until the wait is granted, and gives the mode back, to the next one if that waits
-/// still.
+/// Stands in the queue in its turn, sleeps until the wait is granted, and gives the mode back, to the next one if
+/// that waits still.
 fn sleep_and_pass_on<T: PartTable, B: Board<T>, R: Abort + Wait>(
     rt: &R,
     tally: &Tally,
@@ -142,8 +143,8 @@ fn sleep_side_by_side<B: Board<Part> + Send, R: Abort + Threads + Wait + Sync>(
     );
 }
 
-/// One session has the table and all others wait for it. Where they wait for `AccessExclusiveLock` they are woken one by
-/// one, in the order of their queue, and where for `AccessShareLock` all by one release.
+/// One session has the table and all others wait for it. Where they wait for `AccessExclusiveLock` they are woken
+/// one by one, in the order of their queue, and where for `AccessShareLock` all by one release.
 pub fn wake_sleepers<
     B: Board<Part> + Send,
     D: Desk<OwnSession<Part, B>>,

@@ -1,5 +1,5 @@
-//! Two sessions in threads of their own, which begin each round at a gate, each after a pause of its own, and what each is
-//! answered. A race has to be won by each side, or it shows nothing.
+//! Two sessions in threads of their own, which begin each round at a gate, each after a pause of its own, and what
+//! each is answered. A race has to be won by each side, or it shows nothing.
 
 ghost use Rattle.std.specs.Prelude.{◌≡◌, IfSome, None};
 
@@ -118,7 +118,8 @@ fn try_weak_against_strong<B: Board<Part> + Send, R: Abort + Threads + Wait + Sy
     try_beside_release(rt, pair, weak, strong, round)
 }
 
-/// The first one takes the weak mode by a slot, and gives it back from there while the second one asks for the strong mode.
+/// The first one takes the weak mode by a slot, and gives it back from there while the second one asks for the
+/// strong mode.
 fn try_beside_release<B: Board<Part> + Send, R: Abort + Threads + Wait + Sync>(
     rt: &R,
     pair: Pair<Part, B>,

@@ -1,5 +1,5 @@
-//! Races on boards that pause now and then, before and after a step. So other sessions' steps come between any two of a session,
-//! far more often than threads meet there by themselves.
+//! Races on boards that pause now and then, before and after a step. So other sessions' steps come between any two
+//! of a session, far more often than threads meet there by themselves.
 
 ghost use Rattle.std.specs.Prelude.{◌≡◌, ◌≤◌, All, IfOk};
 ghost use Rattle.lock_manager.specs.Crews.{KeepManagers};

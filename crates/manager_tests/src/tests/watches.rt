@@ -1,5 +1,5 @@
-//! Listings beside sessions that lock and unlock. Whatever a row says was so at some time during the listing, and a hold that
-//! stood all the while has a row. Strong requests move holds from slots to the table meanwhile.
+//! Listings beside sessions that lock and unlock. Whatever a row says was so at some time during the listing, and a
+//! hold that stood all the while has a row. Strong requests move holds from slots to the table meanwhile.
 
 ghost use Rattle.std.specs.Prelude.{◌≡◌, ◌<◌};
 ghost use Rattle.lock_manager.specs.Managers.{ManagerView};
@@ -75,7 +75,8 @@ fn relation(place: usize) -> Tag
     Tag::relation(5, 20_000 | (place as u32))
 }
 
-/// Asks for the strongest mode on the next session's relation, so that its hold is moved to the table, and gives back what it got.
+/// Asks for the strongest mode on the next session's relation, so that its hold is moved to the table, and gives
+/// back what it got.
 fn disturb<T: PartTable, B: Board<T>, R: Abort + Wait>(
     rt: &R,
     session: &mut OwnSession<T, B>,

@@ -1,4 +1,5 @@
-//! Scripts of one theme of `scenarios/` with what they print, each a copy of its file (`.ci/scenarios` writes them here).
+//! Scripts of one theme of `scenarios/` with what they print, each a copy of its file (`.ci/scenarios` writes them
+//! here).
 use crate::rows::Row;
 
 /// `an_upgrade_of_two_shared_locks.scn`.

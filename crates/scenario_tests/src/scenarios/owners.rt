@@ -1,4 +1,5 @@
-//! Scripts of one theme of `scenarios/` with what they print, each a copy of its file (`.ci/scenarios` writes them here).
+//! Scripts of one theme of `scenarios/` with what they print, each a copy of its file (`.ci/scenarios` writes them
+//! here).
 use crate::rows::Row;
 
 /// `an_alter_in_a_savepoint.scn`.
