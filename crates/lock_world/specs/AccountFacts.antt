@@ -5,6 +5,7 @@ use Rattle.modes_core.specs.Tag.{partition_of}
 use Rattle.lock_table.specs.Content.{Content}
 use Rattle.lock_table.specs.OwnWait.{OwnWait, is_for}
 use Rattle.lock_table.specs.Queue.{waits_there, awaits_mode}
+use Rattle.lock_world.specs.Counted.{is_past}
 use Rattle.lock_world.specs.SlotHolds.{slot_holds, ShowsNoMore, OneSlotEach, InUseHasDatabase, AreInGroups}
 use Rattle.lock_world.specs.Account.{Account, SlotsInHand}
 
@@ -41,6 +42,11 @@ pub record KnowsContent (number : ℕ) (a : Account) (p : ℕ) (content : Conten
   -- and there where its slots, as it remembers them, don't show them: so is each that no slot can have
   pub tabled_holds :
       (tag : Tag) (mode : Mode) → slot_holds a.fast.database a.fast.remembered tag mode ≡ false → partition_of tag ≡ p
+      → a.own tag mode ≡ true → content.holds number tag mode ≡ true
+  -- and there where something that it has counted for the object is past its own number, so that no slot of its own has
+  -- the object
+  pub past :
+      (tag : Tag) (mode : Mode) → is_past a.fast.counted tag number ≡ true → partition_of tag ≡ p
       → a.own tag mode ≡ true → content.holds number tag mode ≡ true
   -- each is in a slot or there, and not in both
   pub own_stand : OwnHoldsStand number a.own a.fast.database a.fast.remembered p content
