@@ -32,7 +32,10 @@ has_row content row =
 -- the listing's order of two rows: by the tag, then the session, then granted before awaited, then the mode
 abbrev pub row_cmp : TableRow → TableRow → Ordering
 row_cmp =
-    then_cmp (then_cmp (then_cmp (on (λ row. numbers_of row.tag) (slice_cmp nat_cmp)) (on (λ row. row.session) nat_cmp)) (on (λ row. not row.granted) bool_cmp))
+    then_cmp
+    (then_cmp
+    (then_cmp (on (λ row. numbers_of row.tag) (slice_cmp nat_cmp)) (on (λ row. row.session) nat_cmp))
+    (on (λ row. not row.granted) bool_cmp))
     (on (λ row. number_of row.mode) nat_cmp)
 
 -- The rows are the content's holds and waits, each once, in whatever order.

@@ -37,8 +37,10 @@ pub record IsFirstAgainst (set : Mode → Bool) (queue ahead : List Wait) (waite
 -- The answer to a request that meets this waiter, with these ahead of it: the waiter's own holds may stand in its way, or
 -- nothing may, or else it goes before the waiter (the early insertion of ProcSleep in proc.c).
 abbrev pub AnswerAtWaiter : Holds → ℕ → Tag → Mode → List Wait → Wait → Answer → Type 0
-AnswerAtWaiter holds session tag mode ahead waiter (SimpleDeadlock other) = (conflicts_with_some mode waiter.held ≡ true) × (other ≡ waiter.session)
-AnswerAtWaiter holds session tag mode ahead waiter Granted = (conflicts_with_some mode waiter.held ≡ false) × IsFree holds session tag mode ahead
+AnswerAtWaiter holds session tag mode ahead waiter (SimpleDeadlock other) =
+    (conflicts_with_some mode waiter.held ≡ true) × (other ≡ waiter.session)
+AnswerAtWaiter holds session tag mode ahead waiter Granted =
+    (conflicts_with_some mode waiter.held ≡ false) × IsFree holds session tag mode ahead
 AnswerAtWaiter holds session tag mode ahead waiter (Queued place) =
     (conflicts_with_some mode waiter.held ≡ false) × (IsFree holds session tag mode ahead → ⊥) × (place ≡ length ahead)
 
@@ -46,8 +48,10 @@ AnswerAtWaiter holds session tag mode ahead waiter (Queued place) =
 -- session holds of the object, and else by the first such waiter.
 abbrev pub AnswerByPlace : Content → ℕ → Tag → Mode → Answer → Type 0
 AnswerByPlace content session tag mode answer =
-    ((list_any (λ wait. conflicts_with_some wait.mode (content.holds session tag)) (content.waits tag) ≡ false) × (answer ≡ Queued (length (content.waits tag))))
-    ⊎ ((ahead : List Wait) × (waiter : Wait) × (behind : List Wait) × IsFirstAgainst (content.holds session tag) (content.waits tag) ahead waiter behind
+    ((list_any (λ wait. conflicts_with_some wait.mode (content.holds session tag)) (content.waits tag) ≡ false)
+    × (answer ≡ Queued (length (content.waits tag))))
+    ⊎ ((ahead : List Wait) × (waiter : Wait) × (behind : List Wait)
+    × IsFirstAgainst (content.holds session tag) (content.waits tag) ahead waiter behind
     × AnswerAtWaiter content.holds session tag mode ahead waiter answer)
 
 abbrev pub WaitingAnswerAt : Option Clash → Content → ℕ → Tag → Mode → Answer → Type 0
@@ -107,7 +111,8 @@ abbrev pub SplitsBehind : List Wait → Holds → Tag → List Wait → List Wai
 SplitsBehind ahead holds tag [] granted left = (granted ≡ []) × (left ≡ [])
 SplitsBehind ahead holds tag (wait ∷ queue) granted left =
     (IsFree holds wait.session tag wait.mode ahead
-    × ((others : List Wait) × (granted ≡ wait ∷ others) × SplitsBehind ahead (set_hold holds wait.session tag wait.mode true) tag queue others left))
+    × ((others : List Wait) × (granted ≡ wait ∷ others)
+    × SplitsBehind ahead (set_hold holds wait.session tag wait.mode true) tag queue others left))
     ⊎ ((IsFree holds wait.session tag wait.mode ahead → ⊥)
     × ((others : List Wait) × (left ≡ wait ∷ others) × SplitsBehind (ahead ++ wait ∷ []) holds tag queue granted others))
 
@@ -128,7 +133,8 @@ pub record Wakes (before : Content) (tag : Tag) (granted : List Wait) (after : C
 -- No wait of the queue is free to go, each behind those before it and behind these.
 abbrev pub NoneFreeBehind : List Wait → Holds → Tag → List Wait → Type 0
 NoneFreeBehind ahead holds tag [] = Unit {0}
-NoneFreeBehind ahead holds tag (wait ∷ queue) = (IsFree holds wait.session tag wait.mode ahead → ⊥) × NoneFreeBehind (ahead ++ wait ∷ []) holds tag queue
+NoneFreeBehind ahead holds tag (wait ∷ queue) =
+    (IsFree holds wait.session tag wait.mode ahead → ⊥) × NoneFreeBehind (ahead ++ wait ∷ []) holds tag queue
 
 -- No wait of the object's queue is free to go.
 abbrev pub NoneFree : Content → Tag → Type 0

@@ -15,8 +15,11 @@ pub use walk::{first_against, is_against};
 /// What stands in the way of a request: another session, with its mode.
 #[derive(Clone, Copy)]
 pub struct Clash {
+    /// The other session.
     pub session: SessionId,
+    /// Its mode, which conflicts with the one asked for.
     pub mode: Mode,
+    /// Whether it holds that mode or waits for it.
     pub how: How,
 }
 

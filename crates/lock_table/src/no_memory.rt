@@ -1,7 +1,7 @@
 use std::alloc::{AllocError, AllocFailed};
 use thiserror::Error;
 
-/// A growth of the memory was refused. Nothing that the call would have changed has changed.
+/// A growth of the memory was refused. Each call says what stands after it.
 #[derive(Clone, Copy, Debug, PartialEq, Eq, Drop, Error)]
 #[error("out of memory")]
 pub struct NoMemory;

@@ -62,7 +62,8 @@ pub trait PartTable {
     /// nothing, and a keeper with no masks always answers it.
     fn may_conflict(&self, tag: &Tag, mode: Mode) -> bool
         ensures awaited { result ≡ false → some_awaits_conflict ((content self.now).waits tag.now) mode ≡ false }
-        ensures held { result ≡ false → (session : ℕ) → NoConflictingHolder (content self.now).holds session tag.now mode };
+        ensures held { result ≡ false → (session : ℕ) →
+            NoConflictingHolder (content self.now).holds session tag.now mode };
 
     /// The lowest-numbered other session that holds the object in a conflicting mode, with its lowest
     /// such mode (`LockCheckConflicts` in lock.c).

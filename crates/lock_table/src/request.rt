@@ -7,8 +7,11 @@ use modes_core::{Mode, ModeSet, SessionId, Tag};
 /// What a session asks for or holds: a mode on an object.
 #[derive(Clone, Copy, Debug, PartialEq, Eq)]
 pub struct Request {
+    /// The session that asks for it or has it.
     pub session: SessionId,
+    /// The object.
     pub tag: Tag,
+    /// The mode.
     pub mode: Mode,
 }
 

@@ -6,9 +6,13 @@ use modes_core::{Mode, SessionId, Tag};
 /// One row of a listing (`pg_locks`): a session holds an object in a mode, or awaits it.
 #[derive(Clone, Copy, Debug, PartialEq, Eq)]
 pub struct TableRow {
+    /// The session.
     pub session: SessionId,
+    /// The object.
     pub tag: Tag,
+    /// The mode.
     pub mode: Mode,
+    /// Whether it holds the object, and doesn't await it.
     pub granted: bool,
 }
 
@@ -25,9 +29,13 @@ impl TableRow {
 /// slot (`pg_locks` with `fastpath`), numbered from 0.
 #[derive(Clone, Copy, Debug, PartialEq, Eq)]
 pub struct SlotRow {
+    /// The session.
     pub session: SessionId,
+    /// The number of the slot.
     pub slot: u8,
+    /// The object.
     pub tag: Tag,
+    /// The mode.
     pub mode: Mode,
 }
 

@@ -7,8 +7,11 @@ use modes_core::{Mode, ModeSet, SessionId};
 /// waits, for which mode, and the modes of the object that it held when it joined.
 #[derive(Clone, Copy, Debug, PartialEq, Eq)]
 pub struct Waiter {
+    /// Who waits.
     pub session: SessionId,
+    /// The mode that it waits for.
     pub mode: Mode,
+    /// The modes of the object that it held when it joined.
     pub held: ModeSet,
 }
 

@@ -73,7 +73,9 @@ pub record Account : Type 0 where
 abbrev pub own_hand : Option Hand → Content → ℕ → Option InHand
 own_hand None now session = None
 own_hand (Some hand) now session =
-    if hand.holder == session then Some (record { taken = hand.taken; now = now; recorded = hand.recorded; unmarked = hand.unmarked }) else None
+    if hand.holder == session
+    then Some (record { taken = hand.taken; now = now; recorded = hand.recorded; unmarked = hand.unmarked })
+    else None
 
 -- of each partition
 abbrev pub own_hands : (ℕ → Option Hand) → (ℕ → Content) → ℕ → ℕ → Option InHand

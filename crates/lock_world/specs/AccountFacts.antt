@@ -5,17 +5,21 @@ use Rattle.modes_core.specs.Tag.{partition_of}
 use Rattle.lock_table.specs.Content.{Content}
 use Rattle.lock_table.specs.OwnWait.{OwnWait, is_for}
 use Rattle.lock_table.specs.Queue.{waits_there, awaits_mode}
+use Rattle.lock_world.specs.Counted.{is_past}
 use Rattle.lock_world.specs.SlotHolds.{slot_holds, ShowsNoMore, OneSlotEach, InUseHasDatabase, AreInGroups}
 use Rattle.lock_world.specs.Account.{Account, SlotsInHand}
 
 -- Where the holds stand of the session of this number, which has this database and remembers its slots so, as a partition has this
 -- content: there are words of its slots, which show no more than it remembers, by which each own hold of the partition is in a slot
 -- or in the content, and not in both.
-pub record OwnHoldsStand (number : ℕ) (own : Tag → Mode → Bool) (database : ℕ) (remembered : ℕ → ℕ) (p : ℕ) (content : Content) : Type 0 where
+pub record OwnHoldsStand (number : ℕ) (own : Tag → Mode → Bool) (database : ℕ) (remembered : ℕ → ℕ)
+    (p : ℕ) (content : Content) : Type 0 where
   pub slot : ℕ → ℕ
   pub no_more : ShowsNoMore slot remembered
   -- what the slots show is own, and not in the content
-  pub in_slot : (tag : Tag) (mode : Mode) → slot_holds database slot tag mode ≡ true → (own tag mode ≡ true) × (content.holds number tag mode ≡ false)
+  pub in_slot :
+      (tag : Tag) (mode : Mode) → slot_holds database slot tag mode ≡ true
+      → (own tag mode ≡ true) × (content.holds number tag mode ≡ false)
   -- one of its own holds in the partition that they don't show is in the content
   pub in_content :
       (tag : Tag) (mode : Mode) → partition_of tag ≡ p → own tag mode ≡ true → slot_holds database slot tag mode ≡ false
@@ -28,7 +32,9 @@ pub record KnowsContent (number : ℕ) (a : Account) (p : ℕ) (content : Conten
   pub holds_of_it : (session : ℕ) (tag : Tag) (mode : Mode) → content.holds session tag mode ≡ true → partition_of tag ≡ p
   pub waits_of_it : (session : ℕ) (tag : Tag) → waits_there (content.waits tag) session ≡ true → partition_of tag ≡ p
   -- its holds there are its own, or what it awaits
-  pub its_holds : (tag : Tag) (mode : Mode) → content.holds number tag mode ≡ true → (a.own tag mode ≡ true) ⊎ (is_for a.awaited tag mode ≡ true)
+  pub its_holds :
+      (tag : Tag) (mode : Mode) → content.holds number tag mode ≡ true
+      → (a.own tag mode ≡ true) ⊎ (is_for a.awaited tag mode ≡ true)
   -- its own holds are there, or in its slots
   pub own_holds :
       (mine : SlotsInHand) (tag : Tag) (mode : Mode) → a.fast.slots number ≡ Some mine → partition_of tag ≡ p
@@ -36,6 +42,11 @@ pub record KnowsContent (number : ℕ) (a : Account) (p : ℕ) (content : Conten
   -- and there where its slots, as it remembers them, don't show them: so is each that no slot can have
   pub tabled_holds :
       (tag : Tag) (mode : Mode) → slot_holds a.fast.database a.fast.remembered tag mode ≡ false → partition_of tag ≡ p
+      → a.own tag mode ≡ true → content.holds number tag mode ≡ true
+  -- and there where something that it has counted for the object is past its own number, so that no slot of its own has
+  -- the object
+  pub past :
+      (tag : Tag) (mode : Mode) → is_past a.fast.counted tag number ≡ true → partition_of tag ≡ p
       → a.own tag mode ≡ true → content.holds number tag mode ≡ true
   -- each is in a slot or there, and not in both
   pub own_stand : OwnHoldsStand number a.own a.fast.database a.fast.remembered p content

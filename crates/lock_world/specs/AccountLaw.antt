@@ -21,7 +21,8 @@ use Rattle.lock_world.specs.Account.{Account, InHand, SlotsInHand, ListInHand}
 -- the session's, `limit` how many sessions there can be, and `groups` how many groups of slots each has.
 
 -- The partition is in hand with no move recorded, and this move leads to the content and grants these waits.
-pub record MayMoveBy (limit number : ℕ) (a : Account) (p : ℕ) (mine : InHand) (done : Move) (granted : List Wait) (content : Content) : Type 0 where
+pub record MayMoveBy (limit number : ℕ) (a : Account) (p : ℕ) (mine : InHand) (done : Move) (granted : List Wait)
+    (content : Content) : Type 0 where
   pub in_hand : a.hand p ≡ Some mine
   pub unrecorded : mine.recorded ≡ None
   pub object : IsInPartition p done
@@ -42,7 +43,8 @@ pub record MayPutRecordedBy (a : Account) (p : ℕ) (mine : InHand) (done : Move
 
 -- Marking granted a wait of somebody whom the move grants: by the first such step the move is made, by each further one it stands
 -- recorded. Whom it grants waits, and is another: that need not be asked.
-pub record MayMarkFirstBy (limit number : ℕ) (a : Account) (p : ℕ) (mine : InHand) (done : Move) (granted : List Wait) (content : Content) (other : ℕ) : Type 0 where
+pub record MayMarkFirstBy (limit number : ℕ) (a : Account) (p : ℕ) (mine : InHand) (done : Move) (granted : List Wait)
+    (content : Content) (other : ℕ) : Type 0 where
   pub may_move : MayMoveBy limit number a p mine done granted content
   pub among : waits_there granted other ≡ true
 
@@ -61,7 +63,8 @@ pub record MayClearInHandBy (number : ℕ) (a : Account) (wait : OwnWait) (mine 
   pub in_hand : a.hand (partition_of wait.tag) ≡ Some mine
   pub gone : waits_there (mine.now.waits wait.tag) number ≡ false
 
-pub record MayLeaveBy (limit number : ℕ) (a : Account) (wait : OwnWait) (mine : InHand) (granted : List Wait) (content : Content) : Type 0 where
+pub record MayLeaveBy (limit number : ℕ) (a : Account) (wait : OwnWait) (mine : InHand) (granted : List Wait)
+    (content : Content) : Type 0 where
   pub is_wait : a.awaited ≡ Some wait
   pub may_move : MayMoveBy limit number a (partition_of wait.tag) mine (Leave wait.tag) granted content
 
@@ -99,7 +102,8 @@ pub record MayClearSlotBy (number : ℕ) (a : Account) (mine : SlotsInHand) (pla
   pub shown : shows (mine.word place) (relation_of tag) mode ≡ true
 
 -- Moving a mode from a slot to the content in hand of the object's partition.
-pub record MayTransferBy (limit : ℕ) (a : Account) (owner place : ℕ) (its : SlotsInHand) (mine : InHand) (tag : Tag) (mode strong : Mode) : Type 0 where
+pub record MayTransferBy (limit : ℕ) (a : Account) (owner place : ℕ) (its : SlotsInHand) (mine : InHand)
+    (tag : Tag) (mode strong : Mode) : Type 0 where
   pub its_slots : a.fast.slots owner ≡ Some its
   pub in_hand : a.hand (partition_of tag) ≡ Some mine
   pub exists : owner < limit

@@ -71,8 +71,12 @@ pub record Headline (w : World) : Type 0 where
       (session : ℕ) (tag : Tag) (mode : Mode) → stands_with w session tag mode
       ≡ (w.sessions.own session tag mode || is_pending (w.sessions.awaited session) (stages w session) tag mode)
   -- each hold is in one place: one slot, or the content of one partition
-  pub one_place : (session : ℕ) (tag : Tag) (mode : Mode) → stands_with w session tag mode ≡ true → IsInOnePlace w session tag mode
-  pub nowhere_else : (session : ℕ) (tag : Tag) (mode : Mode) (place : Place) → StandsAt w session tag mode place → stands_with w session tag mode ≡ true
+  pub one_place :
+      (session : ℕ) (tag : Tag) (mode : Mode) → stands_with w session tag mode ≡ true
+      → IsInOnePlace w session tag mode
+  pub nowhere_else :
+      (session : ℕ) (tag : Tag) (mode : Mode) (place : Place) → StandsAt w session tag mode place
+      → stands_with w session tag mode ≡ true
   -- so as many sessions have a mode on an object as slots show it and the content has it, together
   pub as_many :
       (tag : Tag) (mode : Mode) → how_many w.numbers.limit (λ session. stands_with w session tag mode)

@@ -96,7 +96,9 @@ WordsShowHolders limit word holds shares = (p : ℕ) → ShowsHolders limit (wor
 -- partition, and whose hand it is not.
 pub record WaitWordsShowWaits (word : ℕ → ℕ) (awaited : ℕ → Option OwnWait) (seen : ℕ → Bool) (hand : ℕ → Option Hand) : Type 0 where
   pub idle : (session : ℕ) → awaited session ≡ None → wait_state (word session) ≡ 0
-  pub waiting : (session : ℕ) (wait : OwnWait) → awaited session ≡ Some wait → (wait_state (word session) ≡ 1) ⊎ (wait_state (word session) ≡ 2)
+  pub waiting :
+      (session : ℕ) (wait : OwnWait) → awaited session ≡ Some wait
+      → (wait_state (word session) ≡ 1) ⊎ (wait_state (word session) ≡ 2)
   pub seen_is_shown : (session : ℕ) → seen session ≡ true → wait_state (word session) ≡ 2
   pub unmarked_waits : (p session : ℕ) →
       is_unmarked (hand p) session ≡ true → (wait : OwnWait) × (awaited session ≡ Some wait) × (partition_of wait.tag ≡ p)
@@ -185,7 +187,8 @@ IsOneMove partition taken session now = (done : Move) × Makes partition taken s
 -- An episode is of a partition that the session had in hand, with the content that it took, and puts what one move makes of it.
 abbrev pub EntryIsSound : ℕ → (ℕ → Option Content) → TraceEntry → Type 0
 EntryIsSound session taken (Took partition content) = Unit {0}
-EntryIsSound session taken (Episode partition content put_back) = (taken partition ≡ Some content) × IsOneMove partition content session put_back
+EntryIsSound session taken (Episode partition content put_back) =
+    (taken partition ≡ Some content) × IsOneMove partition content session put_back
 EntryIsSound session taken (AskedToCancel other before) = Unit {0}
 EntryIsSound session taken (Loaded word shown) = Unit {0}
 
@@ -218,7 +221,8 @@ pub record TracesTell (contents : Contents) (trace : ℕ → List TraceEntry) (i
 -- What is safe of the words of sessions' fast-path locks, and of sharing.
 
 -- The words of fast-path locks show who holds them, and a number that is not live holds none and shares no word.
-pub record LocksAreShown (limit : ℕ) (live : ℕ → Bool) (fast : ℕ → ℕ) (holds_fast shares_fast shares_partition : ℕ → ℕ → Bool) : Type 0 where
+pub record LocksAreShown (limit : ℕ) (live : ℕ → Bool) (fast : ℕ → ℕ)
+    (holds_fast shares_fast shares_partition : ℕ → ℕ → Bool) : Type 0 where
   pub fast_words : WordsShowHolders limit fast holds_fast shares_fast
   pub no_fast : (session owner : ℕ) → live session ≡ false → holds_fast session owner ≡ false
   pub no_shared_fast : (session owner : ℕ) → live session ≡ false → shares_fast session owner ≡ false
@@ -226,5 +230,7 @@ pub record LocksAreShown (limit : ℕ) (live : ℕ → Bool) (fast : ℕ → ℕ
 
 pub record SafeButSlots (w : World) : Type 0 where
   pub table : TableIsSafe w
-  pub locks : LocksAreShown w.numbers.limit w.numbers.live w.words.fast w.sessions.holds_fast w.sessions.shares_fast w.sessions.shares_partition
+  pub locks :
+      LocksAreShown w.numbers.limit w.numbers.live w.words.fast
+      w.sessions.holds_fast w.sessions.shares_fast w.sessions.shares_partition
   pub traces : TracesTell w.contents w.sessions.trace w.numbers.issued

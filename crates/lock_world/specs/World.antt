@@ -120,7 +120,8 @@ pub record MakesSteps (numbers : Numbers) (session : ℕ) : Type 0 where
   pub live : numbers.live session ≡ true
   pub by_itself : numbers.kept_by session ≡ None
 
--- The World before the first step, of so many sessions with so many groups of slots: all is empty, and only release-ok is set, in each lightweight word.
+-- The World before the first step, of so many sessions with so many groups of slots: all is empty, and only release-ok is
+-- set, in each lightweight word.
 abbrev pub opening : ℕ → ℕ → World
 opening limit groups = record {
   words = record {

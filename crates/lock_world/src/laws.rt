@@ -54,7 +54,8 @@ pub fn every_world_is_safe()
     ensures last { (limit groups : ℕ) (events : List Event) (w : World) → limit < 2 ^ 24 →
         Runs (opening limit groups) events w → SafeWorld w }
     ensures on_the_way { (limit groups : ℕ) (events : List Event) (worlds : List World) (place : ℕ) (w : World) →
-        limit < 2 ^ 24 → RunsThrough (opening limit groups) events worlds → slice_get worlds place ≡ Some w → SafeWorld w }
+        limit < 2 ^ 24 → RunsThrough (opening limit groups) events worlds → slice_get worlds place ≡ Some w →
+        SafeWorld w }
 {}
 
 /// A list of events leads to one World and no other.

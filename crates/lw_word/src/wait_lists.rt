@@ -9,7 +9,9 @@ use std::marker::Model;
 /// A session that waits for a lightweight lock, and how it wants to take it (`lwWaitMode` of a `PGPROC` in proc.h).
 #[derive(Clone, Copy, Debug, Default, PartialEq, Eq)]
 pub struct LwWaiter {
+    /// Who waits.
     pub session: SessionId,
+    /// How it wants to take the lock.
     pub mode: LwMode,
 }
 

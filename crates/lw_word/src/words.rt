@@ -9,8 +9,10 @@ use std::marker::Model;
 /// default, `Exclusive`, is what unused places of bounded lists have.
 #[derive(Clone, Copy, Debug, Default, PartialEq, Eq, Hash)]
 pub enum LwMode {
+    /// By one session alone (`LW_EXCLUSIVE`).
     #[default]
     Exclusive,
+    /// By any number of sessions (`LW_SHARED`).
     Shared,
 }
 
@@ -147,7 +149,9 @@ impl LwWord {
     }
 
     /// Whether whoever made this word by a release has to wake waiters: nobody holds the lock, somebody may
-    /// wait, and release-ok is set (`check_waiters` in `LWLockReleaseInternal`).
+    /// wait, and release-ok is set (`check_waiters` in `LWLockReleaseInternal`). A release of the shared table has the
+    /// number that it found, and asks `must_wake_after` in its place, of shared_rule's wakeups.rt, which is proved to
+    /// answer the same.
     pub fn must_wake(self) -> bool
         ensures { result ≡ must_wake self }
     {

@@ -23,8 +23,10 @@ tag_eq-by_numbers (Advisory s d k l) (Object s' d' c' o') = grind (arith, nat_te
 pub same_tag-by_numbers :
     (same : Tag → Tag → Bool)
     (relations : (d r d' r' : ℕ) → same (Relation d r) (Relation d' r') ≡ ((d == d') && (r == r')))
-    (objects : (s d c o s' d' c' o' : ℕ) → same (Object s d c o) (Object s' d' c' o') ≡ ((s == s') && ((d == d') && ((c == c') && (o == o')))))
-    (advisories : (s d k l s' d' k' l' : ℕ) → same (Advisory s d k l) (Advisory s' d' k' l') ≡ ((s == s') && ((d == d') && ((k == k') && (l == l')))))
+    (objects : (s d c o s' d' c' o' : ℕ) → same (Object s d c o) (Object s' d' c' o')
+    ≡ ((s == s') && ((d == d') && ((c == c') && (o == o')))))
+    (advisories : (s d k l s' d' k' l' : ℕ) → same (Advisory s d k l) (Advisory s' d' k' l')
+    ≡ ((s == s') && ((d == d') && ((k == k') && (l == l')))))
     (relation_object : (d r s' d' c' o' : ℕ) → same (Relation d r) (Object s' d' c' o') ≡ false)
     (object_relation : (s d c o d' r' : ℕ) → same (Object s d c o) (Relation d' r') ≡ false)
     (relation_advisory : (d r s' d' k' l' : ℕ) → same (Relation d r) (Advisory s' d' k' l') ≡ false)

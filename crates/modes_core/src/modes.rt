@@ -7,14 +7,22 @@ use std::fmt;
 /// weakest, is what unused places of bounded lists have.
 #[derive(Clone, Copy, Debug, Default, PartialEq, Eq, PartialOrd, Ord, Hash)]
 pub enum Mode {
+    /// What a query takes (`SELECT`).
     #[default]
     AccessShare = 1,
+    /// What a query that locks rows takes (`SELECT FOR UPDATE`).
     RowShare = 2,
+    /// What a change of rows takes (`INSERT`, `UPDATE`, `DELETE`).
     RowExclusive = 3,
+    /// What maintenance takes (`VACUUM`, `ANALYZE`).
     ShareUpdateExclusive = 4,
+    /// What the making of an index takes (`CREATE INDEX`).
     Share = 5,
+    /// What the making of a trigger takes (`CREATE TRIGGER`).
     ShareRowExclusive = 6,
+    /// What lets others only read (`REFRESH MATERIALIZED VIEW CONCURRENTLY`).
     Exclusive = 7,
+    /// What shuts all others out (`DROP TABLE`, `TRUNCATE`).
     AccessExclusive = 8,
 }
 

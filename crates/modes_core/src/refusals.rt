@@ -34,8 +34,11 @@ pub enum Refusal {
     /// A conditional request met a conflicting hold or wait of another session.
     #[error("conflict: session {session} {how} {mode}")]
     Conflict {
+        /// The other session.
         session: SessionId,
+        /// Its mode that stands in the way.
         mode: Mode,
+        /// Whether it holds that mode or waits for it.
         how: How,
     },
     /// A growth of the memory was refused.
@@ -51,6 +54,7 @@ pub enum Refusal {
     /// `ProcSleep` in proc.c).
     #[error("simple deadlock with session {session}")]
     SimpleDeadlock {
+        /// The session that waits, or would wait, for this one.
         session: SessionId,
     },
     /// The wait was cancelled.
@@ -65,7 +69,7 @@ pub enum Refusal {
     /// No fast-path slot is free.
     #[error("the fast-path slots are full")]
     SlotsFull,
-    /// A strong lock counter of the object's index is not 0.
+    /// The strong lock counter of the object's index is not 0.
     #[error("a strong lock is counted")]
     StrongCounted,
     /// The mode on this object can't be taken by the fast path.

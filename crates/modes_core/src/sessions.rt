@@ -56,6 +56,8 @@ impl fmt::Display for SessionId {
 /// session's, which outlives a commit.
 #[derive(Clone, Copy, Debug, PartialEq, Eq, Hash)]
 pub enum Owner {
+    /// The session: the lock stays at the end of a transaction.
     Session,
+    /// The transaction: the lock goes when it ends.
     Transaction,
 }

@@ -34,21 +34,31 @@ pub enum LockMethod {
 pub enum Tag {
     /// A table or an index (`LOCKTAG_RELATION`).
     Relation {
+        /// The database that it is in.
         database: u32,
+        /// Its number in the database.
         relation: u32,
     },
     /// Any other object of a catalogue (`LOCKTAG_OBJECT`).
     Object {
+        /// The number of a part of it, 0 for the whole.
         sub_object: u16,
+        /// The database that it is in.
         database: u32,
+        /// The catalogue that it is in.
         class: u32,
+        /// Its number there.
         object: u32,
     },
     /// What only the application knows, named by numbers of its own (`LOCKTAG_ADVISORY`, of `USER_LOCKMETHOD`).
     Advisory {
+        /// The third number, 1 or 2 in PostgreSQL.
         sub: u16,
+        /// The database that it is in.
         database: u32,
+        /// The application's first number.
         key1: u32,
+        /// The application's second number.
         key2: u32,
     },
 }

@@ -69,7 +69,9 @@ HasHeads starts note head n = (start : ℕ) → start < starts → IsLast (chain
 
 -- each place below a number that is noted has next the last one below it in its chain
 abbrev pub HasNexts : ℕ → (ℕ → Option ℕ) → (ℕ → ℕ) → ℕ → Type 0
-HasNexts starts note next n = (place hash : ℕ) → place < n → note place ≡ Some hash → IsLast (chain starts note (start_of starts hash)) place (next place)
+HasNexts starts note next n =
+    (place hash : ℕ) → place < n → note place ≡ Some hash
+    → IsLast (chain starts note (start_of starts hash)) place (next place)
 
 -- the head of the chain of a start
 abbrev pub head_at : List ℕ → ℕ → ℕ

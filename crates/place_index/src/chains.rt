@@ -68,7 +68,8 @@ pub(crate) fn link_first(heads: &mut [u32], links: &mut [Link], hash: u32, place
     requires few { length links.old ≤ no_place }
     requires within { place < length links.old }
     requires free { note_at links.old place ≡ None }
-    requires first { let head = head_at heads.old (start_of (length heads.old) hash) in head ≢ end_of_chain → head < place }
+    requires first { let head = head_at heads.old (start_of (length heads.old) hash) in
+        head ≢ end_of_chain → head < place }
     ensures linked { IsLinked heads.new links.new }
     ensures notes { NotesMore links.old links.new hash place }
     ensures counted { count_by is_noted links.new ≡ count_by is_noted links.old + 1 }

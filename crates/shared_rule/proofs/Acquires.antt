@@ -38,6 +38,7 @@ knows-content number a lists p content knows = record {
   its_holds = knows.its_holds;
   own_holds = knows.own_holds;
   tabled_holds = knows.tabled_holds;
+  past = knows.past;
   own_stand = knows.own_stand;
   in_slots = knows.in_slots;
   no_wait = knows.no_wait;

@@ -67,7 +67,8 @@ module _ {T : Type 0} (content : T → Content) where
     pub further : IsFurther before after
     pub account :
         first_account content after.sessions
-        ≡ account_after (first_account content before.sessions) (counter_loads count (λ index. counted_at index (gathered_in content before.sessions)))
+        ≡ account_after (first_account content before.sessions)
+        (counter_loads count (λ index. counted_at index (gathered_in content before.sessions)))
     pub sum_ : sum ≡ total count (λ index. counted_at index (gathered_in content before.sessions))
     pub few : sum ≤ 4194304 * count
 
@@ -108,8 +109,8 @@ module _ {T : Type 0} (content : T → Content) where
         → ShowsLeft owner (account_among (gathered_in content view.sessions) owner) contents place (word owner place)
 
   -- The partitions from one on were taken and put back, and all slots were loaded with all in hand.
-  pub record CountsFrom (groups partition limit : ℕ) (before : View T) (old : List TableRow) (result : Result (Unit {0}) NoMemory) (fast : ℕ)
-      (after : View T) (new : List TableRow) : Type 0 where
+  pub record CountsFrom (groups partition limit : ℕ) (before : View T) (old : List TableRow)
+      (result : Result (Unit {0}) NoMemory) (fast : ℕ) (after : View T) (new : List TableRow) : Type 0 where
     pub contents : List Content
     pub last : partition + length contents ≡ 16
     pub of_partitions : AreOfPartitions partition contents
@@ -144,7 +145,8 @@ pub record CountsTo (limit groups : ℕ) (counters : ℕ → ℕ) (word : ℕ �
 
 -- An audit of those gathered, by the trace of the first. Where memory runs out for the rows it counts nothing, and has made the same
 -- steps.
-pub record Counts {E : Type 0} (limit groups : ℕ) (before : List TraceEntry) (result : Result Audit E) (after : List TraceEntry) : Type 0 where
+pub record Counts {E : Type 0} (limit groups : ℕ) (before : List TraceEntry) (result : Result Audit E)
+    (after : List TraceEntry) : Type 0 where
   pub counters : ℕ → ℕ
   pub word : ℕ → ℕ → ℕ
   pub contents : List Content

@@ -84,8 +84,8 @@ module _ {T : Type 0} (content : T → Content) where
       × ((word : Word) (issued : ℕ) → MayBeInTable word → step.word ≡ index_of_word word → AreAll issued before.0
       → KnowsOfAll before.0 word found)
 
-  -- What the seat knows where they are all that there are, each with so many groups of slots: who they are, and, with all partitions in hand and nobody waiting, where
-  -- each one's own holds stand.
+  -- What the seat knows where they are all that there are, each with so many groups of slots: who they are, and, with all
+  -- partitions in hand and nobody waiting, where each one's own holds stand.
   pub record KnowsAll (groups issued : ℕ) (view : View T) : Type 0 where
     pub distinct : AreDistinct issued (gathered_in view.sessions)
     pub stand :

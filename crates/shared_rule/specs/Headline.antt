@@ -14,7 +14,8 @@ use Rattle.shared_rule.specs.Ruled.{ContentsAreHome, SeatsAreShown}
 
 -- The headline of the table: its words, its contents at home and the histories of all sessions show a World to which events have led
 -- from the opening one, and which has it.
-pub record ShowsHeadline {T : Type 0} (content : T → Content) (begun : T → Option Request) (sizes : Sizes) (state : State (Kept T) (View T)) : Type 0 where
+pub record ShowsHeadline {T : Type 0} (content : T → Content) (begun : T → Option Request) (sizes : Sizes)
+    (state : State (Kept T) (View T)) : Type 0 where
   pub world : World
   pub events : List Event
   pub run : Runs (opening sizes.sessions sizes.groups) events world

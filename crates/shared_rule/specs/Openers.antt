@@ -22,7 +22,8 @@ module _ {T : Type 0} where
     pub no_more : length closed ≤ issued
 
 -- The opener as contracts see it: at which table, how many numbers it has given out, how many there can be, how many groups of
--- slots each session has, the histories of the sessions that have closed, the last one first, and who is gathered at its seat, the first one first.
+-- slots each session has, the histories of the sessions that have closed, the last one first, and who is gathered at its
+-- seat, the first one first.
 pub record OpenerState (T : Type 0) : Type 0 where
   pub table : TableId
   pub issued : ℕ

@@ -23,28 +23,26 @@ ghost use Rattle.shared_rule.specs.Plays.{account_at, number_at, FitsTable, HasG
 ghost use Rattle.shared_rule.specs.Ruled.{Ruled};
 ghost use Rattle.shared_rule.specs.Seats.{MayBeKeptApartBy};
 
-use crate::layout::{slot_word, strong_word};
+use crate::layout::{SLOTS_PER_GROUP, slot_word, strong_word};
 use crate::opener::Opener;
 use crate::partitions::{put_part_home, take_part_alone};
 use crate::plays::{Grouping, LooksOver, Marking, TellsAll};
 use crate::rule::{Place, Sizes, Top};
 use lock_table::{Move, NoMemory, PartTable, TableRow};
 use lw_word::SlotWord;
-use modes_core::{Mode, PARTITIONS, SessionId};
+use modes_core::{Mode, PARTITIONS, STRONG_COUNTERS, SessionId};
 use std::marker::Brand;
 use std::sync::Wait;
-
-/// How many strong lock counters there are (`FAST_PATH_STRONG_LOCK_HASH_PARTITIONS` in lock.c), and slots of a group.
-const COUNTERS: u16 = 1024;
-
-const SLOTS: u8 = 16;
 
 /// What an audit counted: modes that fast-path slots show, granted rows of the lock table, and the sum of the
 /// strong lock counters.
 #[derive(Clone, Copy, Debug, PartialEq, Eq)]
 pub struct Audit {
+    /// How many modes fast-path slots show.
     pub fast: u64,
+    /// How many rows of the lock table are granted.
     pub table: u64,
+    /// The sum of the strong lock counters.
     pub strong: u64,
 }
 
@@ -146,7 +144,7 @@ pub(crate) fn count_counters<T: PartTable>(top: &Top<T>, place: &mut Place<T>) -
     ensures seen { CountersSeen T.content 1024 place.old.me.0 place.new.me.0 result }
 {
     let mut sum = 0;
-    for index in 0..COUNTERS {
+    for index in 0..STRONG_COUNTERS as u16 {
         sum += look_over_strong::<T, Brand>(top, place, index);
     }
     sum
@@ -169,7 +167,7 @@ fn count_slots_of<T: PartTable>(
     ensures few { result ≤ 384 }
 {
     let mut sum = 0;
-    for slot in 0..SLOTS * groups {
+    for slot in 0..SLOTS_PER_GROUP * groups {
         sum += modes_in(look_over_slot::<T, Brand>(top, place, owner, slot));
     }
     sum
@@ -247,8 +245,8 @@ pub(crate) fn count_from<T: PartTable, R: Wait>(
     requires none_in_hand { IsAboveHand (account_at T.content place.old) part }
     ensures seat { IsSameSeat place.old place.new }
     ensures slots { place.new.me.1 ≡ place.old.me.1 }
-    ensures counts { CountsFrom T.content sizes.now.groups part sizes.now.sessions place.old.me.0 rows.old.items result fast.new
-        place.new.me.0 rows.new.items }
+    ensures counts { CountsFrom T.content sizes.now.groups part sizes.now.sessions place.old.me.0 rows.old.items result
+        fast.new place.new.me.0 rows.new.items }
 {
     if u32::from(part) == PARTITIONS {
         tell_all(top, place);

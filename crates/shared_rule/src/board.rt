@@ -115,7 +115,7 @@ pub trait Board<T: PartTable> {
         ensures tried { TriesFast (seat self.old).groups (seat self.old).number (view self.old) result (view self.new) }
         ensures stack { stack self.new ≡ stack self.old };
 
-    /// Puts that lock.
+    /// Puts the lock of a session's fast-path slots, which it holds exclusively (`LWLockRelease` in lwlock.c).
     fn put_fast(&mut self, owner: SessionId)
         requires exists { owner < (seat self.old).limit }
         requires lawful { (slots : SlotsInHand) × MayPutFastBy (view self.old) owner slots }
@@ -132,10 +132,11 @@ pub trait Board<T: PartTable> {
         requires no_slots { (view self.old).fast.slots ≡ (λ _. None) }
         requires no_shared_slots { (view self.old).fast.shared_slots ≡ (λ _. None) }
         ensures seat { seat self.new ≡ seat self.old }
-        ensures shared { SharesFast (seat self.old).groups (seat self.old).number (view self.old) owner (view self.new) }
+        ensures shared { SharesFast (seat self.old).groups (seat self.old).number (view self.old) owner
+            (view self.new) }
         ensures stack { stack self.new ≡ stack self.old };
 
-    /// Shares that lock no more.
+    /// Shares the lock of a session's fast-path slots no more (`LWLockRelease` in lwlock.c).
     fn unshare_fast(&mut self, owner: SessionId)
         requires exists { owner < (seat self.old).limit }
         requires lawful { (slots : SlotsInHand) × MayUnshareFastBy (view self.old) owner slots }
@@ -143,8 +144,8 @@ pub trait Board<T: PartTable> {
         ensures view { view self.new ≡ account_unsharing_fast (view self.old) owner }
         ensures stack { stack self.new ≡ stack self.old };
 
-    /// Puts a lock that it holds exclusively, and goes past its session with a strong lock that is counted (the end
-    /// of a turn of the loop in `FastPathTransferRelationLocks` in lock.c).
+    /// Puts the lock of a session's slots, and goes past that session with a strong lock that is counted (the end of a
+    /// turn of the loop in `FastPathTransferRelationLocks` in lock.c).
     fn pass_fast(&mut self, owner: SessionId, tag: &Tag, mode: Mode)
         requires exists { owner < (seat self.old).limit }
         requires lawful { (slots : SlotsInHand) × MayPassBy (view self.old) owner slots tag.now mode }
@@ -159,7 +160,7 @@ pub trait Board<T: PartTable> {
         ensures view { view self.new ≡ account_counting (view self.old) tag.now mode }
         ensures stack { stack self.new ≡ stack self.old };
 
-    /// Counts it no more (`AbortStrongLockAcquire`, and `RemoveLocalLock` in lock.c).
+    /// Counts a strong lock no more (`AbortStrongLockAcquire` and `RemoveLocalLock` in lock.c).
     fn sub_strong(&mut self, tag: &Tag, mode: Mode)
         requires lawful { MayUncountBy (view self.old) tag.now mode }
         ensures seat { seat self.new ≡ seat self.old }
@@ -195,15 +196,16 @@ pub trait Board<T: PartTable> {
         ensures of_shared_slots { (slots : SlotsInHand) → (view self.old).fast.shared_slots owner ≡ Some slots
             → result ≡ slots.word place };
 
-    /// Loads a strong lock counter. Where it is 0, and its own slots are in hand, slots may be set for objects of its
-    /// index until they are put (`FastPathStrongRelationLocks->count` in `LockAcquireExtended` of lock.c).
+    /// Loads a strong lock counter. Where it shows 0 while the session has its own slots in hand, the session may set
+    /// slots for objects of that index until it puts them (`FastPathStrongRelationLocks->count` in
+    /// `LockAcquireExtended` of lock.c).
     fn load_strong(&mut self, index: u16) -> u64
         requires within { index < 1024 }
         ensures seat { seat self.new ≡ seat self.old }
         ensures view { view self.new ≡ account_reading (seat self.old).number (view self.old) index result }
         ensures stack { stack self.new ≡ stack self.old };
 
-    /// Sets a mode in the session's own slot that shows this (`FastPathGrantRelationLock` in lock.c).
+    /// Sets a mode in a slot of the session's own, whose word shows this (`FastPathGrantRelationLock` in lock.c).
     fn set_slot(&mut self, place: u8, shown: SlotWord, tag: &Tag, mode: Mode)
         requires within { place < group_size * (seat self.old).groups }
         requires lawful { (mine : SlotsInHand)
@@ -214,7 +216,7 @@ pub trait Board<T: PartTable> {
             (slots_here ((view self.old).fast.slots (seat self.old).number)) place tag.now mode }
         ensures stack { stack self.new ≡ stack self.old };
 
-    /// Clears a mode in the session's own slot that shows this (`FastPathUnGrantRelationLock` in lock.c).
+    /// Clears a mode in a slot of the session's own, whose word shows this (`FastPathUnGrantRelationLock` in lock.c).
     fn clear_slot(&mut self, place: u8, shown: SlotWord, tag: &Tag, mode: Mode)
         requires within { place < group_size * (seat self.old).groups }
         requires lawful { (mine : SlotsInHand)
@@ -225,7 +227,7 @@ pub trait Board<T: PartTable> {
             (slots_here ((view self.old).fast.slots (seat self.old).number)) place tag.now mode }
         ensures stack { stack self.new ≡ stack self.old };
 
-    /// Moves a mode from the slot of a session that shows this to the content in hand, which has it already, with a
+    /// Moves a mode from a slot of a session, whose word shows this, to the content in hand, which has it already, with a
     /// strong lock counted that is to go past that session next (a mode of the inner loop of
     /// `FastPathTransferRelationLocks` in lock.c).
     fn transfer_slot(
@@ -320,8 +322,8 @@ pub trait Board<T: PartTable> {
         requires looked { HasJustLooked (seat self.now).number (view self.now) shown }
         requires none_owed { (stack self.now).owed ≡ [] };
 
-    /// Wakes a session that sleeps so (`SetLatch` in `ProcWakeup` of proc.c): one wake is owed to it no more. It is no
-    /// step.
+    /// Wakes a session that sleeps until its wait word changes (`SetLatch` in `ProcWakeup` of proc.c): one wake is owed to
+    /// it no more. It is no step.
     fn wake(&mut self, other: SessionId)
         ensures seat { seat self.new ≡ seat self.old }
         ensures view { view self.new ≡ view self.old }

@@ -12,125 +12,170 @@ use std::collections::LinkedList;
 pub enum WordMark {
     /// It took the lock of a session's fast-path slots, which show these numbers with this database.
     TookFast {
+        /// The session whose slots they are.
         owner: u8,
+        /// Its database.
         database: u64,
+        /// The words of its slots.
         words: [u64; 0],
     },
     /// It put that lock.
     PutFast {
+        /// The session whose slots they are.
         owner: u8,
     },
     /// It shares the lock of a session's fast-path slots, which show these numbers with this database.
     SharedFast {
+        /// The session whose slots they are.
         owner: u8,
+        /// Its database.
         database: u64,
+        /// The words of its slots.
         words: [u64; 0],
     },
     /// It gave that back.
     UnsharedFast {
+        /// The session whose slots they are.
         owner: u8,
     },
     /// It put the lock of a session's slots, and its strong lock, which it has counted, is past the session.
     Passed {
+        /// The session whose slots the lock guards.
         owner: u8,
+        /// The object of the strong lock.
         tag: Tag,
+        /// The mode of the strong lock.
         mode: Mode,
     },
     /// It counted a strong lock.
     Counted {
+        /// Its object.
         tag: Tag,
+        /// Its mode.
         mode: Mode,
     },
     /// It counts the strong lock no more.
     Uncounted {
+        /// Its object.
         tag: Tag,
+        /// Its mode.
         mode: Mode,
     },
     /// It loaded its own wait word, which showed this.
     LoadedWait {
+        /// What was shown.
         shown: u64,
     },
     /// It asked a session to cancel, whose wait word showed this before.
     Asked {
+        /// The session that was asked.
         other: u8,
+        /// What its wait word showed.
         before: u64,
     },
     /// It cleared its own wait word.
     ClearedWait,
     /// It loaded a session's database, which was this.
     LoadedDatabase {
+        /// The session whose slots they are.
         owner: u8,
+        /// What was shown.
         shown: u64,
     },
     /// It loaded a slot of a session, which showed this.
     LoadedSlot {
+        /// The session whose slots they are.
         owner: u8,
+        /// The place of the slot.
         place: u8,
+        /// What was shown.
         shown: u64,
     },
     /// It loaded the word of the lock of its own slots, which showed this.
     LoadedFast {
+        /// What was shown.
         shown: u64,
     },
     /// It loaded a strong lock counter, which showed this.
     LoadedStrong {
+        /// The index of the counter.
         index: u16,
+        /// What was shown.
         shown: u64,
     },
     /// It set a mode in a slot of its own.
     SetSlot {
+        /// The place of the slot.
         place: u8,
+        /// The object.
         tag: Tag,
+        /// The mode.
         mode: Mode,
     },
     /// It cleared a mode in a slot of its own.
     ClearedSlot {
+        /// The place of the slot.
         place: u8,
+        /// The object.
         tag: Tag,
+        /// The mode.
         mode: Mode,
     },
     /// It moved a mode from a session's slot to the content in hand of the object's partition.
     TransferredSlot {
+        /// The session whose slots they are.
         owner: u8,
+        /// The place of the slot.
         place: u8,
+        /// The object.
         tag: Tag,
+        /// The mode.
         mode: Mode,
     },
     /// It stored its own database.
     StoredDatabase {
+        /// The database.
         database: u32,
     },
     /// It locked the wait list of the lightweight lock with this number, in which these stand.
     LockedList {
+        /// The number of the lock.
         lock: u8,
+        /// Who stands in the list.
         waiters: [LwWaiter; 0],
     },
     /// It put the list home and unlocked it.
     UnlockedList,
     /// It stands in the list in hand, last, to take the lock in this mode.
     JoinedList {
+        /// How it wants to take the lock.
         mode: LwMode,
     },
     /// It left the list in hand.
     LeftList,
     /// It took a session off the list in hand, and is to tell it.
     TookOff {
+        /// The session that was taken off.
         other: u8,
     },
     /// It told a session that it took off.
     Told {
+        /// The session that was told.
         other: u8,
     },
     /// It loaded its own sleep word, which showed this.
     LoadedSleep {
+        /// What was shown.
         shown: u64,
     },
     /// It set release-ok in the word of the lock with this number.
     SetReleaseOk {
+        /// The number of the lock.
         lock: u8,
     },
     /// It set has-waiters there.
     SetHasWaiters {
+        /// The number of the lock.
         lock: u8,
     },
 }
@@ -139,34 +184,49 @@ pub enum WordMark {
 pub enum Mark<T> {
     /// It took the partition in hand, with this content.
     TookPart {
+        /// The number of the partition.
         part: u8,
+        /// Its content.
         taken: T,
     },
     /// It put the partition home with this content, after this move that it made as it put it.
     PutPart {
+        /// The number of the partition.
         part: u8,
+        /// The move.
         done: Move,
+        /// The content after it.
         put: T,
     },
     /// Its wait word was set to waiting, and the content in hand is this, after its join.
     SetWaiting {
+        /// The object that it waits for.
         tag: Tag,
+        /// The mode that it waits for.
         mode: Mode,
+        /// The content in hand.
         now: T,
     },
     /// It marked the wait of a session granted. Its move, by which the content in hand is this, granted the waits of
     /// these sessions.
     MarkedGranted {
+        /// The number of the partition.
         part: u8,
+        /// The session whose wait was granted.
         other: u8,
+        /// The move.
         done: Move,
+        /// The sessions whose waits were granted.
         woken: [u8; 0],
+        /// The content in hand.
         now: T,
     },
     /// It cleared its own wait word and left the queue, by which the content in hand is this, and the waits of these
     /// sessions are granted.
     LeftQueue {
+        /// The sessions whose waits were granted.
         woken: [u8; 0],
+        /// The content in hand.
         now: T,
     },
     /// Any other.
@@ -175,7 +235,9 @@ pub enum Mark<T> {
 
 /// A session's number and its steps, the last one first. A clause reads the array as a list, of any length.
 pub struct History<T> {
+    /// The number of the session.
     pub number: u8,
+    /// Its steps, the last one first.
     pub marks: [Mark<T>; 0],
 }
 
@@ -184,7 +246,10 @@ pub struct History<T> {
 /// makes its steps with it. Where two sessions meet, the first one's seat has the other's history behind its own
 /// for that time.
 pub struct View<T> {
+    /// The number that the next session gets, at the seat of the opener.
     pub next: Option<u8>,
+    /// The histories of the sessions that closed, the last one first.
     pub closed: LinkedList<History<T>>,
+    /// The histories of the sessions that it is for, the first of which makes its steps.
     pub sessions: LinkedList<History<T>>,
 }

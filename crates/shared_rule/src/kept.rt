@@ -9,7 +9,9 @@ use lw_word::WaitList;
 pub enum Kept<T> {
     /// What belongs here is in a session's hand, or nothing does.
     Nothing,
+    /// The content of a partition.
     Part(T),
+    /// The wait list of a lightweight lock.
     List(Box<WaitList>),
 }
 

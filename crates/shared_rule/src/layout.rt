@@ -37,7 +37,7 @@ const AREA: usize = BLOCK * SESSIONS as usize;
 pub const TABLE_WORDS: usize = SESSIONS_START + AREA;
 
 /// How many slots a group has (`FP_LOCK_SLOTS_PER_GROUP` in proc.h of version 18).
-const GROUP: u8 = 16;
+pub(crate) const SLOTS_PER_GROUP: u8 = 16;
 
 /// How many words the table has, with so many groups of slots.
 pub fn table_words(groups: u8) -> usize
@@ -106,7 +106,10 @@ pub fn slot_word(session: SessionId, slot: u8) -> usize
     ensures index { result ≡ index_of_word (Slot session slot) }
     ensures within { (groups : ℕ) → slot < group_size * groups → result < words_of_groups groups }
 {
-    block(session) + 2 + AREA * (slot / GROUP) as usize + (slot % GROUP) as usize
+    block(session)
+        + 2
+        + AREA * (slot / SLOTS_PER_GROUP) as usize
+        + (slot % SLOTS_PER_GROUP) as usize
 }
 
 /// The index of a session's wait word (`waitStatus` in proc.h). Others write it while the session waits, or to

@@ -42,7 +42,8 @@ impl<T: PartTable> Model for Opener<T> {
       gathered = opener.place.me.0.sessions;
     } };
 
-    ghost invariant = { λ opener. (opener.place.me.0.next ≡ Some opener.issued) × (opener.issued ≤ opener.sizes.sessions)
+    ghost invariant = { λ opener.
+        (opener.place.me.0.next ≡ Some opener.issued) × (opener.issued ≤ opener.sizes.sessions)
         × (opener.sizes.sessions ≤ 64) × IsSized opener.place.table_id × AreIdle opener.place.me.0.sessions
         × HasGroups opener.place.table_id opener.sizes.groups };
 }
@@ -93,8 +94,9 @@ impl<T: PartTable> Opener<T> {
             × (self.old.groups ≡ table.now.key.groups) }
         ensures none { IsNone result ↔ (self.old.issued ≡ self.old.limit) }
         ensures unchanged { IfNone result (self.new ≡ self.old) }
-        ensures opener { (self.new.table ≡ self.old.table) × (self.new.limit ≡ self.old.limit) × (self.new.groups ≡ self.old.groups)
-            × (self.new.closed ≡ self.old.closed) × (self.new.gathered ≡ self.old.gathered) }
+        ensures opener { (self.new.table ≡ self.old.table) × (self.new.limit ≡ self.old.limit)
+            × (self.new.groups ≡ self.old.groups) × (self.new.closed ≡ self.old.closed)
+            × (self.new.gathered ≡ self.old.gathered) }
         ensures issued { OnSome result (self.new.issued ≡ self.old.issued + 1) }
         ensures blank { IfSome result (λ board. ⟦<SeatBoard<'a, T> as Board<T>>⟧.view board ≡ blank_account) }
         ensures stack { IfSome result (λ board. ⟦<SeatBoard<'a, T> as Board<T>>⟧.stack board ≡ nothing_due) }

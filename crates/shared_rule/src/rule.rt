@@ -9,15 +9,17 @@ use lock_table::PartTable;
 /// (`MaxBackends` and, in version 18, `FastPathLockGroupsPerBackend`).
 #[derive(Clone, Copy, Debug, PartialEq, Eq)]
 pub struct Sizes {
+    /// How many sessions there can be.
     pub sessions: u8,
+    /// How many groups of fast-path slots each has.
     pub groups: u8,
 }
 
 /// The rule.
 pub struct Law;
 
-/// A slot has a partition's content where that
-/// is at home; the slots between two contents have none.
+/// Each partition's content, and each lightweight lock's wait list, has a slot of its own, and lies there while nobody
+/// has it in hand. The slots between stay unused.
 impl<T: PartTable> TableRule<Kept<T>, View<T>, Sizes> for Law {
     ghost use Rattle.shared_rule.specs.Ruled.{Ruled};
     ghost use Rattle.shared_rule.specs.History.{opening_view};

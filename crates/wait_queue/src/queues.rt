@@ -23,8 +23,11 @@ pub enum InTheWay {
 /// One that stands in the way of a session that waits, by this mode.
 #[derive(Clone, Copy, Debug, PartialEq, Eq)]
 pub struct Blocker {
+    /// Who stands in the way.
     pub session: SessionId,
+    /// The mode by which it does.
     pub mode: Mode,
+    /// Whether it holds that mode or stands before the other in the queue.
     pub how: InTheWay,
 }
 

@@ -24,7 +24,8 @@ pub fn take_hold_out<P: PartTable>(part: &mut P, session: SessionId, tag: &Tag, 
     requires { (P.content part.old).holds session tag.now mode ≡ true }
     ensures over { result ≡ false →
         Moves (P.content part.old) session (Release tag.now mode) [] (P.content part.new) }
-    ensures to_wake { result ≡ true → (granted : List Wait) (after : Content) → Wakes (P.content part.new) tag.now granted after →
+    ensures to_wake { result ≡ true → (granted : List Wait) (after : Content) →
+        Wakes (P.content part.new) tag.now granted after →
         Moves (P.content part.old) session (Release tag.now mode) granted after }
     ensures begun { P.begun part.new ≡ P.begun part.old }
 {

@@ -8,6 +8,7 @@ use Rattle.lock_table.specs.Queue.{waits_there, awaits_mode}
 use Rattle.lock_world.specs.Account.{SlotsInHand, account}
 use Rattle.lock_world.specs.AccountFacts.{OwnHoldsStand, KnowsContent, KnowsSlots}
 use Rattle.lw_word.specs.SlotWord.{shows}
+use Rattle.lock_world.specs.Counted.{is_past}
 use Rattle.lock_world.specs.SlotHolds.{slot_holds}
 use Rattle.lock_world.specs.WaitWord.{wait_state}
 use Rattle.lock_world.specs.World.{World}
@@ -41,6 +42,12 @@ module _ (w : World) (safe : SafeWorld w) (s p : ℕ) where
       slot_holds-fewer (w.words.database s) (w.words.slot s) (w.sessions.remembered s) t m (safe.remembered s)
       not_remembered in
       (held-in_table w safe p s t m).1 (home, inl (has, no_slot))
+
+  -- Where something that it has counted is past itself, its slots don't have the object.
+  past_own :
+      (t : Tag) (m : Mode) → is_past (w.sessions.counted s) t s ≡ true → partition_of t ≡ p
+      → w.sessions.own s t m ≡ true → (w.contents.now p).holds s t m ≡ true
+  past_own t m past home has = (held-in_table w safe p s t m).1 (home, inl (has, safe.past s s t m past))
 
   -- The words of its slots as they are say where each own hold stands.
   stand : OwnHoldsStand s (w.sessions.own s) (w.words.database s) (w.sessions.remembered s) p (w.contents.now p)
@@ -88,6 +95,7 @@ module _ (w : World) (safe : SafeWorld w) (s p : ℕ) where
     its_holds = its;
     own_holds = own;
     tabled_holds = tabled_own;
+    past = past_own;
     own_stand = stand;
     in_slots = shown_elsewhere;
     no_wait = λ t none. false_from_ne_true (waits_there ((w.contents.now p).waits t) s) (λ there.

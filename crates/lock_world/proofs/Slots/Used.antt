@@ -13,9 +13,8 @@ use Rattle.lock_table.specs.Put.{set_at}
 use Rattle.lock_table.proofs.PutLemmas.{set_at-here, set_at-else}
 use Rattle.lock_table.specs.Total.{total, how_many}
 use Rattle.lock_world.specs.SlotHolds.{group_size, most_groups, slot_count, group_of_relation, place_in_group, may_use}
-use Rattle.lock_world.specs.SlotHolds.{relation_of, slot_holds, used_in, ShowsNoMore, AreInGroups, NoSlotInUse}
+use Rattle.lock_world.specs.SlotHolds.{relation_of, slot_holds, used_in, ShowsNoMore, AreInGroups}
 use Rattle.lock_table.proofs.Totals.{total-same, none_pass, some_pass, one_more, one_less, how_many-most}
-use Rattle.lock_world.proofs.Slots.Databases.{slot_holds-unused}
 use Rattle.lock_world.proofs.Slots.Eligible.{slot_holds-none}
 
 -- How many slots of a group are in use.
@@ -212,11 +211,6 @@ none_in_group-no_hold groups database slot tag mode in_groups none =
     let there = place-split group place (eqb-true (place / group_size) group its) in
     both_ways (in_use (slot place))
     (ap (λ j. in_use (slot j)) there.2 ∙ used-zero group slot none there.0 there.1) is.0))
-
-pub no_slot-no_hold :
-    (database : ℕ) (slot : ℕ → ℕ) → NoSlotInUse slot
-    → (tag : Tag) (mode : Mode) → slot_holds database slot tag mode ≡ false
-no_slot-no_hold database slot none tag mode = λ i. slot_holds-unused database slot none i tag mode
 
 -- Where it is below the number of a group's slots one of them is free, and else all are in use.
 pub used-room :

@@ -24,7 +24,8 @@ abbrev pub after_taking_partition : World → ℕ → ℕ → World
 after_taking_partition w session partition = record {
   words = record (w.words) { partition = set_at w.words.partition partition (taken_word (w.words.partition partition)) };
   contents = record (w.contents) {
-    hand = set_at w.contents.hand partition (Some (record { holder = session; taken = w.contents.now partition; recorded = None; unmarked = λ _. false }));
+    hand = set_at w.contents.hand partition
+        (Some (record { holder = session; taken = w.contents.now partition; recorded = None; unmarked = λ _. false }));
   };
   sessions = record (w.sessions) {
     holds_partition = set_at w.sessions.holds_partition session (set_at (w.sessions.holds_partition session) partition true);
@@ -112,5 +113,6 @@ after_putting_recorded w session partition = after_putting_partition w session p
 
 abbrev pub HappensPuttingPartition : World → ℕ → ℕ → Move → World → Type 0
 HappensPuttingPartition w session partition done v =
-    ((content : Content) × MayPutPartition w session partition done content × (v ≡ after_putting_partition w session partition done content))
+    ((content : Content) × MayPutPartition w session partition done content
+    × (v ≡ after_putting_partition w session partition done content))
     ⊎ (MayPutRecorded w session partition done × (v ≡ after_putting_recorded w session partition))

@@ -70,7 +70,8 @@ after_setting_waiting w session tag mode content = record {
 
 abbrev pub HappensSetting : World → ℕ → Tag → Mode → World → Type 0
 HappensSetting w session tag mode v =
-    (content : Content) × MayMove w session (partition_of tag) (Join tag mode) [] content × (v ≡ after_setting_waiting w session tag mode content)
+    (content : Content) × MayMove w session (partition_of tag) (Join tag mode) [] content
+    × (v ≡ after_setting_waiting w session tag mode content)
 
 -- Marking the wait of another session granted, which waits: by the first such step the move is made; by each further one
 -- one more of those whom it granted is marked, until nobody is unmarked.
