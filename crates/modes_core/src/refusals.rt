@@ -66,7 +66,7 @@ pub enum Refusal {
     /// The session's fast-path lock was taken at that moment.
     #[error("the fast-path lock is busy")]
     Busy,
-    /// No fast-path slot is free.
+    /// All fast-path slots of the relation's group are in use.
     #[error("the fast-path slots are full")]
     SlotsFull,
     /// The strong lock counter of the object's index is not 0.

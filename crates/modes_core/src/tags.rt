@@ -39,7 +39,7 @@ pub enum Tag {
         /// Its number in the database.
         relation: u32,
     },
-    /// Any other object of a catalogue (`LOCKTAG_OBJECT`).
+    /// Any other object of a catalog (`LOCKTAG_OBJECT`).
     Object {
         /// The number of a part of it, 0 for the whole.
         sub_object: u16,

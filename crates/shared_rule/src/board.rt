@@ -136,7 +136,7 @@ pub trait Board<T: PartTable> {
             (view self.new) }
         ensures stack { stack self.new ≡ stack self.old };
 
-    /// Shares the lock of a session's fast-path slots no more (`LWLockRelease` in lwlock.c).
+    /// Gives back its share of the lock of a session's fast-path slots (`LWLockRelease` in lwlock.c).
     fn unshare_fast(&mut self, owner: SessionId)
         requires exists { owner < (seat self.old).limit }
         requires lawful { (slots : SlotsInHand) × MayUnshareFastBy (view self.old) owner slots }
@@ -160,7 +160,7 @@ pub trait Board<T: PartTable> {
         ensures view { view self.new ≡ account_counting (view self.old) tag.now mode }
         ensures stack { stack self.new ≡ stack self.old };
 
-    /// Counts a strong lock no more (`AbortStrongLockAcquire` and `RemoveLocalLock` in lock.c).
+    /// Takes the count of a strong lock back (`AbortStrongLockAcquire` and `RemoveLocalLock` in lock.c).
     fn sub_strong(&mut self, tag: &Tag, mode: Mode)
         requires lawful { MayUncountBy (view self.old) tag.now mode }
         ensures seat { seat self.new ≡ seat self.old }
@@ -227,8 +227,8 @@ pub trait Board<T: PartTable> {
             (slots_here ((view self.old).fast.slots (seat self.old).number)) place tag.now mode }
         ensures stack { stack self.new ≡ stack self.old };
 
-    /// Moves a mode from a slot of a session, whose word shows this, to the content in hand, which has it already, with a
-    /// strong lock counted that is to go past that session next (a mode of the inner loop of
+    /// Moves a mode from a slot of a session, whose word shows this, to the content in hand, which has it already,
+    /// with a strong lock counted that is to go past that session next (a mode of the inner loop of
     /// `FastPathTransferRelationLocks` in lock.c).
     fn transfer_slot(
         &mut self,
@@ -322,8 +322,8 @@ pub trait Board<T: PartTable> {
         requires looked { HasJustLooked (seat self.now).number (view self.now) shown }
         requires none_owed { (stack self.now).owed ≡ [] };
 
-    /// Wakes a session that sleeps until its wait word changes (`SetLatch` in `ProcWakeup` of proc.c): one wake is owed to
-    /// it no more. It is no step.
+    /// Wakes a session that sleeps until its wait word changes (`SetLatch` in `ProcWakeup` of proc.c): it is then
+    /// owed one wake less. This is not a step.
     fn wake(&mut self, other: SessionId)
         ensures seat { seat self.new ≡ seat self.old }
         ensures view { view self.new ≡ view self.old }

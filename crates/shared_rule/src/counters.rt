@@ -30,7 +30,7 @@ pub(crate) fn add_strong<T: PartTable, M: Marking<T>>(
     fetch_add_as::<T, M>(top, place, strong_word(tag.strong_index()), 1);
 }
 
-/// Counts it no more (`AbortStrongLockAcquire`, and `RemoveLocalLock` in lock.c).
+/// Takes that count back (`AbortStrongLockAcquire`, and `RemoveLocalLock` in lock.c).
 pub(crate) fn sub_strong<T: PartTable, M: Marking<T>>(
     top: &Top<T>,
     place: &mut Place<T>,

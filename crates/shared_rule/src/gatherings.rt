@@ -17,7 +17,7 @@ use lock_table::PartTable;
 use modes_core::SessionId;
 use std::marker::Model;
 
-/// A session whose seat is gathered at the opener's: what is left of its board. It is no `Drop`, so that nobody
+/// A session whose seat is gathered at the opener's: what is left of its board. It is not `Drop`, so that nobody
 /// lets one go, which would leave its session there for ever. Contracts see whose board it was, and at which table.
 pub struct Absent<'a, T: PartTable> {
     table: &'a Top<T>,

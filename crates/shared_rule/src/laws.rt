@@ -22,9 +22,9 @@ ghost use Rattle.shared_rule.specs.Ruled.{Ruled};
 
 use lock_table::PartTable;
 
-/// Whatever the rule of the table holds of, and so the table between any two steps of all threads, shows a World to
-/// which events have led from the opening one, and which has the headline: no two sessions stand with conflicting modes
-/// on one object, and what goes with that.
+/// A table that keeps the rule, as it does between any two steps of all threads, shows a World to which events have led
+/// from the opening one, and which has the headline: no two sessions stand with conflicting modes on one object, and
+/// what goes with that.
 pub fn the_table_shows_no_two_sessions_in_conflict<T: PartTable>()
     ensures { (sizes : Sizes) (state : State (Kept T) (View T)) → Ruled T.content T.begun sizes state
         → ShowsHeadline T.content T.begun sizes state }

@@ -110,7 +110,7 @@ pub(crate) fn join_list<T: PartTable, M: Marking<T>>(
     store_as::<T, M>(top, place, sleep_word(number), 1);
 }
 
-/// Stores there that it waits no more, with itself in the list in hand (`LWLockDequeueSelf` in lwlock.c).
+/// Stores there that it no longer waits, with itself in the list in hand (`LWLockDequeueSelf` in lwlock.c).
 pub(crate) fn leave_list<T: PartTable>(top: &Top<T>, place: &mut Place<T>, number: SessionId)
     requires table { FitsTable place.old top.now.table_id }
     requires session { HasSession place.old.me.0 }

@@ -22,7 +22,7 @@ use modes_core::{Mode, SessionId, Tag};
 use std::marker::Brand;
 use std::sync::Wait;
 
-/// A session's seat at the table that all sessions share. It is no `Drop`, so that nobody lets one go, which would
+/// A session's seat at the table that all sessions share. It is not `Drop`, so that nobody lets one go, which would
 /// leave its session open for ever.
 pub struct SeatBoard<'a, T: PartTable> {
     table: &'a Top<T>,

@@ -110,7 +110,7 @@ pub(crate) fn share_fast<T: PartTable, R: Wait>(
     }
 }
 
-// Shares it no more, and tells what its word showed.
+// Gives its share back, and tells what its word showed.
 fn unshare_fast_home<T: PartTable, M: Marking<T>>(
     top: &Top<T>,
     place: &mut Place<T>,
@@ -128,7 +128,8 @@ fn unshare_fast_home<T: PartTable, M: Marking<T>>(
     fetch_sub_as::<T, M>(top, place, fast_word(owner), LwMode::Shared.amount())
 }
 
-/// Shares it no more (`LWLockRelease`). The last one who did wakes those who wait for the lock, where its word says so.
+/// Gives its share back (`LWLockRelease`). The last one who shared it wakes those who wait for the lock, where its
+/// word says so.
 pub(crate) fn unshare_fast<T: PartTable, M: Marking<T>>(
     top: &Top<T>,
     place: &mut Place<T>,

@@ -17,7 +17,7 @@ pub fn awaited_in_conflict<P: PartTable>(part: &P, tag: &Tag, mode: Mode) -> boo
 }
 
 /// Takes a hold of the session out (`UnGrantLock` in lock.c), and says whether somebody awaits a mode in conflict
-/// with the one released: the release is over where nobody does, and else by a wakeup of the queue
+/// with the one released: the release is over where nobody does, and otherwise by a wakeup of the queue
 /// (`PartTable::wake`).
 #[inline(always)]
 pub fn take_hold_out<P: PartTable>(part: &mut P, session: SessionId, tag: &Tag, mode: Mode) -> bool
