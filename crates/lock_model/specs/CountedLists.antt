@@ -47,7 +47,8 @@ may_count machine session tag mode =
 -- whether the session has the mode on the object, in a content or in a slot, or awaits it
 abbrev pub has_or_awaits : Machine → ℕ → Tag → Mode → Bool
 has_or_awaits machine session tag mode =
-    (awaits (slice_index_or machine.waits.awaited session None) tag mode || (contents_in machine.contents.parts.items (partition_of tag)).holds session tag mode)
+    (awaits (slice_index_or machine.waits.awaited session None) tag mode
+    || (contents_in machine.contents.parts.items (partition_of tag)).holds session tag mode)
     || slots_hold machine session tag mode
 
 -- whether the session may count it no more
@@ -57,7 +58,8 @@ may_uncount machine session tag mode =
 
 -- whether the owner's slots show any mode on the object
 abbrev pub slots_show : Machine → ℕ → Tag → Bool
-slots_show machine owner tag = (slots_hold machine owner tag AccessShare || slots_hold machine owner tag RowShare) || slots_hold machine owner tag RowExclusive
+slots_show machine owner tag =
+    (slots_hold machine owner tag AccessShare || slots_hold machine owner tag RowShare) || slots_hold machine owner tag RowExclusive
 
 -- whether the session may go past the owner
 abbrev pub may_pass : Machine → ℕ → ℕ → Tag → Mode → Bool
@@ -71,4 +73,5 @@ may_load_counter machine session index shown = (makes_steps machine session && n
 
 -- whether the session reads it as 0, and may set slots then
 abbrev pub reads_zero : Machine → ℕ → ℕ → ℕ → Bool
-reads_zero machine session index shown = (may_load_counter machine session index shown && (shown == 0)) && holds_fast machine session session
+reads_zero machine session index shown =
+    (may_load_counter machine session index shown && (shown == 0)) && holds_fast machine session session

@@ -90,7 +90,9 @@ StandsThere w hold = StandsAt w hold.session hold.tag hold.mode hold.spot
 pub record IsPlainOf (plain : Plain) (w : World) : Type 0 where
   pub holds : ListsHolds (holds_of plain) (all_holds w)
   pub spots : All (λ hold. StandsThere w hold) (holds_of plain)
-  pub waits : (tag : Tag) → map as_wait (filter (λ queued. tag_eq queued.tag tag) (listed_waits plain)) ≡ (w.contents.now (partition_of tag)).waits tag
+  pub waits :
+      (tag : Tag) → map as_wait (filter (λ queued. tag_eq queued.tag tag) (listed_waits plain))
+      ≡ (w.contents.now (partition_of tag)).waits tag
   pub waits_by_tag : IsSortedByKey (λ queued. queued.tag) (on numbers_of (slice_cmp nat_cmp)) (listed_waits plain)
   pub groups : groups_of plain ≡ w.numbers.groups
   pub words : (word : Word) → WordExists w.numbers.groups word → word_of plain word ≡ word_in w.words word

@@ -42,7 +42,8 @@ is_hold session tag mode hold = (hold.session == session) && (tag_eq hold.tag ta
 
 -- The list has each of the holds once, and nothing else.
 abbrev pub ListsHolds : List Hold → Holds → Type 0
-ListsHolds list holds = (session : ℕ) (tag : Tag) (mode : Mode) → count_by (is_hold session tag mode) list ≡ (if holds session tag mode then 1 else 0)
+ListsHolds list holds =
+    (session : ℕ) (tag : Tag) (mode : Mode) → count_by (is_hold session tag mode) list ≡ (if holds session tag mode then 1 else 0)
 
 -- Each of the listed holds stands in the lock table.
 abbrev pub AreInTable : List Hold → Type 0
@@ -154,7 +155,8 @@ waiters_of lock list = map (λ (sleeper : Sleeper). sleeper.waiter) (filter (λ 
 
 -- The wait lists and the sleep words are the World's, and so is what each session knows of lists: the one in hand, the one that
 -- it stands in, and whom it took off.
-pub record ShowsLists (shown : Lists) (words : ℕ → ℕ) (lists : ℕ → List LwWaiter) (have stand : ℕ → Option ℕ) (taken : ℕ → ℕ → Bool) : Type 0 where
+pub record ShowsLists (shown : Lists) (words : ℕ → ℕ) (lists : ℕ → List LwWaiter)
+    (have stand : ℕ → Option ℕ) (taken : ℕ → ℕ → Bool) : Type 0 where
   pub sixty_four : length shown.sleep ≡ 64
   pub sixty_four_have : length shown.has_list ≡ 64
   pub sixty_four_stand : length shown.stands ≡ 64
@@ -180,11 +182,13 @@ pub record Shows (machine : Machine) (w : World) : Type 0 where
 
 -- whether the session makes steps of its own
 abbrev pub makes_steps : Machine → ℕ → Bool
-makes_steps machine session = slice_index_or machine.numbers.live session false && is_none (slice_index_or machine.numbers.kept_by session None)
+makes_steps machine session =
+    slice_index_or machine.numbers.live session false && is_none (slice_index_or machine.numbers.kept_by session None)
 
 -- whether the session has no wait list in hand and stands in none
 abbrev pub has_no_list : Machine → ℕ → Bool
-has_no_list machine session = is_none (slice_index_or machine.lists.has_list session None) && is_none (slice_index_or machine.lists.stands session None)
+has_no_list machine session =
+    is_none (slice_index_or machine.lists.has_list session None) && is_none (slice_index_or machine.lists.stands session None)
 
 -- whether the session has a mark of any lock
 abbrev pub has_a_mark : ℕ → List (List Bool) → Bool
@@ -203,7 +207,9 @@ is_holder session (Some hand) = hand.holder == session
 -- the partition in hand, where the session makes steps and has it
 abbrev pub hand_of : Machine → ℕ → ℕ → Option InHand
 hand_of machine session p =
-    if makes_steps machine session && is_holder session (slice_index_or machine.contents.hands p None) then slice_index_or machine.contents.hands p None else None
+    if makes_steps machine session && is_holder session (slice_index_or machine.contents.hands p None)
+    then slice_index_or machine.contents.hands p None
+    else None
 
 -- whether the wait is for the mode on the object
 abbrev pub awaits : Option Awaited → Tag → Mode → Bool
@@ -269,4 +275,6 @@ Follows old session step new =
 abbrev pub FollowsMarking : Machine → ℕ → ℕ → ℕ → Move → Machine → Type 0
 FollowsMarking old session other p done new =
     (w : World) → SafeWorld w → Shows old w →
-    (v : World) × (HappensMarkingIn w session other p done v ⊎ (((u : World) × HappensMarkingIn w session other p done u → ⊥) × (v ≡ w))) × Shows new v
+    (v : World)
+    × (HappensMarkingIn w session other p done v ⊎ (((u : World) × HappensMarkingIn w session other p done u → ⊥) × (v ≡ w)))
+    × Shows new v

@@ -17,12 +17,14 @@ list_to_change machine session = if makes_steps machine session then slice_index
 
 -- whether the session stands in the lock's list, and its sleep word shows waiting
 abbrev pub waits_at : Machine → ℕ → ℕ → Bool
-waits_at machine lock session = list_any (is_at lock session) machine.lists.sleepers.items && (slice_index_or machine.lists.sleep session 0 == 1)
+waits_at machine lock session =
+    list_any (is_at lock session) machine.lists.sleepers.items && (slice_index_or machine.lists.sleep session 0 == 1)
 
 -- whether the session has the other one to tell, which it took off
 abbrev pub may_tell : Machine → ℕ → ℕ → Bool
 may_tell machine session other =
-    (makes_steps machine session && slice_index_or (slice_index_or machine.lists.off session []) other false) && (slice_index_or machine.lists.sleep other 0 == 2)
+    (makes_steps machine session && slice_index_or (slice_index_or machine.lists.off session []) other false)
+    && (slice_index_or machine.lists.sleep other 0 == 2)
 
 -- whether the session may load its sleep word, and it shows this
 abbrev pub may_load_sleep : Machine → ℕ → ℕ → Bool

@@ -24,7 +24,8 @@ slots_hold machine session tag mode =
 -- whether the session may ask for the mode on the object: it waits for nothing, and hasn't the hold, in no content and no slot
 abbrev pub may_ask : Machine → ℕ → Tag → Mode → Bool
 may_ask machine session tag mode =
-    (is_none (slice_index_or machine.waits.awaited session None) && not ((contents_in machine.contents.parts.items (partition_of tag)).holds session tag mode))
+    (is_none (slice_index_or machine.waits.awaited session None)
+    && not ((contents_in machine.contents.parts.items (partition_of tag)).holds session tag mode))
     && not (slots_hold machine session tag mode)
 
 -- whether the session makes steps, and holds the lock of its own slots

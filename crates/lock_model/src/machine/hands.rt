@@ -13,6 +13,7 @@ use modes_core::SessionId;
 /// A partition in a session's hand.
 #[derive(Clone, Copy)]
 pub struct InHand {
+    /// Whose hand it is.
     pub holder: SessionId,
     /// The move that the session has made on the content, if any.
     pub recorded: Option<Move>,

@@ -20,11 +20,8 @@ impl Machine {
         match word {
             Word::Partition(partition) => self.lock_partition_list(session, partition),
             Word::Fast(owner) => self.lock_fast_list(session, owner),
-            Word::Database(_) => {}
-            Word::Slot(_, _) => {}
-            Word::Wait(_) => {}
-            Word::Strong(_) => {}
-            Word::Sleep(_) => {}
+            Word::Database(_) | Word::Slot(..) | Word::Wait(_) | Word::Strong(_) | Word::Sleep(_) =>
+                {}
         }
     }
 
@@ -44,11 +41,8 @@ impl Machine {
                 self.unlock_partition_list(session, partition, has_waiters, release_ok)
             }
             Word::Fast(owner) => self.unlock_fast_list(session, owner, has_waiters, release_ok),
-            Word::Database(_) => {}
-            Word::Slot(_, _) => {}
-            Word::Wait(_) => {}
-            Word::Strong(_) => {}
-            Word::Sleep(_) => {}
+            Word::Database(_) | Word::Slot(..) | Word::Wait(_) | Word::Strong(_) | Word::Sleep(_) =>
+                {}
         }
     }
 
@@ -59,11 +53,8 @@ impl Machine {
         match word {
             Word::Partition(partition) => self.set_partition_release_ok(session, partition, shown),
             Word::Fast(owner) => self.set_fast_release_ok(session, owner, shown),
-            Word::Database(_) => {}
-            Word::Slot(_, _) => {}
-            Word::Wait(_) => {}
-            Word::Strong(_) => {}
-            Word::Sleep(_) => {}
+            Word::Database(_) | Word::Slot(..) | Word::Wait(_) | Word::Strong(_) | Word::Sleep(_) =>
+                {}
         }
     }
 
@@ -75,11 +66,8 @@ impl Machine {
         match word {
             Word::Partition(partition) => self.set_partition_has_waiters(session, partition, shown),
             Word::Fast(owner) => self.set_fast_has_waiters(session, owner, shown),
-            Word::Database(_) => {}
-            Word::Slot(_, _) => {}
-            Word::Wait(_) => {}
-            Word::Strong(_) => {}
-            Word::Sleep(_) => {}
+            Word::Database(_) | Word::Slot(..) | Word::Wait(_) | Word::Strong(_) | Word::Sleep(_) =>
+                {}
         }
     }
 

@@ -19,7 +19,9 @@ use wait_queue::{release, remove_waiter};
 /// A part after a move, and those whose waits the move granted.
 #[derive(Drop)]
 pub struct MovedPart {
+    /// The part after the move.
     pub part: PlainPart,
+    /// Those whose waits the move granted.
     pub woken: Woken,
 }
 
@@ -105,9 +107,7 @@ impl Machine {
     {
         let part = &self.contents.parts[usize::from(partition)];
         match *done {
-            Move::Keep => Ok(None),
-            Move::Grant { tag: _, mode: _ } => Ok(None),
-            Move::Join { tag: _, mode: _ } => Ok(None),
+            Move::Keep | Move::Grant { .. } | Move::Join { .. } | Move::Adopt { .. } => Ok(None),
             Move::Release { tag, mode } => {
                 if self.awaits(session, tag, mode) {
                     Ok(None)
@@ -116,7 +116,6 @@ impl Machine {
                 }
             }
             Move::Leave { tag } => after_leaving(part, session, tag),
-            Move::Adopt { owner: _, slot: _ } => Ok(None),
         }
     }
 }

@@ -7,7 +7,9 @@ use modes_core::{Mode, SessionId, Tag};
 /// What a session waits for.
 #[derive(Clone, Copy, Debug, PartialEq, Eq)]
 pub struct Awaited {
+    /// The object.
     pub tag: Tag,
+    /// The mode.
     pub mode: Mode,
 }
 

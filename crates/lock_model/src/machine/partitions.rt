@@ -21,11 +21,8 @@ impl Machine {
         match word {
             Word::Partition(partition) => self.take_partition(session, partition),
             Word::Fast(owner) => self.take_fast(session, owner),
-            Word::Database(_) => {}
-            Word::Slot(_, _) => {}
-            Word::Wait(_) => {}
-            Word::Strong(_) => {}
-            Word::Sleep(_) => {}
+            Word::Database(_) | Word::Slot(..) | Word::Wait(_) | Word::Strong(_) | Word::Sleep(_) =>
+                {}
         }
     }
 

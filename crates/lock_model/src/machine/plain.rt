@@ -15,18 +15,26 @@ pub enum Spot {
 /// where they stand: the fast-path slots by their places, and the lock table after them.
 #[derive(Clone, Copy, Debug, PartialEq, Eq, PartialOrd, Ord)]
 pub struct Hold {
+    /// The session.
     pub session: SessionId,
+    /// The object.
     pub tag: Tag,
+    /// The mode.
     pub mode: Mode,
+    /// Where it stands.
     pub spot: Spot,
 }
 
 /// A wait in an object's queue, with the modes that its session held when it joined.
 #[derive(Clone, Copy, Debug, PartialEq, Eq)]
 pub struct QueuedWait {
+    /// The session.
     pub session: SessionId,
+    /// The object.
     pub tag: Tag,
+    /// The mode that it waits for.
     pub mode: Mode,
+    /// The modes of the object that it held when it joined.
     pub held: ModeSet,
 }
 

@@ -21,11 +21,8 @@ impl Machine {
         match word {
             Word::Partition(partition) => self.share_partition(session, partition),
             Word::Fast(owner) => self.share_fast(session, owner),
-            Word::Database(_) => {}
-            Word::Slot(_, _) => {}
-            Word::Wait(_) => {}
-            Word::Strong(_) => {}
-            Word::Sleep(_) => {}
+            Word::Database(_) | Word::Slot(..) | Word::Wait(_) | Word::Strong(_) | Word::Sleep(_) =>
+                {}
         }
     }
 
@@ -36,11 +33,8 @@ impl Machine {
         match word {
             Word::Partition(partition) => self.unshare_partition(session, partition),
             Word::Fast(owner) => self.unshare_fast(session, owner),
-            Word::Database(_) => {}
-            Word::Slot(_, _) => {}
-            Word::Wait(_) => {}
-            Word::Strong(_) => {}
-            Word::Sleep(_) => {}
+            Word::Database(_) | Word::Slot(..) | Word::Wait(_) | Word::Strong(_) | Word::Sleep(_) =>
+                {}
         }
     }
 

@@ -20,6 +20,7 @@ pub struct Numbers {
     pub issued: u8,
     /// How many groups of fast-path slots each session has.
     pub groups: u8,
+    /// Whether the session of this number is open.
     pub live: [bool; 64],
     /// The session that keeps this one apart, if any.
     pub kept_by: [Option<SessionId>; 64],
@@ -62,6 +63,7 @@ pub fn has_a_mark(marks: &[[bool; 64]], session: SessionId) -> bool
 pub struct Contents {
     /// The partitions that are in a session's hand.
     pub hands: [Option<InHand>; 16],
+    /// The content of each partition.
     pub parts: Vec<PlainPart>,
 }
 
@@ -105,9 +107,13 @@ impl FastPath {
 /// A strong lock that a session has counted, and the position up to which the session has gone past others.
 #[derive(Clone, Copy, Debug)]
 pub struct CountedBy {
+    /// The session.
     pub session: SessionId,
+    /// The object.
     pub tag: Tag,
+    /// The mode.
     pub mode: Mode,
+    /// The session is past each one below this number.
     pub position: u8,
 }
 
@@ -115,7 +121,9 @@ pub struct CountedBy {
 /// whose slots the lock guards and 1 more.
 #[derive(Clone, Copy, Debug)]
 pub struct Sleeper {
+    /// The number of the lock.
     pub lock: u8,
+    /// Who waits, and how it wants to take the lock.
     pub waiter: LwWaiter,
 }
 
@@ -158,15 +166,22 @@ impl Lists {
 /// What the plain machine keeps of a World.
 #[derive(Drop)]
 pub struct Machine {
+    /// The session numbers in use.
     pub numbers: Numbers,
+    /// What the words of the shared table show.
     pub words: Words,
+    /// Who has which lightweight locks.
     pub locks: Locks,
+    /// Sessions' databases and fast-path slots.
     pub fast_path: FastPath,
     /// The strong locks that sessions have counted, in the order of counting. Each strong lock counter shows
     /// how many there are at its index.
     pub counted: Vec<CountedBy>,
+    /// The wait lists of lightweight locks.
     pub lists: Lists,
+    /// The contents of the partitions.
     pub contents: Contents,
+    /// The waits of the sessions by their own account.
     pub waits: OwnWaits,
 }
 
