@@ -1,6 +1,7 @@
 //! Grants by the fast path (`FastPathGrantRelationLock` in lock.c).
 
-ghost use Rattle.std.specs.Prelude.{◌≡◌, ◌<◌, ◌≤◌, Some};
+ghost use Rattle.std.specs.Prelude.{◌≡◌, ◌<◌, ◌≤◌, Some, Err};
+ghost use Rattle.modes_core.specs.declared.refusals.Refusal.TheVariants.{SlotsFull};
 ghost use Rattle.lock_world.specs.SlotHolds.{most_groups};
 ghost use Rattle.shared_rule.specs.Boards.{nothing_due};
 ghost use Rattle.fast_path.specs.Slots.{group_of_tag, IsReady, MayTry};
@@ -30,6 +31,7 @@ pub fn grant<T: PartTable, B: Board<T>, R: Wait>(
     requires may_try { MayTry (B.view board.old) tag.now mode }
     ensures granted { Grants (B.seat board.old).groups (B.seat board.old).number (B.view board.old) uses.old
         tag.now mode result (B.view board.new) uses.new }
+    ensures untouched { result ≡ Err SlotsFull → board.new ≡ board.old }
     ensures ready { IsReady (B.seat board.old).groups (B.view board.new) uses.new }
     ensures seat { B.seat board.new ≡ B.seat board.old }
     ensures stack { B.stack board.new ≡ B.stack board.old }
@@ -56,6 +58,7 @@ pub fn try_grant<T: PartTable, B: Board<T>>(
     requires may_try { MayTry (B.view board.old) tag.now mode }
     ensures granted { TriesGrant (B.seat board.old).groups (B.seat board.old).number (B.view board.old) uses.old
         tag.now mode result (B.view board.new) uses.new }
+    ensures untouched { result ≡ Err SlotsFull → board.new ≡ board.old }
     ensures ready { IsReady (B.seat board.old).groups (B.view board.new) uses.new }
     ensures seat { B.seat board.new ≡ B.seat board.old }
     ensures stack { B.stack board.new ≡ B.stack board.old }
