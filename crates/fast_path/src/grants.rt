@@ -7,7 +7,7 @@ ghost use Rattle.shared_rule.specs.Boards.{nothing_due};
 ghost use Rattle.fast_path.specs.Slots.{group_of_tag, IsReady, MayTry};
 ghost use Rattle.fast_path.specs.Grants.{HasRoom, Grants, TriesGrant, GrantsHeld, HasOwnSlots};
 
-use crate::slot_words::{SLOTS, Sighting, look_through};
+use crate::slot_words::{SLOTS, SightingForGrant, look_from_top};
 use crate::use_counts::{UseCounts, group_of};
 use lock_table::PartTable;
 use modes_core::{Mode, Refusal, Tag};
@@ -98,11 +98,11 @@ fn grant_with_slots<T: PartTable, B: Board<T>>(
         board.put_fast(own);
         return Err(Refusal::StrongCounted);
     }
-    let Sighting {
+    let use_count = uses.of(group);
+    let SightingForGrant {
         of_relation,
         highest_unused,
-        ..
-    } = look_through(board, own, group, tag.relation_number());
+    } = look_from_top(board, own, group, tag.relation_number(), use_count);
     if let Some(slot) = of_relation {
         board.set_slot(slot.place, slot.word, tag, mode);
         board.put_fast(own);
@@ -110,7 +110,7 @@ fn grant_with_slots<T: PartTable, B: Board<T>>(
     }
     let slot = highest_unused.unwrap();
     board.set_slot(slot.place, slot.word, tag, mode);
-    uses.set(group, uses.of(group) + 1);
+    uses.set(group, use_count + 1);
     board.put_fast(own);
     Ok(())
 }

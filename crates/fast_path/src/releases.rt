@@ -47,7 +47,6 @@ pub fn ungrant<T: PartTable, B: Board<T>, R: Wait>(
     let Sighting {
         of_relation,
         used_count,
-        ..
     } = look_through(board, own, group, relation);
     if let Some(slot) = of_relation {
         if slot.word.has(mode) {
