@@ -22,10 +22,10 @@ use Rattle.lock_world.proofs.Slots.Used.{used-room, word_with-in_use}
 use Rattle.shared_rule.specs.History.{slots_here}
 use Rattle.shared_rule.specs.Slots.{TakesFast}
 use Rattle.fast_path.specs.declared.slot_words.SeenSlot.{SeenSlot}
-use Rattle.fast_path.specs.declared.slot_words.Sighting.{Sighting}
+use Rattle.fast_path.specs.declared.slot_words.SightingForGrant.{SightingForGrant}
 use Rattle.fast_path.specs.declared.use_counts.UseCounts.{UseCounts}
-use Rattle.fast_path.specs.Slots.{group_of_tag, group_loads, account_loading, account_tried, IsReady}
-use Rattle.fast_path.specs.Slots.{IsOfGroup, NoneInGroup, IsHighestUnused, IsSeenOf, IsSeenUnused, Sights}
+use Rattle.fast_path.specs.Slots.{group_of_tag, top_loads, place_from_top, account_loading, account_tried, IsReady}
+use Rattle.fast_path.specs.Slots.{IsOfGroup, IsAllInUse, NoneInGroup, IsHighestUnused, IsSeenOf, IsSeenUnused, SightsForGrant}
 use Rattle.fast_path.specs.Slots.{count_in, one_more_in, AreCounted, AreUseCounts}
 use Rattle.fast_path.specs.Grants.{GrantsInSlot, HasOwnSlots, HasRoom, without_slots}
 use Rattle.fast_path.proofs.GroupCounts.{counted-fewer}
@@ -188,7 +188,7 @@ module _ (groups : ℕ) (slot : ℕ → ℕ) (relation place : ℕ) (mode : Mode
 pub some-unused :
     (groups group : ℕ) (word : ℕ → ℕ) (uses : UseCounts) (found : Option SeenSlot) → group < most_groups
     → AreCounted word (count_in uses) → AreUseCounts (count_in uses) → count_in uses group ≢ group_size
-    → IfNone found ((place : ℕ) → IsOfGroup group place → in_use (word place) ≡ true) → IsSome found
+    → IfNone found (IsAllInUse group word) → IsSome found
 some-unused groups group word uses (Some slot) exists enough within room all = refl
 some-unused groups group word uses None exists enough within room all =
     let before : used_in group word ≤ count_in uses group = enough group exists in
@@ -197,14 +197,14 @@ some-unused groups group word uses None exists enough within room all =
     absurd (both_ways (in_use (word (place_in_group group free.0))) free.2
     (all (place_in_group group free.0) (place-group group free.0 free.1)))
 
--- The counter read as 0, and all slots of the group loaded.
+-- The counter read as 0, and so many slots of the group loaded, from the highest-numbered one down.
 
 module _ (groups number : ℕ) (a : Account) (tag : Tag) (mine : SlotsInHand)
-    (in_hand : a.fast.slots ≡ set_at (λ _. None) number (Some mine)) where
+    (in_hand : a.fast.slots ≡ set_at (λ _. None) number (Some mine)) (loads : ℕ) where
   -- the account then
   abbrev pub account_looked : Account
   account_looked = account_loading (account_reading number a (index_of tag) 0) number
-      (place_in_group (group_of_tag groups tag)) mine.word group_size
+      (place_from_top (group_of_tag groups tag)) mine.word loads
 
   its_slots : a.fast.slots number ≡ Some mine
   its_slots = (λ i. in_hand i number) ∙ set_at-here (λ _. None) number (Some mine) number refl
@@ -216,22 +216,30 @@ module _ (groups number : ℕ) (a : Account) (tag : Tag) (mine : SlotsInHand)
 
     pub looked :
         (c : Account)
-        → c ≡ account_loading b own (place_in_group group) (slots_here (b.fast.slots own)).word group_size
+        → c ≡ account_loading b own (place_from_top group) (slots_here (b.fast.slots own)).word loads
         → c ≡ account_looked
     looked c loaded =
         loaded
-        ∙ (λ i. account_loading b (same i) (place_in_group (its_group i)) (slots_here (read_slots i)).word group_size)
-        ∙ ap (λ (x : Account). account_loading x number (place_in_group (group_of_tag groups tag)) mine.word group_size)
+        ∙ (λ i. account_loading b (same i) (place_from_top (its_group i)) (slots_here (read_slots i)).word loads)
+        ∙ ap (λ (x : Account). account_loading x number (place_from_top (group_of_tag groups tag)) mine.word loads)
         (read ∙ (λ i. account_reading number a (of_tag i) (is_zero i)))
 
     pub looked-sights :
-        (relation : ℕ) (seen : Sighting) → relation ≡ relation_of tag
-        → Sights group (slots_here (b.fast.slots own)).word relation seen
-        → Sights (group_of_tag groups tag) mine.word (relation_of tag) seen
+        (relation : ℕ) (seen : SightingForGrant) → relation ≡ relation_of tag
+        → SightsForGrant group (slots_here (b.fast.slots own)).word relation seen
+        → SightsForGrant (group_of_tag groups tag) mine.word (relation_of tag) seen
     looked-sights relation seen its sighted =
-        subst (λ (k : ℕ). Sights k mine.word (relation_of tag) seen) its_group
-        (subst (λ (r : ℕ). Sights group mine.word r seen) its
-        (subst (λ found. Sights group (slots_here found).word relation seen) read_slots sighted))
+        subst (λ (k : ℕ). SightsForGrant k mine.word (relation_of tag) seen) its_group
+        (subst (λ (r : ℕ). SightsForGrant group mine.word r seen) its
+        (subst (λ found. SightsForGrant group (slots_here found).word relation seen) read_slots sighted))
+
+    -- No more of them are in use than are counted.
+    pub looked-enough :
+        (uses : UseCounts) (count : ℕ) → group < most_groups → AreCounted mine.word (count_in uses)
+        → count ≡ count_in uses group → used_in group (slots_here (b.fast.slots own)).word ≤ count
+    looked-enough uses count exists enough same_count =
+        subst (λ (n : ℕ). used_in group (slots_here (b.fast.slots own)).word ≤ n) (sym same_count)
+        (subst (λ found. used_in group (slots_here found).word ≤ count_in uses group) (sym read_slots) (enough group exists))
 
   -- The mode set in a slot, and the lock put.
   module _ (mode : Mode) (place : ℕ) where
@@ -242,7 +250,7 @@ module _ (groups number : ℕ) (a : Account) (tag : Tag) (mine : SlotsInHand)
     -- the account then
     abbrev pub account_granted : Account
     account_granted = record (account_tried (without_slots a) words_granted
-        (a.trace ++ Loaded (Strong (index_of tag)) 0 ∷ group_loads number (group_of_tag groups tag) mine.word))
+        (a.trace ++ Loaded (Strong (index_of tag)) 0 ∷ top_loads number (group_of_tag groups tag) mine.word loads))
         { own = own_with a.own tag mode true }
 
     module _ (c d : Account) (by own : ℕ) (same_by : by ≡ number) (same : own ≡ number) (looked : c ≡ account_looked)
@@ -276,7 +284,7 @@ module _ (groups number : ℕ) (a : Account) (tag : Tag) (mine : SlotsInHand)
             own = own_with a.own tag mode true;
             fast = record (a.fast) { slots = gone i; remembered = words_granted; zero = unread i };
             trace = append_assoc a.trace (Loaded (Strong (index_of tag)) 0 ∷ [])
-                (group_loads number (group_of_tag groups tag) mine.word) i;
+                (top_loads number (group_of_tag groups tag) mine.word loads) i;
           }) where
             its_account : Account
             its_account = account_putting_fast number (account_setting number account_looked mine place tag mode) number
@@ -297,13 +305,15 @@ module _ (groups number : ℕ) (a : Account) (tag : Tag) (mine : SlotsInHand)
           → IsSlotToGrant groups mine.word (relation_of tag) place
           → (in_use (mine.word place) ≡ false → IsHighestUnused (group_of_tag groups tag) mine.word place)
           → count_in left ≡ (if in_use (mine.word place) then count_in uses else one_more_in uses (group_of_tag groups tag))
-          → GrantsInSlot groups number (without_slots a) a.trace uses tag mode e left
-      grants e uses left no_zero put takes highest raised = record {
+          → loads ≤ group_size → GrantsInSlot groups number (without_slots a) a.trace uses tag mode e left
+      grants e uses left no_zero put takes highest raised few_loads = record {
         word = mine.word;
         place = place;
         takes = takes;
         highest = highest;
         raised = raised;
+        seen = loads;
+        of_group = few_loads;
         account = granted e no_zero put;
       }
 
@@ -337,29 +347,29 @@ module _ (groups number : ℕ) (a : Account) (tag : Tag) (mine : SlotsInHand)
 -- The same by what each step ensures.
 module _ (groups number : ℕ) (a : Account) (uses : UseCounts) (tag : Tag) (mode : Mode)
     (has : HasOwnSlots groups number a uses)
-    (own index group shown by : ℕ) (slot : SeenSlot) (b c d : Account) (same : own ≡ number) (same_by : by ≡ number)
+    (own index group shown by loads : ℕ) (slot : SeenSlot) (b c d : Account) (same : own ≡ number) (same_by : by ≡ number)
     (of_tag : index ≡ index_of tag) (its_group : group ≡ group_of_tag groups tag) (is_zero : shown ≡ 0)
     (read : b ≡ account_reading number a index shown)
-    (loaded : c ≡ account_loading b own (place_in_group group) (slots_here (b.fast.slots own)).word group_size)
+    (loaded : c ≡ account_loading b own (place_from_top group) (slots_here (b.fast.slots own)).word loads)
     (set : d ≡ account_setting by c (slots_here (c.fast.slots by)) slot.place tag mode) where
-  is_looked : c ≡ account_looked groups number a tag has.slots has.in_hand
-  is_looked = looked groups number a tag has.slots has.in_hand b own index group shown same of_tag its_group is_zero read c
+  is_looked : c ≡ account_looked groups number a tag has.slots has.in_hand loads
+  is_looked = looked groups number a tag has.slots has.in_hand loads b own index group shown same of_tag its_group is_zero read c
       loaded
 
   pub may_put-granted : (slots : SlotsInHand) × MayPutFastBy d own slots
   may_put-granted =
-      may_put groups number a tag has.slots has.in_hand mode slot.place c d by own same_by same is_looked set
+      may_put groups number a tag has.slots has.in_hand loads mode slot.place c d by own same_by same is_looked set
 
   module _ (relation : ℕ) (its_relation : relation ≡ relation_of tag) (fits : relation < 2 ^ 32)
       (eligible : is_eligible_for a.fast.database tag mode ≡ true) (some : 0 < groups) (few : groups ≤ most_groups)
-      (room : HasRoom groups uses tag) (seen : Sighting)
-      (sighted : Sights group (slots_here (b.fast.slots own)).word relation seen)
+      (room : HasRoom groups uses tag) (few_loads : loads ≤ group_size) (seen : SightingForGrant)
+      (sighted : SightsForGrant group (slots_here (b.fast.slots own)).word relation seen)
       (e : Account) (last : ℕ) (same_last : last ≡ by) (put : e ≡ account_putting_fast last d own) where
     is_put : e ≡ account_putting_fast by d own
     is_put = put ∙ ap (λ (n : ℕ). account_putting_fast n d own) same_last
 
-    sights : Sights (group_of_tag groups tag) has.slots.word (relation_of tag) seen
-    sights = looked-sights groups number a tag has.slots has.in_hand b own index group shown same of_tag its_group is_zero
+    sights : SightsForGrant (group_of_tag groups tag) has.slots.word (relation_of tag) seen
+    sights = looked-sights groups number a tag has.slots has.in_hand loads b own index group shown same of_tag its_group is_zero
         read relation seen its_relation sighted
 
     done : (left : UseCounts) → IsSlotToGrant groups has.slots.word (relation_of tag) slot.place
@@ -368,9 +378,9 @@ module _ (groups number : ℕ) (a : Account) (uses : UseCounts) (tag : Tag) (mod
         → count_in left ≡ (if in_use (has.slots.word slot.place) then count_in uses else one_more_in uses (group_of_tag groups tag))
         → GrantsInSlot groups number (without_slots a) a.trace uses tag mode e left × IsReady groups e left
     done left takes highest raised = (
-      grants groups number a tag has.slots has.in_hand mode slot.place c d by own same_by same is_looked set e uses left
-          has.no_zero is_put takes highest raised,
-      ready groups number a tag has.slots has.in_hand mode slot.place c d by own same_by same is_looked set e uses left
+      grants groups number a tag has.slots has.in_hand loads mode slot.place c d by own same_by same is_looked set e uses left
+          has.no_zero is_put takes highest raised few_loads,
+      ready groups number a tag has.slots has.in_hand loads mode slot.place c d by own same_by same is_looked set e uses left
           has.no_zero has.no_shared_slots is_put takes eligible
           (subst (λ r. r < 2 ^ 32) its_relation fits) some few has.in_groups has.enough has.within room raised,
     )

@@ -2,6 +2,7 @@ mod Loading
 mod Words
 pub mod GroupCounts
 mod Looking
+mod LookingFromTop
 mod Granting
 mod Releasing
 pub mod Counting

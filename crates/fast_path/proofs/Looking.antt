@@ -7,7 +7,7 @@ use Rattle.lock_table.specs.Total.{total, how_many}
 use Rattle.lock_world.specs.SlotHolds.{group_size, place_in_group, is_slot_of}
 use Rattle.lock_world.proofs.Slots.Used.{place-split, place-group}
 use Rattle.fast_path.specs.declared.slot_words.SeenSlot.{SeenSlot}
-use Rattle.fast_path.specs.Slots.{IsOfGroup, NoneInGroup, IsSeenOf, IsSeenUnused, Sights}
+use Rattle.fast_path.specs.Slots.{IsOfGroup, NoneInGroup, IsSeenOf, Sights}
 
 -- Looking through a group's slots one after another.
 
@@ -15,7 +15,7 @@ use Rattle.fast_path.specs.Slots.{IsOfGroup, NoneInGroup, IsSeenOf, IsSeenUnused
 abbrev pub in_group : ℕ → (ℕ → ℕ) → ℕ → ℕ
 in_group group word k = word (place_in_group group k)
 
--- The slot is one of the group's first so many, and in use for the relation,
+-- The slot is one of the group's first so many, and in use for the relation.
 pub record IsOfRelation (group : ℕ) (word : ℕ → ℕ) (relation limit : ℕ) (slot : SeenSlot) : Type 0 where
   pub index : ℕ
   pub within : index < limit
@@ -23,37 +23,24 @@ pub record IsOfRelation (group : ℕ) (word : ℕ → ℕ) (relation limit : ℕ
   pub shown : slot.word ≡ in_group group word index
   pub its : is_slot_of slot.word relation ≡ true
 
--- or it is the highest-numbered of them that is not in use.
-pub record IsLastUnused (group : ℕ) (word : ℕ → ℕ) (limit : ℕ) (slot : SeenSlot) : Type 0 where
-  pub index : ℕ
-  pub within : index < limit
-  pub there : slot.place ≡ place_in_group group index
-  pub shown : slot.word ≡ in_group group word index
-  pub unused : in_use slot.word ≡ false
-  pub higher : (other : ℕ) → index < other → other < limit → in_use (in_group group word other) ≡ true
-
 -- What is found among the group's first so many slots with these words.
-pub record SightsBelow (group : ℕ) (word : ℕ → ℕ) (relation limit : ℕ) (its last : Option SeenSlot) (count : ℕ) :
+pub record SightsBelow (group : ℕ) (word : ℕ → ℕ) (relation limit : ℕ) (its : Option SeenSlot) (count : ℕ) :
     Type 0 where
   pub found : IfSome its (IsOfRelation group word relation limit)
   pub none : IfNone its ((k : ℕ) → k < limit → is_slot_of (in_group group word k) relation ≡ false)
-  pub unused : IfSome last (IsLastUnused group word limit)
-  pub full : IfNone last ((k : ℕ) → k < limit → in_use (in_group group word k) ≡ true)
   pub counted : count ≡ how_many limit (λ k. in_use (in_group group word k))
 
 -- Among none nothing is.
-pub sights-none : (group : ℕ) (word : ℕ → ℕ) (relation : ℕ) → SightsBelow group word relation 0 None None 0
+pub sights-none : (group : ℕ) (word : ℕ → ℕ) (relation : ℕ) → SightsBelow group word relation 0 None 0
 unfolding total
 sights-none group word relation = record {
   found = tt;
   none = λ k below. absurd (omega (arith, below));
-  unused = tt;
-  full = λ k below. absurd (omega (arith, below));
   counted = refl;
 }
 
 -- What holds of each number below a limit, and of it, holds below the next.
-below-more :
+pub below-more :
     (test : ℕ → Bool) (value : Bool) (limit : ℕ) → ((k : ℕ) → k < limit → test k ≡ value) → test limit ≡ value
     → (k : ℕ) → k < limit + 1 → test k ≡ value
 below-more test value limit before here k below =
@@ -63,7 +50,7 @@ below-more test value limit before here k below =
     ]
 
 -- How many pass of one number more.
-counted-more :
+pub counted-more :
     (test : ℕ → Bool) (limit count : ℕ) → count ≡ how_many limit test → test limit ≡ true
     → count + 1 ≡ how_many (limit + 1) test
 unfolding total
@@ -73,7 +60,7 @@ counted-more test limit count so_far passes =
     let next : how_many (suc limit) test ≡ how_many (limit + 1) test = ap (λ (n : ℕ). how_many n test) more in
     omega (arith, so_far, one, next)
 
-counted-same :
+pub counted-same :
     (test : ℕ → Bool) (limit count : ℕ) → count ≡ how_many limit test → test limit ≡ false
     → count ≡ how_many (limit + 1) test
 unfolding total
@@ -85,17 +72,16 @@ counted-same test limit count so_far fails =
 
 -- The same found under other names.
 pub sights-same :
-    (group : ℕ) (word : ℕ → ℕ) (relation limit : ℕ) (its its_now last last_now : Option SeenSlot) (count count_now : ℕ)
-    → its_now ≡ its → last_now ≡ last → count_now ≡ count → SightsBelow group word relation limit its last count
-    → SightsBelow group word relation limit its_now last_now count_now
-sights-same group word relation limit its its_now last last_now count count_now same_its same_last same_count sights =
-    subst (λ (slot : Option SeenSlot). SightsBelow group word relation limit slot last_now count_now) (sym same_its)
-    (subst (λ (slot : Option SeenSlot). SightsBelow group word relation limit its slot count_now) (sym same_last)
-    (subst (λ (n : ℕ). SightsBelow group word relation limit its last n) (sym same_count) sights))
+    (group : ℕ) (word : ℕ → ℕ) (relation limit : ℕ) (its its_now : Option SeenSlot) (count count_now : ℕ)
+    → its_now ≡ its → count_now ≡ count → SightsBelow group word relation limit its count
+    → SightsBelow group word relation limit its_now count_now
+sights-same group word relation limit its its_now count count_now same_its same_count sights =
+    subst (λ (slot : Option SeenSlot). SightsBelow group word relation limit slot count_now) (sym same_its)
+    (subst (λ (n : ℕ). SightsBelow group word relation limit its n) (sym same_count) sights)
 
 -- One more slot.
-module _ (group : ℕ) (word : ℕ → ℕ) (relation limit : ℕ) (its last : Option SeenSlot) (count place shown : ℕ)
-    (so_far : SightsBelow group word relation limit its last count) (at : place ≡ place_in_group group limit)
+module _ (group : ℕ) (word : ℕ → ℕ) (relation limit : ℕ) (its : Option SeenSlot) (count place shown : ℕ)
+    (so_far : SightsBelow group word relation limit its count) (at : place ≡ place_in_group group limit)
     (is : shown ≡ in_group group word limit) where
   -- What was found is still found,
   found-before : (slots : Option SeenSlot) → IfSome slots (IsOfRelation group word relation limit)
@@ -115,32 +101,10 @@ module _ (group : ℕ) (word : ℕ → ℕ) (relation limit : ℕ) (its last : O
   none-more not_its (Some slot) none = tt
   none-more not_its None none = below-more (λ k. is_slot_of (in_group group word k) relation) false limit none not_its
 
-  -- and so is the last that was not in use, where this one is in use.
-  unused-before : in_use (in_group group word limit) ≡ true → (slots : Option SeenSlot) → IfSome slots (IsLastUnused group word limit)
-      → IfSome slots (IsLastUnused group word (limit + 1))
-  unused-before used (Some slot) found = record {
-    index = found.index;
-    within = omega (arith, found.within);
-    there = found.there;
-    shown = found.shown;
-    unused = found.unused;
-    higher = λ other above below. elim (cases_eq other limit) [
-      | inl same ↦ ap (λ k. in_use (in_group group word k)) same ∙ used
-      | inr differs ↦ found.higher other above (omega (arith, differs, below))
-    ];
-  }
-  unused-before used None found = tt
-
-  full-more : in_use (in_group group word limit) ≡ true → (slots : Option SeenSlot)
-      → IfNone slots ((k : ℕ) → k < limit → in_use (in_group group word k) ≡ true)
-      → IfNone slots ((k : ℕ) → k < limit + 1 → in_use (in_group group word k) ≡ true)
-  full-more used (Some slot) full = tt
-  full-more used None full = below-more (λ k. in_use (in_group group word k)) true limit full used
-
   -- It is in use for the relation,
   pub sights-its :
       in_use shown ≡ true → relation_in shown ≡ relation
-      → SightsBelow group word relation (limit + 1) (Some (record { place = place; word = shown })) last (count + 1)
+      → SightsBelow group word relation (limit + 1) (Some (record { place = place; word = shown })) (count + 1)
   sights-its used same =
       let used_there : in_use (in_group group word limit) ≡ true = ap in_use (sym is) ∙ used in
       record {
@@ -153,14 +117,12 @@ module _ (group : ℕ) (word : ℕ → ℕ) (relation limit : ℕ) (its last : O
               (eq-eqb (relation_in shown) relation same);
         };
         none = tt;
-        unused = unused-before used_there last so_far.unused;
-        full = full-more used_there last so_far.full;
         counted = counted-more (λ k. in_use (in_group group word k)) limit count so_far.counted used_there;
       }
 
   -- or for another one,
   pub sights-other :
-      in_use shown ≡ true → relation_in shown ≢ relation → SightsBelow group word relation (limit + 1) its last (count + 1)
+      in_use shown ≡ true → relation_in shown ≢ relation → SightsBelow group word relation (limit + 1) its (count + 1)
   sights-other used other =
       let used_there : in_use (in_group group word limit) ≡ true = ap in_use (sym is) ∙ used in
       let not_its : is_slot_of (in_group group word limit) relation ≡ false =
@@ -169,15 +131,11 @@ module _ (group : ℕ) (word : ℕ → ℕ) (relation limit : ℕ) (its last : O
       record {
         found = found-before its so_far.found;
         none = none-more not_its its so_far.none;
-        unused = unused-before used_there last so_far.unused;
-        full = full-more used_there last so_far.full;
         counted = counted-more (λ k. in_use (in_group group word k)) limit count so_far.counted used_there;
       }
 
   -- or not in use.
-  pub sights-unused :
-      in_use shown ≡ false
-      → SightsBelow group word relation (limit + 1) its (Some (record { place = place; word = shown })) count
+  pub sights-unused : in_use shown ≡ false → SightsBelow group word relation (limit + 1) its count
   sights-unused unused =
       let unused_there : in_use (in_group group word limit) ≡ false = ap in_use (sym is) ∙ unused in
       let not_its : is_slot_of (in_group group word limit) relation ≡ false =
@@ -185,15 +143,6 @@ module _ (group : ℕ) (word : ℕ → ℕ) (relation limit : ℕ) (its last : O
       record {
         found = found-before its so_far.found;
         none = none-more not_its its so_far.none;
-        unused = record {
-          index = limit;
-          within = omega arith;
-          there = at;
-          shown = is;
-          unused = unused;
-          higher = λ other above below. absurd (omega (arith, above, below));
-        };
-        full = tt;
         counted = counted-same (λ k. in_use (in_group group word k)) limit count so_far.counted unused_there;
       }
 
@@ -202,8 +151,8 @@ pub place-below : (group groups place : ℕ) → IsOfGroup group place → group
 place-below group groups place its below = omega (arith, its, below)
 
 -- What is found among all slots of the group.
-module _ (group : ℕ) (word : ℕ → ℕ) (relation : ℕ) (its last : Option SeenSlot) (count : ℕ)
-    (all : SightsBelow group word relation group_size its last count) where
+module _ (group : ℕ) (word : ℕ → ℕ) (relation : ℕ) (its : Option SeenSlot) (count : ℕ)
+    (all : SightsBelow group word relation group_size its count) where
   at_place : (test : ℕ → Bool) (value : Bool)
       → ((k : ℕ) → k < group_size → test (in_group group word k) ≡ value)
       → (place : ℕ) → IsOfGroup group place → test (word place) ≡ value
@@ -226,34 +175,9 @@ module _ (group : ℕ) (word : ℕ → ℕ) (relation : ℕ) (its last : Option 
   none-all (Some slot) none = tt
   none-all None none = at_place (λ w. is_slot_of w relation) false none
 
-  unused-all : (slots : Option SeenSlot) → IfSome slots (IsLastUnused group word group_size)
-      → IfSome slots (IsSeenUnused group word)
-  unused-all (Some slot) found = record {
-    shown = found.shown ∙ ap word (sym found.there);
-    highest = record {
-      within = ap (λ p. p / group_size) found.there ∙ place-group group found.index found.within;
-      unused = ap (λ p. in_use (word p)) found.there ∙ ap in_use (sym found.shown) ∙ found.unused;
-      higher = λ other above of_group.
-          let there = place-split group other of_group in
-          let beyond : found.index < there.0 = later slot.place other found.index there.0 found.there there.2 above in
-          ap (λ p. in_use (word p)) there.2 ∙ found.higher there.0 beyond there.1;
-    };
-  } where
-    later : (p q j k : ℕ) → p ≡ place_in_group group j → q ≡ place_in_group group k → p < q → j < k
-    later p q j k first second above = omega (arith, first, second, above)
-  unused-all None found = tt
-
-  full-all : (slots : Option SeenSlot)
-      → IfNone slots ((k : ℕ) → k < group_size → in_use (in_group group word k) ≡ true)
-      → IfNone slots ((place : ℕ) → IsOfGroup group place → in_use (word place) ≡ true)
-  full-all (Some slot) full = tt
-  full-all None full = at_place in_use true full
-
-  pub sights-all : Sights group word relation (record { of_relation = its; highest_unused = last; used_count = count })
+  pub sights-all : Sights group word relation (record { of_relation = its; used_count = count })
   sights-all = record {
     found = found-all its all.found;
     none = none-all its all.none;
-    unused = unused-all last all.unused;
-    full = full-all last all.full;
     counted = all.counted;
   }

@@ -22,7 +22,7 @@ use Rattle.shared_rule.specs.History.{slots_here}
 use Rattle.shared_rule.specs.Slots.{TakesFast}
 use Rattle.fast_path.specs.declared.slot_words.SeenSlot.{SeenSlot}
 use Rattle.fast_path.specs.declared.slot_words.Sighting.{Sighting}
-use Rattle.fast_path.specs.Slots.{group_of_tag, group_loads, account_loading, NoneInGroup, IsSeenOf, Sights}
+use Rattle.fast_path.specs.Slots.{group_of_tag, group_loads, account_loading, IsOfGroup, NoneInGroup, IsSeenOf, Sights}
 use Rattle.fast_path.specs.Transfers.{adopting, finding, Adopts}
 use Rattle.fast_path.specs.Transfers.{IsAfterScan, Passes, StopsAt}
 use Rattle.fast_path.specs.Turns.{account_holding, IsUnlocked, Looks, BeginsTurn, HasRelation, AdoptsBelow, AdoptsSome}
@@ -134,14 +134,25 @@ none-found groups a b owner tag seen found none =
     found.sighted.none
 
 -- or one.
+its-found :
+    (groups : ℕ) (a b : Account) (owner : ℕ) (tag : Tag) (seen : Sighting) (slot : SeenSlot)
+    (found : Finds groups a owner tag seen b) → seen.of_relation ≡ Some slot
+    → IsSeenOf (group_of_tag groups tag) found.slots.word (relation_of tag) slot
+its-found groups a b owner tag seen slot found is =
+    subst (λ found_slot. IfSome found_slot (IsSeenOf (group_of_tag groups tag) found.slots.word (relation_of tag))) is
+    found.sighted.found
+
+pub group-found :
+    (groups : ℕ) (a b : Account) (owner : ℕ) (tag : Tag) (seen : Sighting) (slot : SeenSlot)
+    → Finds groups a owner tag seen b → seen.of_relation ≡ Some slot → IsOfGroup (group_of_tag groups tag) slot.place
+group-found groups a b owner tag seen slot found is = (its-found groups a b owner tag seen slot found is).within
+
 pub relation-found :
     (groups : ℕ) (a b : Account) (owner : ℕ) (tag : Tag) (seen : Sighting) (slot : SeenSlot)
     (found : Finds groups a owner tag seen b) → 0 < groups → groups ≤ most_groups
     → seen.of_relation ≡ Some slot → HasRelation found.slots slot.place slot.word tag
 relation-found groups a b owner tag seen slot found some few is =
-    let its : IsSeenOf (group_of_tag groups tag) found.slots.word (relation_of tag) slot =
-    subst (λ found_slot. IfSome found_slot (IsSeenOf (group_of_tag groups tag) found.slots.word (relation_of tag))) is
-    found.sighted.found in
+    let its = its-found groups a b owner tag seen slot found is in
     record {
       holds = found.holds;
       one_each = found.one_each;
@@ -322,12 +333,13 @@ passes-nothing groups number a b c owner tag mode seen unlocked found none passe
 adopts-found :
     (groups : ℕ) (a b : Account) (owner place word below : ℕ) (tag : Tag) (seen : Sighting) (taken : Content)
     (found : Finds groups a owner tag seen b)
-    → HasRelation found.slots place word tag → Adopts groups owner tag word below
+    → HasRelation found.slots place word tag → IsOfGroup (group_of_tag groups tag) place → Adopts groups owner tag word below
     (adopting_steps groups owner tag found.slots.word word taken below)
-adopts-found groups a b owner place word below tag seen taken found has = record {
+adopts-found groups a b owner place word below tag seen taken found has its_group = record {
   word = found.slots.word;
   place = place;
   within = has.within;
+  its_group = its_group;
   is_shown = has.is_word;
   its = has.its;
   taken = taken;
@@ -338,11 +350,12 @@ adopts-found groups a b owner place word below tag seen taken found has = record
 pub passes-adopting :
     (groups number : ℕ) (a b c d : Account) (owner place word : ℕ) (tag : Tag) (mode : Mode) (seen : Sighting) → IsUnlocked a
     → (found : Finds groups a owner tag seen b)
-    → HasRelation found.slots place word tag → AdoptsBelow b owner word tag 4 c
+    → HasRelation found.slots place word tag → IsOfGroup (group_of_tag groups tag) place
+    → AdoptsBelow b owner word tag 4 c
     → d ≡ account_passing number c owner tag mode → Passes groups a owner tag mode d
-passes-adopting groups number a b c d owner place word tag mode seen unlocked found has adopts passed = record {
+passes-adopting groups number a b c d owner place word tag mode seen unlocked found has its_group adopts passed = record {
   steps = adopting_steps groups owner tag found.slots.word word adopts.taken 4;
-  turn = inr (inr (word, adopts-found groups a b owner place word 4 tag seen adopts.taken found has));
+  turn = inr (inr (word, adopts-found groups a b owner place word 4 tag seen adopts.taken found has its_group));
   after = after-pass number a c d owner adopts.rest found.remembered
       (adopting_steps groups owner tag found.slots.word word adopts.taken 4) tag mode
       unlocked found.no_more (adopted-holding groups a b c owner word 4 tag seen found adopts) passed;
@@ -352,9 +365,10 @@ passes-adopting groups number a b c d owner place word tag mode seen unlocked fo
 pub stops-adopting :
     (groups number : ℕ) (a b c d : Account) (owner place word : ℕ) (tag : Tag) (seen : Sighting) → IsUnlocked a
     → (found : Finds groups a owner tag seen b)
-    → HasRelation found.slots place word tag → AdoptsSome b owner word tag c → d ≡ account_putting_fast number c owner
+    → HasRelation found.slots place word tag → IsOfGroup (group_of_tag groups tag) place
+    → AdoptsSome b owner word tag c → d ≡ account_putting_fast number c owner
     → StopsAt groups a owner tag d
-stops-adopting groups number a b c d owner place word tag seen unlocked found has some put =
+stops-adopting groups number a b c d owner place word tag seen unlocked found has its_group some put =
     let below : ℕ = number_of some.refused in
     record {
       steps = adopting_steps groups owner tag found.slots.word word some.adopts.taken below;
@@ -362,7 +376,7 @@ stops-adopting groups number a b c d owner place word tag seen unlocked found ha
         shown = word;
         refused = some.refused;
         in_slot = some.in_slot;
-        adopts = adopts-found groups a b owner place word below tag seen some.adopts.taken found has;
+        adopts = adopts-found groups a b owner place word below tag seen some.adopts.taken found has its_group;
       };
       after = after-put number a c d owner some.adopts.rest found.remembered
           (adopting_steps groups owner tag found.slots.word word some.adopts.taken below)

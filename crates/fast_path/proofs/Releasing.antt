@@ -153,9 +153,11 @@ module _ (groups number : ℕ) (a : Account) (uses : UseCounts) (own : ℕ) (rea
     its : (slot : SeenSlot) → seen.of_relation ≡ Some slot → IsSeenOf group takes.slots.word (relation_of tag) slot
     its slot is = subst (λ found. IfSome found (IsSeenOf group takes.slots.word (relation_of tag))) is sights.found
 
+    of_its_group : (slot : SeenSlot) → seen.of_relation ≡ Some slot → IsOfGroup (group_of_tag groups tag) slot.place
+    of_its_group slot is = subst (λ (k : ℕ). IsOfGroup k slot.place) of_tag (its slot is).within
+
     its-within : (slot : SeenSlot) → seen.of_relation ≡ Some slot → slot.place < slot_count
-    its-within slot is = within-of_group groups (relation_of tag) slot.place some few
-        (subst (λ (k : ℕ). IsOfGroup k slot.place) of_tag (its slot is).within)
+    its-within slot is = within-of_group groups (relation_of tag) slot.place some few (of_its_group slot is)
 
     its-there : (slot : SeenSlot) → seen.of_relation ≡ Some slot
         → is_slot_of (takes.slots.word slot.place) (relation_of tag) ≡ true
@@ -258,6 +260,7 @@ module _ (groups number : ℕ) (a : Account) (uses : UseCounts) (own : ℕ) (rea
           record {
             word = takes.slots.word;
             place = slot.place;
+            its_group = of_its_group slot is;
             held_in = record {
               eligible = eligible;
               within = its-within slot is;

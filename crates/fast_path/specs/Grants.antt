@@ -1,4 +1,4 @@
-use Rattle.std.specs.Prelude.{◌≡◌, ◌≢◌, ◌⊎◌, ℕ, ◌+◌, true, false, List, [], ◌∷◌, ◌++◌, Some, None, Result, Ok, Err, if◌then◌else◌}
+use Rattle.std.specs.Prelude.{◌≡◌, ◌≢◌, ◌⊎◌, ℕ, ◌≤◌, true, false, List, [], ◌∷◌, ◌++◌, Some, None, Result, Ok, Err, if◌then◌else◌}
 use Rattle.modes_core.specs.declared.modes.Mode.{Mode}
 use Rattle.modes_core.specs.declared.tags.Tag.{Tag}
 use Rattle.modes_core.specs.declared.refusals.Refusal.{Refusal}
@@ -14,15 +14,16 @@ use Rattle.lock_world.specs.Account.{Account, SlotsInHand}
 use Rattle.lock_world.specs.AccountSteps.{own_with}
 use Rattle.shared_rule.specs.Slots.{FoundItHeld, FoundItChanged}
 use Rattle.fast_path.specs.declared.use_counts.UseCounts.{UseCounts}
-use Rattle.fast_path.specs.Slots.{group_of_tag, group_loads, account_tried, IsHighestUnused}
+use Rattle.fast_path.specs.Slots.{group_of_tag, top_loads, account_tried, IsHighestUnused}
 use Rattle.fast_path.specs.Slots.{count_in, one_more_in, AreCounted, AreUseCounts}
 
 -- Grants by the fast path, as the session's account and its trace have them.
 
--- The mode is set in the slot that the relation has, or in the highest-numbered one of its group that is not in use, and the
--- group's use count is raised in the second case alone. With the lock of its own slots in hand, the one load of the object's
--- counter shows 0, and then all slots of the group are loaded. No other step joins the trace; `before` is what it had until
--- that lock was taken.
+-- The mode is set in the slot that the relation has, or in the highest-numbered one of its group that is not in use,
+-- and the group's use count is raised in the second case alone. With the lock of its own slots in hand, the one load of
+-- the object's counter shows 0, and then so many of the group's slots are loaded, from the highest-numbered one down: as
+-- far as the relation's, or as one not in use above which as many are in use as the use count says, or else all. No
+-- other step joins the trace; `before` is what it had until that lock was taken.
 pub record GrantsInSlot (groups number : ℕ) (a : Account) (before : List TraceEntry) (uses : UseCounts) (tag : Tag)
     (mode : Mode) (b : Account) (left : UseCounts) : Type 0 where
   pub word : ℕ → ℕ
@@ -30,9 +31,11 @@ pub record GrantsInSlot (groups number : ℕ) (a : Account) (before : List Trace
   pub takes : IsSlotToGrant groups word (relation_of tag) place
   pub highest : in_use (word place) ≡ false → IsHighestUnused (group_of_tag groups tag) word place
   pub raised : count_in left ≡ (if in_use (word place) then count_in uses else one_more_in uses (group_of_tag groups tag))
+  pub seen : ℕ
+  pub of_group : seen ≤ group_size
   pub account : b ≡ record (account_tried a
       (set_at word place (word_with (word place) (relation_of tag) mode))
-      (before ++ Loaded (Strong (index_of tag)) 0 ∷ group_loads number (group_of_tag groups tag) word))
+      (before ++ Loaded (Strong (index_of tag)) 0 ∷ top_loads number (group_of_tag groups tag) word seen))
       { own = own_with a.own tag mode true }
 
 -- The load of the counter shows that a strong lock is counted there, and nothing is changed.

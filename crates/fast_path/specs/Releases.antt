@@ -7,7 +7,7 @@ use Rattle.lock_world.specs.SlotHolds.{slot_holds, IsHeldIn, used_in}
 use Rattle.lock_world.specs.Account.{Account}
 use Rattle.lock_world.specs.AccountSteps.{own_with}
 use Rattle.fast_path.specs.declared.use_counts.UseCounts.{UseCounts}
-use Rattle.fast_path.specs.Slots.{group_of_tag, group_loads, account_tried, count_in, counting}
+use Rattle.fast_path.specs.Slots.{IsOfGroup, group_of_tag, group_loads, account_tried, count_in, counting}
 
 -- Releases by the fast path, as the session's account and its trace have them.
 
@@ -17,6 +17,7 @@ pub record ClearsSlot (groups number : ℕ) (a : Account) (uses : UseCounts) (ta
     (left : UseCounts) : Type 0 where
   pub word : ℕ → ℕ
   pub place : ℕ
+  pub its_group : IsOfGroup (group_of_tag groups tag) place
   pub held_in : IsHeldIn a.fast.database word tag mode place
   pub account : b ≡ record (account_tried a (set_at word place (word_without (word place) mode))
       (a.trace ++ group_loads number (group_of_tag groups tag) word)) { own = own_with a.own tag mode false }

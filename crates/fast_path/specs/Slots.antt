@@ -1,4 +1,4 @@
-use Rattle.std.specs.Prelude.{◌≡◌, ℕ, ◌+◌, ◌*◌, ◌/◌, ◌<◌, ◌≤◌, zero, suc, false, true, List, [], ◌∷◌, ◌++◌, slice_index_or}
+use Rattle.std.specs.Prelude.{◌≡◌, ℕ, ◌+◌, ◌-◌, ◌*◌, ◌/◌, ◌<◌, ◌≤◌, zero, suc, false, true, List, [], ◌∷◌, ◌++◌, slice_index_or}
 use Rattle.std.specs.Prelude.{None, IfSome, IfNone}
 use Rattle.modes_core.specs.declared.modes.Mode.{Mode}
 use Rattle.modes_core.specs.declared.tags.Tag.{Tag}
@@ -11,6 +11,7 @@ use Rattle.lock_world.specs.World.{TraceEntry, Loaded}
 use Rattle.lock_world.specs.Account.{Account}
 use Rattle.fast_path.specs.declared.slot_words.SeenSlot.{SeenSlot}
 use Rattle.fast_path.specs.declared.slot_words.Sighting.{Sighting}
+use Rattle.fast_path.specs.declared.slot_words.SightingForGrant.{SightingForGrant}
 use Rattle.fast_path.specs.declared.use_counts.UseCounts.{UseCounts}
 
 -- A session's slots, as the fast path reads them.
@@ -48,23 +49,40 @@ pub record IsSeenUnused (group : ℕ) (word : ℕ → ℕ) (slot : SeenSlot) : T
   pub shown : slot.word ≡ word slot.place
   pub highest : IsHighestUnused group word slot.place
 
+-- All slots of the group are in use.
+abbrev pub IsAllInUse : ℕ → (ℕ → ℕ) → Type 0
+IsAllInUse group word = (place : ℕ) → IsOfGroup group place → in_use (word place) ≡ true
+
 -- No slot of the group is in use for the relation.
 abbrev pub NoneInGroup : ℕ → (ℕ → ℕ) → ℕ → Type 0
 NoneInGroup group word relation = (place : ℕ) → IsOfGroup group place → is_slot_of (word place) relation ≡ false
 
--- What a look through a group's slots with these words finds for a relation.
+-- What a look through all of a group's slots with these words finds for a relation,
 pub record Sights (group : ℕ) (word : ℕ → ℕ) (relation : ℕ) (seen : Sighting) : Type 0 where
   pub found : IfSome seen.of_relation (IsSeenOf group word relation)
   pub none : IfNone seen.of_relation (NoneInGroup group word relation)
-  pub unused : IfSome seen.highest_unused (IsSeenUnused group word)
-  pub full : IfNone seen.highest_unused ((place : ℕ) → IsOfGroup group place → in_use (word place) ≡ true)
   pub counted : seen.used_count ≡ used_in group word
+
+-- and what the look of a grant finds.
+pub record SightsForGrant (group : ℕ) (word : ℕ → ℕ) (relation : ℕ) (seen : SightingForGrant) : Type 0 where
+  pub found : IfSome seen.of_relation (IsSeenOf group word relation)
+  pub none : IfNone seen.of_relation (NoneInGroup group word relation)
+  pub unused : IfSome seen.highest_unused (IsSeenUnused group word)
+  pub full : IfNone seen.of_relation (IfNone seen.highest_unused (IsAllInUse group word))
 
 -- the loads of a session's slots at the first so many of these places, which show these words
 unfoldable pub slot_loads : ℕ → (ℕ → ℕ) → (ℕ → ℕ) → ℕ → List TraceEntry
 slot_loads owner places word zero = []
 slot_loads owner places word (suc k) =
     slot_loads owner places word k ++ Loaded (Slot owner (places k)) (word (places k)) ∷ []
+
+-- the places of a group's slots from the highest-numbered one down
+abbrev pub place_from_top : ℕ → ℕ → ℕ
+place_from_top group step = place_in_group group (group_size - 1 - step)
+
+-- the loads of so many of a group's slots from there down,
+abbrev pub top_loads : ℕ → ℕ → (ℕ → ℕ) → ℕ → List TraceEntry
+top_loads owner group word seen = slot_loads owner (place_from_top group) word seen
 
 -- those of all slots of a group,
 abbrev pub group_loads : ℕ → ℕ → (ℕ → ℕ) → List TraceEntry

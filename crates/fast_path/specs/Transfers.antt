@@ -12,7 +12,7 @@ use Rattle.lock_world.specs.SlotHolds.{slot_count, relation_of, is_slot_of, Show
 use Rattle.lock_world.specs.Counted.{Counted, passing}
 use Rattle.lock_world.specs.World.{TraceEntry, Took, Episode, Loaded}
 use Rattle.lock_world.specs.Account.{Account}
-use Rattle.fast_path.specs.Slots.{group_of_tag, group_loads, NoneInGroup}
+use Rattle.fast_path.specs.Slots.{IsOfGroup, group_of_tag, group_loads, NoneInGroup}
 
 -- The transfer of fast-path locks into the lock table, as the trace of the session that makes it has it.
 
@@ -48,6 +48,7 @@ pub record Adopts (groups owner : ℕ) (tag : Tag) (shown below : ℕ) (steps : 
   pub word : ℕ → ℕ
   pub place : ℕ
   pub within : place < slot_count
+  pub its_group : IsOfGroup (group_of_tag groups tag) place
   pub is_shown : shown ≡ word place
   pub its : is_slot_of shown (relation_of tag) ≡ true
   pub taken : Content

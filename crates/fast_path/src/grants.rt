@@ -1,12 +1,13 @@
 //! Grants by the fast path (`FastPathGrantRelationLock` in lock.c).
 
-ghost use Rattle.std.specs.Prelude.{◌≡◌, ◌<◌, ◌≤◌, Some};
+ghost use Rattle.std.specs.Prelude.{◌≡◌, ◌<◌, ◌≤◌, Some, Err};
+ghost use Rattle.modes_core.specs.declared.refusals.Refusal.TheVariants.{SlotsFull};
 ghost use Rattle.lock_world.specs.SlotHolds.{most_groups};
 ghost use Rattle.shared_rule.specs.Boards.{nothing_due};
 ghost use Rattle.fast_path.specs.Slots.{group_of_tag, IsReady, MayTry};
 ghost use Rattle.fast_path.specs.Grants.{HasRoom, Grants, TriesGrant, GrantsHeld, HasOwnSlots};
 
-use crate::slot_words::{SLOTS, Sighting, look_through};
+use crate::slot_words::{SLOTS, SightingForGrant, look_from_top};
 use crate::use_counts::{UseCounts, group_of};
 use lock_table::PartTable;
 use modes_core::{Mode, Refusal, Tag};
@@ -30,6 +31,7 @@ pub fn grant<T: PartTable, B: Board<T>, R: Wait>(
     requires may_try { MayTry (B.view board.old) tag.now mode }
     ensures granted { Grants (B.seat board.old).groups (B.seat board.old).number (B.view board.old) uses.old
         tag.now mode result (B.view board.new) uses.new }
+    ensures untouched { result ≡ Err SlotsFull → board.new ≡ board.old }
     ensures ready { IsReady (B.seat board.old).groups (B.view board.new) uses.new }
     ensures seat { B.seat board.new ≡ B.seat board.old }
     ensures stack { B.stack board.new ≡ B.stack board.old }
@@ -56,6 +58,7 @@ pub fn try_grant<T: PartTable, B: Board<T>>(
     requires may_try { MayTry (B.view board.old) tag.now mode }
     ensures granted { TriesGrant (B.seat board.old).groups (B.seat board.old).number (B.view board.old) uses.old
         tag.now mode result (B.view board.new) uses.new }
+    ensures untouched { result ≡ Err SlotsFull → board.new ≡ board.old }
     ensures ready { IsReady (B.seat board.old).groups (B.view board.new) uses.new }
     ensures seat { B.seat board.new ≡ B.seat board.old }
     ensures stack { B.stack board.new ≡ B.stack board.old }
@@ -95,11 +98,11 @@ fn grant_with_slots<T: PartTable, B: Board<T>>(
         board.put_fast(own);
         return Err(Refusal::StrongCounted);
     }
-    let Sighting {
+    let use_count = uses.of(group);
+    let SightingForGrant {
         of_relation,
         highest_unused,
-        ..
-    } = look_through(board, own, group, tag.relation_number());
+    } = look_from_top(board, own, group, tag.relation_number(), use_count);
     if let Some(slot) = of_relation {
         board.set_slot(slot.place, slot.word, tag, mode);
         board.put_fast(own);
@@ -107,7 +110,7 @@ fn grant_with_slots<T: PartTable, B: Board<T>>(
     }
     let slot = highest_unused.unwrap();
     board.set_slot(slot.place, slot.word, tag, mode);
-    uses.set(group, uses.of(group) + 1);
+    uses.set(group, use_count + 1);
     board.put_fast(own);
     Ok(())
 }

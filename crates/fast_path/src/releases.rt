@@ -5,7 +5,7 @@ ghost use Rattle.modes_core.specs.Tag.{is_eligible_for};
 ghost use Rattle.lock_world.specs.SlotHolds.{slot_holds};
 ghost use Rattle.shared_rule.specs.Boards.{nothing_due};
 ghost use Rattle.fast_path.specs.Slots.{IsReady};
-ghost use Rattle.fast_path.specs.Releases.{Ungrants};
+ghost use Rattle.fast_path.specs.Releases.{IsUnused, Ungrants};
 
 use crate::slot_words::{Sighting, look_through};
 use crate::use_counts::{UseCounts, group_of};
@@ -30,6 +30,7 @@ pub fn ungrant<T: PartTable, B: Board<T>, R: Wait>(
     requires eligible { is_eligible_for (B.view board.old).fast.database tag.now mode ≡ true }
     ensures ungranted { Ungrants (B.seat board.old).groups (B.seat board.old).number (B.view board.old) uses.old
         tag.now mode result (B.view board.new) uses.new }
+    ensures untouched { IsUnused (B.seat board.old).groups uses.old tag.now → board.new ≡ board.old }
     ensures in_no_slot { result ≡ false →
         slot_holds (B.view board.new).fast.database (B.view board.new).fast.remembered tag.now mode ≡ false }
     ensures ready { IsReady (B.seat board.old).groups (B.view board.new) uses.new }
@@ -46,7 +47,6 @@ pub fn ungrant<T: PartTable, B: Board<T>, R: Wait>(
     let Sighting {
         of_relation,
         used_count,
-        ..
     } = look_through(board, own, group, relation);
     if let Some(slot) = of_relation {
         if slot.word.has(mode) {

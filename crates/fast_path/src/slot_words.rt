@@ -1,10 +1,10 @@
 //! The words of a session's slots, as one who has their lock in hand, or shares it, loads them.
 
-ghost use Rattle.std.specs.Prelude.{◌≡◌, ◌*◌, ◌<◌, ◌≤◌, Some};
-ghost use Rattle.lock_world.specs.SlotHolds.{group_size, most_groups, slot_count, place_in_group};
+ghost use Rattle.std.specs.Prelude.{◌≡◌, ℕ, ◌*◌, ◌<◌, ◌≤◌, Some};
+ghost use Rattle.lock_world.specs.SlotHolds.{group_size, most_groups, slot_count, place_in_group, used_in};
 ghost use Rattle.lock_world.specs.Account.{SlotsInHand};
 ghost use Rattle.shared_rule.specs.History.{slots_here};
-ghost use Rattle.fast_path.specs.Slots.{account_loading, AreWords, Sights};
+ghost use Rattle.fast_path.specs.Slots.{place_from_top, account_loading, AreWords, Sights, SightsForGrant};
 
 use lock_table::PartTable;
 use lw_word::SlotWord;
@@ -44,19 +44,17 @@ pub(crate) struct SeenSlot {
     pub(crate) word: SlotWord,
 }
 
-/// What one look through a group of a session's slots finds for a relation.
+/// What one look through all of a group's slots finds for a relation.
 #[derive(Clone, Copy)]
 pub(crate) struct Sighting {
     /// The slot in use for the relation, if one is.
     pub(crate) of_relation: Option<SeenSlot>,
-    /// The highest-numbered slot that is not in use, if one is not.
-    pub(crate) highest_unused: Option<SeenSlot>,
     /// How many slots are in use.
     pub(crate) used_count: u8,
 }
 
 /// Loads the words of a group's slots of a session, the lock of whose slots is in hand, one after another, and keeps of
-/// them only what a grant, a release or a transfer of a lock on the relation asks for.
+/// them only what a release or a transfer of a lock on the relation asks for.
 #[inline(always)]
 pub(crate) fn look_through<T: PartTable, B: Board<T>>(
     board: &mut B,
@@ -75,7 +73,6 @@ pub(crate) fn look_through<T: PartTable, B: Board<T>>(
     ensures stack { B.stack board.new ≡ B.stack board.old }
 {
     let mut of_relation = None;
-    let mut highest_unused = None;
     let mut used_count = 0;
     for index in 0..SLOTS {
         let place = SLOTS * group + index;
@@ -85,13 +82,73 @@ pub(crate) fn look_through<T: PartTable, B: Board<T>>(
             if word.relation() == relation {
                 of_relation = Some(SeenSlot { place, word });
             }
-        } else {
-            highest_unused = Some(SeenSlot { place, word });
         }
     }
     Sighting {
         of_relation,
-        highest_unused,
         used_count,
+    }
+}
+
+/// What the look of a grant finds for a relation.
+#[derive(Clone, Copy)]
+pub(crate) struct SightingForGrant {
+    /// The slot in use for the relation, if one is.
+    pub(crate) of_relation: Option<SeenSlot>,
+    /// The highest-numbered slot that is not in use, if one was seen.
+    pub(crate) highest_unused: Option<SeenSlot>,
+}
+
+/// Loads the words of a group's slots of a session, the lock of whose slots is in hand, from the highest-numbered one
+/// down, as far as a grant asks for: as far as the slot in use for the relation (where the loop of
+/// `FastPathGrantRelationLock` in lock.c stops too), or as one not in use above which as many are in use as the group's
+/// use count says, since no other one is in use then.
+#[inline(always)]
+pub(crate) fn look_from_top<T: PartTable, B: Board<T>>(
+    board: &mut B,
+    owner: SessionId,
+    group: u8,
+    relation: u32,
+    use_count: u8,
+) -> SightingForGrant
+    requires few { group < most_groups }
+    requires there { group < (B.seat board.old).groups }
+    requires in_hand { (slots : SlotsInHand) × ((B.view board.old).fast.slots owner ≡ Some slots) }
+    requires enough { used_in group (slots_here ((B.view board.old).fast.slots owner)).word ≤ use_count }
+    ensures loaded { (seen : ℕ) × (seen ≤ group_size) × (B.view board.new ≡
+        account_loading (B.view board.old) owner (place_from_top group)
+        (slots_here ((B.view board.old).fast.slots owner)).word seen) }
+    ensures sighted { SightsForGrant group (slots_here ((B.view board.old).fast.slots owner)).word relation result }
+    ensures seat { B.seat board.new ≡ B.seat board.old }
+    ensures stack { B.stack board.new ≡ B.stack board.old }
+{
+    let mut highest_unused = None;
+    let mut used_count = 0;
+    for step in 0..SLOTS {
+        let place = SLOTS * group + (SLOTS - 1 - step);
+        let word = board.load_slot(owner, place);
+        if word.in_use() {
+            if word.relation() == relation {
+                return SightingForGrant {
+                    of_relation: Some(SeenSlot { place, word }),
+                    highest_unused,
+                };
+            }
+            used_count += 1;
+        } else {
+            if highest_unused.is_none() {
+                highest_unused = Some(SeenSlot { place, word });
+            }
+            if used_count == use_count {
+                return SightingForGrant {
+                    of_relation: None,
+                    highest_unused,
+                };
+            }
+        }
+    }
+    SightingForGrant {
+        of_relation: None,
+        highest_unused,
     }
 }

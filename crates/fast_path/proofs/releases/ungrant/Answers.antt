@@ -81,6 +81,7 @@ returns-then-has g c =
     c.requires.eligible c.in-Some.is (sym c.has.ensures ∙ c.if-has.true) counted c.set.ensures in
     record {
       ungranted = ((λ unused. c.if-of-eq0.false (c.of.ensures ∙ ap (count_in c.args.uses.now) of_tag ∙ unused)), both.0);
+      untouched = λ unused. absurd (c.if-of-eq0.false (c.of.ensures ∙ ap (count_in c.args.uses.now) of_tag ∙ unused));
       in_no_slot = search rules;
       ready = both.1;
       seat = search rules;
@@ -119,6 +120,7 @@ returns g c =
     c.set-2.new.self none c.set-2.ensures in
     record {
       ungranted = inr ((λ unused. c.if-of-eq0.false (c.of.ensures ∙ ap (count_in c.args.uses.now) of_tag ∙ unused)), all.0);
+      untouched = λ unused. absurd (c.if-of-eq0.false (c.of.ensures ∙ ap (count_in c.args.uses.now) of_tag ∙ unused));
       in_no_slot = λ no. all.2;
       ready = all.1;
       seat = search rules;

@@ -34,22 +34,19 @@ loop-index-preserved g c =
           c.load_slot-word.result so_far.loaded shown c.load_slot-word.ensures.view;
       sights = elim c.if-in_use.branch [
         | then-in_use+then-relation w ↦
-            sights-same c.args.group word c.args.relation (index + 1) _ c.if-in_use.of_relation _ c.if-in_use.highest_unused _
-            c.if-in_use.used_count w.of_relation-is w.highest_unused-is w.used_count-is
-            (sights-its c.args.group word c.args.relation index c.loop-index.of_relation c.loop-index.highest_unused
-            c.loop-index.used_count _ c.load_slot-word.result so_far.sights refl shown
+            sights-same c.args.group word c.args.relation (index + 1) _ c.if-in_use.of_relation _
+            c.if-in_use.used_count w.of_relation-is w.used_count-is
+            (sights-its c.args.group word c.args.relation index c.loop-index.of_relation c.loop-index.used_count _ c.load_slot-word.result so_far.sights refl shown
             (sym c.in_use.ensures ∙ w.if-in_use.true) (sym w.relation.ensures ∙ w.if-relation.true))
         | then-in_use+else-relation w ↦
-            sights-same c.args.group word c.args.relation (index + 1) _ c.if-in_use.of_relation _ c.if-in_use.highest_unused _
-            c.if-in_use.used_count w.of_relation-is w.highest_unused-is w.used_count-is
-            (sights-other c.args.group word c.args.relation index c.loop-index.of_relation c.loop-index.highest_unused
-            c.loop-index.used_count _ c.load_slot-word.result so_far.sights refl shown
+            sights-same c.args.group word c.args.relation (index + 1) _ c.if-in_use.of_relation _
+            c.if-in_use.used_count w.of_relation-is w.used_count-is
+            (sights-other c.args.group word c.args.relation index c.loop-index.of_relation c.loop-index.used_count _ c.load_slot-word.result so_far.sights refl shown
             (sym c.in_use.ensures ∙ w.if-in_use.true) (λ same. w.if-relation.false (w.relation.ensures ∙ same)))
         | else-in_use w ↦
-            sights-same c.args.group word c.args.relation (index + 1) _ c.if-in_use.of_relation _ c.if-in_use.highest_unused _
-            c.if-in_use.used_count w.of_relation-is w.highest_unused-is w.used_count-is
-            (sights-unused c.args.group word c.args.relation index c.loop-index.of_relation c.loop-index.highest_unused
-            c.loop-index.used_count _ c.load_slot-word.result so_far.sights refl shown
+            sights-same c.args.group word c.args.relation (index + 1) _ c.if-in_use.of_relation _
+            c.if-in_use.used_count w.of_relation-is w.used_count-is
+            (sights-unused c.args.group word c.args.relation index c.loop-index.of_relation c.loop-index.used_count _ c.load_slot-word.result so_far.sights refl shown
             (sym c.in_use.ensures ∙ w.if-in_use.false))
       ];
       few = elim c.if-in_use.branch [
@@ -66,6 +63,6 @@ returns-clause-sighted g c =
     let a = g.B.Board.view c.args.board.now in
     let last : c.loop-index.index ≡ group_size = omega (arith, c.loop-index-test.false, c.loop-index.auto.index-end) in
     sights-all c.args.group (slots_here (a.fast.slots c.args.owner)).word c.args.relation c.loop-index.of_relation
-    c.loop-index.highest_unused c.loop-index.used_count
+    c.loop-index.used_count
     (subst (λ k. SightsBelow c.args.group (slots_here (a.fast.slots c.args.owner)).word c.args.relation k
-    c.loop-index.of_relation c.loop-index.highest_unused c.loop-index.used_count) last c.loop-index.invariant.sights)
+    c.loop-index.of_relation c.loop-index.used_count) last c.loop-index.invariant.sights)

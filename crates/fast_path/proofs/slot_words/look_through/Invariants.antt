@@ -11,7 +11,7 @@ invariant-loop-index g l = record {
       ≡ account_loading (g.B.Board.view l.fn.board) l.owner (place_in_group l.group)
       (slots_here ((g.B.Board.view l.fn.board).fast.slots l.owner)).word l.index;
   sights : SightsBelow l.group (slots_here ((g.B.Board.view l.fn.board).fast.slots l.owner)).word l.relation l.index
-      l.of_relation l.highest_unused l.used_count;
+      l.of_relation l.used_count;
   few : l.used_count ≤ l.index;
   seat : g.B.Board.seat l.board ≡ g.B.Board.seat l.fn.board;
   stack : g.B.Board.stack l.board ≡ g.B.Board.stack l.fn.board;

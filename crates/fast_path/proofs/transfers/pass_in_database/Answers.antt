@@ -5,7 +5,7 @@ use Rattle.shared_rule.specs.Boards.{Seated}
 use Rattle.shared_rule.specs.History.{slots_here}
 use Rattle.fast_path.specs.Slots.{IsSeenOf}
 use Rattle.fast_path.proofs.Looking.{place-below}
-use Rattle.fast_path.proofs.Passing.{next-before, finds, relation-found, may_pass-nothing, may_pass-adopted}
+use Rattle.fast_path.proofs.Passing.{next-before, finds, relation-found, group-found, may_pass-nothing, may_pass-adopted}
 use Rattle.fast_path.proofs.Passing.{passes-nothing, passes-adopting, stops-adopting}
 use Rattle.fast_path.proofs.transfers.pass_in_database.Goals as goal
 
@@ -77,7 +77,7 @@ returns-in-Ok-clause-passed g c = λ a begun.
     c.groups.ensures.some c.groups.ensures.few c.in-Some.is in
     passes-adopting groups (g.B.Board.seat c.adopt.new.board).number a v (g.B.Board.view c.adopt.new.board)
     (g.B.Board.view c.pass_fast-in-Ok.new.self) c.args.owner _ _ c.args.tag.now c.args.mode looks.result begun.unlocked
-    found has c.in-Ok.ensures.adopted c.pass_fast-in-Ok.ensures.view
+    found has (group-found groups a v c.args.owner c.args.tag.now looks.result c.in-Some.slot found c.in-Some.is) c.in-Ok.ensures.adopted c.pass_fast-in-Ok.ensures.view
 
 pub returns-in-Err-clause-passed : goal.returns-in-Err-clause-passed
 returns-in-Err-clause-passed g c = λ a begun.
@@ -92,4 +92,4 @@ returns-in-Err-clause-passed g c = λ a begun.
     c.groups.ensures.some c.groups.ensures.few c.in-Some.is in
     stops-adopting groups (g.B.Board.seat c.adopt.new.board).number a v (g.B.Board.view c.adopt.new.board)
     (g.B.Board.view c.put_fast.new.self) c.args.owner _ _ c.args.tag.now looks.result begun.unlocked found has
-    c.in-Err.ensures.adopted c.put_fast.ensures.view
+    (group-found groups a v c.args.owner c.args.tag.now looks.result c.in-Some.slot found c.in-Some.is) c.in-Err.ensures.adopted c.put_fast.ensures.view
