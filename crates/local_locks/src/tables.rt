@@ -7,8 +7,8 @@ ghost use Rattle.local_locks.specs.Owned.{IsWellOwned, IsReserved, IsCrowded};
 
 use crate::ends::Progress;
 use crate::levels::{
-    MOST_INNER, OuterCounts, cut_all, forget, keep, lengthen, level_count, set_hint,
-    most_at_once, own_count,
+    MOST_INNER, OuterCounts, cut_all, forget, keep, lengthen, level_count, most_at_once, own_count,
+    set_hint,
 };
 use crate::looks::{Glance, glance_at, hash_of, key_hash, look, look_up, pair_bits};
 use crate::slots::{
