@@ -165,25 +165,25 @@ leveled-first slots slots' rows depth touched touched' leveled first =
 
 -- ---- what is usual in the first level
 
-pub paced-first : (depth at_once last : ℕ) → IsPaced depth at_once last → 0 < at_once → (depth ≡ 0) × (at_once ≡ max_count)
-paced-first depth at_once last (inl first) some = first
-paced-first depth at_once last (inr inner) some = absurd (omega (arith, inner.1))
+pub paced-first : (depth at_once hint : ℕ) → IsPaced depth at_once hint → 0 < at_once → (depth ≡ 0) × (at_once ≡ max_count)
+paced-first depth at_once hint (inl first) some = first
+paced-first depth at_once hint (inr inner) some = absurd (omega (arith, inner.1))
 
-pub paced-last : (depth at_once last : ℕ) → IsPaced depth at_once last → last < no_place → (depth ≡ 0) × (at_once ≡ max_count)
-paced-last depth at_once last (inl first) there = first
-paced-last depth at_once last (inr inner) there = absurd (omega (arith, inner.2))
+pub paced-hinted : (depth at_once hint : ℕ) → IsPaced depth at_once hint → hint < no_place → (depth ≡ 0) × (at_once ≡ max_count)
+paced-hinted depth at_once hint (inl first) there = first
+paced-hinted depth at_once hint (inr inner) there = absurd (omega (arith, inner.2))
 
 -- another slot is looked at first
-pub paced-looked : (depth at_once last last' : ℕ) → IsPaced depth at_once last → (depth ≢ 0 → last' ≡ last) → IsPaced depth at_once last'
-paced-looked depth at_once last last' (inl first) same = inl first
-paced-looked depth at_once last last' (inr inner) same = inr (inner.0, inner.1, omega (arith, same inner.0, inner.2))
+pub paced-looked : (depth at_once hint hint' : ℕ) → IsPaced depth at_once hint → (depth ≢ 0 → hint' ≡ hint) → IsPaced depth at_once hint'
+paced-looked depth at_once hint hint' (inl first) same = inl first
+paced-looked depth at_once hint hint' (inr inner) same = inr (inner.0, inner.1, omega (arith, same inner.0, inner.2))
 
 -- the innermost level ends
 pub paced-ended :
-    (depth at_once last after : ℕ) → IsPaced depth at_once last → depth ≢ 0 → (((depth - 1 ≡ 0) × (after ≡ max_count)) ⊎ ((depth - 1 ≢ 0) × (after ≡ 0))) → IsPaced (depth - 1) after last
-paced-ended depth at_once last after paced deep (inl first) = inl first
-paced-ended depth at_once last after (inl first) deep (inr none) = absurd (deep first.0)
-paced-ended depth at_once last after (inr inner) deep (inr none) = inr (none.0, none.1, inner.2)
+    (depth at_once hint after : ℕ) → IsPaced depth at_once hint → depth ≢ 0 → (((depth - 1 ≡ 0) × (after ≡ max_count)) ⊎ ((depth - 1 ≢ 0) × (after ≡ 0))) → IsPaced (depth - 1) after hint
+paced-ended depth at_once hint after paced deep (inl first) = inl first
+paced-ended depth at_once hint after (inl first) deep (inr none) = absurd (deep first.0)
+paced-ended depth at_once hint after (inr inner) deep (inr none) = inr (none.0, none.1, inner.2)
 
 -- ---- a level begins
 

@@ -92,10 +92,12 @@ pub record AreSettled (level : ℕ) (slots : Slots) (rows : Rows) (new_slots : S
 
 -- In the first level a count is raised at once up to the limit. In an inner one none is, and no slot is looked at first.
 abbrev pub IsPaced : ℕ → ℕ → ℕ → Type 0
-IsPaced depth at_once last = ((depth ≡ 0) × (at_once ≡ max_count)) ⊎ ((depth ≢ 0) × (at_once ≡ 0) × (no_place ≤ last))
+IsPaced depth at_once hint = ((depth ≡ 0) × (at_once ≡ max_count)) ⊎ ((depth ≢ 0) × (at_once ≡ 0) × (no_place ≤ hint))
 
 -- There is a list for each slot, and for each that can be made with no growth.
-pub record IsLeveledTable (slots : List Entry) (capacity : ℕ) (index : Notes) (len max_local : ℕ) (progress : Progress) (rows : Rows) (depth touched : ℕ) : Type 0 where
+pub record IsLeveledTable
+    (slots : List Entry) (capacity : ℕ) (index : Notes) (len max_local : ℕ) (progress : Progress) (rows : Rows)
+    (depth touched : ℕ) : Type 0 where
   pub table : IsTable slots index len max_local progress
   pub leveled : IsLeveled (opened slots) rows depth touched
   pub lists : length slots ≤ length rows

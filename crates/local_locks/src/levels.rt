@@ -16,7 +16,7 @@ use std::mem::replace;
 pub const MOST_LEVELS: u8 = 16;
 
 /// How many of them may be within the first.
-pub(crate) const MOST_INNER: u8 = 15;
+pub(crate) const MOST_INNER: u8 = MOST_LEVELS - 1;
 
 /// What the transaction had of an entry when each inner level began, the first one first, up to the last that has
 /// counted the entry. Contracts see the list.
@@ -93,9 +93,9 @@ pub(crate) fn own_count(
     ensures { result ≡ own_count_in depth (row_at outer.now place) owner entry.now }
 {
     if depth == 0 || owner == Owner::Session {
-        return entry.count_for(owner);
+        return entry.count(owner);
     }
-    let now = entry.count_for(Owner::Transaction);
+    let now = entry.count(Owner::Transaction);
     now.saturating_sub(outer[place].at(depth - 1, now))
 }
 
@@ -194,7 +194,7 @@ pub(crate) fn level_count(entry: &Entry, row: &OuterCounts, level: u8) -> u16
     requires { 1 ≤ level }
     ensures { result ≡ level_count_in row.now level entry.now }
 {
-    let now = entry.count_for(Owner::Transaction);
+    let now = entry.count(Owner::Transaction);
     let up_to = row.at(level - 1, now);
     if level == 1 {
         return up_to;
@@ -214,15 +214,15 @@ pub(crate) fn lengthen(outer: &mut Vec<OuterCounts>, number: usize) -> Result<()
     Ok(())
 }
 
-/// Where an entry is looked for first from now on: in an inner level nowhere, so that what is usual in the first
-/// one asks for no level.
+/// Keeps where an entry is looked for first. In an inner level there is no such place, so that what is usual in the
+/// first one asks for no level.
 #[inline(always)]
-pub(crate) fn look_first(last: &mut usize, depth: u8, place: usize)
-    ensures first { depth ≡ 0 → last.new ≡ place }
-    ensures inner { depth ≢ 0 → last.new ≡ last.old }
+pub(crate) fn set_hint(hint: &mut usize, depth: u8, place: usize)
+    ensures first { depth ≡ 0 → hint.new ≡ place }
+    ensures inner { depth ≢ 0 → hint.new ≡ hint.old }
 {
     if depth == 0 {
-        *last = place;
+        *hint = place;
     }
 }
 

@@ -35,17 +35,22 @@ impl Entry {
     }
 
     /// How often an owner has it.
-    pub fn count(self, owner: Owner) -> u16
-        ensures { result ≡ count_for owner self }
+    #[inline(always)]
+    pub fn count(&self, owner: Owner) -> u16
+        ensures { result ≡ count_for owner self.now }
     {
-        self.count_for(owner)
+        match owner {
+            Owner::Session => self.session,
+            Owner::Transaction => self.transaction,
+        }
     }
 
     /// How often both owners together have it (`nLocks` of `LOCALLOCK`).
-    pub fn total(self) -> u32
-        ensures { result ≡ count_in_all self }
+    #[inline(always)]
+    pub fn total(&self) -> u32
+        ensures { result ≡ count_in_all self.now }
     {
-        self.sum()
+        u32::from(self.transaction) + u32::from(self.session)
     }
 
     /// Whether it has a count.
@@ -99,7 +104,7 @@ impl Entry {
     pub(crate) fn can_raise(&self, owner: Owner, most: u16) -> bool
         ensures { IsTrue result ↔ ((0 < count_for owner self.now) × (count_for owner self.now < most)) }
     {
-        let count = self.count_for(owner);
+        let count = self.count(owner);
         count > 0 && count < most
     }
 
@@ -123,25 +128,6 @@ impl Entry {
             Owner::Session => self.session == 1 && self.transaction == 0,
             Owner::Transaction => self.transaction == 1 && self.session == 0,
         }
-    }
-
-    /// How often an owner has it, read in its place.
-    #[inline(always)]
-    pub(crate) fn count_for(&self, owner: Owner) -> u16
-        ensures { result ≡ count_for owner self.now }
-    {
-        match owner {
-            Owner::Session => self.session,
-            Owner::Transaction => self.transaction,
-        }
-    }
-
-    /// How often both owners together have it, read in its place.
-    #[inline(always)]
-    pub(crate) fn sum(&self) -> u32
-        ensures { result ≡ count_in_all self.now }
-    {
-        u32::from(self.transaction) + u32::from(self.session)
     }
 
     /// Raises the count of this owner.

@@ -293,7 +293,8 @@ fn move_down(slots: &mut Vec<Entry>, place: usize, to: usize, entry: Entry)
     ensures empty { (k : ℕ) → to < k → k ≤ place → slot_at (opened slots.new.items) k ≡ None }
     ensures before { (k : ℕ) → k < to → slot_at (opened slots.new.items) k ≡ slot_at (opened slots.old.items) k }
     ensures behind { (k : ℕ) → place < k → slot_at (opened slots.new.items) k ≡ slot_at (opened slots.old.items) k }
-    ensures told { (level : ℕ) (lists left : ℕ → List ℕ) → left to ≡ lists place → ((k : ℕ) → k ≢ to → k ≢ place → left k ≡ lists k) →
+    ensures told { (level : ℕ) (lists left : ℕ → List ℕ) →
+        left to ≡ lists place → ((k : ℕ) → k ≢ to → k ≢ place → left k ≡ lists k) →
         had level (opened slots.new.items) left ≡ had level (opened slots.old.items) lists }
     ensures number { length slots.new.items ≡ length slots.old.items }
     ensures capacity { vec_capacity slots.new ≡ vec_capacity slots.old }

@@ -7,8 +7,8 @@ ghost use Rattle.local_locks.specs.Owned.{IsWellOwned, IsReserved, IsCrowded};
 
 use crate::ends::Progress;
 use crate::levels::{
-    MOST_INNER, OuterCounts, cut_all, forget, keep, lengthen, level_count, look_first,
-    most_at_once, own_count,
+    MOST_INNER, OuterCounts, cut_all, forget, keep, lengthen, level_count, most_at_once, own_count,
+    set_hint,
 };
 use crate::looks::{Glance, glance_at, hash_of, key_hash, look, look_up, pair_bits};
 use crate::slots::{
@@ -41,8 +41,8 @@ pub struct LocalTable {
     len: u32,
     max_local: u32,
     progress: Progress,
-    // Where the entry may be that is asked for next. In an inner level it is no place.
-    last: usize,
+    // Where an entry is looked for first. In an inner level it is no place.
+    hint: usize,
     // Up to which count an acquire is counted at once: in an inner level none is.
     at_once: u16,
     // How many levels of the transaction have begun within the first.
@@ -72,7 +72,7 @@ impl Model for LocalTable {
 
     ghost invariant = { λ t. IsLeveledTable t.slots.items (vec_capacity t.slots) t.index t.len t.max_local t.progress
         t.outer.items t.depth t.touched
-        × IsPaced t.depth t.at_once t.last };
+        × IsPaced t.depth t.at_once t.hint };
 }
 
 impl LocalTable {
@@ -103,7 +103,7 @@ impl LocalTable {
             len: 0,
             max_local,
             progress: Progress::start(),
-            last: 0,
+            hint: 0,
             at_once: u16::MAX,
             depth: 0,
             touched: 0,
@@ -116,8 +116,8 @@ impl LocalTable {
         ensures total { result ≡ total_of self.now.entries tag mode }
         ensures well_owned { IsWellOwned self.now }
     {
-        match look(&self.slots, &self.index, self.last, &tag, mode) {
-            Some(place) => self.slots[place].sum(),
+        match look(&self.slots, &self.index, self.hint, &tag, mode) {
+            Some(place) => self.slots[place].total(),
             None => 0,
         }
     }
@@ -128,7 +128,7 @@ impl LocalTable {
         ensures count { result ≡ own_count_of self.now tag mode owner }
         ensures well_owned { IsWellOwned self.now }
     {
-        match look(&self.slots, &self.index, self.last, &tag, mode) {
+        match look(&self.slots, &self.index, self.hint, &tag, mode) {
             Some(place) => own_count(&self.slots[place], &self.outer, place, self.depth, owner),
             None => 0,
         }
@@ -190,7 +190,7 @@ impl LocalTable {
                     return AtOnce::Unknown;
                 }
                 // An end that is past the slot leaves this count alone, so it need not come back.
-                self.last = place;
+                self.hint = place;
                 AtOnce::AlreadyHeld
             }
             Glance::Unknown => AtOnce::Unknown,
@@ -217,10 +217,10 @@ impl LocalTable {
         let Some(place) = look_up(&self.slots, &self.index, tag, mode) else {
             return Ok(false);
         };
-        if self.slots[place].count_for(owner) == u16::MAX {
+        if self.slots[place].count(owner) == u16::MAX {
             return Err(Refusal::CountFull);
         }
-        look_first(&mut self.last, self.depth, place);
+        set_hint(&mut self.hint, self.depth, place);
         let now = self.slots[place].transaction;
         keep(&mut self.outer, &mut self.touched, self.depth, place, now);
         raise(&mut self.slots, place, owner);
@@ -250,10 +250,10 @@ impl LocalTable {
         ensures max_local { self.new.max_local ≡ self.old.max_local }
         ensures well_owned { IsWellOwned self.new }
     {
-        match look(&self.slots, &self.index, self.last, &tag, mode) {
+        match look(&self.slots, &self.index, self.hint, &tag, mode) {
             Some(place) => {
-                look_first(&mut self.last, self.depth, place);
-                if self.slots[place].count_for(owner) == u16::MAX {
+                set_hint(&mut self.hint, self.depth, place);
+                if self.slots[place].count(owner) == u16::MAX {
                     Err(Refusal::CountFull)
                 } else {
                     Ok(())
@@ -391,19 +391,13 @@ impl LocalTable {
         ensures max_local { self.new.max_local ≡ self.old.max_local }
         ensures well_owned { IsWellOwned self.new }
     {
-        match look(&self.slots, &self.index, self.last, &tag, mode) {
-            Some(place) => {
-                look_first(&mut self.last, self.depth, place);
-                let now = self.slots[place].transaction;
-                keep(&mut self.outer, &mut self.touched, self.depth, place, now);
-                raise(&mut self.slots, place, owner);
-                self.progress.go_back_to(place);
-                Acquired::AlreadyHeld
-            }
-            None => {
+        match self.add_held(&tag, mode, owner) {
+            Ok(true) => Acquired::AlreadyHeld,
+            Ok(false) => {
                 self.add_new(&tag, mode, owner);
                 Acquired::Granted
             }
+            Err(_) => unreachable!(),
         }
     }
 
@@ -462,7 +456,7 @@ impl LocalTable {
         self.len += 1;
         self.progress.go_back_to(place);
         push_entry(&mut self.slots, &mut self.index, hash, entry);
-        look_first(&mut self.last, self.depth, place);
+        set_hint(&mut self.hint, self.depth, place);
         keep(&mut self.outer, &mut self.touched, self.depth, place, 0);
     }
 
@@ -518,22 +512,22 @@ impl LocalTable {
         ensures max_local { self.new.max_local ≡ self.old.max_local }
         ensures well_owned { IsWellOwned self.new }
     {
-        let last = self.last;
-        if last >= self.slots.len() {
+        let hint = self.hint;
+        if hint >= self.slots.len() {
             return None;
         }
-        if !self.slots[last].is_of(tag, mode) {
+        if !self.slots[hint].is_of(tag, mode) {
             return None;
         }
-        if lower_held(&mut self.slots, last, owner) {
+        if lower_held(&mut self.slots, hint, owner) {
             return Some(Unlocked::StillHeld);
         }
-        if !self.slots[last].is_only(owner) || last + 1 != self.slots.len() {
+        if !self.slots[hint].is_only(owner) || hint + 1 != self.slots.len() {
             return None;
         }
-        take_last(&mut self.slots, &mut self.index, last);
+        take_last(&mut self.slots, &mut self.index, hint);
         self.len -= 1;
-        self.last = last.wrapping_sub(1);
+        self.hint = hint.wrapping_sub(1);
         Some(Unlocked::Released)
     }
 
@@ -552,21 +546,21 @@ impl LocalTable {
         ensures max_local { self.new.max_local ≡ self.old.max_local }
         ensures well_owned { IsWellOwned self.new }
     {
-        let Some(place) = look(&self.slots, &self.index, self.last, tag, mode) else {
+        let Some(place) = look(&self.slots, &self.index, self.hint, tag, mode) else {
             return Err(Refusal::NotHeld);
         };
         let entry = &self.slots[place];
         if own_count(entry, &self.outer, place, self.depth, owner) == 0 {
             return Err(Refusal::NotHeld);
         }
-        let total = entry.sum();
+        let total = entry.total();
         if total == 1 {
             let hash = key_hash(tag, mode);
             take_out(&mut self.slots, &mut self.index, place, hash);
             forget(&mut self.outer, self.depth, place, place + 1);
             self.len -= 1;
             // Locks are mostly released in the opposite order of their acquires.
-            look_first(&mut self.last, self.depth, place.wrapping_sub(1));
+            set_hint(&mut self.hint, self.depth, place.wrapping_sub(1));
             Ok(Unlocked::Released)
         } else {
             lower(&mut self.slots, place, owner);
@@ -703,7 +697,7 @@ impl LocalTable {
         ensures count { result ≡ level_count_of self.now tag mode level }
         ensures well_owned { IsWellOwned self.now }
     {
-        match look(&self.slots, &self.index, self.last, &tag, mode) {
+        match look(&self.slots, &self.index, self.hint, &tag, mode) {
             Some(place) => level_count(&self.slots[place], &self.outer[place], level),
             None => 0,
         }
@@ -728,7 +722,7 @@ impl LocalTable {
         }
         self.depth += 1;
         self.at_once = 0;
-        self.last = usize::MAX;
+        self.hint = usize::MAX;
         self.touched = self.slots.len();
         Ok(self.depth + 1)
     }

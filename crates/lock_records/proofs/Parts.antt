@@ -1,4 +1,4 @@
-use Rattle.std.proofs.Common.{◌≡◌, ℕ, ◌<◌, ◌≤◌, true, false, not, List, [], length, Option, None, arith, refl, sym, ap, ◌∙◌, subst, inl, inr}
+use Rattle.std.proofs.Common.{◌≡◌, ℕ, ◌<◌, ◌≤◌, true, false, not, List, [], Option, None, arith, refl, sym, ap, ◌∙◌, subst, inl, inr}
 use Rattle.std.proofs.lemmas.Bool.{cases_Bool, both_ways, false≢true, false_from_ne_true}
 use Rattle.modes_core.specs.declared.modes.Mode.{Mode}
 use Rattle.modes_core.specs.declared.tags.Tag.{Tag}
@@ -16,7 +16,7 @@ use Rattle.lock_records.specs.Objects.{IsLock, AreObjects}
 use Rattle.lock_records.proofs.Held.{held-from, holds-none}
 use Rattle.lock_records.proofs.IndexLaws.{same-lock, nothing-there}
 use Rattle.lock_records.proofs.ObjectLaws.{object-none, made-lock, no-holder, no-wait}
-use Rattle.lock_records.proofs.Queues.{any-filter, around, awaited-some, awaited-few, queue-short, without-nobody, wait-none}
+use Rattle.lock_records.proofs.Queues.{any-filter, around, awaited-some, awaited-few, without-nobody, wait-none}
 use Rattle.std.specs.Prelude.{option_map}
 use Rattle.lock_table.specs.Queue.{wait_in}
 use Rattle.lock_table.proofs.PutLemmas.{put_here, put_else}
@@ -109,10 +109,6 @@ unchanged-left waits s t none = λ i o. at o i where
 -- An object with no record is held by nobody.
 pub nothing-held : (locks : List (Option LockRecord)) (holders : List (Option HolderRecord)) (waits : List (Option QueueRecord)) (s : ℕ) (t : Tag) (m : Mode) → AreObjects locks holders waits → HasNoLock locks t → holds_in holders s t m ≡ false
 nothing-held locks holders waits s t m are no_lock = holds-none holders s t (no-holder locks holders (queue_on waits t) t (are t) no_lock s) m
-
--- A queue has no more waits than there are sessions.
-pub queue-countable : (locks : List (Option LockRecord)) (holders : List (Option HolderRecord)) (waits : List (Option QueueRecord)) (t : Tag) → AreObjects locks holders waits → length (queue_on waits t) ≤ 64
-queue-countable locks holders waits t are = queue-short (queue_on waits t) (are t).waiting.one_each (are t).waiting.below
 
 -- The record of an object that is awaited by few counts few.
 pub counts-few : (locks mid : List (Option LockRecord)) (holders : List (Option HolderRecord)) (waits : List (Option QueueRecord)) (t : Tag) (m : Mode) (place : ℕ) → AreObjects locks holders waits → HasMadeLock locks mid t place →

@@ -48,7 +48,8 @@ IsIn k (x ∷ xs) = (k ≡ x) ⊎ IsIn k xs
 abbrev pub IsChain : List (Option HolderRecord) → Tag → ℕ → List ℕ → Type 0
 IsChain slots tag at [] = Unit {0}
 IsChain slots tag at (k ∷ ks) =
-    (at ≡ k) × (IsIn k ks → ⊥) × ((holder : HolderRecord) × (holder_at slots k ≡ Some holder) × (holder.tag ≡ tag) × IsChain slots tag holder.next ks)
+    (at ≡ k) × (IsIn k ks → ⊥)
+    × ((holder : HolderRecord) × (holder_at slots k ≡ Some holder) × (holder.tag ≡ tag) × IsChain slots tag holder.next ks)
 
 -- The holder records of the object are in a chain of so many that begins at this place.
 pub record IsHolderChain (slots : List (Option HolderRecord)) (tag : Tag) (first count : ℕ) : Type 0 where

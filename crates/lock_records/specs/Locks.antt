@@ -78,4 +78,5 @@ IsCounting lock = (0 < lock.holders.count) ⊎ ((mode : Mode) × (0 < counts_in 
 -- The record at the place is gone where it counts nobody, and else all are as they were.
 pub record IsDropped (old new : List (Option LockRecord)) (tag : Tag) (place : ℕ) : Type 0 where
   pub same : HasSameLocks old new tag
-  pub either : ((new ≡ old) × ((i : IsLockAt old tag place) → IsCounting i.lock)) ⊎ (HasNoLock new tag × ((i : IsLockAt old tag place) → IsIdle i.lock))
+  pub either : ((new ≡ old) × ((i : IsLockAt old tag place) → IsCounting i.lock))
+      ⊎ (HasNoLock new tag × ((i : IsLockAt old tag place) → IsIdle i.lock))

@@ -19,6 +19,7 @@ pub record AreRecords (part : Inside) : Type 0 where
   pub noted : AreNoted part.locks.slots part.index
   pub room : slab_len part.holders + waiting_in part.queues.slots ≤ part.holders.capacity
   pub begun_new : ForSome part.begun (λ request. holds_in part.holders.slots request.session request.tag request.mode ≡ false)
-  pub begun_not_awaited : ForSome part.begun (λ request. awaits_mode (queue_on part.queues.slots request.tag) request.session request.mode ≡ false)
+  pub begun_not_awaited : ForSome part.begun
+      (λ request. awaits_mode (queue_on part.queues.slots request.tag) request.session request.mode ≡ false)
   pub begun_room : ForSome part.begun (λ request. HasRoom part.locks part.holders part.queues part.index)
   pub begun_absent : part.absent ≡ true → ForSome part.begun (λ request. HasNoLock part.locks.slots request.tag)

@@ -27,7 +27,8 @@ pub(crate) fn counts_of(lock: &LockRecord) -> Counts
     ensures requested { (mode : Mode) → slice_index result.requested (number_of mode)
         ≡ counts_in lock.now.granted mode + counts_in lock.now.awaited mode }
     ensures granted_total { result.granted_total ≡ total_of (counts_in lock.now.granted) }
-    ensures requested_total { result.requested_total ≡ total_of (counts_in lock.now.granted) + total_of (counts_in lock.now.awaited) }
+    ensures requested_total { result.requested_total
+        ≡ total_of (counts_in lock.now.granted) + total_of (counts_in lock.now.awaited) }
     ensures grant_mask { (mode : Mode) → set_has result.grant_mask mode ≡ not (counts_in lock.now.granted mode == 0) }
     ensures wait_mask { (mode : Mode) → set_has result.wait_mask mode ≡ not (counts_in lock.now.awaited mode == 0) }
 {

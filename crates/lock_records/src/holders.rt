@@ -217,7 +217,8 @@ pub(crate) fn lowest_mode(modes: ModeSet, set: ModeSet) -> Mode
     requires { (mode : _) × (set_has modes mode ≡ true) × (set_has set mode ≡ true) }
     ensures held { set_has modes result ≡ true }
     ensures met { set_has set result ≡ true }
-    ensures lowest { (mode : _) → number_of mode < number_of result → set_has modes mode ≡ true → set_has set mode ≡ false }
+    ensures lowest { (mode : _) → number_of mode < number_of result →
+        set_has modes mode ≡ true → set_has set mode ≡ false }
 {
     modes.lowest_in_both(set).unwrap()
 }

@@ -37,7 +37,8 @@ pub(crate) fn push_holds(
     holders: &Slab<HolderRecord>,
     rows: &mut Vec<TableRow>,
 ) -> Result<(), NoMemory>
-    ensures ok { OnOk result (AppendsRows rows.old.items rows.new.items (shown_below holders.now.slots (length holders.now.slots))) }
+    ensures ok { OnOk result (AppendsRows rows.old.items rows.new.items
+        (shown_below holders.now.slots (length holders.now.slots))) }
     ensures err { OnErr result (HasMoreRows rows.old.items rows.new.items) }
 {
     for place in 0..holders.capacity() {

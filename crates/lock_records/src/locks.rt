@@ -43,8 +43,10 @@ impl LockRecord {
     /// Whether a mode in conflict with this one is held or awaited, by whomever.
     #[inline(always)]
     pub(crate) fn may_conflict(&self, mode: Mode) -> bool
-        ensures granted { result ≡ false → (its : Mode) → conflict mode its ≡ true → counts_in self.now.granted its ≡ 0 }
-        ensures awaited { result ≡ false → (its : Mode) → conflict mode its ≡ true → counts_in self.now.awaited its ≡ 0 }
+        ensures granted { result ≡ false →
+            (its : Mode) → conflict mode its ≡ true → counts_in self.now.granted its ≡ 0 }
+        ensures awaited { result ≡ false →
+            (its : Mode) → conflict mode its ≡ true → counts_in self.now.awaited its ≡ 0 }
     {
         let conflicting = conflicts(mode);
         self.awaited.meets(conflicting) || self.granted.meets(conflicting)
@@ -53,8 +55,10 @@ impl LockRecord {
     /// Whether a mode in conflict with this one is awaited.
     #[inline(always)]
     pub(crate) fn is_awaited(&self, mode: Mode) -> bool
-        ensures some { result ≡ true → (its : Mode) × (conflict mode its ≡ true) × (0 < counts_in self.now.awaited its) }
-        ensures none { result ≡ false → (its : Mode) → conflict mode its ≡ true → counts_in self.now.awaited its ≡ 0 }
+        ensures some { result ≡ true →
+            (its : Mode) × (conflict mode its ≡ true) × (0 < counts_in self.now.awaited its) }
+        ensures none { result ≡ false →
+            (its : Mode) → conflict mode its ≡ true → counts_in self.now.awaited its ≡ 0 }
     {
         self.awaited.meets(conflicts(mode))
     }
@@ -81,7 +85,7 @@ fn key_of(tag: &Tag) -> u32
 /// Whether both tags are the same one. They are compared where they stand: a copy is stored field by field, and the
 /// comparison waits for that.
 #[inline(always)]
-fn is_tag(tag: &Tag, other: &Tag) -> bool
+fn is_same_tag(tag: &Tag, other: &Tag) -> bool
     ensures { result ≡ tag_eq tag.now other.now }
 {
     *tag == *other
@@ -93,14 +97,14 @@ fn is_lock_on(locks: &Slab<LockRecord>, place: usize, tag: &Tag) -> bool
     ensures { result ≡ is_on tag.now (lock_at locks.now.slots place) }
 {
     match locks.get(place) {
-        Some(lock) => is_tag(tag, &lock.tag),
+        Some(lock) => is_same_tag(tag, &lock.tag),
         None => false,
     }
 }
 
-/// Where the object's record stands. The place where it stood last is looked at first.
+/// Where the object's record stands. The place where a record was found last is looked at first.
 #[inline(always)]
-pub(crate) fn look(
+pub(crate) fn find_lock(
     locks: &Slab<LockRecord>,
     index: &PlaceIndex,
     hint: usize,
@@ -113,12 +117,13 @@ pub(crate) fn look(
     if is_lock_on(locks, hint, tag) {
         return Some(hint);
     }
-    look_up(locks, index, tag)
+    find_lock_by_index(locks, index, tag)
 }
 
-/// The same for a call that mostly follows one on the same object: what it seldom does stands in a function of its own.
+/// The same for a call that mostly follows one on the same object: another way than by the hint is a function of its
+/// own, so that this one stays short.
 #[inline(always)]
-pub(crate) fn look_again(
+pub(crate) fn find_hinted_lock(
     locks: &Slab<LockRecord>,
     index: &PlaceIndex,
     hint: usize,
@@ -129,25 +134,25 @@ pub(crate) fn look_again(
     ensures absent { IfNone result (HasNoLock locks.now.slots tag.now) }
 {
     if !is_lock_on(locks, hint, tag) {
-        return look_elsewhere(locks, index, tag);
+        return find_lock_cold(locks, index, tag);
     }
     Some(hint)
 }
 
-/// Through the index, in a function of its own.
+/// The way through the index as a function of its own.
 #[cold]
 #[inline(never)]
-fn look_elsewhere(locks: &Slab<LockRecord>, index: &PlaceIndex, tag: &Tag) -> Option<usize>
+fn find_lock_cold(locks: &Slab<LockRecord>, index: &PlaceIndex, tag: &Tag) -> Option<usize>
     requires { AreNoted locks.now.slots index.now }
     ensures found { IfSome result (IsLockAt locks.now.slots tag.now) }
     ensures absent { IfNone result (HasNoLock locks.now.slots tag.now) }
 {
-    look_up(locks, index, tag)
+    find_lock_by_index(locks, index, tag)
 }
 
-/// Through the index.
+/// Where the object's record stands, looked for through the index alone.
 #[inline(always)]
-fn look_up(locks: &Slab<LockRecord>, index: &PlaceIndex, tag: &Tag) -> Option<usize>
+fn find_lock_by_index(locks: &Slab<LockRecord>, index: &PlaceIndex, tag: &Tag) -> Option<usize>
     requires { AreNoted locks.now.slots index.now }
     ensures found { IfSome result (IsLockAt locks.now.slots tag.now) }
     ensures absent { IfNone result (HasNoLock locks.now.slots tag.now) }
@@ -163,7 +168,7 @@ fn look_up(locks: &Slab<LockRecord>, index: &PlaceIndex, tag: &Tag) -> Option<us
 
 /// Where the object's record stands, which is made where there is none. The caller may know that there is none.
 #[inline(always)]
-pub(crate) fn look_or_make(
+pub(crate) fn find_or_make_lock(
     locks: &mut Slab<LockRecord>,
     index: &mut PlaceIndex,
     hint: usize,
@@ -180,7 +185,7 @@ pub(crate) fn look_or_make(
     if absent {
         return make_lock(locks, index, tag);
     }
-    match look_again(locks, index, hint, tag) {
+    match find_hinted_lock(locks, index, hint, tag) {
         Some(place) => place,
         None => make_lock(locks, index, tag),
     }

@@ -3,7 +3,7 @@ ghost use Rattle.std.specs.Prelude.{◌≡◌, ◌<◌, ◌≤◌, false, true, 
 use crate::counts::{Counts, counts_of};
 use crate::holders::{HolderRecord, find_holder};
 use crate::listing::push_holds;
-use crate::locks::{LockRecord, drop_empty, look, look_again, look_or_make};
+use crate::locks::{LockRecord, drop_empty, find_hinted_lock, find_lock, find_or_make_lock};
 use crate::objects::{
     add_hold, holder_in_the_way, lower_awaited, make_room, queue_place, raise_awaited, remove_hold,
 };
@@ -43,8 +43,10 @@ impl Model for Records {
 }
 
 impl Records {
-    ghost use Rattle.lock_records.specs.View.{content_of};
+    ghost use Rattle.std.specs.Prelude.{IfSome, IfNone};
     ghost use Rattle.lock_table.specs.Content.{empty_content};
+    ghost use Rattle.lock_records.specs.View.{content_of};
+    ghost use Rattle.lock_records.specs.Counts.{AreCountsOf, IsUntouched};
 
     /// A part with nothing in it, which grows by this allocator.
     pub fn new(alloc: Global) -> Result<Self, NoMemory>
@@ -62,12 +64,6 @@ impl Records {
             absent: false,
         })
     }
-}
-
-impl Records {
-    ghost use Rattle.std.specs.Prelude.{IfSome, IfNone};
-    ghost use Rattle.lock_records.specs.View.{content_of};
-    ghost use Rattle.lock_records.specs.Counts.{AreCountsOf, IsUntouched};
 
     /// The counts of an object, or that nobody holds or awaits it. No record is kept of such an object: there is
     /// something to count wherever there are counts.
@@ -76,16 +72,15 @@ impl Records {
         ensures used { IfSome result (λ counts. 0 < counts.requested_total) }
         ensures absent { IfNone result (IsUntouched (content_of self.now) tag.now) }
     {
-        match look(&self.locks, &self.index, self.hint, tag) {
+        match find_lock(&self.locks, &self.index, self.hint, tag) {
             Some(place) => Some(counts_of(&self.locks[place])),
             None => None,
         }
     }
 }
 
-/// What a wakeup does at one wait, and what a listing has of the records.
 impl Records {
-    ghost use Rattle.std.specs.Prelude.{ℕ, [], ◌==◌, length, count_by, option_map, slice_get, OnOk, OnErr, IfSome, IfNone, if◌then◌else◌};
+    ghost use Rattle.std.specs.Prelude.{ℕ, [], length, option_map, slice_get, OnOk, OnErr, IfSome, IfNone, if◌then◌else◌};
     ghost use Rattle.lock_table.specs.Waiter.{shown_wait};
     ghost use Rattle.lock_table.specs.Listing.{has_row};
     ghost use Rattle.lock_records.specs.Queues.{IsQueueAt};
@@ -100,7 +95,8 @@ impl Records {
     /// Whether the mode is free to go for the session, behind waits for these modes.
     fn is_free(&self, session: SessionId, tag: &Tag, mode: Mode, ahead: ModeSet) -> bool
         ensures free { result ≡ true →
-            (conflicts_with_some mode (set_has ahead) ≡ false) × NoConflictingHolder (content_of self.now).holds session tag.now mode }
+            (conflicts_with_some mode (set_has ahead) ≡ false)
+            × NoConflictingHolder (content_of self.now).holds session tag.now mode }
         ensures taken { result ≡ false → conflicts_with_some mode (set_has ahead) ≡ false →
             NoConflictingHolder (content_of self.now).holds session tag.now mode → ⊥ }
     {
@@ -113,7 +109,8 @@ impl Records {
     /// Whether the object is known to have no lock record, since the request that is begun is on it and found none.
     #[inline(always)]
     fn is_absent(&self, tag: &Tag) -> bool
-        ensures held { result ≡ true → (session : ℕ) (mode : Mode) → (content_of self.now).holds session tag.now mode ≡ false }
+        ensures held { result ≡ true →
+            (session : ℕ) (mode : Mode) → (content_of self.now).holds session tag.now mode ≡ false }
         ensures awaited { result ≡ true → (content_of self.now).waits tag.now ≡ [] }
     {
         if !self.absent {
@@ -125,20 +122,12 @@ impl Records {
         }
     }
 
-    /// What is known of a queue for the caller's proof: a session stands in it once at most.
-    fn queue_has_each_once(&self, tag: &Tag)
-        ensures one_each { (session : ℕ) → count_by (λ wait. wait.session == session) ((content_of self.now).waits tag.now) ≤ 1 }
-    {
-        let _tag = *tag;
-        let _waiting = self.queues.waiting();
-    }
-
     /// Where the object's queue record is, if somebody awaits it.
     fn queue_of(&self, tag: &Tag) -> Option<usize>
         ensures found { IfSome result (IsQueueAt self.now.queues tag.now) }
         ensures absent { IfNone result ((content_of self.now).waits tag.now ≡ []) }
     {
-        match look(&self.locks, &self.index, self.hint, tag) {
+        match find_lock(&self.locks, &self.index, self.hint, tag) {
             Some(place) => queue_place(&self.locks[place], &self.queues, tag),
             None => None,
         }
@@ -165,7 +154,7 @@ impl Records {
         let Some(at) = self.queue_of(tag) else {
             unreachable!()
         };
-        let Some(place) = look(&self.locks, &self.index, self.hint, tag) else {
+        let Some(place) = find_lock(&self.locks, &self.index, self.hint, tag) else {
             unreachable!()
         };
         self.absent = false;
@@ -183,7 +172,8 @@ impl Records {
 
     /// Appends the content's rows, in no order. After a refusal some may be there.
     fn push_rows(&self, rows: &mut Vec<TableRow>) -> Result<(), NoMemory>
-        ensures ok { OnOk result (AppendsRows rows.old.items rows.new.items (λ row. if has_row (content_of self.now) row then 1 else 0)) }
+        ensures ok { OnOk result (AppendsRows rows.old.items rows.new.items
+            (λ row. if has_row (content_of self.now) row then 1 else 0)) }
         ensures err { OnErr result (HasMoreRows rows.old.items rows.new.items) }
     {
         if push_holds(&self.holders, rows).is_err() {
@@ -208,7 +198,7 @@ impl PartTable for Records {
             &mut self.queues,
             &mut self.index,
         )?;
-        let found = look(&self.locks, &self.index, self.hint, tag);
+        let found = find_lock(&self.locks, &self.index, self.hint, tag);
         self.absent = found.is_none();
         self.hint = found.unwrap_or(self.hint);
         let tag = *tag;
@@ -224,7 +214,7 @@ impl PartTable for Records {
     #[inline(always)]
     fn grant(&mut self, session: SessionId, tag: &Tag, mode: Mode) {
         self.begun = None;
-        let place = look_or_make(
+        let place = find_or_make_lock(
             &mut self.locks,
             &mut self.index,
             self.hint,
@@ -245,7 +235,7 @@ impl PartTable for Records {
     #[inline(always)]
     fn ungrant(&mut self, session: SessionId, tag: &Tag, mode: Mode) -> bool {
         self.absent = false;
-        let Some(place) = look(&self.locks, &self.index, self.hint, tag) else {
+        let Some(place) = find_lock(&self.locks, &self.index, self.hint, tag) else {
             unreachable!()
         };
         self.hint = place;
@@ -264,7 +254,7 @@ impl PartTable for Records {
 
     #[inline(always)]
     fn held(&self, session: SessionId, tag: &Tag) -> ModeSet {
-        let Some(place) = look(&self.locks, &self.index, self.hint, tag) else {
+        let Some(place) = find_lock(&self.locks, &self.index, self.hint, tag) else {
             return ModeSet::empty();
         };
         match find_holder(&self.holders, self.locks[place].holders, tag, session) {
@@ -278,7 +268,7 @@ impl PartTable for Records {
         if self.is_absent(tag) {
             return false;
         }
-        match look_again(&self.locks, &self.index, self.hint, tag) {
+        match find_hinted_lock(&self.locks, &self.index, self.hint, tag) {
             Some(place) => self.locks[place].may_conflict(mode),
             None => false,
         }
@@ -289,7 +279,7 @@ impl PartTable for Records {
         if self.is_absent(tag) {
             return None;
         }
-        match look_again(&self.locks, &self.index, self.hint, tag) {
+        match find_hinted_lock(&self.locks, &self.index, self.hint, tag) {
             Some(place) => holder_in_the_way(&self.locks, &self.holders, place, tag, session, mode),
             None => None,
         }
@@ -310,7 +300,7 @@ impl PartTable for Records {
         let queue = self.queue_of(tag);
         let _most = self.holders.capacity();
         self.begun = None;
-        let at = look_or_make(
+        let at = find_or_make_lock(
             &mut self.locks,
             &mut self.index,
             self.hint,
@@ -330,7 +320,7 @@ impl PartTable for Records {
     fn leave(&mut self, session: SessionId, tag: &Tag) -> Option<Mode> {
         let at = self.queue_of(tag)?;
         let mode = self.queues.awaited_mode(at, tag, session)?;
-        let Some(place) = look(&self.locks, &self.index, self.hint, tag) else {
+        let Some(place) = find_lock(&self.locks, &self.index, self.hint, tag) else {
             unreachable!()
         };
         self.absent = false;
@@ -342,7 +332,7 @@ impl PartTable for Records {
     }
 
     fn wake(&mut self, tag: &Tag) -> Woken {
-        self.queue_has_each_once(tag);
+        let _waiting = self.queues.waiting();
         let mut woken = Woken::new();
         let mut ahead = ModeSet::empty();
         let mut place = 0;

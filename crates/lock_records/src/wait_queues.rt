@@ -123,14 +123,14 @@ impl WaitQueues {
         mode_of(self.waiters(at, tag), session)
     }
 
-    /// Puts a wait into the object's queue, whose record is at the place `at`, before the wait at the place `place`.
+    /// Puts a wait into the object's queue before the waiter with the index `place`. The queue's record is at `at`.
     pub(crate) fn insert(&mut self, at: usize, tag: &Tag, place: usize, waiter: Waiter)
         requires there { IsQueueAt self.old.slots tag.now at }
         requires few { length (queue_on self.old.slots tag.now) < 64 }
         requires countable { waiting_in self.old.slots < usize.MAX }
         requires place { place ≤ length (queue_on self.old.slots tag.now) }
-        ensures waits { queue_on self.new.slots
-            ≡ put tag_eq (queue_on self.old.slots) tag.now (joined place (shown_wait waiter) (queue_on self.old.slots tag.now)) }
+        ensures waits { queue_on self.new.slots ≡ put tag_eq (queue_on self.old.slots) tag.now
+            (joined place (shown_wait waiter) (queue_on self.old.slots tag.now)) }
         ensures one_more { waiting_in self.new.slots ≡ waiting_in self.old.slots + 1 }
     {
         self.slots[at].waiters.insert(place, waiter);
@@ -143,7 +143,8 @@ impl WaitQueues {
         requires none { queue_on self.old.slots tag.now ≡ [] }
         requires room { HasRoomFor self.old 1 }
         requires countable { waiting_in self.old.slots < usize.MAX }
-        ensures waits { queue_on self.new.slots ≡ put tag_eq (queue_on self.old.slots) tag.now (shown_wait waiter ∷ []) }
+        ensures waits { queue_on self.new.slots
+            ≡ put tag_eq (queue_on self.old.slots) tag.now (shown_wait waiter ∷ []) }
         ensures one_more { waiting_in self.new.slots ≡ waiting_in self.old.slots + 1 }
     {
         let mut waiters = ArrayVec::new();
@@ -174,7 +175,8 @@ impl WaitQueues {
 
     /// Appends a row for each wait. After a refusal some may be there.
     pub(crate) fn push_rows(&self, rows: &mut Vec<TableRow>) -> Result<(), NoMemory>
-        ensures ok { OnOk result (AppendsRows rows.old.items rows.new.items (awaited_below self.now.slots (length self.now.slots))) }
+        ensures ok { OnOk result (AppendsRows rows.old.items rows.new.items
+            (awaited_below self.now.slots (length self.now.slots))) }
         ensures err { OnErr result (HasMoreRows rows.old.items rows.new.items) }
     {
         for place in 0..self.slots.capacity() {
@@ -188,7 +190,7 @@ impl WaitQueues {
     }
 }
 
-/// Puts a wait into the object's queue before the one at this place, and says where the queue record is.
+/// Puts a wait into the object's queue before the waiter with the index `place`, and says where the queue record is.
 pub(crate) fn queue_up(
     queues: &mut WaitQueues,
     at: Option<usize>,
@@ -202,8 +204,8 @@ pub(crate) fn queue_up(
     requires few { length (queue_on queues.old.slots tag.now) < 64 }
     requires countable { waiting_in queues.old.slots < usize.MAX }
     requires place { place ≤ length (queue_on queues.old.slots tag.now) }
-    ensures waits { queue_on queues.new.slots
-        ≡ put tag_eq (queue_on queues.old.slots) tag.now (joined place (shown_wait waiter) (queue_on queues.old.slots tag.now)) }
+    ensures waits { queue_on queues.new.slots ≡ put tag_eq (queue_on queues.old.slots) tag.now
+        (joined place (shown_wait waiter) (queue_on queues.old.slots tag.now)) }
     ensures one_more { waiting_in queues.new.slots ≡ waiting_in queues.old.slots + 1 }
 {
     match at {

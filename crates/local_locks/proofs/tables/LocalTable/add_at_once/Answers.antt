@@ -31,7 +31,7 @@ seen c = subst (λ (l : List Entry). (c.in-Place.place < length l) × (is_of c.a
 -- it is the first level
 first : (c : goal.After-self-1) → (c.self.inside.depth ≡ 0) × (c.self.inside.at_once ≡ max_count)
 first c =
-    paced-first c.self.inside.depth c.self.inside.at_once c.self.inside.last c.self.invariant.1 (omega (arith, (c.raise_held.ensures.raised.0 c.if-not-raise_held.false).1))
+    paced-first c.self.inside.depth c.self.inside.at_once c.self.inside.hint c.self.invariant.1 (omega (arith, (c.raise_held.ensures.raised.0 c.if-not-raise_held.false).1))
 
 counts : (c : goal.After-self-1) → (0 < count_for c.args.owner (entry_at c.self.inside.slots.items c.in-Place.place)) × (count_for c.args.owner (entry_at c.self.inside.slots.items c.in-Place.place) < max_count)
 counts c =

@@ -14,8 +14,8 @@ use Rattle.local_locks.proofs.tables.LocalTable.add_looked_up.Goals as goal
 pub returns-in_default-clause-well_owned : goal.returns-in_default-clause-well_owned
 returns-in_default-clause-well_owned c = subst IsWellOwned c.self.view_is (well_owned _ _ _ _ _ _ _ _ _ _ _ c.self.invariant.0)
 
-pub returns-then-count_for-clause-well_owned : goal.returns-then-count_for-clause-well_owned
-returns-then-count_for-clause-well_owned c = subst IsWellOwned c.self.view_is (well_owned _ _ _ _ _ _ _ _ _ _ _ c.self.invariant.0)
+pub returns-then-count-clause-well_owned : goal.returns-then-count-clause-well_owned
+returns-then-count-clause-well_owned c = subst IsWellOwned c.self.view_is (well_owned _ _ _ _ _ _ _ _ _ _ _ c.self.invariant.0)
 
 -- ---- one more is counted
 
@@ -24,7 +24,7 @@ invariant_of-self c = (
   let es = c.self.inside.slots.items in
       let at = subst (λ (l : List Entry). IsPlaceOf l c.args.tag.now c.args.mode c.in-Some.place) c.deref.ensures.value (c.in-Some.ensures {u = tt}) in
       let read : entry_at es c.in-Some.place ≡ c.index.result.now = sym (c.index.ensures ∙ get_or_default es c.in-Some.place c.index.result.now _ at.within) in
-      let limit : count_for c.args.owner (entry_at es c.in-Some.place) ≢ max_count = λ full. c.if-count_for.false (c.count_for.ensures ∙ (sym (ap (count_for c.args.owner) read) ∙ full)) in
+      let limit : count_for c.args.owner (entry_at es c.in-Some.place) ≢ max_count = λ full. c.if-count.false (c.count.ensures ∙ (sym (ap (count_for c.args.owner) read) ∙ full)) in
       let now : c.index-2.result.now.transaction ≡ (entry_at es c.in-Some.place).transaction =
       ap (λ (x : Entry). x.transaction) (c.index-2.ensures ∙ get_or_default es c.in-Some.place c.index-2.result.now _ at.within) in
       let k = c.keep.ensures in
@@ -32,7 +32,7 @@ invariant_of-self c = (
       c.keep.new.outer.items c.self.inside.depth c.keep.new.touched) (sym c.go_back_to.ensures)
       (raised-table c.in-Some.place c.index-2.result.now.transaction c.args.owner c.self.invariant.0 at limit c.raise.ensures.slots c.raise.ensures.number c.raise.ensures.capacity k.number now
       (record { filled = k.filled; same = k.same; others = k.others; touched_ = k.touched; no_more = k.no_more })).0,
-  paced-looked c.self.inside.depth c.self.inside.at_once c.self.inside.last c.look_first.new.last c.self.invariant.1 c.look_first.ensures.inner,
+  paced-looked c.self.inside.depth c.self.inside.at_once c.self.inside.hint c.set_hint.new.hint c.self.invariant.1 c.set_hint.ensures.inner,
 )
 
 pub returns-clause-well_owned : goal.returns-clause-well_owned
@@ -51,7 +51,7 @@ returns-clause-outer c =
     let es = c.self.inside.slots.items in
     let at = subst (λ (l : List Entry). IsPlaceOf l c.args.tag.now c.args.mode c.in-Some.place) c.deref.ensures.value (c.in-Some.ensures {u = tt}) in
     let read : entry_at es c.in-Some.place ≡ c.index.result.now = sym (c.index.ensures ∙ get_or_default es c.in-Some.place c.index.result.now _ at.within) in
-    let limit : count_for c.args.owner (entry_at es c.in-Some.place) ≢ max_count = λ full. c.if-count_for.false (c.count_for.ensures ∙ (sym (ap (count_for c.args.owner) read) ∙ full)) in
+    let limit : count_for c.args.owner (entry_at es c.in-Some.place) ≢ max_count = λ full. c.if-count.false (c.count.ensures ∙ (sym (ap (count_for c.args.owner) read) ∙ full)) in
     let now : c.index-2.result.now.transaction ≡ (entry_at es c.in-Some.place).transaction =
     ap (λ (x : Entry). x.transaction) (c.index-2.ensures ∙ get_or_default es c.in-Some.place c.index-2.result.now _ at.within) in
     let k = c.keep.ensures in

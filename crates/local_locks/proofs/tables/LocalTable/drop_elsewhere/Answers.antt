@@ -55,7 +55,7 @@ invariant_of-self c = (
       let f = c.forget.ensures in
       let forgot = forgot-one c.self.inside.outer.items c.forget.new.outer.items c.in-Some.place f.empty f.before f.behind in
       taken-table c.in-Some.place c.self.invariant.0 e.taken e.indexed e.capacity e.index_room f.number forgot.0 forgot.1,
-  paced-looked c.self.inside.depth c.self.inside.at_once c.self.inside.last c.look_first.new.last c.self.invariant.1 c.look_first.ensures.inner,
+  paced-looked c.self.inside.depth c.self.inside.at_once c.self.inside.hint c.set_hint.new.hint c.self.invariant.1 c.set_hint.ensures.inner,
 )
 
 pub returns-then-total-eq1-clause-well_owned : goal.returns-then-total-eq1-clause-well_owned
@@ -82,7 +82,7 @@ returns-then-total-eq1-clause-outer c =
     let own : c.own_count.result ≡ own_count_in c.self.inside.depth (row_at c.self.inside.outer.items c.in-Some.place) c.args.owner (entry_at es c.in-Some.place) =
     c.own_count.ensures ∙ (λ i. own_count_in c.self.inside.depth (row_at (c.deref-2.ensures.value i) c.in-Some.place) c.args.owner (sym read i)) in
     let some : 0 < own_count_in c.self.inside.depth (row_at c.self.inside.outer.items c.in-Some.place) c.args.owner (entry_at es c.in-Some.place) = omega (arith, own, c.if-own_count-eq0.false) in
-    let one : count_in_all (entry_at es c.in-Some.place) ≡ 1 = ap count_in_all read ∙ (sym c.sum-total.ensures ∙ c.if-total-eq1.true) in
+    let one : count_in_all (entry_at es c.in-Some.place) ≡ 1 = ap count_in_all read ∙ (sym c.total-total.ensures ∙ c.if-total-eq1.true) in
     let e = c.take_out.ensures in
     let f = c.forget.ensures in
     let forgot = forgot-one c.self.inside.outer.items c.forget.new.outer.items c.in-Some.place f.empty f.before f.behind in
@@ -97,7 +97,7 @@ returns-then-total-eq1-clause-answer c =
     let es = c.self.inside.slots.items in
     let at = subst (λ (l : List Entry). IsPlaceOf l c.args.tag.now c.args.mode c.in-Some.place) c.deref.ensures.value (c.in-Some.ensures {u = tt}) in
     let read : entry_at es c.in-Some.place ≡ c.index-entry.result.now = sym (c.index-entry.ensures ∙ get_or_default es c.in-Some.place c.index-entry.result.now _ at.within) in
-    let one : count_in_all (entry_at es c.in-Some.place) ≡ 1 = ap count_in_all read ∙ (sym c.sum-total.ensures ∙ c.if-total-eq1.true) in
+    let one : count_in_all (entry_at es c.in-Some.place) ≡ 1 = ap count_in_all read ∙ (sym c.total-total.ensures ∙ c.if-total-eq1.true) in
     let none = (entries-taken (present (opened es)) (present (opened c.take_out.new.slots.items)) c.args.tag.now c.args.mode c.args.owner (entry_at es c.in-Some.place) at.found at.own one c.take_out.ensures.taken.entries).1 in
     (λ same. absurd (let bad : Released ≡ StillHeld = same in cc), λ some. absurd (omega (arith, none, some)))
 
@@ -112,7 +112,7 @@ invariant_of-self-else-total-eq1 c = (
       c.own_count.ensures ∙ (λ i. own_count_in c.self.inside.depth (row_at (c.deref-2.ensures.value i) c.in-Some.place) c.args.owner (sym read i)) in
       let some : 0 < count_for c.args.owner (entry_at es c.in-Some.place) =
       omega (arith, own, c.if-own_count-eq0.false, own_count-within c.self.inside.depth (row_at c.self.inside.outer.items c.in-Some.place) c.args.owner (entry_at es c.in-Some.place)) in
-      let more : count_in_all (entry_at es c.in-Some.place) ≢ 1 = λ one. c.if-total-eq1.false (c.sum-total.ensures ∙ (sym (ap count_in_all read) ∙ one)) in
+      let more : count_in_all (entry_at es c.in-Some.place) ≢ 1 = λ one. c.if-total-eq1.false (c.total-total.ensures ∙ (sym (ap count_in_all read) ∙ one)) in
       table-with c.self.invariant.0
       (record {
         kept = subst (λ (s : Slots). IsKept s c.self.inside.index c.self.inside.len c.self.inside.max_local c.self.inside.progress) (sym c.lower.ensures.slots)
@@ -135,7 +135,7 @@ returns-else-total-eq1-clause-entries c =
     let es = c.self.inside.slots.items in
     let at = subst (λ (l : List Entry). IsPlaceOf l c.args.tag.now c.args.mode c.in-Some.place) c.deref.ensures.value (c.in-Some.ensures {u = tt}) in
     let read : entry_at es c.in-Some.place ≡ c.index-entry.result.now = sym (c.index-entry.ensures ∙ get_or_default es c.in-Some.place c.index-entry.result.now _ at.within) in
-    let more : count_in_all (entry_at es c.in-Some.place) ≢ 1 = λ one. c.if-total-eq1.false (c.sum-total.ensures ∙ (sym (ap count_in_all read) ∙ one)) in
+    let more : count_in_all (entry_at es c.in-Some.place) ≢ 1 = λ one. c.if-total-eq1.false (c.total-total.ensures ∙ (sym (ap count_in_all read) ∙ one)) in
     ap present c.lower.ensures.slots
     ∙ (entries-lowered (opened c.self.inside.slots.items) c.self.inside.index c.args.tag.now c.args.mode c.args.owner c.in-Some.place (entry_at es c.in-Some.place) c.self.invariant.0.table.kept.indexed at.there at.own more
     ∙ ap (λ v. with_one_less v.entries c.args.tag.now c.args.mode c.args.owner) c.self.view_is)
@@ -149,7 +149,7 @@ returns-else-total-eq1-clause-answer c =
     c.own_count.ensures ∙ (λ i. own_count_in c.self.inside.depth (row_at (c.deref-2.ensures.value i) c.in-Some.place) c.args.owner (sym read i)) in
     let some : 0 < count_for c.args.owner (entry_at es c.in-Some.place) =
     omega (arith, own, c.if-own_count-eq0.false, own_count-within c.self.inside.depth (row_at c.self.inside.outer.items c.in-Some.place) c.args.owner (entry_at es c.in-Some.place)) in
-    let more : count_in_all (entry_at es c.in-Some.place) ≢ 1 = λ one. c.if-total-eq1.false (c.sum-total.ensures ∙ (sym (ap count_in_all read) ∙ one)) in
+    let more : count_in_all (entry_at es c.in-Some.place) ≢ 1 = λ one. c.if-total-eq1.false (c.total-total.ensures ∙ (sym (ap count_in_all read) ∙ one)) in
     let counted = IsCounted-lowered c.args.owner (entry_at es c.in-Some.place) some more (c.self.invariant.0.table.kept.counted c.in-Some.place (entry_at es c.in-Some.place) at.there) in
     let still = subst (λ (s : Slots). 0 < total_of (present s) c.args.tag.now c.args.mode) (sym c.lower.ensures.slots)
     (total-lowered (opened es) c.self.inside.index c.args.tag.now c.args.mode c.args.owner c.in-Some.place (entry_at es c.in-Some.place) c.self.invariant.0.table.kept.indexed at.there at.own counted) in

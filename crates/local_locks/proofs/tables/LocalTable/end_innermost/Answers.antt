@@ -59,7 +59,7 @@ invariant_of-self c = (
       (leveled-moved (opened mid) (opened c.tidy.new.slots.items) rows' c.tidy.new.outer.items d 0 done c.tidy.ensures.moved)
       (omega (arith, c.tidy.ensures.shorter, c.settle_inner-place.ensures.number)) (c.tidy.ensures.moved.number ∙ settled.lists)
       (c.tidy.ensures.capacity ∙ c.settle_inner-place.ensures.capacity) c.tidy.ensures.index_room,
-  paced-ended c.self.inside.depth c.self.inside.at_once c.self.inside.last c.most_at_once-self-inside.result c.self.invariant.1
+  paced-ended c.self.inside.depth c.self.inside.at_once c.self.inside.hint c.most_at_once-self-inside.result c.self.invariant.1
       (omega (arith, c.requires.nested, ap (λ v. length v.outer) c.self.view_is, length-outer c.self.inside.depth (opened c.self.inside.slots.items) (row_at c.self.inside.outer.items))) c.most_at_once-self-inside.ensures,
 )
 

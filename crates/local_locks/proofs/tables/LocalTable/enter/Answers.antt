@@ -50,7 +50,7 @@ invariant_of-self c = (
             subst (λ n. min (min n no_place) c.push_entry.new.index.places ≤ length c.keep.new.outer.items) (sym c.push_entry.ensures.slot_room)
             (subst (λ n. min (min (vec_capacity c.self.inside.slots) no_place) n ≤ length c.keep.new.outer.items) (sym c.push_entry.ensures.index_room) (omega (arith, c.self.invariant.0.enough, k.number)));
       },
-  paced-looked c.self.inside.depth c.self.inside.at_once c.self.inside.last c.look_first.new.last c.self.invariant.1 c.look_first.ensures.inner,
+  paced-looked c.self.inside.depth c.self.inside.at_once c.self.inside.hint c.set_hint.new.hint c.self.invariant.1 c.set_hint.ensures.inner,
 )
 
 pub returns-clause-well_owned : goal.returns-clause-well_owned

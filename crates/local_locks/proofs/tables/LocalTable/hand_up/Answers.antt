@@ -21,7 +21,7 @@ invariant_of-self c = (
       (λ k late within. c.cut_all.ensures.cut k late (omega (arith, c.len.ensures, c.self.inside.slots.ok.0, length-opened es))) c.cut_all.ensures.before
       (λ k past. c.cut_all.ensures.behind k (omega (arith, c.len.ensures, c.self.inside.slots.ok.0, length-opened es)))).0
       (omega arith) c.cut_all.ensures.number refl refl,
-  paced-ended c.self.inside.depth c.self.inside.at_once c.self.inside.last c.most_at_once-self-inside.result c.self.invariant.1 c.if-self-eq0.false c.most_at_once-self-inside.ensures,
+  paced-ended c.self.inside.depth c.self.inside.at_once c.self.inside.hint c.most_at_once-self-inside.result c.self.invariant.1 c.if-self-eq0.false c.most_at_once-self-inside.ensures,
 )
 
 pub returns-clause-level : goal.returns-clause-level

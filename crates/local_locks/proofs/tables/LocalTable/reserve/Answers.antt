@@ -1,5 +1,5 @@
 use Rattle.local_locks.proofs.LevelLaws.{well_owned}
 use Rattle.local_locks.proofs.tables.LocalTable.reserve.Goals as goal
 
-pub returns-after-count_for-clause-well_owned : goal.returns-after-count_for-clause-well_owned
-returns-after-count_for-clause-well_owned c = well_owned _ _ _ _ _ _ _ _ _ _ _ c.self.invariant.0
+pub returns-after-count-clause-well_owned : goal.returns-after-count-clause-well_owned
+returns-after-count-clause-well_owned c = well_owned _ _ _ _ _ _ _ _ _ _ _ c.self.invariant.0

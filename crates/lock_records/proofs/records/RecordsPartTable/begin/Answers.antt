@@ -57,8 +57,8 @@ invariant_of-self c =
       begun_absent = λ absent request is. let no_way : ⊥ = cc in absurd no_way;
     }
 
-pub look-found-requires : goal.look-found-requires
-look-found-requires c = noted (goal.at.look-found-requires c).After-make_room
+pub find_lock-found-requires : goal.find_lock-found-requires
+find_lock-found-requires c = noted (goal.at.find_lock-found-requires c).After-make_room
 
 pub invariant_of-self-2 : goal.invariant_of-self-2
 invariant_of-self-2 c =
@@ -80,5 +80,5 @@ invariant_of-self-2 c =
           ForSome-some (λ (x : Request). HasRoom c.make_room.new.locks c.make_room.new.holders c.make_room.new.queues c.make_room.new.index) request
           (c.in_ok-make_room.ensures {u = tt}).room;
       begun_absent = λ absent.
-          ForSome-some (λ (x : Request). HasNoLock c.make_room.new.locks.slots x.tag) request (found-none c.look-found.result (c.is_none-self-inside.ensures ∙ ap not absent) c.look-found.ensures.absent);
+          ForSome-some (λ (x : Request). HasNoLock c.make_room.new.locks.slots x.tag) request (found-none c.find_lock-found.result (c.is_none-self-inside.ensures ∙ ap not absent) c.find_lock-found.ensures.absent);
     }

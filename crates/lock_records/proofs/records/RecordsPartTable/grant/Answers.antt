@@ -13,8 +13,8 @@ use Rattle.lock_records.proofs.records.RecordsPartTable.grant.Goals as goal
 
 pub add_hold-requires-clause-held : goal.add_hold-requires-clause-held
 add_hold-requires-clause-held c = λ i.
-    (made-held c.self.inside.locks.slots c.look_or_make-place.new.locks.slots c.self.inside.holders.slots c.self.inside.queues.slots c.args.tag.now c.look_or_make-place.result
-    c.self.invariant.objects c.look_or_make-place.ensures.made i).held
+    (made-held c.self.inside.locks.slots c.find_or_make_lock-place.new.locks.slots c.self.inside.holders.slots c.self.inside.queues.slots c.args.tag.now c.find_or_make_lock-place.result
+    c.self.invariant.objects c.find_or_make_lock-place.ensures.made i).held
 
 pub add_hold-requires-clause-new : goal.add_hold-requires-clause-new
 add_hold-requires-clause-new c = c.self.invariant.begun_new _ (ap (λ (part : RecordView). part.begun) c.self.view_is ∙ c.requires.begun)
@@ -26,17 +26,17 @@ invariant_of-self c =
     let room = c.self.invariant.begun_room _ begun in
     record {
       objects =
-          objects-granted c.self.inside.locks.slots c.look_or_make-place.new.locks.slots c.add_hold.new.locks.slots c.self.inside.holders.slots c.add_hold.new.holders.slots c.self.inside.queues.slots
-          c.args.session c.args.tag.now c.args.mode c.look_or_make-place.result c.look_or_make-place.new.index c.self.invariant.objects c.look_or_make-place.ensures.made c.look_or_make-place.ensures.noted
+          objects-granted c.self.inside.locks.slots c.find_or_make_lock-place.new.locks.slots c.add_hold.new.locks.slots c.self.inside.holders.slots c.add_hold.new.holders.slots c.self.inside.queues.slots
+          c.args.session c.args.tag.now c.args.mode c.find_or_make_lock-place.result c.find_or_make_lock-place.new.index c.self.invariant.objects c.find_or_make_lock-place.ensures.made c.find_or_make_lock-place.ensures.noted
           lock.0 lock.1 lock.2 c.add_hold.ensures.set (c.self.invariant.begun_not_awaited _ begun);
       noted =
-          noted-relocked c.look_or_make-place.new.locks.slots c.add_hold.new.locks.slots c.look_or_make-place.new.index c.args.tag.now c.look_or_make-place.result lock.0 c.look_or_make-place.ensures.noted;
+          noted-relocked c.find_or_make_lock-place.new.locks.slots c.add_hold.new.locks.slots c.find_or_make_lock-place.new.index c.args.tag.now c.find_or_make_lock-place.result lock.0 c.find_or_make_lock-place.ensures.noted;
       room = omega (arith, room.holder, c.add_hold.ensures.len, c.add_hold.ensures.capacity);
       begun_new = ForSome-none (λ (request : Request). holds_in c.add_hold.new.holders.slots request.session request.tag request.mode ≡ false);
       begun_not_awaited = ForSome-none (λ (request : Request). awaits_mode (queue_on c.self.inside.queues.slots request.tag) request.session request.mode ≡ false);
-      begun_room = ForSome-none (λ (request : Request). HasRoom c.add_hold.new.locks c.add_hold.new.holders c.self.inside.queues c.look_or_make-place.new.index);
+      begun_room = ForSome-none (λ (request : Request). HasRoom c.add_hold.new.locks c.add_hold.new.holders c.self.inside.queues c.find_or_make_lock-place.new.index);
       begun_absent = λ absent request is. let no_way : ⊥ = cc in absurd no_way;
     }
 
-pub look_or_make-place-requires-clause-absent : goal.look_or_make-place-requires-clause-absent
-look_or_make-place-requires-clause-absent c absent = c.self.invariant.begun_absent absent _ (ap (λ (part : RecordView). part.begun) c.self.view_is ∙ c.requires.begun)
+pub find_or_make_lock-place-requires-clause-absent : goal.find_or_make_lock-place-requires-clause-absent
+find_or_make_lock-place-requires-clause-absent c absent = c.self.invariant.begun_absent absent _ (ap (λ (part : RecordView). part.begun) c.self.view_is ∙ c.requires.begun)

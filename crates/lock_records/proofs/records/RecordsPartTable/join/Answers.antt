@@ -24,8 +24,8 @@ small c = omega (arith, c.number-number.ensures.within, c.number-number.ensures.
 absent : (c : After-capacity-most) → waits_there (queue_on c.self.inside.queues.slots c.args.tag.now) c.args.session ≡ false
 absent c = ap (λ (part : RecordView). waits_there (queue_on part.queues c.args.tag.now) c.args.session) c.self.view_is ∙ c.requires.no_wait
 
-pub look_or_make-at-requires-clause-absent : goal.look_or_make-at-requires-clause-absent
-look_or_make-at-requires-clause-absent c absent = c.self.invariant.begun_absent absent _ (ap (λ (part : RecordView). part.begun) c.self.view_is ∙ c.requires.begun)
+pub find_or_make_lock-at-requires-clause-absent : goal.find_or_make_lock-at-requires-clause-absent
+find_or_make_lock-at-requires-clause-absent c absent = c.self.invariant.begun_absent absent _ (ap (λ (part : RecordView). part.begun) c.self.view_is ∙ c.requires.begun)
 
 pub queue_up-queue-requires-clause-few : goal.queue_up-queue-requires-clause-few
 queue_up-queue-requires-clause-few c =
@@ -35,8 +35,8 @@ queue_up-queue-requires-clause-few c =
 
 pub raise_awaited-requires-clause-few : goal.raise_awaited-requires-clause-few
 raise_awaited-requires-clause-few c =
-    counts-few c.self.inside.locks.slots c.look_or_make-at.new.locks.slots c.self.inside.holders.slots c.self.inside.queues.slots c.args.tag.now c.args.mode c.look_or_make-at.result
-    c.self.invariant.objects c.look_or_make-at.ensures.made
+    counts-few c.self.inside.locks.slots c.find_or_make_lock-at.new.locks.slots c.self.inside.holders.slots c.self.inside.queues.slots c.args.tag.now c.args.mode c.find_or_make_lock-at.result
+    c.self.invariant.objects c.find_or_make_lock-at.ensures.made
 
 pub invariant_of-self : goal.invariant_of-self
 invariant_of-self c =
@@ -46,14 +46,14 @@ invariant_of-self c =
     let room = c.self.invariant.begun_room _ begun in
     record {
       objects =
-          objects-joined c.self.inside.locks.slots c.look_or_make-at.new.locks.slots c.raise_awaited.new.locks.slots c.self.inside.holders.slots c.self.inside.queues.slots c.queue_up-queue.new.queues.slots
-          (its at) c.args.tag.now c.args.place c.look_or_make-at.result c.look_or_make-at.new.index c.self.invariant.objects c.look_or_make-at.ensures.made c.look_or_make-at.ensures.noted
+          objects-joined c.self.inside.locks.slots c.find_or_make_lock-at.new.locks.slots c.raise_awaited.new.locks.slots c.self.inside.holders.slots c.self.inside.queues.slots c.queue_up-queue.new.queues.slots
+          (its at) c.args.tag.now c.args.place c.find_or_make_lock-at.result c.find_or_make_lock-at.new.index c.self.invariant.objects c.find_or_make_lock-at.ensures.made c.find_or_make_lock-at.ensures.noted
           lock.0 lock.1 lock.2 lock.3 c.queue_up-queue.ensures.waits (small at) (absent at) (c.self.invariant.begun_new _ begun);
       noted =
-          noted-relocked c.look_or_make-at.new.locks.slots c.raise_awaited.new.locks.slots c.look_or_make-at.new.index c.args.tag.now c.look_or_make-at.result lock.0 c.look_or_make-at.ensures.noted;
+          noted-relocked c.find_or_make_lock-at.new.locks.slots c.raise_awaited.new.locks.slots c.find_or_make_lock-at.new.index c.args.tag.now c.find_or_make_lock-at.result lock.0 c.find_or_make_lock-at.ensures.noted;
       room = omega (arith, room.holder, c.queue_up-queue.ensures.one_more);
       begun_new = ForSome-none (λ (request : Request). holds_in c.self.inside.holders.slots request.session request.tag request.mode ≡ false);
       begun_not_awaited = ForSome-none (λ (request : Request). awaits_mode (queue_on c.queue_up-queue.new.queues.slots request.tag) request.session request.mode ≡ false);
-      begun_room = ForSome-none (λ (request : Request). HasRoom c.raise_awaited.new.locks c.self.inside.holders c.queue_up-queue.new.queues c.look_or_make-at.new.index);
+      begun_room = ForSome-none (λ (request : Request). HasRoom c.raise_awaited.new.locks c.self.inside.holders c.queue_up-queue.new.queues c.find_or_make_lock-at.new.index);
       begun_absent = λ absent request is. let no_way : ⊥ = cc in absurd no_way;
     }

@@ -15,7 +15,8 @@ pub loop-waiter-init : goal.loop-waiter-init
 loop-waiter-init c = (
   [],
   queue_on c.args.self.now.queues c.args.tag.now,
-  waking-start (content_of c.args.self.now) c.args.tag.now c.new-woken.result.items c.new-woken.ensures c.queue_has_each_once.ensures.one_each,
+  waking-start (content_of c.args.self.now) c.args.tag.now c.new-woken.result.items c.new-woken.ensures
+      (λ session. rw (← c.self.view_is) ((c.self.invariant.objects c.args.tag.now).waiting.one_each session)),
   refl,
   StandFor-none (set_has c.empty-ahead.result) c.empty-ahead.ensures,
   refl,

@@ -1,6 +1,6 @@
 use Rattle.std.proofs.Common.{inl}
 use Rattle.lock_records.proofs.IndexLaws.{same-itself}
-use Rattle.lock_records.proofs.locks.look_or_make.Goals as goal
+use Rattle.lock_records.proofs.locks.find_or_make_lock.Goals as goal
 
 pub returns-in-Some-clause-made : goal.returns-in-Some-clause-made
 returns-in-Some-clause-made c =
