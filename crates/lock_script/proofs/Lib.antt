@@ -1,5 +1,6 @@
 pub mod SessionLemmas
 mod CommandLemmas
+mod DefectLemmas
 mod Gathering
 mod Known
 mod NameOrder

@@ -66,10 +66,7 @@ pub fn parse_name(word: &str) -> Option<Name>
     if word.is_empty() || !has_name_bytes(word) {
         return None;
     }
-    match Name::from(word) {
-        Ok(name) => Some(name),
-        Err(_) => None,
-    }
+    Name::from(word).ok()
 }
 
 /// Whether each character may stand in a name.
