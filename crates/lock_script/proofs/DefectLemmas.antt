@@ -36,7 +36,7 @@ pub of_none : {T : Type 0} (P : Type 0) (o : Option T) → o ≡ None → IfNone
 of_none P None e here = here
 of_none P (Some x) e here = let never : ⊥ = cc in absurd never
 
-clash : (b : Bool) → b ≡ true → b ≡ false → ⊥
+pub clash : (b : Bool) → b ≡ true → b ≡ false → ⊥
 clash b is lacks = let never : ⊥ = cc in never
 
 not_both : {T : Type 0} (o : Option T) (x : T) → o ≡ Some x → o ≡ None → ⊥
@@ -60,7 +60,7 @@ name-is (Some n) name word e variant value =
     (sym variant, subst (λ (m : ArrayString 16). m.bytes ≡ word) same value)
 
 -- who is called by a name leaves it not free
-called-not_free : {X : Type 0} (those : List (Named X)) (word : List ℕ) (place : ℕ) → IsCalled those word place → IsFree those word → ⊥
+pub called-not_free : {X : Type 0} (those : List (Named X)) (word : List ℕ) (place : ℕ) → IsCalled those word place → IsFree those word → ⊥
 called-not_free [] word place called free = omega (arith, called.0)
 called-not_free (one ∷ others) word place called free = free place one called.0 (called.1 one)
 

@@ -12,7 +12,7 @@ use Rattle.lock_script.specs.declared.command.Command.{Command}
 use Rattle.lock_script.specs.declared.faults.Defect.{Defect}
 use Rattle.lock_script.specs.declared.faults.Defect.TheVariants.{UnknownCommand, WrongNumberOfWords, BadName, SessionExists, NoSuchSession, SessionWaits, BadNumber, BadObject, BadMode, BadOwner}
 
--- Which defect a line has whose words mean nothing.
+-- Which defect a line has, where its words mean nothing.
 
 -- what a word behind a command has to be
 pub data Kind : Type 0 where
@@ -96,7 +96,7 @@ module _ {S W : Type 0} where
   IsUnnamed sessions word NoSuchSession = (is_name word ≡ true) × IsUnknown sessions word
   IsUnnamed sessions word _ = ⊥
 
-  -- why a word is not the name of a session that may act
+  -- why a word is not the name of a session that doesn't wait
   abbrev pub IsBarred : OpenSessions S W → List ℕ → Defect → Type 0
   IsBarred sessions word SessionWaits =
       (is_name word ≡ true) × IsFree sessions.resting word × ((place : ℕ) × IsCalled sessions.waiting word place)
@@ -129,13 +129,13 @@ module _ {S W : Type 0} where
       IsWrong sessions kind word defect ⊎ (IsRight sessions kind word × IsFirstWrong sessions kinds words defect)
   IsFirstWrong sessions _ _ defect = ⊥
 
-  -- why words don't stand for these kinds: their number is checked first, and then they are from left to right
+  -- why words are not of these kinds: by their number, or else by the first of them that is wrong
   abbrev pub IsMisfit : OpenSessions S W → List Kind → List (List ℕ) → Defect → Type 0
   IsMisfit sessions kinds words defect =
       ((defect ≡ WrongNumberOfWords) × (¬ AreAsMany kinds words))
       ⊎ (AreAsMany kinds words × IsFirstWrong sessions kinds words defect)
 
-  -- why they don't stand behind a command, if there is one
+  -- why they don't stand behind a command, or that there is no such command
   abbrev pub IsRefused : OpenSessions S W → Option (List Kind) → List (List ℕ) → Defect → Type 0
   IsRefused sessions None words defect = defect ≡ UnknownCommand
   IsRefused sessions (Some kinds) words defect = IsMisfit sessions kinds words defect
@@ -143,8 +143,7 @@ module _ {S W : Type 0} where
   -- the defect of a line's words
   abbrev pub IsDefectOf : OpenSessions S W → List (List ℕ) → Defect → Type 0
   IsDefectOf sessions [] defect = ⊥
-  IsDefectOf sessions (verb ∷ words) defect =
-      IsRefused sessions (words_behind verb commands) words defect
+  IsDefectOf sessions (verb ∷ words) defect = IsRefused sessions (words_behind verb commands) words defect
 
   -- The words of a line are neither silent nor a command.
   abbrev pub MeansNothing : OpenSessions S W → List (List ℕ) → Type 0
