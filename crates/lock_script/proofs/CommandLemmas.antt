@@ -1,13 +1,10 @@
--- What the parse of a command's words says where it fails, and what follows from a command's meaning.
-use Rattle.std.proofs.Common.{◌≡◌, ◌≢◌, ℕ, ◌<◌, Bool, true, false, List, [], ◌∷◌, length, get_or, Option, Some, None, Result, Ok, Err, refl, subst, sym, ◌∙◌, arith}
-use Rattle.std.specs.Prelude.{◌↔◌, IfErr, IsErrAnd, IsErrOf, nat_lt, ok_or, if◌then◌else◌}
-use Rattle.std.specs.Borrow.{Bor}
-use Rattle.std.specs.List.{HoldsAt}
+-- What follows from a command's meaning.
+use Rattle.std.proofs.Common.{◌≡◌, ℕ, ◌<◌, Bool, true, false, List, [], ◌∷◌, Option, Some, None, refl, arith}
+use Rattle.std.specs.Prelude.{nat_lt, if◌then◌else◌}
 use Rattle.std.proofs.lemmas.Bool.Decides.{nat_tests}
-use Rattle.std.proofs.lemmas.List.{get_or_default}
 use Rattle.modes_core.specs.declared.sessions.Owner.{Owner}
 use Rattle.modes_core.specs.declared.tags.Tag.{Tag}
-use Rattle.lock_script.specs.Command.{Addresses, IsBarred, IsUnnamed, NamesCounter}
+use Rattle.lock_script.specs.Command.{Addresses, NamesCounter}
 use Rattle.lock_script.specs.Sessions.{IsAt, IsThere, MayAct}
 use Rattle.lock_script.specs.Meaning.{IsCommandOf, NamesActor, NamesBlocked, NamesBoth, NamesCount, NamesLone, NamesOwned, NamesQueue}
 use Rattle.lock_script.specs.Words.{number_in, strong_index}
@@ -20,32 +17,6 @@ use Rattle.lock_script.specs.declared.sessions.Opened.{Opened}
 use Rattle.lock_script.specs.declared.sessions.Place.{Place}
 use Rattle.lock_script.specs.declared.sessions.Place.TheVariants.{Resting, Waiting}
 use Rattle.lock_script.specs.declared.sessions.Caller.{Caller}
-use Rattle.lock_script.specs.declared.faults.Defect.{Defect}
-use Rattle.lock_script.specs.declared.faults.Defect.TheVariants.{WrongNumberOfWords, BadNumber}
-
--- what holds of the error that a result is
-pub of_err : {T E : Type 0} (P : E → Type 0) (r : Result T E) (e : E) → IsErrAnd r (λ (d : E). d ≡ e) → P e → IfErr r P
-of_err P (Ok x) e is here = absurd is
-of_err P (Err d) e is here = subst P (sym is) here
-
--- another defect than the number of words, where there are two
-pub two_words : {T : Type 0} (r : Result T Defect) (defect : Defect) (n : ℕ) → IsErrAnd r (λ (d : Defect). d ≡ defect) → defect ≢ WrongNumberOfWords → n ≡ 2 → IsErrOf r WrongNumberOfWords ↔ (n ≢ 2)
-two_words (Ok x) defect n is other two = absurd is
-two_words (Err d) defect n is other two =
-    (λ wrong. let same : d ≡ WrongNumberOfWords = cc in absurd (other (sym is ∙ same)), λ more. absurd (more two))
-
--- what holds of the word at a place
-pub of_word : (P : List ℕ → Type 0) (words : List (Bor (List ℕ))) (place : ℕ) (d : Bor (List ℕ)) → place < length words → P (get_or words place d).now → HoldsAt (λ (word : Bor (List ℕ)). P word.now) words place
-of_word P words place d inside here d' = subst (λ (word : Bor (List ℕ)). P word.now) (get_or_default words place d d' inside) here
-
--- a bad number is another defect
-pub bad_number-other : (defect : Defect) → defect ≡ BadNumber → defect ≢ WrongNumberOfWords
-bad_number-other defect bad wrong = let never : ⊥ = cc in never
-
--- an error instead of a value says that there is none
-pub no_value : {T E : Type 0} (o : Option T) (its given : E) → Err its ≡ ok_or o given → (its ≡ given) × (o ≡ None)
-no_value None its given e = (cc, refl)
-no_value (Some x) its given e = let never : ⊥ = cc in absurd never
 
 -- the index of a strong lock counter is below their number
 index-below : (number : Option ℕ) (index : ℕ) → strong_index number ≡ Some index → index < 1024
@@ -59,61 +30,54 @@ index-below (Some n) index e = go (nat_lt n 1024) refl e where
   go false above is = let never : ⊥ = cc in absurd never
 
 module _ {S W : Type 0} where
-  -- what bars a word is not the number of words
-  pub barred-other : (sessions : OpenSessions S W) (words : List (Bor (List ℕ))) (place : ℕ) (d : Bor (List ℕ)) (defect : Defect) → IsBarred sessions (get_or words place d).now defect → defect ≢ WrongNumberOfWords
-  barred-other sessions words place d defect barred e = subst (IsBarred sessions (get_or words place d).now) e barred
-
-  pub unnamed-other : (sessions : OpenSessions S W) (words : List (Bor (List ℕ))) (place : ℕ) (d : Bor (List ℕ)) (defect : Defect) → IsUnnamed sessions (get_or words place d).now defect → defect ≢ WrongNumberOfWords
-  unnamed-other sessions words place d defect unnamed e = subst (IsUnnamed sessions (get_or words place d).now) e unnamed
-
   -- who may act, and who is there
   actor-may_act : (sessions : OpenSessions S W) (words : List (List ℕ)) (caller : Caller) → NamesActor sessions words caller → MayAct sessions caller.place
   actor-may_act sessions [] caller h = absurd h
-  actor-may_act sessions (name ∷ []) caller h = h.0.0
+  actor-may_act sessions (name ∷ []) caller h = h.1.0
   actor-may_act sessions (name ∷ other ∷ words) caller h = absurd h
 
   lone-may_act : (sessions : OpenSessions S W) (words : List (List ℕ)) (target : Target) → NamesLone sessions words target → MayAct sessions target.caller.place
   lone-may_act sessions [] target h = absurd h
   lone-may_act sessions (name ∷ []) target h = absurd h
   lone-may_act sessions (name ∷ tag ∷ []) target h = absurd h
-  lone-may_act sessions (name ∷ tag ∷ mode ∷ []) target h = h.0.0.0
+  lone-may_act sessions (name ∷ tag ∷ mode ∷ []) target h = h.0.1.0
   lone-may_act sessions (name ∷ tag ∷ mode ∷ other ∷ words) target h = absurd h
 
   owned-may_act : (sessions : OpenSessions S W) (words : List (List ℕ)) (target : Target) (owner : Owner) → NamesOwned sessions words target owner → MayAct sessions target.caller.place
   owned-may_act sessions [] target owner h = absurd h
   owned-may_act sessions (name ∷ []) target owner h = absurd h
   owned-may_act sessions (name ∷ tag ∷ []) target owner h = absurd h
-  owned-may_act sessions (name ∷ tag ∷ mode ∷ []) target owner h = h.0.0.0.0
-  owned-may_act sessions (name ∷ tag ∷ mode ∷ word ∷ []) target owner h = h.0.0.0.0
+  owned-may_act sessions (name ∷ tag ∷ mode ∷ []) target owner h = h.0.0.1.0
+  owned-may_act sessions (name ∷ tag ∷ mode ∷ word ∷ []) target owner h = h.0.0.1.0
   owned-may_act sessions (name ∷ tag ∷ mode ∷ word ∷ other ∷ words) target owner h = absurd h
 
   is_there : (sessions : OpenSessions S W) (name : List ℕ) (place : Place) → IsAt sessions name place → IsThere sessions place
   is_there sessions name (Resting place) h = h.0
-  is_there sessions name (Waiting place) h = h.0
+  is_there sessions name (Waiting place) h = h.1.0
 
   both-there : (sessions : OpenSessions S W) (words : List (List ℕ)) (by : Caller) (other : Opened) → NamesBoth sessions words by other → MayAct sessions by.place × IsThere sessions other.place
   both-there sessions [] by other h = absurd h
   both-there sessions (name ∷ []) by other h = absurd h
-  both-there sessions (name ∷ word ∷ []) by other h = (h.0.0.0, is_there sessions word other.place h.1.0)
+  both-there sessions (name ∷ word ∷ []) by other h = (h.0.1.0, is_there sessions word other.place h.1.1)
   both-there sessions (name ∷ word ∷ more ∷ words) by other h = absurd h
 
   queue-may_act : (sessions : OpenSessions S W) (words : List (List ℕ)) (caller : Caller) (tag : Tag) → NamesQueue sessions words caller tag → MayAct sessions caller.place
   queue-may_act sessions [] caller tag h = absurd h
   queue-may_act sessions (name ∷ []) caller tag h = absurd h
-  queue-may_act sessions (name ∷ word ∷ []) caller tag h = h.0.0.0
+  queue-may_act sessions (name ∷ word ∷ []) caller tag h = h.0.1.0
   queue-may_act sessions (name ∷ word ∷ more ∷ words) caller tag h = absurd h
 
   blocked-there : (sessions : OpenSessions S W) (words : List (List ℕ)) (by : Caller) (other : Opened) (tag : Tag) → NamesBlocked sessions words by other tag → MayAct sessions by.place × IsThere sessions other.place
   blocked-there sessions [] by other tag h = absurd h
   blocked-there sessions (name ∷ []) by other tag h = absurd h
   blocked-there sessions (name ∷ word ∷ []) by other tag h = absurd h
-  blocked-there sessions (name ∷ word ∷ object ∷ []) by other tag h = (h.0.0.0, is_there sessions word other.place h.1.0)
+  blocked-there sessions (name ∷ word ∷ object ∷ []) by other tag h = (h.0.1.0, is_there sessions word other.place h.1.1)
   blocked-there sessions (name ∷ word ∷ object ∷ more ∷ words) by other tag h = absurd h
 
   count-below : (sessions : OpenSessions S W) (words : List (List ℕ)) (caller : Caller) (index : ℕ) → NamesCount sessions words caller index → MayAct sessions caller.place × (index < 1024)
   count-below sessions [] caller index h = absurd h
   count-below sessions (name ∷ []) caller index h = absurd h
-  count-below sessions (name ∷ number ∷ []) caller index h = (h.0.0.0, index-below (number_in number) index h.1)
+  count-below sessions (name ∷ number ∷ []) caller index h = (h.0.1.0, index-below (number_in number) index h.1)
   count-below sessions (name ∷ number ∷ more ∷ words) caller index h = absurd h
 
   -- a command of these words addresses who it may

@@ -1,5 +1,7 @@
 pub mod SessionLemmas
 mod CommandLemmas
+mod DefectLemmas
+pub mod OneDefect
 mod Gathering
 mod Known
 mod NameOrder

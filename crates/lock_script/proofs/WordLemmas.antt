@@ -1,6 +1,6 @@
 -- Numbers and tags by their words.
 use Rattle.std.proofs.Common.{◌≡◌, ℕ, ◌+◌, ◌<◌, ◌≤◌, ◌∙◌, refl, rules, arith, List, [], ◌∷◌, ◌++◌, suc, zero, not, cond, filter, take, drop, get_or, append_assoc, append-nil, length-append, length, map, ◌≢◌, Option, None, Some, Bool, true, false, ap, sym}
-use Rattle.std.specs.Prelude.{◌&&◌, ◌^◌, nat_le, nat_lt, position, slice_range, MatchOption, if◌then◌else◌}
+use Rattle.std.specs.Prelude.{◌&&◌, ◌^◌, nat_le, nat_lt, position, slice_range, MatchOption, is_some, if◌then◌else◌}
 use Rattle.std.specs.Borrow.{Bor}
 use Rattle.std.specs.List.{list_all, slice_split, position_or_len, before_first, after_first}
 use Rattle.std.specs.Char.{is_ascii_digit}
@@ -29,7 +29,7 @@ no_tag-five (Some a) (Some b) None d e others = refl
 no_tag-five (Some a) (Some b) (Some c) None e others = refl
 no_tag-five (Some a) (Some b) (Some c) (Some d) e others = refl
 
-pub no_tag-more : (a b c d : Option ℕ) (parts : List (List ℕ)) → 0 < length parts → tag_of_numbers (a ∷ b ∷ c ∷ d ∷ map number_in parts) ≡ None
+no_tag-more : (a b c d : Option ℕ) (parts : List (List ℕ)) → 0 < length parts → tag_of_numbers (a ∷ b ∷ c ∷ d ∷ map number_in parts) ≡ None
 no_tag-more a b c d [] h = absurd (omega arith)
 no_tag-more a b c d (e ∷ parts) h = no_tag-five a b c d (number_in e) (map number_in parts)
 
@@ -41,13 +41,23 @@ no_advisory-five (Some a) (Some b) None d e others = refl
 no_advisory-five (Some a) (Some b) (Some c) None e others = refl
 no_advisory-five (Some a) (Some b) (Some c) (Some d) e others = refl
 
-pub no_advisory-more : (a b c d : Option ℕ) (parts : List (List ℕ)) → 0 < length parts → advisory_of_numbers (a ∷ b ∷ c ∷ d ∷ map number_in parts) ≡ None
+no_advisory-more : (a b c d : Option ℕ) (parts : List (List ℕ)) → 0 < length parts → advisory_of_numbers (a ∷ b ∷ c ∷ d ∷ map number_in parts) ≡ None
 no_advisory-more a b c d [] h = absurd (omega arith)
 no_advisory-more a b c d (e ∷ parts) h = no_advisory-five a b c d (number_in e) (map number_in parts)
 
 -- there is at least one part
-pub some_part : (word : List ℕ) → 0 < length (slice_split is_slash word)
+some_part : (word : List ℕ) → 0 < length (slice_split is_slash word)
 some_part word = rw (length-slice_split is_slash word) (omega arith)
+
+-- nor what is parted once more behind three
+pub no_tag-past : (last : List ℕ) (r : Option (Bor (List ℕ) × Bor (List ℕ))) (a b c : Option ℕ) → is_some r ≡ true → MatchOption r (slice_split is_slash last ≡ last ∷ []) (λ parts. slice_split is_slash last ≡ parts.0.now ∷ slice_split is_slash parts.1.now) → None ≡ tag_of_numbers (a ∷ b ∷ c ∷ map number_in (slice_split is_slash last))
+no_tag-past last None a b c is cut = let never : ⊥ = cc in absurd never
+no_tag-past last (Some parts) a b c is cut = sym (rw cut (no_tag-more a b c (number_in parts.0.now) (slice_split is_slash parts.1.now) (some_part parts.1.now)))
+
+-- nor what is parted once more behind three
+pub no_advisory-past : (last : List ℕ) (r : Option (Bor (List ℕ) × Bor (List ℕ))) (a b c : Option ℕ) → is_some r ≡ true → MatchOption r (slice_split is_slash last ≡ last ∷ []) (λ parts. slice_split is_slash last ≡ parts.0.now ∷ slice_split is_slash parts.1.now) → None ≡ advisory_of_numbers (a ∷ b ∷ c ∷ map number_in (slice_split is_slash last))
+no_advisory-past last None a b c is cut = let never : ⊥ = cc in absurd never
+no_advisory-past last (Some parts) a b c is cut = sym (rw cut (no_advisory-more a b c (number_in parts.0.now) (slice_split is_slash parts.1.now) (some_part parts.1.now)))
 
 -- what stands round the first byte that parts a text
 pub parts-at : (p : ℕ → Bool) (word : List ℕ) (r : Option (Bor (List ℕ) × Bor (List ℕ))) → MatchOption r (position_or_len p word ≡ length word) (λ x. (position_or_len p word < length word) × (x.0.now ≡ before_first p word) × (x.1.now ≡ after_first p word)) → MatchOption r (slice_split p word ≡ word ∷ []) (λ parts. slice_split p word ≡ parts.0.now ∷ slice_split p parts.1.now)

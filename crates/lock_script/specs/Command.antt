@@ -1,14 +1,10 @@
-use Rattle.std.specs.Prelude.{◌≡◌, ◌≢◌, ◌<◌, ℕ, true, false, List, None, IsSome}
-use Rattle.modes_core.specs.declared.modes.Mode.{Mode}
-use Rattle.modes_core.specs.Mode.{name_of}
+use Rattle.std.specs.Prelude.{◌≡◌, ◌<◌, ℕ, true, List}
 use Rattle.lock_script.specs.Names.{IsCalled}
-use Rattle.lock_script.specs.Sessions.{IsAt, IsUnknown, MayAct, IsThere}
-use Rattle.lock_script.specs.Words.{is_name, tag_of}
+use Rattle.lock_script.specs.Sessions.{IsAt, MayAct, IsThere}
+use Rattle.lock_script.specs.Words.{is_name}
 use Rattle.lock_script.specs.declared.sessions.OpenSessions.{OpenSessions}
 use Rattle.lock_script.specs.declared.sessions.Caller.{Caller}
 use Rattle.lock_script.specs.declared.sessions.Opened.{Opened}
-use Rattle.lock_script.specs.declared.faults.Defect.{Defect}
-use Rattle.lock_script.specs.declared.faults.Defect.TheVariants.{BadName, NoSuchSession, SessionWaits, BadObject, BadMode}
 use Rattle.lock_script.specs.declared.command.Command.{Command}
 use Rattle.lock_script.specs.declared.command.Command.TheVariants.{Session, Try, Fast, Lock, Unlock, Commit, Abort, Begin, SubCommit, SubAbort, Owned, Waiters, Queue, Blockers, Cancel, Count, Hash, Close}
 use Rattle.lock_script.specs.declared.command.Command.TheVariants as command
@@ -43,30 +39,9 @@ module _ {S W : Type 0} where
 
   -- The word is the name of an open session, which stands there.
   abbrev pub NamesOpen : OpenSessions S W → List ℕ → Opened → Type 0
-  NamesOpen sessions word opened = IsAt sessions word opened.place × (opened.name.bytes ≡ word)
+  NamesOpen sessions word opened = (is_name word ≡ true) × IsAt sessions word opened.place × (opened.name.bytes ≡ word)
 
   -- The word is the name of a session that doesn't wait, and this is it.
   abbrev pub NamesCaller : OpenSessions S W → List ℕ → Caller → Type 0
-  NamesCaller sessions word caller = IsCalled sessions.resting word caller.place × (caller.name.bytes ≡ word)
-
-  -- The word is the name of a session that doesn't wait.
-  abbrev pub NamesOneThatMayAct : OpenSessions S W → List ℕ → Type 0
-  NamesOneThatMayAct sessions word = (caller : Caller) × NamesCaller sessions word caller
-
-  -- why a word names no open session
-  abbrev pub IsUnnamed : OpenSessions S W → List ℕ → Defect → Type 0
-  IsUnnamed sessions word BadName = is_name word ≡ false
-  IsUnnamed sessions word NoSuchSession = (is_name word ≡ true) × IsUnknown sessions word
-  IsUnnamed sessions word _ = ⊥
-
-  -- why a word names no session that may act
-  abbrev pub IsBarred : OpenSessions S W → List ℕ → Defect → Type 0
-  IsBarred sessions word SessionWaits = (place : ℕ) × IsCalled sessions.waiting word place
-  IsBarred sessions word defect = IsUnnamed sessions word defect
-
-  -- why three words are no lock and whose: by the first of them that is wrong
-  abbrev pub IsNoTarget : OpenSessions S W → List ℕ → List ℕ → List ℕ → Defect → Type 0
-  IsNoTarget sessions name tag mode BadObject = NamesOneThatMayAct sessions name × (tag_of tag ≡ None)
-  IsNoTarget sessions name tag mode BadMode =
-      NamesOneThatMayAct sessions name × IsSome (tag_of tag) × ((its : Mode) → name_of its ≢ mode)
-  IsNoTarget sessions name tag mode defect = IsBarred sessions name defect
+  NamesCaller sessions word caller =
+      (is_name word ≡ true) × IsCalled sessions.resting word caller.place × (caller.name.bytes ≡ word)

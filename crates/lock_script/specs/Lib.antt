@@ -1,5 +1,6 @@
 pub mod Bytes
 pub mod Command
+pub mod Defects
 pub mod Sessions
 pub mod Fault
 pub mod Lines

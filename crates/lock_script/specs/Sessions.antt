@@ -6,10 +6,10 @@ use Rattle.lock_script.specs.Names.{IsCalled, IsFree}
 
 -- Where open sessions stand.
 
--- the open session of this name stands there
+-- The open session of this name stands there. Who waits is looked for only where nobody else has the name.
 abbrev pub IsAt : {S W : Type 0} → OpenSessions S W → List ℕ → Place → Type 0
 IsAt sessions name (Resting place) = IsCalled sessions.resting name place
-IsAt sessions name (Waiting place) = IsCalled sessions.waiting name place
+IsAt sessions name (Waiting place) = IsFree sessions.resting name × IsCalled sessions.waiting name place
 
 -- no open session has the name
 abbrev pub IsUnknown : {S W : Type 0} → OpenSessions S W → List ℕ → Type 0

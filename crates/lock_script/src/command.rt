@@ -1,10 +1,10 @@
 //! The commands of the script language, and the parse of their words.
-ghost use Rattle.std.specs.Prelude.{◌≡◌, ◌≢◌, ◌↔◌, ◌⊎◌, length, map, take, None, Some, IfOk, IfErr, IfSome, IsErrOf, MatchOption};
-ghost use Rattle.std.specs.List.{HoldsAt};
+ghost use Rattle.std.specs.Prelude.{◌≡◌, [], ◌∷◌, ◌++◌, map, take, Some, IfOk, IfErr, IfSome, MatchOption};
 ghost use Rattle.modes_core.specs.Mode.{name_of};
-ghost use Rattle.lock_script.specs.Command.{Addresses, IsBarred, IsNoTarget, IsUnnamed, NamesCounter, NamesOneThatMayAct, NamesOpen, NamesCaller};
+ghost use Rattle.lock_script.specs.Command.{Addresses, NamesCounter, NamesOpen, NamesCaller};
+ghost use Rattle.lock_script.specs.Defects.{CallerName, CounterIndex, FreeName, IsBarred, IsDefectOf, IsFirstWrong, IsMisfit, IsNoTag, IsRefused, IsUnnamed, MeansNothing, ModeName, Number, OpenName, TagWord, commands, lock_commands, lock_words, look_commands, words_behind};
 ghost use Rattle.lock_script.specs.Meaning.{IsCommandOf, IsSilent, Means, NamesActor, NamesBlocked, NamesBoth, NamesCount, NamesLone, NamesNew, NamesOwned, NamesQueue, NamesTag};
-ghost use Rattle.lock_script.specs.Words.{strong_index_in, tag_of, words_of};
+ghost use Rattle.lock_script.specs.Words.{tag_of, words_of};
 
 use crate::faults::Defect;
 use crate::names::Name;
@@ -72,6 +72,8 @@ pub fn parse<S, W>(line: &str, sessions: &OpenSessions<S, W>) -> Result<Option<C
     ensures counter { IfOk result (λ command. IfSome command NamesCounter) }
     ensures meaning { IfOk result (λ command. MatchOption command (IsSilent (take 6 (words_of line.now)))
         (Means sessions.now (take 6 (words_of line.now)))) }
+    ensures refused { IfErr result (λ _. MeansNothing sessions.now (take 6 (words_of line.now))) }
+    ensures defect { IfErr result (IsDefectOf sessions.now (take 6 (words_of line.now))) }
 {
     let words = split_words(line);
     let Some((verb, words)) = words.as_slice().split_first() else {
@@ -91,7 +93,9 @@ fn parse_command<S, W>(
     words: &[&str],
     sessions: &OpenSessions<S, W>,
 ) -> Result<Command, Defect>
-    ensures { IfOk result (IsCommandOf sessions.now verb.now (map (λ word. word.now) words.now)) }
+    ensures meaning { IfOk result (IsCommandOf sessions.now verb.now (map (λ word. word.now) words.now)) }
+    ensures refused { IfErr result (IsRefused sessions.now
+        (words_behind verb.now commands) (map (λ word. word.now) words.now)) }
 {
     match verb {
         "session" => {
@@ -114,7 +118,9 @@ fn parse_lock_command<S, W>(
     words: &[&str],
     sessions: &OpenSessions<S, W>,
 ) -> Result<Command, Defect>
-    ensures { IfOk result (IsCommandOf sessions.now verb.now (map (λ word. word.now) words.now)) }
+    ensures meaning { IfOk result (IsCommandOf sessions.now verb.now (map (λ word. word.now) words.now)) }
+    ensures refused { IfErr result (IsRefused sessions.now
+        (words_behind verb.now (lock_commands ++ look_commands)) (map (λ word. word.now) words.now)) }
 {
     match verb {
         "try" => {
@@ -147,7 +153,9 @@ fn parse_look_command<S, W>(
     words: &[&str],
     sessions: &OpenSessions<S, W>,
 ) -> Result<Command, Defect>
-    ensures { IfOk result (IsCommandOf sessions.now verb.now (map (λ word. word.now) words.now)) }
+    ensures meaning { IfOk result (IsCommandOf sessions.now verb.now (map (λ word. word.now) words.now)) }
+    ensures refused { IfErr result (IsRefused sessions.now
+        (words_behind verb.now look_commands) (map (λ word. word.now) words.now)) }
 {
     match verb {
         "owned" => Ok(Command::Owned(parse_lone_target(words, sessions)?)),
@@ -174,6 +182,8 @@ fn parse_look_command<S, W>(
 fn parse_session<S, W>(words: &[&str], sessions: &OpenSessions<S, W>) -> Result<(Name, u32), Defect>
     ensures named { IfOk result (λ parsed.
         NamesNew sessions.now (map (λ word. word.now) words.now) parsed.0 parsed.1) }
+    ensures refused { IfErr result (IsMisfit sessions.now (FreeName ∷ Number ∷ [])
+        (map (λ word. word.now) words.now)) }
 {
     let [name, database] = words else {
         return Err(Defect::WrongNumberOfWords);
@@ -193,6 +203,7 @@ fn parse_owned_target<S, W>(
 ) -> Result<(Target, Owner), Defect>
     ensures named { IfOk result (λ parsed.
         NamesOwned sessions.now (map (λ word. word.now) words.now) parsed.0 parsed.1) }
+    ensures refused { IfErr result (IsMisfit sessions.now lock_words (map (λ word. word.now) words.now)) }
 {
     match words {
         [name, tag, mode] => {
@@ -211,6 +222,8 @@ fn parse_owned_target<S, W>(
 /// The words behind `owned` and `waiters`.
 fn parse_lone_target<S, W>(words: &[&str], sessions: &OpenSessions<S, W>) -> Result<Target, Defect>
     ensures named { IfOk result (NamesLone sessions.now (map (λ word. word.now) words.now)) }
+    ensures refused { IfErr result (IsMisfit sessions.now (CallerName ∷ TagWord ∷ ModeName ∷ [])
+        (map (λ word. word.now) words.now)) }
 {
     let [name, tag, mode] = words else {
         return Err(Defect::WrongNumberOfWords);
@@ -228,7 +241,8 @@ fn parse_target<S, W>(
     ensures named { IfOk result (λ target. NamesCaller sessions.now name.now target.caller) }
     ensures tag { IfOk result (λ target. tag_of tag.now ≡ Some target.tag) }
     ensures mode { IfOk result (λ target. name_of target.mode ≡ mode.now) }
-    ensures refused { IfErr result (IsNoTarget sessions.now name.now tag.now mode.now) }
+    ensures refused { IfErr result (IsFirstWrong sessions.now (CallerName ∷ TagWord ∷ ModeName ∷ [])
+        (name.now ∷ tag.now ∷ mode.now ∷ [])) }
 {
     let caller = parse_caller(name, sessions)?;
     let tag = parse_tag(tag).ok_or(Defect::BadObject)?;
@@ -239,6 +253,7 @@ fn parse_target<S, W>(
 /// The word behind a command that takes a session's name alone.
 fn parse_lone_caller<S, W>(words: &[&str], sessions: &OpenSessions<S, W>) -> Result<Caller, Defect>
     ensures named { IfOk result (NamesActor sessions.now (map (λ word. word.now) words.now)) }
+    ensures refused { IfErr result (IsMisfit sessions.now (CallerName ∷ []) (map (λ word. word.now) words.now)) }
 {
     let [name] = words else {
         return Err(Defect::WrongNumberOfWords);
@@ -248,7 +263,8 @@ fn parse_lone_caller<S, W>(words: &[&str], sessions: &OpenSessions<S, W>) -> Res
 
 /// The word behind `hash`.
 fn parse_hash(words: &[&str]) -> Result<Tag, Defect>
-    ensures { IfOk result (NamesTag (map (λ word. word.now) words.now)) }
+    ensures named { IfOk result (NamesTag (map (λ word. word.now) words.now)) }
+    ensures refused { IfErr result (IsNoTag (map (λ word. word.now) words.now)) }
 {
     let [tag] = words else {
         return Err(Defect::WrongNumberOfWords);
@@ -260,6 +276,8 @@ fn parse_hash(words: &[&str]) -> Result<Tag, Defect>
 fn parse_queue<S, W>(words: &[&str], sessions: &OpenSessions<S, W>) -> Result<(Caller, Tag), Defect>
     ensures named { IfOk result (λ parsed.
         NamesQueue sessions.now (map (λ word. word.now) words.now) parsed.0 parsed.1) }
+    ensures refused { IfErr result (IsMisfit sessions.now (CallerName ∷ TagWord ∷ [])
+        (map (λ word. word.now) words.now)) }
 {
     let [name, object] = words else {
         return Err(Defect::WrongNumberOfWords);
@@ -276,6 +294,8 @@ fn parse_blockers<S, W>(
 ) -> Result<(Caller, Opened, Tag), Defect>
     ensures named { IfOk result (λ parsed.
         NamesBlocked sessions.now (map (λ word. word.now) words.now) parsed.0 parsed.1 parsed.2) }
+    ensures refused { IfErr result (IsMisfit sessions.now (CallerName ∷ OpenName ∷ TagWord ∷ [])
+        (map (λ word. word.now) words.now)) }
 {
     let [by, other, object] = words else {
         return Err(Defect::WrongNumberOfWords);
@@ -290,12 +310,8 @@ fn parse_blockers<S, W>(
 fn parse_count<S, W>(words: &[&str], sessions: &OpenSessions<S, W>) -> Result<(Caller, u16), Defect>
     ensures named { IfOk result (λ parsed.
         NamesCount sessions.now (map (λ word. word.now) words.now) parsed.0 parsed.1) }
-    ensures wrong_number { IsErrOf result Defect.WrongNumberOfWords ↔ (length words.now ≢ 2) }
-    ensures refused { IfErr result (λ defect. defect ≢ Defect.WrongNumberOfWords →
-        HoldsAt (λ word. IsBarred sessions.now word.now defect) words.now 0
-        ⊎ ((defect ≡ Defect.BadNumber)
-        × HoldsAt (λ word. NamesOneThatMayAct sessions.now word.now) words.now 0
-        × HoldsAt (λ word. strong_index_in word.now ≡ None) words.now 1)) }
+    ensures refused { IfErr result (IsMisfit sessions.now (CallerName ∷ CounterIndex ∷ [])
+        (map (λ word. word.now) words.now)) }
 {
     let [name, index] = words else {
         return Err(Defect::WrongNumberOfWords);
@@ -312,11 +328,8 @@ fn parse_cancel<S, W>(
 ) -> Result<(Caller, Opened), Defect>
     ensures named { IfOk result (λ parsed.
         NamesBoth sessions.now (map (λ word. word.now) words.now) parsed.0 parsed.1) }
-    ensures wrong_number { IsErrOf result Defect.WrongNumberOfWords ↔ (length words.now ≢ 2) }
-    ensures refused { IfErr result (λ defect. defect ≢ Defect.WrongNumberOfWords →
-        HoldsAt (λ word. IsBarred sessions.now word.now defect) words.now 0
-        ⊎ (HoldsAt (λ word. NamesOneThatMayAct sessions.now word.now) words.now 0
-        × HoldsAt (λ word. IsUnnamed sessions.now word.now defect) words.now 1)) }
+    ensures refused { IfErr result (IsMisfit sessions.now (CallerName ∷ OpenName ∷ [])
+        (map (λ word. word.now) words.now)) }
 {
     let [by, other] = words else {
         return Err(Defect::WrongNumberOfWords);

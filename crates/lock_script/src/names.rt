@@ -6,7 +6,7 @@ use modes_core::{SESSIONS, SessionId};
 use std::marker::Model;
 
 /// How many sessions there are at most.
-const MOST: usize = SESSIONS as usize;
+pub(crate) const MOST_SESSIONS: usize = SESSIONS as usize;
 
 /// A session's name.
 pub type Name = ArrayString<16>;
@@ -14,7 +14,7 @@ pub type Name = ArrayString<16>;
 /// The names of the sessions that were opened. A session's number is its place in the order of opening.
 #[derive(Drop)]
 pub struct Names {
-    issued: ArrayVec<Name, MOST>,
+    issued: ArrayVec<Name, MOST_SESSIONS>,
 }
 
 impl Model for Names {

@@ -4,13 +4,9 @@ ghost use Rattle.std.specs.Borrow.{sem};
 ghost use Rattle.std.specs.List.{HoldsAt};
 ghost use Rattle.lock_script.specs.Names.{IsByName, IsCalled, IsFree, NotAfter, PutsIn};
 
-use crate::names::Name;
-use modes_core::SESSIONS;
+use crate::names::{MOST_SESSIONS, Name};
 use std::alloc::{AllocError, Global};
 use std::marker::Model;
-
-/// How many sessions there are at most.
-const MOST: usize = SESSIONS as usize;
 
 /// A session under its name.
 #[derive(Drop)]
@@ -46,7 +42,7 @@ impl<S> ByName<S> {
     pub fn new(alloc: Global) -> Result<Self, AllocError>
         ensures { IfOk result (λ made. made ≡ []) }
     {
-        let sessions = Vec::with_capacity(alloc, MOST)?;
+        let sessions = Vec::with_capacity(alloc, MOST_SESSIONS)?;
         Ok(ByName { sessions })
     }
 

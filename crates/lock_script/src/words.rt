@@ -66,10 +66,7 @@ pub fn parse_name(word: &str) -> Option<Name>
     if word.is_empty() || !has_name_bytes(word) {
         return None;
     }
-    match Name::from(word) {
-        Ok(name) => Some(name),
-        Err(_) => None,
-    }
+    Name::from(word).ok()
 }
 
 /// Whether each character may stand in a name.
@@ -140,7 +137,7 @@ fn parse_advisory(numbers: &str) -> Option<Tag>
     let Some((key2, sub)) = cut_at_slash(rest) else {
         return None;
     };
-    if let Some(_) = cut_at_slash(sub) {
+    if cut_at_slash(sub).is_some() {
         return None;
     }
     advisory_tag(
@@ -161,7 +158,7 @@ fn parse_catalogued(database: &str, rest: &str) -> Option<Tag>
     let Some((object, sub_object)) = cut_at_slash(rest) else {
         return None;
     };
-    if let Some(_) = cut_at_slash(sub_object) {
+    if cut_at_slash(sub_object).is_some() {
         return None;
     }
     object_tag(
@@ -211,10 +208,9 @@ fn advisory_tag(
     ensures { result ≡ advisory_of_numbers (database ∷ key1 ∷ key2 ∷ sub ∷ []) }
 {
     match (database, key1, key2, sub) {
-        (Some(database), Some(key1), Some(key2), Some(sub)) => match u16::try_from(sub) {
-            Ok(sub) => Some(Tag::advisory(database, key1, key2, sub)),
-            Err(_) => None,
-        },
+        (Some(database), Some(key1), Some(key2), Some(sub)) => u16::try_from(sub)
+            .ok()
+            .map(|sub| Tag::advisory(database, key1, key2, sub)),
         _ => None,
     }
 }
@@ -230,10 +226,9 @@ fn object_tag(
 {
     match (database, class, object, sub_object) {
         (Some(database), Some(class), Some(object), Some(sub_object)) => {
-            match u16::try_from(sub_object) {
-                Ok(sub_object) => Some(Tag::object(database, class, object, sub_object)),
-                Err(_) => None,
-            }
+            u16::try_from(sub_object).ok().map(|sub_object| Tag::object(
+                database, class, object, sub_object,
+            ))
         }
         _ => None,
     }

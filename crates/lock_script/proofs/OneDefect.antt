@@ -1,0 +1,74 @@
+-- No line has two defects.
+use Rattle.std.proofs.Common.{◌≡◌, ◌∙◌, ℕ, List, [], ◌∷◌, Option, Some, None, refl, sym, inl, inr}
+use Rattle.lock_script.specs.Defects.{Kind, FreeName, OpenName, CallerName, Number, CounterIndex, TagWord, ModeName, OwnerWord, commands, words_behind, IsUnnamed, IsBarred, IsTaken, IsWrong, IsFirstWrong, IsMisfit, IsRefused, IsDefectOf}
+use Rattle.lock_script.specs.Words.{is_name}
+use Rattle.lock_script.specs.declared.sessions.OpenSessions.{OpenSessions}
+use Rattle.lock_script.specs.declared.faults.Defect.{Defect}
+use Rattle.lock_script.specs.declared.faults.Defect.TheVariants.{BadName, SessionExists, NoSuchSession, SessionWaits}
+use Rattle.lock_script.proofs.DefectLemmas.{clash, called-not_free}
+
+module _ {S W : Type 0} (sessions : OpenSessions S W) where
+  unnamed-one : (word : List ℕ) (a b : Defect) → IsUnnamed sessions word a → IsUnnamed sessions word b → a ≡ b
+  unnamed-one word BadName BadName x y = refl
+  unnamed-one word BadName NoSuchSession x y = absurd (clash (is_name word) y.0 x)
+  unnamed-one word NoSuchSession BadName x y = absurd (clash (is_name word) x.0 y)
+  unnamed-one word NoSuchSession NoSuchSession x y = refl
+  unnamed-one word BadName _ x y = absurd y
+  unnamed-one word NoSuchSession _ x y = absurd y
+  unnamed-one word _ b x y = absurd x
+
+  barred-one : (word : List ℕ) (a b : Defect) → IsBarred sessions word a → IsBarred sessions word b → a ≡ b
+  barred-one word SessionWaits SessionWaits x y = refl
+  barred-one word SessionWaits BadName x y = absurd (clash (is_name word) x.0 y)
+  barred-one word SessionWaits NoSuchSession x y = absurd (called-not_free sessions.waiting word x.2.0 x.2.1 y.1.1)
+  barred-one word BadName SessionWaits x y = absurd (clash (is_name word) y.0 x)
+  barred-one word NoSuchSession SessionWaits x y = absurd (called-not_free sessions.waiting word y.2.0 y.2.1 x.1.1)
+  barred-one word BadName BadName x y = refl
+  barred-one word BadName NoSuchSession x y = absurd (clash (is_name word) y.0 x)
+  barred-one word NoSuchSession BadName x y = absurd (clash (is_name word) x.0 y)
+  barred-one word NoSuchSession NoSuchSession x y = refl
+  barred-one word SessionWaits _ x y = absurd y
+  barred-one word BadName _ x y = absurd y
+  barred-one word NoSuchSession _ x y = absurd y
+  barred-one word _ b x y = absurd x
+
+  taken-one : (word : List ℕ) (a b : Defect) → IsTaken sessions word a → IsTaken sessions word b → a ≡ b
+  taken-one word BadName BadName x y = refl
+  taken-one word BadName SessionExists x y = absurd (clash (is_name word) y.0 x)
+  taken-one word SessionExists BadName x y = absurd (clash (is_name word) x.0 y)
+  taken-one word SessionExists SessionExists x y = refl
+  taken-one word BadName _ x y = absurd y
+  taken-one word SessionExists _ x y = absurd y
+  taken-one word _ b x y = absurd x
+
+  wrong-one : (kind : Kind) (word : List ℕ) (a b : Defect) → IsWrong sessions kind word a → IsWrong sessions kind word b → a ≡ b
+  wrong-one FreeName word a b x y = taken-one word a b x y
+  wrong-one OpenName word a b x y = unnamed-one word a b x y
+  wrong-one CallerName word a b x y = barred-one word a b x y
+  wrong-one Number word a b x y = x.0 ∙ sym y.0
+  wrong-one CounterIndex word a b x y = x.0 ∙ sym y.0
+  wrong-one TagWord word a b x y = x.0 ∙ sym y.0
+  wrong-one ModeName word a b x y = x.0 ∙ sym y.0
+  wrong-one OwnerWord word a b x y = x.0 ∙ sym y.0
+
+  first-one : (kinds : List Kind) (words : List (List ℕ)) (a b : Defect) → IsFirstWrong sessions kinds words a → IsFirstWrong sessions kinds words b → a ≡ b
+  first-one [] words a b x y = absurd x
+  first-one (kind ∷ kinds) [] a b x y = absurd x
+  first-one (kind ∷ kinds) (word ∷ words) a b (inl x) (inl y) = wrong-one kind word a b x y
+  first-one (kind ∷ kinds) (word ∷ words) a b (inl x) (inr y) = absurd (y.0 a x)
+  first-one (kind ∷ kinds) (word ∷ words) a b (inr x) (inl y) = absurd (x.0 b y)
+  first-one (kind ∷ kinds) (word ∷ words) a b (inr x) (inr y) = first-one kinds words a b x.1 y.1
+
+  misfit-one : (kinds : List Kind) (words : List (List ℕ)) (a b : Defect) → IsMisfit sessions kinds words a → IsMisfit sessions kinds words b → a ≡ b
+  misfit-one kinds words a b (inl x) (inl y) = x.0 ∙ sym y.0
+  misfit-one kinds words a b (inl x) (inr y) = absurd (x.1 y.0)
+  misfit-one kinds words a b (inr x) (inl y) = absurd (y.1 x.0)
+  misfit-one kinds words a b (inr x) (inr y) = first-one kinds words a b x.1 y.1
+
+  refused-one : (kinds : Option (List Kind)) (words : List (List ℕ)) (a b : Defect) → IsRefused sessions kinds words a → IsRefused sessions kinds words b → a ≡ b
+  refused-one None words a b x y = x ∙ sym y
+  refused-one (Some kinds) words a b x y = misfit-one kinds words a b x y
+
+  pub one_defect : (line : List (List ℕ)) (a b : Defect) → IsDefectOf sessions line a → IsDefectOf sessions line b → a ≡ b
+  one_defect [] a b x y = absurd x
+  one_defect (verb ∷ words) a b x y = refused-one (words_behind verb commands) words a b x y

@@ -1,0 +1,150 @@
+use Rattle.std.specs.Prelude.{◌≡◌, ◌≢◌, ◌⊎◌, ℕ, true, false, List, [], ◌∷◌, ◌++◌, ⊤, Option, Some, None, codes, if◌then◌else◌}
+use Rattle.std.specs.Str.{bytes_eq}
+use Rattle.modes_core.specs.declared.modes.Mode.{Mode}
+use Rattle.modes_core.specs.Mode.{name_of}
+use Rattle.lock_script.specs.Meaning.{IsSilent, Means}
+use Rattle.lock_script.specs.Names.{IsCalled, IsFree}
+use Rattle.lock_script.specs.Sessions.{IsAt, IsUnknown}
+use Rattle.lock_script.specs.Words.{is_name, number_in, strong_index_in, tag_of, owner_of}
+use Rattle.lock_script.specs.declared.sessions.OpenSessions.{OpenSessions}
+use Rattle.lock_script.specs.declared.sessions.Place.{Place}
+use Rattle.lock_script.specs.declared.command.Command.{Command}
+use Rattle.lock_script.specs.declared.faults.Defect.{Defect}
+use Rattle.lock_script.specs.declared.faults.Defect.TheVariants.{UnknownCommand, WrongNumberOfWords, BadName, SessionExists, NoSuchSession, SessionWaits, BadNumber, BadObject, BadMode, BadOwner}
+
+-- Which defect a line has, where its words mean nothing.
+
+-- what a word behind a command has to be
+pub data Kind : Type 0 where
+  -- a name that no open session has
+  FreeName : Kind
+  -- the name of an open session
+  OpenName : Kind
+  -- the name of an open session that doesn't wait
+  CallerName : Kind
+  Number : Kind
+  CounterIndex : Kind
+  TagWord : Kind
+  ModeName : Kind
+  OwnerWord : Kind
+
+-- what stands behind a command that asks for a lock or gives one back
+abbrev pub lock_words : List Kind
+lock_words = CallerName ∷ TagWord ∷ ModeName ∷ OwnerWord ∷ []
+
+-- The commands, each with the words behind it. First those that open or close a session, and that begin or end a
+-- transaction's levels.
+abbrev pub session_commands : List (List ℕ × List Kind)
+session_commands =
+    (codes "session", FreeName ∷ Number ∷ [])
+    ∷ (codes "commit", CallerName ∷ [])
+    ∷ (codes "abort", CallerName ∷ [])
+    ∷ (codes "begin", CallerName ∷ [])
+    ∷ (codes "subcommit", CallerName ∷ [])
+    ∷ (codes "subabort", CallerName ∷ [])
+    ∷ (codes "close", CallerName ∷ [])
+    ∷ []
+
+-- those that ask for a lock, let one go or end a wait for one
+abbrev pub lock_commands : List (List ℕ × List Kind)
+lock_commands =
+    (codes "try", lock_words)
+    ∷ (codes "fast", lock_words)
+    ∷ (codes "lock", lock_words)
+    ∷ (codes "unlock", lock_words)
+    ∷ (codes "cancel", CallerName ∷ OpenName ∷ [])
+    ∷ []
+
+-- those that only look
+abbrev pub look_commands : List (List ℕ × List Kind)
+look_commands =
+    (codes "owned", CallerName ∷ TagWord ∷ ModeName ∷ [])
+    ∷ (codes "waiters", CallerName ∷ TagWord ∷ ModeName ∷ [])
+    ∷ (codes "queue", CallerName ∷ TagWord ∷ [])
+    ∷ (codes "blockers", CallerName ∷ OpenName ∷ TagWord ∷ [])
+    ∷ (codes "list", CallerName ∷ [])
+    ∷ (codes "count", CallerName ∷ CounterIndex ∷ [])
+    ∷ (codes "hash", TagWord ∷ [])
+    ∷ []
+
+-- all of them
+abbrev pub commands : List (List ℕ × List Kind)
+commands = session_commands ++ lock_commands ++ look_commands
+
+-- what stands behind the command of this name, if there is one among these
+abbrev pub words_behind : List ℕ → List (List ℕ × List Kind) → Option (List Kind)
+words_behind verb [] = None
+words_behind verb (command ∷ others) =
+    if bytes_eq verb command.0 then Some command.1 else words_behind verb others
+
+-- There is a word for each of these kinds; only an owner may be left out.
+abbrev pub AreAsMany : List Kind → List (List ℕ) → Type 0
+AreAsMany [] [] = ⊤
+AreAsMany (OwnerWord ∷ []) [] = ⊤
+AreAsMany (kind ∷ kinds) (word ∷ words) = AreAsMany kinds words
+AreAsMany _ _ = ⊥
+
+-- why the words behind `hash` are no tag
+abbrev pub IsNoTag : List (List ℕ) → Defect → Type 0
+IsNoTag (word ∷ []) defect = (defect ≡ BadObject) × (tag_of word ≡ None)
+IsNoTag _ defect = defect ≡ WrongNumberOfWords
+
+module _ {S W : Type 0} where
+  -- why a word is not the name of an open session
+  abbrev pub IsUnnamed : OpenSessions S W → List ℕ → Defect → Type 0
+  IsUnnamed sessions word BadName = is_name word ≡ false
+  IsUnnamed sessions word NoSuchSession = (is_name word ≡ true) × IsUnknown sessions word
+  IsUnnamed sessions word _ = ⊥
+
+  -- why a word is not the name of a session that doesn't wait
+  abbrev pub IsBarred : OpenSessions S W → List ℕ → Defect → Type 0
+  IsBarred sessions word SessionWaits =
+      (is_name word ≡ true) × IsFree sessions.resting word × ((place : ℕ) × IsCalled sessions.waiting word place)
+  IsBarred sessions word defect = IsUnnamed sessions word defect
+
+  -- why a word is not a name that is free
+  abbrev pub IsTaken : OpenSessions S W → List ℕ → Defect → Type 0
+  IsTaken sessions word BadName = is_name word ≡ false
+  IsTaken sessions word SessionExists = (is_name word ≡ true) × ((place : Place) × IsAt sessions word place)
+  IsTaken sessions word _ = ⊥
+
+  -- why a word is not of this kind
+  abbrev pub IsWrong : OpenSessions S W → Kind → List ℕ → Defect → Type 0
+  IsWrong sessions FreeName word defect = IsTaken sessions word defect
+  IsWrong sessions OpenName word defect = IsUnnamed sessions word defect
+  IsWrong sessions CallerName word defect = IsBarred sessions word defect
+  IsWrong sessions Number word defect = (defect ≡ BadNumber) × (number_in word ≡ None)
+  IsWrong sessions CounterIndex word defect = (defect ≡ BadNumber) × (strong_index_in word ≡ None)
+  IsWrong sessions TagWord word defect = (defect ≡ BadObject) × (tag_of word ≡ None)
+  IsWrong sessions ModeName word defect = (defect ≡ BadMode) × ((mode : Mode) → name_of mode ≢ word)
+  IsWrong sessions OwnerWord word defect = (defect ≡ BadOwner) × (owner_of word ≡ None)
+
+  -- nothing is wrong with a word of this kind
+  abbrev pub IsRight : OpenSessions S W → Kind → List ℕ → Type 0
+  IsRight sessions kind word = (defect : Defect) → ¬ IsWrong sessions kind word defect
+
+  -- the defect is that of the first word that is wrong
+  abbrev pub IsFirstWrong : OpenSessions S W → List Kind → List (List ℕ) → Defect → Type 0
+  IsFirstWrong sessions (kind ∷ kinds) (word ∷ words) defect =
+      IsWrong sessions kind word defect ⊎ (IsRight sessions kind word × IsFirstWrong sessions kinds words defect)
+  IsFirstWrong sessions _ _ defect = ⊥
+
+  -- why words are not of these kinds: by their number, or else by the first of them that is wrong
+  abbrev pub IsMisfit : OpenSessions S W → List Kind → List (List ℕ) → Defect → Type 0
+  IsMisfit sessions kinds words defect =
+      ((defect ≡ WrongNumberOfWords) × (¬ AreAsMany kinds words))
+      ⊎ (AreAsMany kinds words × IsFirstWrong sessions kinds words defect)
+
+  -- why they don't stand behind a command, or that there is no such command
+  abbrev pub IsRefused : OpenSessions S W → Option (List Kind) → List (List ℕ) → Defect → Type 0
+  IsRefused sessions None words defect = defect ≡ UnknownCommand
+  IsRefused sessions (Some kinds) words defect = IsMisfit sessions kinds words defect
+
+  -- the defect of a line's words
+  abbrev pub IsDefectOf : OpenSessions S W → List (List ℕ) → Defect → Type 0
+  IsDefectOf sessions [] defect = ⊥
+  IsDefectOf sessions (verb ∷ words) defect = IsRefused sessions (words_behind verb commands) words defect
+
+  -- The words of a line are neither silent nor a command.
+  abbrev pub MeansNothing : OpenSessions S W → List (List ℕ) → Type 0
+  MeansNothing sessions words = (¬ IsSilent words) × ((command : Command) → ¬ Means sessions words command)
