@@ -9,7 +9,7 @@ use Rattle.shared_rule.specs.declared.history.Mark.{Mark}
 use Rattle.shared_rule.specs.declared.history.View.{View}
 use Rattle.shared_rule.specs.declared.kept.Kept.{Kept}
 use Rattle.shared_rule.specs.Boards.{StaysLone}
-use Rattle.shared_rule.specs.History.{noted, noting, first_account, first_number, lone}
+use Rattle.shared_rule.specs.History.{noted, noting, first_account, first_number}
 use Rattle.shared_rule.specs.Led.{Led}
 use Rattle.shared_rule.specs.Plays.{account_at, number_at, HasSession, IsSameSeat}
 use Rattle.shared_rule.proofs.Taken.{lone-noted, number-noted, session-noted, account-noted}
