@@ -18,7 +18,7 @@ use Rattle.lock_world.specs.AccountFacts.{OwnHoldsStand}
 use Rattle.lock_world.specs.Happens.{RunsThrough, last_of}
 use Rattle.lock_world.specs.Listing.{StandsThereOrInContent}
 use Rattle.lock_world.specs.SafeWorld.{SafeWorld}
-use Rattle.lock_world.specs.SlotHolds.{group_size, slot_count, slot_holds, ShowsNoMore, OneSlotEach}
+use Rattle.lock_world.specs.SlotHolds.{group_size, slot_count, slot_holds, ShowsNoMore, OneSlotEach, AreInGroups}
 use Rattle.lock_world.specs.World.{World, TraceEntry, Took, Episode}
 use Rattle.fast_path.specs.Rows.{rows_of_all, loads_of_all, times_shown}
 use Rattle.lock_manager.specs.declared.listing.Listing.{Listing}
@@ -105,12 +105,15 @@ MissesNone groups limit number before after listing =
     → 1 ≤ times_listed listing session tag mode
 
 -- A whole listing. The database and the slots of each session that there can be are loaded, in rising order, and the slot
--- rows are those of what these loads showed. The lock of a session's slots is shared while they are loaded, so that they stand
--- so at one moment, and no relation has two of them. After that the partitions are taken, and the table's rows list their contents.
+-- rows are those of what these loads showed: none past the groups that are loaded is in use. The lock of a session's slots is
+-- shared while they are loaded, so that they stand so at one moment, and no relation has two of them. After that the partitions
+-- are taken, and the table's rows list their contents.
 pub record ListsAll (groups limit number : ℕ) (a : Account) (result : Result Listing Refusal) (b : Account) : Type 0 where
   pub database : ℕ → ℕ
   pub word : ℕ → ℕ → ℕ
   pub one_each : (session : ℕ) → session < limit → OneSlotEach (word session)
+  -- a slot in use is of its relation's group, so none past the groups is
+  pub in_groups : (session : ℕ) → session < limit → AreInGroups groups (word session)
   pub fast : IfOk result (λ listing. listing.fast.items ≡ rows_of_all limit database word)
   pub contents : List Content
   pub sixteen : length contents ≡ 16
