@@ -161,6 +161,7 @@ module _ (kind : Kind) (seat : Seated) (a b c : Account) (uses left : UseCounts)
     put = d.put;
     before = led.before;
     own_stand = led-stand d.taken c.fast.remembered (sym (ap (λ (fast : FastAccount). fast.remembered) (decided-fast kind seat.number b c tag mode result d))) d.own_stand;
+    no_own_wait = d.no_own_wait;
     decided = d.decided;
     refused = d.refused;
     kept = d.kept;
@@ -227,6 +228,7 @@ module _ (kind : Kind) (seat : Seated) (a b c : Account) (uses left : UseCounts)
             put = it.put;
             before = it.before;
             own_stand = subst (λ (words : ℕ → ℕ). OwnHoldsStand seat.number a.own a.fast.database words (partition_of tag) it.taken) back-remembered it.own_stand;
+            no_own_wait = it.no_own_wait;
             decided = it.decided;
             refused = it.refused;
             kept = it.kept;
