@@ -71,15 +71,16 @@ abbrev pub times_listed : Listing → ℕ → Tag → Mode → ℕ
 times_listed listing session tag mode =
     times_shown listing.fast.items session tag mode + times_in_table listing.table.items session tag mode true
 
--- The hold left its slot between the two reads: the slots of its session showed it as they were loaded, and it stood in the
--- content of its object's partition as that was taken.
-pub record LeftItsSlot (number database : ℕ) (loaded : ℕ → ℕ) (contents : List Content) (tag : Tag) (mode : Mode) : Type 0 where
+-- The hold left its slot between the two reads: the slots of its session showed it as they were loaded, and it stood in
+-- the content of its object's partition as that was taken.
+pub record LeftItsSlot (number database : ℕ) (loaded : ℕ → ℕ) (contents : List Content) (tag : Tag) (mode : Mode) :
+    Type 0 where
   pub shown : slot_holds database loaded tag mode ≡ true
   pub there : (content_at contents (partition_of tag)).holds number tag mode ≡ true
 
--- What it tells of the caller, whose slots showed these words as they were loaded, and of which these contents were taken then:
--- where its own holds stand in these. Each own hold has one row, or two where it left its slot between the two reads; and no
--- other row is the caller's.
+-- What it tells of the caller, whose slots showed these words as they were loaded, before these contents were taken: where
+-- its own holds stand as each was taken. Each own hold has one row, or two where it left its slot between the two reads;
+-- and no other row is the caller's.
 pub record ListsOwn (number : ℕ) (own : Tag → Mode → Bool) (database : ℕ) (loaded : ℕ → ℕ) (contents : List Content)
     (listing : Listing) : Type 0 where
   pub stand :
@@ -108,10 +109,10 @@ MissesNone groups limit number before after listing =
     → ((at : ℕ) (w : World) → slice_get (first ∷ worlds) at ≡ Some w → StandsThereOrInContent w session tag mode place)
     → 1 ≤ times_listed listing session tag mode
 
--- A whole listing. The database and the slots of each session that there can be are loaded, in rising order, and the slot
--- rows are those of what these loads showed: none past the groups that are loaded is in use. The lock of a session's slots is
--- shared while they are loaded, so that they stand so at one moment, and no relation has two of them. After that the partitions
--- are taken, and the table's rows list their contents.
+-- A whole listing. The database and the slots of each session that there can be are loaded, in rising order, and the
+-- slot rows are those of what these loads showed: no slot past the groups that were loaded is in use. The lock of a
+-- session's slots is shared while they are loaded, so that they stand so at one moment, and no relation has two of them.
+-- After that the partitions are taken, and the table's rows list their contents.
 pub record ListsAll (groups limit number : ℕ) (a : Account) (result : Result Listing Refusal) (b : Account) : Type 0 where
   pub database : ℕ → ℕ
   pub word : ℕ → ℕ → ℕ

@@ -87,8 +87,8 @@ account_decided number a tag mode taken put (Ok decision.Queued) =
 account_decided number a tag mode taken put (Err refusal) = account_episode a (partition_of tag) taken put move_.Keep
 
 -- The episode that decides: the content put is the one taken with one more hold or wait, as was decided by it, and
--- after a refusal as it was. The content taken has each own hold of its partition that is in no slot, and no wait of the
--- session's on the object.
+-- after a refusal as it was. The content taken has each own hold of its partition that is in no slot, and no wait of
+-- the session's on the object.
 pub record DecidesInPart (kind : Kind) (number : ℕ) (a : Account) (tag : Tag) (mode : Mode)
     (result : Result Decision Refusal) (b : Account) : Type 0 where
   pub taken : Content
@@ -103,8 +103,8 @@ pub record DecidesInPart (kind : Kind) (number : ℕ) (a : Account) (tag : Tag) 
 -- The request has one episode, in the object's partition, and its answer is that of the content taken: where it is
 -- granted the content put has the hold, and where it is queued the wait; else that is put as it was, and the refusal
 -- names what is in the way there, or memory. The content taken has each own hold of the partition that is in no slot of
--- the session, and no wait of the session's on the object. Before it stands what led to the table. No other step joins the
--- trace.
+-- the session, and no wait of the session's on the object. Before it stands what led to the table. No other step joins
+-- the trace.
 pub record Decides (kind : Kind) (seat : Seated) (a : Account) (uses : UseCounts) (tag : Tag) (mode : Mode)
     (result : Result Decision Refusal) (b : Account) (left : UseCounts) : Type 0 where
   pub steps : List TraceEntry

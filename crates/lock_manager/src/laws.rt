@@ -17,9 +17,11 @@ ghost use Rattle.lock_manager.specs.Requests.{Decides};
 /// In the content that was taken for it that session holds the object in the mode that is named, or awaits it so, and
 /// that mode conflicts with the one asked for.
 pub fn a_conflict_names_another_session_in_the_way()
-    ensures another { (seat : Seated) (a b : Account) (uses left : UseCounts) (tag : Tag) (mode its : Mode) (other : ℕ) (how : How) →
+    ensures another { (seat : Seated) (a b : Account) (uses left : UseCounts)
+        (tag : Tag) (mode its : Mode) (other : ℕ) (how : How) →
         Decides Conditional seat a uses tag mode (Err (Conflict other its how)) b left → other ≢ seat.number }
-    ensures in_the_way { (seat : Seated) (a b : Account) (uses left : UseCounts) (tag : Tag) (mode its : Mode) (other : ℕ) (how : How) →
+    ensures in_the_way { (seat : Seated) (a b : Account) (uses left : UseCounts)
+        (tag : Tag) (mode its : Mode) (other : ℕ) (how : How) →
         (decides : Decides Conditional seat a uses tag mode (Err (Conflict other its how)) b left) →
         IsInTheWay decides.taken seat.number tag mode (record { session = other; mode = its; how = how }) }
 {}
