@@ -5,7 +5,6 @@ use Rattle.modes_core.specs.declared.tags.Tag.{Tag}
 use Rattle.modes_core.specs.declared.refusals.Refusal.{Refusal}
 use Rattle.modes_core.specs.declared.refusals.Refusal.TheVariants.{NoMemory}
 use Rattle.modes_core.specs.Tag.{partition_of, index_of, is_strong_on, is_eligible_for}
-use Rattle.local_locks.specs.declared.answers.Acquired.TheVariants.{Granted}
 use Rattle.lock_table.specs.declared.moves.Move.TheVariants as move_
 use Rattle.lock_table.specs.Content.{Content}
 use Rattle.lock_table.specs.Queue.{waits_there}
