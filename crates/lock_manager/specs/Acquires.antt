@@ -33,6 +33,19 @@ pub record AnswersByOwned {A : Type 0} (owned : Owned) (tag : Tag) (mode : Mode)
       IsErrOf result LocalFull
       ↔ ((has_entry owned.entries tag mode ≡ false) × (may_be_had ≡ true) × (length owned.entries ≡ owned.max_local))
 
+-- a refusal by what the session owns, or by its own database
+abbrev pub IsOwnRefusal : Refusal → Type 0
+IsOwnRefusal CountFull = Unit {0}
+IsOwnRefusal LocalFull = Unit {0}
+IsOwnRefusal NotEligible = Unit {0}
+IsOwnRefusal _ = ⊥
+
+-- An acquire is answered by what the session has of its own alone. That memory runs out is no such answer, since that
+-- may be the session's own or the table's.
+abbrev pub IsOwnAnswer : {A : Type 0} → A → Result A Refusal → Type 0
+IsOwnAnswer already (Ok answer) = answer ≡ already
+IsOwnAnswer already (Err refusal) = IsOwnRefusal refusal
+
 -- the entries once it has begun
 abbrev pub entries_begun : Begun → List Entry → Tag → Mode → Owner → List Entry
 entries_begun Granted entries tag mode owner = with_one_more entries tag mode owner

@@ -5,6 +5,7 @@ use Rattle.modes_core.specs.declared.tags.Tag.{Tag}
 use Rattle.modes_core.specs.declared.tags.Tag.TheVariants.{Relation}
 use Rattle.modes_core.specs.declared.refusals.Refusal.{Refusal}
 use Rattle.modes_core.specs.declared.refusals.Refusal.TheVariants.{NoMemory}
+use Rattle.modes_core.specs.Tag.{partition_of}
 use Rattle.lock_table.specs.declared.no_memory.NoMemory as no_memory
 use Rattle.lock_table.specs.declared.rows.TableRow.{TableRow}
 use Rattle.lock_table.specs.Content.{Content}
@@ -18,7 +19,7 @@ use Rattle.lock_world.specs.AccountFacts.{OwnHoldsStand}
 use Rattle.lock_world.specs.Happens.{RunsThrough, last_of}
 use Rattle.lock_world.specs.Listing.{StandsThereOrInContent}
 use Rattle.lock_world.specs.SafeWorld.{SafeWorld}
-use Rattle.lock_world.specs.SlotHolds.{group_size, slot_count, slot_holds, ShowsNoMore, OneSlotEach}
+use Rattle.lock_world.specs.SlotHolds.{group_size, slot_count, slot_holds, OneSlotEach, AreInGroups}
 use Rattle.lock_world.specs.World.{World, TraceEntry, Took, Episode}
 use Rattle.fast_path.specs.Rows.{rows_of_all, loads_of_all, times_shown}
 use Rattle.lock_manager.specs.declared.listing.Listing.{Listing}
@@ -70,21 +71,25 @@ abbrev pub times_listed : Listing → ℕ → Tag → Mode → ℕ
 times_listed listing session tag mode =
     times_shown listing.fast.items session tag mode + times_in_table listing.table.items session tag mode true
 
--- The hold left its slot between the two reads: the slots of its session showed it as they were loaded, and no more as the
--- partition of its object was taken.
-pub record LeftItsSlot (database : ℕ) (loaded : ℕ → ℕ) (tag : Tag) (mode : Mode) : Type 0 where
+-- The hold left its slot between the two reads: the slots of its session showed it as they were loaded, and it stood in
+-- the content of its object's partition as that was taken.
+pub record LeftItsSlot (number database : ℕ) (loaded : ℕ → ℕ) (contents : List Content) (tag : Tag) (mode : Mode) :
+    Type 0 where
   pub shown : slot_holds database loaded tag mode ≡ true
-  pub as_taken : ℕ → ℕ
-  pub no_more : ShowsNoMore as_taken loaded
-  pub gone : slot_holds database as_taken tag mode ≡ false
+  pub there : (content_at contents (partition_of tag)).holds number tag mode ≡ true
 
--- What it tells of the caller, whose slots showed these words as they were loaded: each own hold has one row, or two where it
--- left its slot between the two reads; and no other row is the caller's.
-pub record ListsOwn (number : ℕ) (own : Tag → Mode → Bool) (database : ℕ) (loaded : ℕ → ℕ) (listing : Listing) : Type 0 where
+-- What it tells of the caller, whose slots showed these words as they were loaded, before these contents were taken: where
+-- its own holds stand as each was taken. Each own hold has one row, or two where it left its slot between the two reads;
+-- and no other row is the caller's.
+pub record ListsOwn (number : ℕ) (own : Tag → Mode → Bool) (database : ℕ) (loaded : ℕ → ℕ) (contents : List Content)
+    (listing : Listing) : Type 0 where
+  pub stand :
+      (partition : ℕ) → partition < 16
+      → OwnHoldsStand number own database loaded partition (content_at contents partition)
   pub each :
       (tag : Tag) (mode : Mode) → own tag mode ≡ true
       → (times_listed listing number tag mode ≡ 1)
-      ⊎ ((times_listed listing number tag mode ≡ 2) × LeftItsSlot database loaded tag mode)
+      ⊎ ((times_listed listing number tag mode ≡ 2) × LeftItsSlot number database loaded contents tag mode)
   pub no_other : (tag : Tag) (mode : Mode) → own tag mode ≡ false → times_listed listing number tag mode ≡ 0
   pub none_awaited : (tag : Tag) (mode : Mode) → times_in_table listing.table.items number tag mode false ≡ 0
 
@@ -104,20 +109,23 @@ MissesNone groups limit number before after listing =
     → ((at : ℕ) (w : World) → slice_get (first ∷ worlds) at ≡ Some w → StandsThereOrInContent w session tag mode place)
     → 1 ≤ times_listed listing session tag mode
 
--- A whole listing. The database and the slots of each session that there can be are loaded, in rising order, and the slot
--- rows are those of what these loads showed. The lock of a session's slots is shared while they are loaded, so that they stand
--- so at one moment, and no relation has two of them. After that the partitions are taken, and the table's rows list their contents.
+-- A whole listing. The database and the slots of each session that there can be are loaded, in rising order, and the
+-- slot rows are those of what these loads showed: no slot past the groups that were loaded is in use. The lock of a
+-- session's slots is shared while they are loaded, so that they stand so at one moment, and no relation has two of them.
+-- After that the partitions are taken, and the table's rows list their contents.
 pub record ListsAll (groups limit number : ℕ) (a : Account) (result : Result Listing Refusal) (b : Account) : Type 0 where
   pub database : ℕ → ℕ
   pub word : ℕ → ℕ → ℕ
   pub one_each : (session : ℕ) → session < limit → OneSlotEach (word session)
+  -- a slot in use is of its relation's group, so none past the groups is
+  pub in_groups : (session : ℕ) → session < limit → AreInGroups groups (word session)
   pub fast : IfOk result (λ listing. listing.fast.items ≡ rows_of_all limit database word)
   pub contents : List Content
   pub sixteen : length contents ≡ 16
   pub trace : b.trace ≡ (a.trace ++ loads_of_all groups limit database word) ++ listing_steps 0 contents
   pub table : IfOk result (λ listing. IsListing (whole_of (content_at contents)) listing.table.items)
   -- of the caller's holds none is missed and none invented, and of others' none that stands throughout is missed
-  pub own : IfOk result (ListsOwn number a.own a.fast.database (word number))
+  pub own : IfOk result (ListsOwn number a.own a.fast.database (word number) contents)
   pub misses_none : IfOk result (MissesNone groups limit number a.trace b.trace)
 
 -- One for whose slot rows memory ran out: no partition is taken.

@@ -5,9 +5,9 @@ use Rattle.modes_core.specs.declared.tags.Tag.{Tag}
 use Rattle.modes_core.specs.declared.refusals.Refusal.{Refusal}
 use Rattle.modes_core.specs.declared.refusals.Refusal.TheVariants.{NoMemory}
 use Rattle.modes_core.specs.Tag.{partition_of, index_of, is_strong_on, is_eligible_for}
-use Rattle.local_locks.specs.declared.answers.Acquired.TheVariants.{Granted}
 use Rattle.lock_table.specs.declared.moves.Move.TheVariants as move_
 use Rattle.lock_table.specs.Content.{Content}
+use Rattle.lock_table.specs.Queue.{waits_there}
 use Rattle.wait_queue.specs.declared.requests.Kind.{Kind}
 use Rattle.wait_queue.specs.declared.requests.Decision.{Decision}
 use Rattle.wait_queue.specs.declared.requests.Decision.TheVariants as decision
@@ -86,12 +86,14 @@ account_decided number a tag mode taken put (Ok decision.Queued) =
 account_decided number a tag mode taken put (Err refusal) = account_episode a (partition_of tag) taken put move_.Keep
 
 -- The episode that decides: the content put is the one taken with one more hold or wait, as was decided by it, and
--- after a refusal as it was. The content taken has each own hold of its partition that is in no slot.
+-- after a refusal as it was. The content taken has each own hold of its partition that is in no slot, and no wait of
+-- the session's on the object.
 pub record DecidesInPart (kind : Kind) (number : ℕ) (a : Account) (tag : Tag) (mode : Mode)
     (result : Result Decision Refusal) (b : Account) : Type 0 where
   pub taken : Content
   pub put : Content
   pub own_stand : OwnHoldsStand number a.own a.fast.database a.fast.remembered (partition_of tag) taken
+  pub no_own_wait : waits_there (taken.waits tag) number ≡ false
   pub decided : IfOk result (λ decision. IsDecided kind taken number tag mode decision put)
   pub refused : IfErr result (RefusedFor kind taken number tag mode)
   pub kept : OnErr result (put ≡ taken)
@@ -100,7 +102,8 @@ pub record DecidesInPart (kind : Kind) (number : ℕ) (a : Account) (tag : Tag) 
 -- The request has one episode, in the object's partition, and its answer is that of the content taken: where it is
 -- granted the content put has the hold, and where it is queued the wait; else that is put as it was, and the refusal
 -- names what is in the way there, or memory. The content taken has each own hold of the partition that is in no slot of
--- the session. Before it stands what led to the table. No other step joins the trace.
+-- the session, and no wait of the session's on the object. Before it stands what led to the table. No other step joins
+-- the trace.
 pub record Decides (kind : Kind) (seat : Seated) (a : Account) (uses : UseCounts) (tag : Tag) (mode : Mode)
     (result : Result Decision Refusal) (b : Account) (left : UseCounts) : Type 0 where
   pub steps : List TraceEntry
@@ -108,6 +111,7 @@ pub record Decides (kind : Kind) (seat : Seated) (a : Account) (uses : UseCounts
   pub put : Content
   pub before : LeadsToTable seat.groups seat.limit a uses tag mode steps
   pub own_stand : OwnHoldsStand seat.number a.own a.fast.database b.fast.remembered (partition_of tag) taken
+  pub no_own_wait : waits_there (taken.waits tag) seat.number ≡ false
   pub decided : IfOk result (λ decision. IsDecided kind taken seat.number tag mode decision put)
   pub refused : IfErr result (RefusedFor kind taken seat.number tag mode)
   pub kept : OnErr result (put ≡ taken)

@@ -11,8 +11,6 @@ use Rattle.lock_table.specs.Content as content
 use Rattle.lock_table.specs.declared.moves.Move.TheVariants.{Leave}
 use Rattle.lock_table.specs.Moves.{Moves}
 use Rattle.lock_table.specs.Queue.{waits_there, some_awaits_conflict}
-use Rattle.wait_queue.specs.declared.requests.Kind.TheVariants as kind
-use Rattle.wait_queue.specs.declared.requests.Decision.TheVariants as decision
 use Rattle.lock_world.specs.declared.events.Word.TheVariants.{Wait}
 use Rattle.lock_world.specs.WaitWord.{wait_state, is_asked}
 use Rattle.lock_world.specs.World.{TraceEntry, Took, Episode, AskedToCancel, Loaded}

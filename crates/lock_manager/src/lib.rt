@@ -7,6 +7,7 @@ mod config;
 mod crews;
 mod desk;
 mod keeper;
+pub mod laws;
 mod listing;
 mod manager;
 mod queues;

@@ -35,6 +35,7 @@ pub fn end_all<T: PartTable, B: Board<T>, R: Wait>(rt: &R, board: &mut B, own: &
         (B.view board.new) (B.stack board.new) own.new.locals.entries }
     ensures steps { ReleasesAll (B.seat board.old).groups (B.seat board.old).number (B.view board.old) own.old.uses
         (ended_by end (found_by end own.old.locals)) (B.view board.new) own.new.uses }
+    ensures none_ended { ended_by end (found_by end own.old.locals) ≡ [] → board.new ≡ board.old }
     ensures entries { own.new.locals.entries ≡ left_by end (found_by end own.old.locals) }
     ensures levels { own.new.locals.outer ≡ outer_after end own.old.locals.outer }
     ensures kept { KeepsOwn (B.seat board.old) own.old (B.seat board.new) own.new }

@@ -8,7 +8,7 @@ ghost use Rattle.lock_world.specs.Happens.Counters.{most_counted};
 ghost use Rattle.lock_manager.specs.Rest.{IsIdle, IsUseCount, IsAtRest};
 ghost use Rattle.lock_manager.specs.Sessions.{KeepsOwn};
 ghost use Rattle.lock_manager.specs.Requests.{DecidesInPart, Requests, IsRequested};
-ghost use Rattle.lock_manager.specs.Acquires.{AnswersByOwned, entries_begun, Begins, AcquiresBySlot};
+ghost use Rattle.lock_manager.specs.Acquires.{AnswersByOwned, IsOwnAnswer, entries_begun, Begins, AcquiresBySlot};
 ghost use Rattle.lock_manager.specs.Waiting.{IsWaiting};
 
 use crate::sessions::Own;
@@ -53,6 +53,7 @@ pub fn acquire<T: PartTable, B: Board<T>, R: Wait>(
     ensures at_once { kind ≡ Kind.Conditional → result ≢ Ok Begun.Queued }
     ensures steps { Begins kind (B.seat board.old) own.old.locals (B.view board.old) own.old.uses tag mode result
         (B.view board.new) own.new.uses }
+    ensures untouched { IsOwnAnswer Begun.AlreadyHeld result → board.new ≡ board.old }
     ensures entries { IfOk result (λ begun.
         own.new.locals.entries ≡ entries_begun begun own.old.locals.entries tag mode owner) }
     ensures same_entries { OnErr result (own.new.locals.entries ≡ own.old.locals.entries) }
@@ -98,6 +99,7 @@ pub fn acquire_by_slot<T: PartTable, B: Board<T>>(
         × (is_eligible_for own.old.database tag mode ≡ false)) }
     ensures steps { AcquiresBySlot (B.seat board.old).groups (B.seat board.old).number own.old.locals
         (B.view board.old) own.old.uses tag mode result (B.view board.new) own.new.uses }
+    ensures untouched { IsOwnAnswer Acquired.AlreadyHeld result → board.new ≡ board.old }
     ensures entries { OnOk result (own.new.locals.entries ≡ with_one_more own.old.locals.entries tag mode owner) }
     ensures same_entries { OnErr result (own.new.locals.entries ≡ own.old.locals.entries) }
     ensures rest { IsAtRest (B.seat board.old).groups (B.seat board.old).limit own.old.database own.new.uses

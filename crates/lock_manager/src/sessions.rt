@@ -14,7 +14,7 @@ ghost use Rattle.fast_path.specs.Slots.{count_in};
 ghost use Rattle.lock_manager.specs.Sessions.{IsSame, IsUnchanged, DontConflict};
 ghost use Rattle.lock_manager.specs.Listings.{Lists};
 ghost use Rattle.lock_manager.specs.Managers.{HasClosed};
-ghost use Rattle.lock_manager.specs.Acquires.{AnswersByOwned, Acquires, AcquiresBySlot};
+ghost use Rattle.lock_manager.specs.Acquires.{AnswersByOwned, IsOwnAnswer, Acquires, AcquiresBySlot};
 ghost use Rattle.lock_manager.specs.Releases.{Releases, ReleasesAll};
 
 use crate::keeper::Part;
@@ -192,6 +192,7 @@ impl<T: PartTable, B: Board<T>> OwnSession<T, B> {
         ensures answers { AnswersByOwned self.old.owned tag mode owner Acquired.AlreadyHeld true result }
         ensures steps { Acquires (B.seat self.old.board) self.old.owned (B.view self.old.board) self.old.uses tag mode
             result (B.view self.new.board) self.new.uses }
+        ensures untouched { IsOwnAnswer Acquired.AlreadyHeld result → self.new.board ≡ self.old.board }
 
         // What stands after it.
         ensures entries { OnOk result (self.new.owned.entries
@@ -230,6 +231,7 @@ impl<T: PartTable, B: Board<T>> OwnSession<T, B> {
             × (is_eligible_for self.old.database tag mode ≡ false)) }
         ensures steps { AcquiresBySlot (B.seat self.old.board).groups (B.seat self.old.board).number
             self.old.owned (B.view self.old.board) self.old.uses tag mode result (B.view self.new.board) self.new.uses }
+        ensures untouched { IsOwnAnswer Acquired.AlreadyHeld result → self.new.board ≡ self.old.board }
 
         // What stands after it.
         ensures entries { OnOk result (self.new.owned.entries
@@ -260,8 +262,7 @@ impl<T: PartTable, B: Board<T>> OwnSession<T, B> {
             × (0 < total_of self.new.owned.entries tag mode)) }
         ensures released { result ≡ Ok Unlocked.Released →
             Releases (B.seat self.old.board).groups (B.seat self.old.board).number (B.view self.old.board) self.old.uses tag mode (B.view self.new.board) self.new.uses }
-        ensures no_step { result ≢ Ok Unlocked.Released →
-            (B.view self.new.board).trace ≡ (B.view self.old.board).trace }
+        ensures untouched { result ≢ Ok Unlocked.Released → self.new.board ≡ self.old.board }
         ensures same_uses { result ≢ Ok Unlocked.Released → self.new.uses ≡ self.old.uses }
 
         // What stands after it.
@@ -285,6 +286,7 @@ impl<T: PartTable, B: Board<T>> OwnSession<T, B> {
     /// (`LockReleaseAll` in lock.c without `allLocks`). Holds are released in the order of making.
     pub fn commit<R: Wait>(&mut self, rt: &R)
         ensures entries { self.new.owned.entries ≡ left_by End.Commit self.old.owned.entries }
+        ensures none_ended { ended_by End.Commit self.old.owned.entries ≡ [] → self.new.board ≡ self.old.board }
         ensures released { ReleasesAll (B.seat self.old.board).groups (B.seat self.old.board).number
             (B.view self.old.board) self.old.uses (ended_by End.Commit self.old.owned.entries) (B.view self.new.board) self.new.uses }
         ensures first_level { self.new.owned.outer ≡ [] }
@@ -298,6 +300,7 @@ impl<T: PartTable, B: Board<T>> OwnSession<T, B> {
     /// method and without for the user method).
     pub fn abort<R: Wait>(&mut self, rt: &R)
         ensures entries { self.new.owned.entries ≡ left_by End.Abort self.old.owned.entries }
+        ensures none_ended { ended_by End.Abort self.old.owned.entries ≡ [] → self.new.board ≡ self.old.board }
         ensures released { ReleasesAll (B.seat self.old.board).groups (B.seat self.old.board).number
             (B.view self.old.board) self.old.uses (ended_by End.Abort self.old.owned.entries) (B.view self.new.board) self.new.uses }
         ensures first_level { self.new.owned.outer ≡ [] }
@@ -318,7 +321,7 @@ impl<T: PartTable, B: Board<T>> OwnSession<T, B> {
             (self.new.owned.outer ≡ self.old.owned.outer ++ of_transaction self.old.owned.entries ∷ []) }
         ensures entries { self.new.owned.entries ≡ self.old.owned.entries }
         ensures refused { OnErr result (self.new.owned ≡ self.old.owned) }
-        ensures no_step { B.view self.new.board ≡ B.view self.old.board }
+        ensures untouched { self.new.board ≡ self.old.board }
         ensures uses { self.new.uses ≡ self.old.uses }
         ensures same { IsSame B.seat B.view B.stack self.old self.new }
     {
@@ -335,7 +338,7 @@ impl<T: PartTable, B: Board<T>> OwnSession<T, B> {
         ensures handed_up { OnOk result (self.new.owned.outer ≡ outer_after End.Inner self.old.owned.outer) }
         ensures entries { self.new.owned.entries ≡ self.old.owned.entries }
         ensures refused { OnErr result (self.new.owned ≡ self.old.owned) }
-        ensures no_step { B.view self.new.board ≡ B.view self.old.board }
+        ensures untouched { self.new.board ≡ self.old.board }
         ensures uses { self.new.uses ≡ self.old.uses }
         ensures same { IsSame B.seat B.view B.stack self.old self.new }
     {
@@ -355,7 +358,9 @@ impl<T: PartTable, B: Board<T>> OwnSession<T, B> {
             (B.view self.old.board) self.old.uses (ended_by End.Inner (without_innermost self.old.owned)) (B.view self.new.board) self.new.uses) }
         ensures levels { OnOk result (self.new.owned.outer ≡ outer_after End.Inner self.old.owned.outer) }
         ensures refused { OnErr result (self.new.owned ≡ self.old.owned) }
-        ensures no_step { OnErr result (B.view self.new.board ≡ B.view self.old.board) }
+        ensures untouched { OnErr result (self.new.board ≡ self.old.board) }
+        ensures none_ended { ended_by End.Inner (without_innermost self.old.owned) ≡ [] →
+            self.new.board ≡ self.old.board }
         ensures same_uses { OnErr result (self.new.uses ≡ self.old.uses) }
         ensures same { IsSame B.seat B.view B.stack self.old self.new }
     {

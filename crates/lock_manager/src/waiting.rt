@@ -5,7 +5,7 @@ ghost use Rattle.std.specs.Prelude.{IsErrOf, IsOkUnless, IfOk, OnOk, OnErr};
 ghost use Rattle.local_locks.specs.Owned.{has_entry, with_one_more, IsReserved, IsWellOwned};
 ghost use Rattle.lock_manager.specs.Rest.{IsAtRest};
 ghost use Rattle.lock_manager.specs.Sessions.{KeepsOwn};
-ghost use Rattle.lock_manager.specs.Acquires.{AnswersByOwned};
+ghost use Rattle.lock_manager.specs.Acquires.{AnswersByOwned, IsOwnAnswer};
 ghost use Rattle.lock_manager.specs.Waiting.{IsWaiting, HasLooked, Asks, LooksForWaiters};
 ghost use Rattle.lock_manager.specs.Waiting.{IsInWait, polled_as, Polls, Cancels, Waits, account_cancelled};
 ghost use Rattle.lock_manager.specs.WaitingSessions.{Locks};
@@ -71,7 +71,7 @@ pub fn has_waiters<T: PartTable, B: Board<T>, R: Wait>(
         (B.view board.old) (B.stack board.old) own.now.locals.entries }
     ensures not_held { IsErrOf result Refusal.NotHeld ↔ (has_entry own.now.locals.entries tag mode ≡ false) }
     ensures no_other { IsOkUnless result Refusal.NotHeld }
-    ensures no_step { OnErr result (B.view board.new ≡ B.view board.old) }
+    ensures untouched { OnErr result (board.new ≡ board.old) }
     ensures looked { IfOk result (λ is_awaited.
         LooksForWaiters (B.view board.old).trace tag mode is_awaited (B.view board.new).trace) }
     ensures rest { IsAtRest (B.seat board.old).groups (B.seat board.old).limit own.now.database own.now.uses
@@ -261,6 +261,7 @@ pub fn lock<T: PartTable, B: Board<T>, R: Wait>(
     ensures answers { AnswersByOwned own.old.locals tag mode owner Acquired.AlreadyHeld true result }
     ensures steps { Locks (B.seat board.old) own.old.locals (B.view board.old) own.old.uses tag mode result
         (B.view board.new) own.new.uses }
+    ensures untouched { IsOwnAnswer Acquired.AlreadyHeld result → board.new ≡ board.old }
     ensures entries { OnOk result (own.new.locals.entries ≡ with_one_more own.old.locals.entries tag mode owner) }
     ensures same_entries { OnErr result (own.new.locals.entries ≡ own.old.locals.entries) }
     ensures rest { IsAtRest (B.seat board.old).groups (B.seat board.old).limit own.old.database own.new.uses

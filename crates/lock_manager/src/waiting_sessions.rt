@@ -4,7 +4,7 @@ ghost use Rattle.std.specs.Prelude.{◌≡◌, ◌↔◌, false, true, IsErrOf, 
 ghost use Rattle.local_locks.specs.Owned.{has_entry, with_one_more};
 ghost use Rattle.lock_manager.specs.declared.requests.Begun.TheVariants as begun;
 ghost use Rattle.lock_manager.specs.Sessions.{IsSame};
-ghost use Rattle.lock_manager.specs.Acquires.{AnswersByOwned, entries_begun, Begins};
+ghost use Rattle.lock_manager.specs.Acquires.{AnswersByOwned, IsOwnAnswer, entries_begun, Begins};
 ghost use Rattle.lock_manager.specs.Waiting.{Asks, LooksForWaiters, Polls, Cancels, Waits};
 ghost use Rattle.lock_manager.specs.WaitingSessions.{answer_started, board_started, uses_started, owned_started};
 ghost use Rattle.lock_manager.specs.WaitingSessions.{UnlessQueued, IfQueued};
@@ -177,6 +177,7 @@ impl<T: PartTable, B: Board<T>> OwnSession<T, B> {
         ensures answers { AnswersByOwned self.owned tag mode owner begun.AlreadyHeld true (answer_started result) }
         ensures steps { Begins Kind.Waiting (B.seat self.board) self.owned (B.view self.board) self.uses tag mode
             (answer_started result) (B.view (board_started result)) (uses_started result) }
+        ensures untouched { IsOwnAnswer begun.AlreadyHeld (answer_started result) → board_started result ≡ self.board }
 
         // What stands after it.
         ensures entries { IfOk (answer_started result) (λ answer. (owned_started result).entries
@@ -216,6 +217,8 @@ impl<T: PartTable, B: Board<T>> OwnSession<T, B> {
         ensures answers { AnswersByOwned self.owned tag mode owner Acquired.AlreadyHeld true (answer_locked result) }
         ensures steps { Locks (B.seat self.board) self.owned (B.view self.board) self.uses tag mode
             (answer_locked result) (B.view (session_locked result).board) (session_locked result).uses }
+        ensures untouched { IsOwnAnswer Acquired.AlreadyHeld (answer_locked result) →
+            (session_locked result).board ≡ self.board }
 
         // What stands after it.
         ensures entries { OnOk (answer_locked result) ((session_locked result).owned.entries
@@ -249,6 +252,7 @@ impl<T: PartTable, B: Board<T>> OwnSession<T, B> {
         ensures answers { AnswersByOwned self.old.owned tag mode owner Acquired.AlreadyHeld true result }
         ensures steps { Locks (B.seat self.old.board) self.old.owned (B.view self.old.board) self.old.uses tag mode
             result (B.view self.new.board) self.new.uses }
+        ensures untouched { IsOwnAnswer Acquired.AlreadyHeld result → self.new.board ≡ self.old.board }
 
         // What stands after it.
         ensures entries { OnOk result (self.new.owned.entries
@@ -270,7 +274,7 @@ impl<T: PartTable, B: Board<T>> OwnSession<T, B> {
             (B.view self.new.board).trace) }
 
         // What stands after it.
-        ensures no_step { OnErr result (B.view self.new.board ≡ B.view self.old.board) }
+        ensures untouched { OnErr result (self.new.board ≡ self.old.board) }
         ensures owned { self.new.owned ≡ self.old.owned }
         ensures uses { self.new.uses ≡ self.old.uses }
         ensures same { IsSame B.seat B.view B.stack self.old self.new }

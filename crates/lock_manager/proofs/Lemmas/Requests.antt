@@ -2,3 +2,4 @@
 pub mod Whole
 pub mod InPart
 pub mod BySlot
+pub mod Refused

@@ -72,13 +72,16 @@ module _ (groups limit number : ℕ) (a b : Account) (database : ℕ → ℕ) (w
       subst (λ (words : ℕ → ℕ). AreOfCaller number a.own a.awaited a.fast.database words 0 contents) remembers
       (subst (λ (x : Account). AreOfCaller number x.own x.awaited x.fast.database b.fast.remembered 0 contents) only of_caller)
 
+  known-at : (partition : ℕ) → partition < 16
+      → IsOfCaller number a.own a.awaited a.fast.database (word number) partition (content_at contents partition)
+  known-at partition below =
+      let same : 0 + partition ≡ partition = omega arith in
+      subst (λ (p : ℕ). IsOfCaller number a.own a.awaited a.fast.database (word number) p (content_at contents partition)) same
+      (caller-at number a.own a.awaited a.fast.database (word number) 0 partition contents (omega (arith, below, sixteen)) its_contents)
+
   module _ (tag : Tag) (mode : Mode) where
     known : IsOfCaller number a.own a.awaited a.fast.database (word number) (partition_of tag) (content_at contents (partition_of tag))
-    known =
-        let below : partition_of tag < 16 = omega arith in
-        let same : 0 + partition_of tag ≡ partition_of tag = omega arith in
-        subst (λ (p : ℕ). IsOfCaller number a.own a.awaited a.fast.database (word number) p (content_at contents (partition_of tag))) same
-        (caller-at number a.own a.awaited a.fast.database (word number) 0 (partition_of tag) contents (omega (arith, below, sixteen)) its_contents)
+    known = let below : partition_of tag < 16 = omega arith in known-at (partition_of tag) below
 
     one_each : OneSlotEach (word number)
     one_each = subst (λ (words : ℕ → ℕ). OneSlotEach words) reads.words reads.knows.one_each
@@ -113,7 +116,7 @@ module _ (groups limit number : ℕ) (a b : Account) (database : ℕ → ℕ) (w
 
     each : a.own tag mode ≡ true
         → (times_listed listing number tag mode ≡ 1)
-        ⊎ ((times_listed listing number tag mode ≡ 2) × LeftItsSlot a.fast.database (word number) tag mode)
+        ⊎ ((times_listed listing number tag mode ≡ 2) × LeftItsSlot number a.fast.database (word number) contents tag mode)
     each own = elim (cases_Bool (slot_holds a.fast.database (word number) tag mode)) [
       | inr not_shown ↦
           let gone = slot_holds-fewer a.fast.database known.stand.slot (word number) tag mode known.stand.no_more not_shown in
@@ -131,14 +134,7 @@ module _ (groups limit number : ℕ) (a b : Account) (database : ℕ → ℕ) (w
                 let too : times_in_table listing.table.items number tag mode true ≡ 1 = in_table ∙ rw has refl in
                 inr (
                   omega (arith, one, too),
-                  record {
-                    shown = shown;
-                    as_taken = known.stand.slot;
-                    no_more = known.stand.no_more;
-                    gone = false_from_ne_true (slot_holds a.fast.database known.stand.slot tag mode) (λ still.
-                        both_ways ((content_at contents (partition_of tag)).holds number tag mode)
-                        (known.stand.in_slot tag mode still).1 has);
-                  },
+                  record { shown = shown; there = has },
                 )
           ]
     ]
@@ -161,8 +157,13 @@ module _ (groups limit number : ℕ) (a b : Account) (database : ℕ → ℕ) (w
         ∙ (let none : list_any (λ w. (w.session == number) && mode_eq w.mode mode) ((content_at contents (partition_of tag)).waits tag) ≡ false =
         waits-foreign ((content_at contents (partition_of tag)).waits tag) number mode (known.no_wait tag no_wait) in rw none refl)
 
-  pub lists-own : ListsOwn number a.own a.fast.database (word number) listing
-  lists-own = record { each = each; no_other = no_other; none_awaited = none_awaited }
+  pub lists-own : ListsOwn number a.own a.fast.database (word number) contents listing
+  lists-own = record {
+    stand = λ partition below. (known-at partition below).stand;
+    each = each;
+    no_other = no_other;
+    none_awaited = none_awaited;
+  }
 
 -- ---- holds that stand throughout
 

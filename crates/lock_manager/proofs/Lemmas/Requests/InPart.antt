@@ -6,6 +6,7 @@ use Rattle.lock_table.specs.declared.moves.Move.TheVariants.{Keep, Grant, Join}
 use Rattle.lock_table.specs.Content.{Content}
 use Rattle.lock_table.specs.Moves.{Moves}
 use Rattle.lock_table.specs.Put.{set_at}
+use Rattle.lock_table.specs.Queue.{waits_there}
 use Rattle.lock_table.proofs.PutLemmas.{set_at-here, set_at-same, set_at-twice}
 use Rattle.wait_queue.specs.declared.requests.Decision.TheVariants.{Granted, Queued}
 use Rattle.wait_queue.specs.declared.requests.Kind.{Kind}
@@ -135,13 +136,15 @@ module _ (limit number : ℕ) (a b : Account) (stack : Stack) (p : ℕ) (tag : T
   -- Whoever takes a partition and puts it with one more wait has made an episode, which queues the request.
   pub queues-in_part :
       (kind : Kind) (c d : Account) → OwnHoldsStand number a.own a.fast.database a.fast.remembered p taken
+      → waits_there (taken.waits tag) number ≡ false
       → c ≡ account_waiting b (in_hand (b.hand (partition_of tag))) tag mode put ((in_hand (b.hand (partition_of tag))).now.holds number tag)
       → d ≡ account_putting c p (taken_of (c.hand p)) put Keep → IsDecided kind taken number tag mode Queued put
       → DecidesInPart kind number a tag mode (Ok Queued) d
-  queues-in_part kind c d stand waits was_put decided = record {
+  queues-in_part kind c d stand no_own_wait waits was_put decided = record {
     taken = taken;
     put = put;
     own_stand = stand-home stand;
+    no_own_wait = no_own_wait;
     decided = decided;
     refused = tt;
     kept = tt;

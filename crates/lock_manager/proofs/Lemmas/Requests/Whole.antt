@@ -25,6 +25,7 @@ use Rattle.fast_path.specs.Transfers.{IsAfterScan, Transfers, IsCutShort, Transf
 use Rattle.shared_rule.specs.Boards.{Seated}
 use Rattle.fast_path.specs.declared.use_counts.UseCounts.{UseCounts}
 use Rattle.lock_manager.specs.Rest.{IsUseCount}
+use Rattle.lock_manager.specs.Acquires.{IsOwnRefusal}
 use Rattle.lock_manager.specs.Requests.{LeadsToTable, DecidesInPart, Decides, Requests, IsRequested, counted_granted, account_awaiting, account_decided}
 use Rattle.fast_path.proofs.Counting.{counted_at, uncounting-last}
 use Rattle.lock_table.specs.Content.{Content}
@@ -161,6 +162,7 @@ module _ (kind : Kind) (seat : Seated) (a b c : Account) (uses left : UseCounts)
     put = d.put;
     before = led.before;
     own_stand = led-stand d.taken c.fast.remembered (sym (ap (λ (fast : FastAccount). fast.remembered) (decided-fast kind seat.number b c tag mode result d))) d.own_stand;
+    no_own_wait = d.no_own_wait;
     decided = d.decided;
     refused = d.refused;
     kept = d.kept;
@@ -227,6 +229,7 @@ module _ (kind : Kind) (seat : Seated) (a b c : Account) (uses left : UseCounts)
             put = it.put;
             before = it.before;
             own_stand = subst (λ (words : ℕ → ℕ). OwnHoldsStand seat.number a.own a.fast.database words (partition_of tag) it.taken) back-remembered it.own_stand;
+            no_own_wait = it.no_own_wait;
             decided = it.decided;
             refused = it.refused;
             kept = it.kept;
@@ -323,3 +326,26 @@ pub never-queued :
 never-queued kind seat a b uses left tag mode Granted is conditional requests = cc
 never-queued Conditional seat a b uses left tag mode Queued is conditional requests = absurd requests.decided.1
 never-queued Waiting seat a b uses left tag mode Queued is conditional requests = cc
+
+-- No request is answered by what the session owns alone.
+pub requested-not_own :
+    (kind : Kind) (seat : Seated) (a b : Account) (uses left : UseCounts) (tag : Tag) (mode : Mode) (refusal : Refusal)
+    → Requests kind seat a uses tag mode (Err refusal) b left → IsOwnRefusal refusal → ⊥
+requested-not_own Conditional seat a b uses left tag mode CountFull requests own = requests.refused
+requested-not_own Waiting seat a b uses left tag mode CountFull requests own = requests.refused
+requested-not_own Conditional seat a b uses left tag mode LocalFull requests own = requests.refused
+requested-not_own Waiting seat a b uses left tag mode LocalFull requests own = requests.refused
+requested-not_own Conditional seat a b uses left tag mode NotEligible requests own = requests.refused
+requested-not_own Waiting seat a b uses left tag mode NotEligible requests own = requests.refused
+requested-not_own kind seat a b uses left tag mode NoMemory requests own = own
+requested-not_own kind seat a b uses left tag mode (Conflict other its how) requests own = own
+requested-not_own kind seat a b uses left tag mode (SimpleDeadlock other) requests own = own
+requested-not_own kind seat a b uses left tag mode Cancelled requests own = own
+requested-not_own kind seat a b uses left tag mode NotHeld requests own = own
+requested-not_own kind seat a b uses left tag mode Busy requests own = own
+requested-not_own kind seat a b uses left tag mode SlotsFull requests own = own
+requested-not_own kind seat a b uses left tag mode StrongCounted requests own = own
+requested-not_own kind seat a b uses left tag mode NoMoreSessions requests own = own
+requested-not_own kind seat a b uses left tag mode BadConfig requests own = own
+requested-not_own kind seat a b uses left tag mode TooDeep requests own = own
+requested-not_own kind seat a b uses left tag mode NoNested requests own = own

@@ -1,6 +1,6 @@
 use Rattle.std.proofs.Common.{rules, ◌≡◌, ℕ, ◌<◌, ◌^◌, ◌++◌, sym, ap, ◌∙◌, subst, inl}
 use Rattle.lock_world.specs.Account.{Account}
-use Rattle.lock_world.specs.SlotHolds.{OneSlotEach}
+use Rattle.lock_world.specs.SlotHolds.{OneSlotEach, AreInGroups}
 use Rattle.shared_rule.specs.Boards.{Seated}
 use Rattle.fast_path.specs.Rows.{rows_of_all, loads_of_all}
 use Rattle.lock_manager.specs.declared.listing.Listing.{Listing}
@@ -71,6 +71,9 @@ returns-in-Ok-clause-listed g c =
       one_each = λ session below.
           let its = slots.shared session (subst (λ (n : ℕ). session < n) (sym loaded) below) in
           subst (λ words. OneSlotEach words) its.words its.knows.one_each;
+      in_groups = λ session below.
+          let its = slots.shared session (subst (λ (n : ℕ). session < n) (sym loaded) below) in
+          subst (λ words. AreInGroups seat.groups words) its.words its.knows.in_groups;
       fast = fast;
       contents = table.contents;
       sixteen = table.sixteen;

@@ -15,6 +15,7 @@ entries-init g c = record {
       rest-found (g.B.Board.seat c.args.board.now).groups (g.B.Board.seat c.args.board.now).limit c.args.own.now.database c.args.own.now.uses c.args.end (g.B.Board.view c.args.board.now) (g.B.Board.stack c.args.board.now)
       c.args.own.now.locals c.requires.rest;
   steps = λ last left others. others;
+  none_ended = λ none. (none, refl);
   entries = refl;
   level = refl;
   outer = λ _. refl;
@@ -55,6 +56,7 @@ entries-preserved g c = record {
       (g.B.Board.view c.release_hold.new.board) last c.entries.own.uses c.release_hold.new.uses left (found_by c.args.end c.entries.own.locals) (found_by c.args.end c.end_next.new.self)
       (c.in-Some.tag, c.in-Some.mode)
       c.entries.invariant.kept.seat_ c.in-Some.ensures.next c.release_hold.ensures.steps others);
+  none_ended = λ none. let some = c.in-Some.ensures.next in let no_more = (c.entries.invariant.none_ended none).0 in absurd (cc);
   entries = c.in-Some.ensures.outlives refl ∙ c.entries.invariant.entries;
   level = c.in-Some.ensures.level refl ∙ c.entries.invariant.level;
   outer = λ inner. c.in-Some.ensures.inner refl inner ∙ c.entries.invariant.outer inner;
@@ -79,3 +81,6 @@ returns-clause-levels g c = c.in_default.ensures.ended ∙ go c.args.end c.entri
   go Abort same = refl
   go Close same = refl
   go Inner same = ap (outer_after Inner) (same refl)
+
+pub returns-clause-none_ended : goal.returns-clause-none_ended
+returns-clause-none_ended g c = λ none. (c.entries.invariant.none_ended none).1

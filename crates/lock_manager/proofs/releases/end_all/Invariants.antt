@@ -1,4 +1,4 @@
-use Rattle.std.proofs.Common.{◌≡◌, length}
+use Rattle.std.proofs.Common.{◌≡◌, [], length}
 use Rattle.local_locks.specs.declared.ends.End.TheVariants.{Inner}
 use Rattle.local_locks.specs.Owned.{level_of, found_by, ended_by, left_by}
 use Rattle.lock_world.specs.Account.{Account}
@@ -16,6 +16,8 @@ invariant-entries g l = record {
       (ended_by l.end (found_by l.end l.own.locals)) last left
       → ReleasesAll (g.B.Board.seat l.fn.board).groups (g.B.Board.seat l.fn.board).number (g.B.Board.view l.fn.board) l.fn.own.uses
       (ended_by l.end (found_by l.end l.fn.own.locals)) last left;
+  none_ended : ended_by l.end (found_by l.end l.fn.own.locals) ≡ []
+      → (ended_by l.end (found_by l.end l.own.locals) ≡ []) × (l.board ≡ l.fn.board);
   entries : left_by l.end (found_by l.end l.own.locals) ≡ left_by l.end (found_by l.end l.fn.own.locals);
   level : level_of l.own.locals ≡ level_of l.fn.own.locals;
   outer : l.end ≡ Inner → l.own.locals.outer ≡ l.fn.own.locals.outer;

@@ -5,7 +5,7 @@ use Rattle.lock_world.specs.Happens.Counters.{most_counted}
 use Rattle.lock_manager.specs.Requests.{IsRequested}
 use Rattle.local_locks.proofs.NewLaws.{reserved-new}
 use Rattle.lock_manager.proofs.Lemmas.Rest.Acquires.{held_again, not_held_yet, rest-not_counted, rest-few, rest-granted, rest-held_again}
-use Rattle.lock_manager.proofs.Lemmas.Requests.Whole.{never-queued}
+use Rattle.lock_manager.proofs.Lemmas.Requests.Whole.{never-queued, requested-not_own}
 use Rattle.lock_manager.proofs.requests.acquire.Goals as goal
 
 pub returns-then-branch-clause-rest : goal.returns-then-branch-clause-rest
@@ -58,3 +58,8 @@ pub returns-in-Ok-Queued-clause-at_once : goal.returns-in-Ok-Queued-clause-at_on
 returns-in-Ok-Queued-clause-at_once g c conditional queued =
     never-queued c.args.kind (g.B.Board.seat c.args.board.now) (g.B.Board.view c.args.board.now) (g.B.Board.view c.request.new.board) c.args.own.now.uses c.request.new.uses
     c.args.tag c.args.mode _ c.in-Ok-Queued.field-0-is conditional c.in-Ok-Queued.ensures.steps
+
+pub returns-in-Err-clause-untouched : goal.returns-in-Err-clause-untouched
+returns-in-Err-clause-untouched g c own = absurd
+    (requested-not_own c.args.kind (g.B.Board.seat c.args.board.now) (g.B.Board.view c.args.board.now) (g.B.Board.view c.request.new.board) c.args.own.now.uses c.request.new.uses
+    c.args.tag c.args.mode c.in-Err.refusal c.in-Err.ensures.steps own)

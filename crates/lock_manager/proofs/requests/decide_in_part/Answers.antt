@@ -1,6 +1,7 @@
-use Rattle.std.proofs.Common.{◌≡◌, ◌∙◌, Ok, sym, ap, subst, []}
+use Rattle.std.proofs.Common.{◌≡◌, ◌∙◌, Ok, sym, ap, subst, [], false}
 use Rattle.lock_table.specs.declared.moves.Move.TheVariants.{Grant, Join, Keep}
 use Rattle.lock_table.specs.Moves.{Moves}
+use Rattle.lock_table.specs.Queue.{waits_there}
 use Rattle.wait_queue.specs.declared.requests.Decision.TheVariants.{Queued}
 use Rattle.wait_queue.specs.Decide.{IsDecided}
 use Rattle.lock_world.specs.Account.{InHand}
@@ -59,11 +60,13 @@ returns-in-Ok-Queued-clause-decided g c =
     let taken = g.T.PartTable.content c.take_part-content.result in
     let put = g.T.PartTable.content c.decide.new.part in
     let stand = subst (λ (s : Seated). OwnHoldsStand s.number before.own before.fast.database before.fast.remembered c.partition-part.result taken) (sym c.take_part-content.ensures.seat) c.take_part-content.ensures.knows.own_stand in
+    let no_own_wait = subst (λ (s : Seated). waits_there (taken.waits c.args.tag.now) s.number ≡ false) (sym c.take_part-content.ensures.seat)
+    (c.take_part-content.ensures.knows.no_wait c.args.tag.now c.requires.idle.no_wait) in
     let number : c.number-number.result ≡ seat.number = c.number-number.ensures.value ∙ ap (λ (s : Seated). s.number) (sym c.take_part-content.ensures.seat) in
     subst (λ (s : Seated). Rattle.lock_manager.specs.Requests.DecidesInPart c.args.kind s.number before c.args.tag.now c.args.mode (Ok Queued) (g.B.Board.view c.put_part-in-Ok-Queued.new.self)) c.take_part-content.ensures.seat
     (queues-in_part seat.limit seat.number before (g.B.Board.view c.take_part-content.new.self) (g.B.Board.stack c.args.board.now) c.partition-part.result c.args.tag.now c.args.mode
     taken put c.requires.idle c.partition-part.ensures.value c.take_part-content.ensures.view c.args.kind (g.B.Board.view c.set_waiting.new.self) (g.B.Board.view c.put_part-in-Ok-Queued.new.self)
-    stand
+    stand no_own_wait
     c.set_waiting.ensures.view c.put_part-in-Ok-Queued.ensures.view
     (subst (λ k. IsDecided c.args.kind taken k c.args.tag.now c.args.mode Queued put) number
     (subst (λ d. IsDecided c.args.kind taken c.number-number.result c.args.tag.now c.args.mode d put) c.in-Ok-Queued.field-0-is c.in-Ok-Queued.ensures.decided)))
