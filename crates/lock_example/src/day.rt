@@ -12,7 +12,7 @@ use crate::tellers::{migrate, serve};
 use crate::watch::{Watch, keep_watch};
 use lock_manager::{
     Board, Config, Desk, MOST_SESSIONS, Manager, ManagerDesk, OwnSession, Part, Refusal, SessionId,
-    append,
+    append_session,
 };
 use std::alloc::Global;
 use std::sync::Wait;
@@ -106,7 +106,7 @@ fn hire<B: Board<Part>, D: Desk<OwnSession<Part, B>>, R: Wait>(
 {
     'staff: for _ in 0..number {
         let session = pool.take(desk)?;
-        if let Err(session) = append(staff, session) {
+        if let Err(session) = append_session(staff, session) {
             pool.give_back(rt, desk, session);
             return Err(Refusal::NoMemory);
         }

@@ -3,7 +3,7 @@
 ghost use Rattle.std.specs.Prelude.{◌≡◌, [], IfOk};
 ghost use Rattle.lock_manager.specs.Crews.{AreOf, IsOf, SeatsAre};
 
-use lock_manager::{Board, Desk, MOST_SESSIONS, OwnSession, Part, Refusal, append, close_sessions};
+use lock_manager::{Board, Desk, MOST_SESSIONS, OwnSession, Part, Refusal, append_session, close_sessions};
 use std::alloc::Global;
 use std::sync::Wait;
 
@@ -59,7 +59,7 @@ impl<B: Board<Part>> Pool<B> {
     {
         let mut session = session;
         session.abort(rt);
-        if let Err(session) = append(&mut self.idle, session) {
+        if let Err(session) = append_session(&mut self.idle, session) {
             desk.close(rt, session);
         }
     }

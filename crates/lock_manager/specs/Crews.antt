@@ -3,7 +3,6 @@ use Rattle.std.specs.List.{AllByRecursion}
 use Rattle.shared_rule.specs.Boards.{Seated}
 use Rattle.lock_manager.specs.Managers.{ManagerView}
 use Rattle.lock_manager.specs.Sessions.{SessionView}
-use Rattle.lock_manager.specs.WaitingSessions.{WaitingView}
 
 -- What a program says of the sessions that its functions take and lend, by the seats of their boards.
 
@@ -19,10 +18,6 @@ module _ {B : Type 0} (seat : B → Seated) where
   -- Each session of a list is.
   abbrev pub AreOf : ManagerView → List (SessionView B) → Type 0
   AreOf manager sessions = All (λ (session : SessionView B). (seat session.board).table ≡ manager.table) sessions
-
-  -- So is each one that waits.
-  abbrev pub WaitAt : ManagerView → List (WaitingView B) → Type 0
-  WaitAt manager waiting = All (λ (one : WaitingView B). (seat one.board).table ≡ manager.table) waiting
 
   -- Each session of a list is of the manager that the one in its place was of. Threads to which a list is lent ensure it.
   pub record KeepManagers (old new : List (SessionView B)) : Type 0 where

@@ -51,7 +51,7 @@ fn open_behind<T: PartTable, B: Board<T>, D: Desk<OwnSession<T, B>>, R: Wait>(
     ensures one_more { IfOk result (λ _. length crew.new.items ≡ length crew.old.items + 1) }
 {
     let session = desk.open(database)?;
-    match append(crew, session) {
+    match append_session(crew, session) {
         Ok(()) => Ok(()),
         Err(session) => {
             desk.close(rt, session);
@@ -60,9 +60,9 @@ fn open_behind<T: PartTable, B: Board<T>, D: Desk<OwnSession<T, B>>, R: Wait>(
     }
 }
 
-/// Puts it behind the others. Where memory runs out it comes back, and the list is as before: a session can't be
-/// let go, and `Vec::push` hands what it has no room for to whoever takes its error apart.
-pub fn append<S>(list: &mut Vec<S>, session: S) -> Result<(), S>
+/// Puts a session behind the others of a list. Where memory runs out it comes back, and the list is as before: a session
+/// can't be let go, and `Vec::push` hands what it has no room for to whoever takes its error apart.
+pub fn append_session<S>(list: &mut Vec<S>, session: S) -> Result<(), S>
     ensures { MatchResult result (λ _. list.new.items ≡ list.old.items ++ session ∷ [])
         (λ back. (back ≡ session) × (list.new.items ≡ list.old.items)) }
 {

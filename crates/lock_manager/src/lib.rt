@@ -18,11 +18,11 @@ mod waiting;
 mod waiting_sessions;
 
 pub use config::{Config, MOST_GROUPS, MOST_SESSIONS};
-pub use crews::{append, close_sessions, open_sessions};
+pub use crews::{append_session, close_sessions, open_sessions};
 pub use desk::{Desk, ManagerDesk};
 pub use keeper::Part;
 pub use listing::Listing;
-pub use local_locks::{Acquired, MOST_LOCAL, Unlocked};
+pub use local_locks::{Acquired, MOST_LEVELS, MOST_LOCAL, Unlocked};
 pub use lock_table::{PartTable, SlotRow, TableRow};
 pub use manager::{Final, Manager, Opener};
 pub use modes_core::{How, Mode, ModeSet, Owner, Refusal, SessionId, Tag};
