@@ -25,9 +25,9 @@ impl Manager {
     ///
     /// Call it with a list of all sessions that are open, in any order, as
     /// `manager.audit(rt, &mut opener, &mut sessions)`. It takes them out of the list and puts them back, so a
-    /// slice doesn't do. The first one makes all steps: it loads the counters, takes the partitions in rising
-    /// order, loads with all in hand each slot of each session that there can be, and puts the partitions back.
-    /// With no session it makes no step and counts nothing.
+    /// slice won't do. The first one makes all steps: it loads the counters, takes the partitions in rising order,
+    /// loads with all in hand each slot of each session that there can be, and puts the partitions back. With no
+    /// session it makes no step and counts nothing.
     ///
     /// Memory is taken for the rows of the partitions alone. Where it is missing the audit is refused; then, too,
     /// opener, sessions and table are as before, but for the first session's trace. PostgreSQL has no such call;

@@ -60,8 +60,8 @@ fn open_behind<T: PartTable, B: Board<T>, D: Desk<OwnSession<T, B>>, R: Wait>(
     }
 }
 
-/// Puts a session behind the others of a list. Where memory runs out it comes back, and the list is as before: a session
-/// can't be let go, and `Vec::push` hands what it has no room for to whoever takes its error apart.
+/// Puts a session behind the others of a list. Where memory runs out it comes back, and the list is as before: a
+/// session can't be let go, and `Vec::push` hands what it has no room for to whoever takes its error apart.
 pub fn append_session<S>(list: &mut Vec<S>, session: S) -> Result<(), S>
     ensures { MatchResult result (λ _. list.new.items ≡ list.old.items ++ session ∷ [])
         (λ back. (back ≡ session) × (list.new.items ≡ list.old.items)) }

@@ -142,9 +142,9 @@ impl Opener {
         u32::from(self.live)
     }
 
-    /// A new session of this database, with room for one local entry (`InitProcess` in proc.c, with `databaseId`
-    /// stored as `InitPostgres` in postinit.c does). Numbers are given in rising order and never again. It is refused
-    /// where all are given out, and then where memory runs out; the opener is then as before.
+    /// A new session of this database, with room for its first local entries (`InitProcess` in proc.c, with
+    /// `databaseId` stored as `InitPostgres` in postinit.c does). Numbers are given in rising order and never
+    /// again. It is refused where all are given out, and then where memory runs out; the opener is then as before.
     pub fn session<'a>(
         &mut self,
         manager: &'a Manager,

@@ -89,9 +89,9 @@ impl<T: PartTable, B: Board<T>> OwnSession<T, B> {
     /// Those who stand in the way of a session that waits on the object (`GetBlockerStatusData` in lock.c, for
     /// `pg_blocking_pids`): by session and mode those who hold a mode that conflicts with the awaited one, and
     /// then, in the order of the queue, those before it who await one. Nobody where the session doesn't wait there.
-    /// It is one episode in the object's partition, which changes nothing. A hold in a fast-path slot conflicts
-    /// with no mode that can wait until it is moved into the table. Only the list of the answer takes memory; where
-    /// that runs out it is refused.
+    /// It is one episode in the object's partition, which changes nothing. A hold in a fast-path slot is in
+    /// nobody's way: it is moved to the table before a mode that conflicts with it can wait. Only the list of the
+    /// answer takes memory; where that runs out it is refused.
     pub fn blockers<R: Wait>(
         &mut self,
         rt: &R,

@@ -124,8 +124,8 @@ pub fn acquire_by_slot<T: PartTable, B: Board<T>>(
 }
 
 /// Answers a request for a mode that the session hasn't (`LockAcquireExtended` in lock.c): a strong one once it has
-/// moved what stands in its way, another one in one of the session's slots, where it may go by these, and else in the
-/// object's partition.
+/// moved what stands in its way, another one in one of the session's slots, where it may go by these, and otherwise
+/// in the object's partition.
 pub fn request<T: PartTable, B: Board<T>, R: Wait>(
     rt: &R,
     board: &mut B,

@@ -53,7 +53,7 @@ pub struct Own {
 }
 
 impl Own {
-    // What a session of this database has of its own at first: nothing, with room for one local entry.
+    // What a session of this database has of its own at first: nothing, with room for its first local entries.
     pub(crate) fn new(alloc: Global, database: u32, max_local: u32) -> Result<Box<Own>, Refusal>
         requires from { 1 ≤ max_local }
         requires to { max_local ≤ 65536 }
@@ -82,7 +82,7 @@ impl Own {
     }
 }
 
-/// A session, over any board and any keeper of the partitions. Contracts see its board, its database, its use count
+/// A session, over any board and any keeper of the partitions. Contracts see its board, its database, its use counts
 /// of its fast-path slots, and what it owns. It ends by `close` alone: the compiler refuses code that lets one go,
 /// which would leave its holds and its number taken for ever.
 pub struct OwnSession<T: PartTable, B: Board<T>> {
@@ -175,11 +175,11 @@ impl<T: PartTable, B: Board<T>> OwnSession<T, B> {
     }
 
     /// Takes a mode on an object for an owner, or refuses at once where it clashes (`LockAcquire` in lock.c with
-    /// `dontWait`). What the session has already is counted once more, with no step on shared state. A weak mode on a
-    /// relation of the session's database is granted in one of its fast-path slots, unless all are in use or a strong
-    /// lock is counted. It is refused, in this order, where the owner's count is full, the local table is full,
-    /// memory runs out, or the request conflicts with a hold or wait of another session. After a refusal the
-    /// session holds what it held.
+    /// `dontWait`). What the session has already is counted once more, with no step on shared state. A weak mode on
+    /// a relation of the session's database is granted in one of its fast-path slots, unless all of the relation's
+    /// group are in use or a strong lock is counted. It is refused, in this order, where the owner's count is full,
+    /// the local table is full, memory runs out, or the request conflicts with a hold or wait of another session.
+    /// After a refusal the session holds what it held.
     #[inline(always)]
     pub fn try_lock<R: Wait>(
         &mut self,

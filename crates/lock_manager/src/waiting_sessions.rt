@@ -283,7 +283,7 @@ impl<T: PartTable, B: Board<T>> OwnSession<T, B> {
     }
 
     /// Asks a session to cancel its wait, and wakes it where it waits (`pg_cancel_backend` in signalfuncs.c). Where it
-    /// doesn't wait nothing stands of it; nor does a session wait that asks itself. An asked session that is granted
+    /// doesn't wait nothing is left of that; a session that asks itself doesn't wait. An asked session that is granted
     /// first keeps the grant.
     pub fn ask_cancel(&mut self, other: SessionId) -> Asked
         ensures asked { Asks (B.view self.old.board) other result (B.view self.new.board) }
