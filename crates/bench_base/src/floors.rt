@@ -48,12 +48,18 @@ impl SessionWords {
         }
     }
 
-    /// Loads the sixteen slots, and stores one.
-    fn store_slot(&self, number: u64) {
+    /// Loads the highest-numbered slot, and sets it.
+    fn set_slot(&self, number: u64) {
+        self.slots[15].load(Ordering::SeqCst);
+        self.slots[15].store(number, Ordering::SeqCst);
+    }
+
+    /// Loads the sixteen slots, and clears one.
+    fn clear_slot(&self) {
         for slot in &self.slots {
             slot.load(Ordering::SeqCst);
         }
-        self.slots[15].store(number, Ordering::SeqCst);
+        self.slots[15].store(0, Ordering::SeqCst);
     }
 }
 
@@ -77,7 +83,7 @@ impl Words {
     fn take_by_slot(&self, number: u64) {
         take(&self.own.fast);
         self.counter.load(Ordering::SeqCst);
-        self.own.store_slot(number);
+        self.own.set_slot(number);
         put(&self.own.fast);
     }
 
@@ -85,7 +91,7 @@ impl Words {
     #[inline(never)]
     fn give_by_slot(&self) {
         take(&self.own.fast);
-        self.own.store_slot(0);
+        self.own.clear_slot();
         put(&self.own.fast);
     }
 
