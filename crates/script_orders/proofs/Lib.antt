@@ -1,1 +1,2 @@
 mod MergeLemmas
+mod NextLemmas

@@ -1,14 +1,14 @@
-//! How orders end: what each session was answered, and who is left waiting.
+//! How orders end: what is told of each way, and how many orders lead there.
 
-use crate::stories::{Script, Story};
+use crate::stories::Script;
+use indexmap::IndexMap;
 use std::alloc::{AllocError, Global};
 use std::fmt;
 use std::io::{self, Write};
 
-/// A way to end: what is told of it, how many orders lead there, and the first of them as a script.
+/// A way to end: how many orders lead there, and the first of them as a script.
 #[derive(Drop)]
-struct End {
-    told: String,
+struct Ending {
     orders: u32,
     script: Script,
 }
@@ -26,148 +26,121 @@ impl fmt::Display for Orders {
     }
 }
 
-/// The ways in which orders ended, in the order in which they came first.
+/// Ways to end, by what is told of each, in the order in which they came first.
 #[derive(Drop)]
-pub struct Ends {
-    ends: Vec<End>,
-    /// How many orders ended.
-    possible: u32,
-    /// How many are none, since a line addresses a session that waits.
-    left_out: u32,
+struct Ways {
+    endings: IndexMap<String, Ending>,
+    /// How many orders lead to one of them.
+    orders: u32,
 }
 
-impl Ends {
+impl Ways {
+    /// None.
+    fn new(alloc: Global) -> Self {
+        Ways {
+            endings: IndexMap::new(alloc),
+            orders: 0,
+        }
+    }
+
+    /// Counts an order that ended as is told.
+    fn count(&mut self, told: String, script: Script) -> Result<(), AllocError> {
+        self.orders = self.orders.saturating_add(1);
+        let ending = self
+            .endings
+            .entry(told)?
+            .or_insert(Ending { orders: 0, script });
+        ending.orders = ending.orders.saturating_add(1);
+        Ok(())
+    }
+
+    /// Writes them, with numbers behind this one, and with these words behind the head of each.
+    fn write<W: Write>(&self, output: &mut W, before: usize, words: &str) -> io::Result<()> {
+        for (place, (told, ending)) in self.endings.iter().enumerate() {
+            let number = before.saturating_add(place).saturating_add(1);
+            writeln!(output, "\n# way {number}: {}{words}", Orders(ending.orders))?;
+            write!(output, "{told}{}", ending.script.text)?;
+        }
+        Ok(())
+    }
+}
+
+/// How the orders of a script ended.
+#[derive(Drop)]
+pub struct Endings {
+    /// The ways of those that ran to their end.
+    ended: Ways,
+    /// The ways of those in which everybody who has lines left waits.
+    stuck: Ways,
+    /// How many are no order, since a line addresses a session that waits.
+    addressing_waiting: u32,
+    /// How many are no order, since a line addresses a session that was closed.
+    addressing_closed: u32,
+}
+
+impl Endings {
     /// No order was run.
     pub fn new(alloc: Global) -> Self {
-        Ends {
-            ends: Vec::new(alloc),
-            possible: 0,
-            left_out: 0,
+        Endings {
+            ended: Ways::new(alloc),
+            stuck: Ways::new(alloc),
+            addressing_waiting: 0,
+            addressing_closed: 0,
         }
     }
 
-    /// One that is no order.
-    pub fn leave_out(&mut self) {
-        self.left_out = self.left_out.saturating_add(1);
-    }
-
-    /// An order that ended as is told.
+    /// Counts one that ended as is told.
     pub fn count(&mut self, told: String, script: Script) -> Result<(), AllocError> {
-        self.possible = self.possible.saturating_add(1);
-        for end in &mut self.ends {
-            if end.told.as_str() == told.as_str() {
-                end.orders = end.orders.saturating_add(1);
-                return Ok(());
-            }
-        }
-        self.ends.push(End {
-            told,
-            orders: 1,
-            script,
-        })?;
-        Ok(())
+        self.ended.count(told, script)
+    }
+
+    /// Counts one that is stuck as is told, behind the lines of this script.
+    pub fn count_stuck(&mut self, told: String, script: Script) -> Result<(), AllocError> {
+        self.stuck.count(told, script)
+    }
+
+    /// Counts one in which a line addresses a session that waits.
+    pub fn leave_out_waiting(&mut self) {
+        self.addressing_waiting = self.addressing_waiting.saturating_add(1);
+    }
+
+    /// Counts one in which a line addresses a session that was closed.
+    pub fn leave_out_closed(&mut self) {
+        self.addressing_closed = self.addressing_closed.saturating_add(1);
     }
 
     /// Writes the table of all, as a script of comments in which the orders are. Where not all orders were run it
     /// says so.
     pub fn write<W: Write>(&self, output: &mut W, is_whole: bool) -> io::Result<()> {
-        let (possible, left_out) = (self.possible, self.left_out);
-        let run = possible.saturating_add(left_out);
+        self.write_head(output, is_whole)?;
+        self.ended.write(output, 0, "")?;
+        self.stuck
+            .write(output, self.ended.endings.len(), ", stuck")?;
+        output.flush()
+    }
+
+    /// Writes how many orders were run, and how many of each kind there are.
+    fn write_head<W: Write>(&self, output: &mut W, is_whole: bool) -> io::Result<()> {
+        let (possible, stuck) = (self.ended.orders, self.stuck.orders);
+        let left_out = self
+            .addressing_waiting
+            .saturating_add(self.addressing_closed);
+        let run = possible.saturating_add(stuck).saturating_add(left_out);
         if !is_whole {
             writeln!(output, "# the first {}, and there are more", Orders(run))?;
         }
+        write!(output, "# {}: {possible} possible, ", Orders(run))?;
+        if stuck > 0 {
+            write!(output, "{stuck} stuck, ")?;
+        }
+        let closed = if self.addressing_closed > 0 {
+            " or is closed"
+        } else {
+            ""
+        };
         writeln!(
             output,
-            "# {}: {possible} possible, {left_out} in which a line addresses a session that waits",
-            Orders(run)
-        )?;
-        for (place, end) in self.ends.iter().enumerate() {
-            writeln!(output, "\n# way {}: {}", place + 1, Orders(end.orders))?;
-            write!(output, "{}{}", end.told, end.script.text)?;
-        }
-        output.flush()
+            "{left_out} in which a line addresses a session that waits{closed}"
+        )
     }
-}
-
-/// What is told of an order that ended: the answers of each session, and who waits yet. `shown` has each line of the
-/// order's script as `> LINE`, with its answers behind it.
-pub fn tell(
-    alloc: Global,
-    story: &Story,
-    merge: &[usize],
-    shown: &str,
-) -> Result<String, AllocError> {
-    let answers = answers_of(alloc, story, merge, shown)?;
-    let mut told = String::new(alloc);
-    for (actor, answers) in story.actors.iter().zip(answers.as_slice()) {
-        write!(told, "#   {}: {answers}\n", actor.name)?;
-    }
-    let mut is_any = false;
-    for (actor, answers) in story.actors.iter().zip(answers.as_slice()) {
-        if is_waiting(answers.as_str()) {
-            told.push_str(before_name(is_any))?;
-            told.push_str(actor.name.as_str())?;
-            is_any = true;
-        }
-    }
-    if is_any {
-        told.push('\n')?;
-    }
-    Ok(told)
-}
-
-/// What stands before the name of a session that waits yet: whether another one was told.
-fn before_name(is_any: bool) -> &'static str {
-    if is_any { ", " } else { "#   left waiting: " }
-}
-
-/// Whether a session with these answers waits.
-fn is_waiting(answers: &str) -> bool {
-    answers == "waits" || answers.ends_with("; waits")
-}
-
-/// The answers of each session, one behind the other. What a line prints that names no session is its own session's.
-fn answers_of(
-    alloc: Global,
-    story: &Story,
-    merge: &[usize],
-    shown: &str,
-) -> Result<Vec<String>, AllocError> {
-    let mut answers = Vec::new(alloc);
-    for _ in &story.actors {
-        answers.push(String::new(alloc))?;
-    }
-    let mut opening = story.opening.iter();
-    let mut turns = merge.iter();
-    let mut asked = None;
-    for line in shown.lines() {
-        if line.starts_with("> ") {
-            if opening.next().is_none() {
-                asked = turns.next().copied();
-            }
-        } else if let Some(asked) = asked {
-            add_answer(story, answers.as_mut_slice(), asked, line)?;
-        }
-    }
-    Ok(answers)
-}
-
-/// Adds a line that was printed for a line of this session.
-fn add_answer(
-    story: &Story,
-    answers: &mut [String],
-    asked: usize,
-    line: &str,
-) -> Result<(), AllocError> {
-    let (place, answer) = match line.split_once(": ") {
-        Some((name, answer)) => (story.place_of(name).unwrap_or(asked), answer),
-        None => (asked, line),
-    };
-    if let Some(answers) = answers.get_mut(place) {
-        if answers.len() > 0 {
-            answers.push_str("; ")?;
-        }
-        answers.push_str(answer)?;
-    }
-    Ok(())
 }

@@ -3,11 +3,16 @@
 #![tactic(auto)]
 
 mod ends;
+mod faults;
 mod merges;
+mod options;
 mod orders;
+mod played;
 mod progress;
 mod stories;
 
+pub use faults::{BadLine, OrdersFault};
 pub use merges::next_merge;
+pub use options::OrdersOptions;
 pub use orders::{Player, run_orders};
 pub use progress::OrdersLine;

@@ -1,15 +1,16 @@
 //! The merges of several sessions' lines. A merge is a list of sessions, each as often as it has lines: whose line
 //! comes when. So each session's lines keep their order in every merge.
 
-ghost use Rattle.std.specs.Prelude.{◌≡◌, ◌<◌, ◌≤◌, ◌+◌, true, false, length, take, slice_index, IfSome, IfNone};
+ghost use Rattle.std.specs.Prelude.{◌≡◌, ℕ, ◌<◌, ◌≤◌, ◌+◌, List, true, false, length, take, drop, reverse, slice_index, IfSome, IfNone};
 ghost use Rattle.std.specs.List.Sorted.{IsPermutation};
-ghost use Rattle.script_orders.specs.Merges.{ComesLater, IsInDescendingOrder};
+ghost use Rattle.script_orders.specs.Merges.{ComesLater, LiesBetween, IsDescendingFrom, IsInDescendingOrder};
 
 /// Goes on to the next merge of the same sessions, or answers that there is none. The first merge of all has the
 /// sessions in ascending order. Each merge comes later than the one before, so none comes twice.
 pub fn next_merge(merge: &mut [usize]) -> bool
     ensures same { IsPermutation merge.old merge.new }
     ensures later { result ≡ true → ComesLater merge.old merge.new }
+    ensures none_between { result ≡ true → (other : List ℕ) → ¬ LiesBetween merge.old merge.new other }
     ensures last { result ≡ false → IsInDescendingOrder merge.old }
     ensures unchanged { result ≡ false → merge.new ≡ merge.old }
 {
@@ -26,6 +27,7 @@ pub fn next_merge(merge: &mut [usize]) -> bool
 fn last_ascent(merge: &[usize]) -> Option<usize>
     ensures ascent { IfSome result (λ place. (place + 1 < length merge.now)
         × (slice_index merge.now place < slice_index merge.now (place + 1))) }
+    ensures descending { IfSome result (λ place. IsDescendingFrom (place + 1) merge.now) }
     ensures none { IfNone result (IsInDescendingOrder merge.now) }
 {
     let mut found = None;
@@ -43,6 +45,8 @@ fn last_above(merge: &[usize], place: usize) -> usize
     requires ascent { slice_index merge.now place < slice_index merge.now (place + 1) }
     ensures behind { (place < result) × (result < length merge.now) }
     ensures above { slice_index merge.now place < slice_index merge.now result }
+    ensures last { (k : ℕ) → result < k → k < length merge.now →
+        slice_index merge.now k ≤ slice_index merge.now place }
 {
     let mut found = place + 1;
     'places: for other in place + 1..merge.len() {
@@ -58,6 +62,7 @@ fn turn_round(merge: &mut [usize], from: usize)
     requires { from ≤ length merge.old }
     ensures same { IsPermutation merge.old merge.new }
     ensures front { take from merge.new ≡ take from merge.old }
+    ensures turned { drop from merge.new ≡ reverse (drop from merge.old) }
 {
     merge[from..].reverse();
 }

@@ -1,13 +1,14 @@
 //! All orders of a script, one after another.
 
-use crate::ends::{Ends, tell};
+use crate::ends::Endings;
+use crate::faults::OrdersFault;
 use crate::merges::next_merge;
+use crate::options::OrdersOptions;
+use crate::played::PlayedOrder;
 use crate::progress::OrdersLine;
 use crate::stories::Story;
 use lock_script::{Defect, Fault};
-use std::alloc::{AllocError, Global};
 use std::io::{Read, Write};
-use std::str;
 use std::sync::Wait;
 
 /// Plays scripts, each against a lock manager of its own.
@@ -22,25 +23,44 @@ pub trait Player {
 }
 
 /// Has the player play the orders of the reader's script, so many at most, and writes how often each way to end
-/// came. An order in which a line addresses a session that waits is none, and is counted apart. A line that is bad
-/// otherwise ends it, with its number in the reader's script.
+/// came. An order that comes to a line that addresses a session that waits is stuck where everybody who has lines left
+/// waits. Else it is not possible, as one is in which a line addresses a session that was closed before, and is counted
+/// apart. A line that is bad otherwise, or in the script's own order, ends it, with its number in the script.
 pub fn run_orders<P: Player, H: AllocGlobal + Wait, R: Read + Drop, W: Write + Drop, E: Write>(
     rt: &H,
     player: &P,
     reader: R,
-    output: W,
+    mut output: W,
     line: &mut OrdersLine<E>,
-    most: u32,
-) -> Result<(), Fault> {
+    options: OrdersOptions,
+) -> Result<(), OrdersFault> {
     let alloc = rt.alloc();
     let story = Story::read(alloc, reader)?;
-    let mut ends = Ends::new(alloc);
-    let ended = run_merges(rt, player, &story, &mut ends, line, most);
+    check_own_order(rt, player, &story)?;
+    let mut endings = Endings::new(alloc);
+    let ended = run_merges(rt, player, &story, &mut endings, line, options);
     line.end();
     let is_whole = ended?;
-    let mut output = output;
-    ends.write(&mut output, is_whole)
-        .map_err(|_| Fault::WriteFailed)
+    endings
+        .write(&mut output, is_whole)
+        .map_err(|_| OrdersFault::Other(Fault::WriteFailed))
+}
+
+/// Has the player play the script in its own order, in which no line may be bad but for one that addresses a session
+/// that waits.
+fn check_own_order<P: Player, H: AllocGlobal + Wait>(
+    rt: &H,
+    player: &P,
+    story: &Story,
+) -> Result<(), OrdersFault> {
+    let (order, bad) = play_order(rt, player, story, story.own_merge.as_slice())?;
+    match bad {
+        None | Some((_, Defect::SessionWaits)) => Ok(()),
+        Some((line, what)) => {
+            let bad = order.bad_line(rt.alloc(), line, what)?;
+            Err(OrdersFault::Line(bad))
+        }
+    }
 }
 
 /// Has the player play so many orders at most, and answers whether these are all.
@@ -48,14 +68,14 @@ fn run_merges<P: Player, H: AllocGlobal + Wait, E: Write>(
     rt: &H,
     player: &P,
     story: &Story,
-    ends: &mut Ends,
+    endings: &mut Endings,
     line: &mut OrdersLine<E>,
-    most: u32,
-) -> Result<bool, Fault> {
-    let mut merge = kept(story.first_merge(rt.alloc()))?;
-    for order in 0..most {
+    options: OrdersOptions,
+) -> Result<bool, OrdersFault> {
+    let mut merge = story.first_merge(rt.alloc())?;
+    for order in 0..options.limit {
         line.renew(order);
-        run_merge(rt, player, story, ends, merge.as_slice())?;
+        run_merge(rt, player, story, endings, merge.as_slice(), options.ends)?;
         if !next_merge(merge.as_mut_slice()) {
             return Ok(true);
         }
@@ -68,48 +88,61 @@ fn run_merge<P: Player, H: AllocGlobal + Wait>(
     rt: &H,
     player: &P,
     story: &Story,
-    ends: &mut Ends,
+    endings: &mut Endings,
     merge: &[usize],
-) -> Result<(), Fault> {
+    ends: bool,
+) -> Result<(), OrdersFault> {
     let alloc = rt.alloc();
-    let script = kept(story.script(alloc, merge))?;
+    let (order, bad) = play_order(rt, player, story, merge)?;
+    match bad {
+        None => {
+            let waiting = order.who_waits(alloc)?;
+            let told = order.tell(alloc, waiting.as_slice(), ends)?;
+            endings.count(told, order.script)?;
+        }
+        Some((_, Defect::SessionWaits)) => {
+            let waiting = order.who_waits(alloc)?;
+            if order.is_stuck(waiting.as_slice()) {
+                let told = order.tell(alloc, waiting.as_slice(), ends)?;
+                endings.count_stuck(told, story.script(alloc, order.run)?)?;
+            } else {
+                endings.leave_out_waiting();
+            }
+        }
+        Some((line, Defect::NoSuchSession))
+            if order.names_closed_session(order.script.line(line)) => {
+            endings.leave_out_closed();
+        }
+        Some((line, what)) => {
+            let bad = order.bad_line(alloc, line, what)?;
+            return Err(OrdersFault::Line(bad));
+        }
+    }
+    Ok(())
+}
+
+/// Has the player play an order, and answers what came of it, with the line that is bad there, if there is one.
+fn play_order<'a, P: Player, H: AllocGlobal + Wait>(
+    rt: &H,
+    player: &P,
+    story: &'a Story,
+    merge: &'a [usize],
+) -> Result<(PlayedOrder<'a>, Option<(u32, Defect)>), OrdersFault> {
+    let alloc = rt.alloc();
+    let script = story.script(alloc, merge)?;
     let mut shown = Vec::new(alloc);
-    match player.play(rt, script.text.as_str(), &mut shown) {
-        Ok(()) => {
-            let told = kept(tell_shown(alloc, story, merge, shown.as_slice()))?;
-            kept(ends.count(told, script))
-        }
-        Err(
-            Fault::BadLine {
-                what: Defect::SessionWaits,
-                ..
-            },
-        ) => {
-            ends.leave_out();
-            Ok(())
-        }
-        Err(Fault::BadLine { line, what }) => Err(Fault::BadLine {
-            line: script.number_of(line),
-            what,
-        }),
-        Err(fault) => Err(fault),
-    }
-}
-
-/// What is told of an order that showed these bytes, which are text.
-fn tell_shown(
-    alloc: Global,
-    story: &Story,
-    merge: &[usize],
-    shown: &[u8],
-) -> Result<String, AllocError> {
-    match str::from_utf8(shown) {
-        Ok(shown) => tell(alloc, story, merge, shown),
-        Err(_) => Ok(String::new(alloc)),
-    }
-}
-
-/// Being out of memory is a fault of the program's own.
-fn kept<T>(outcome: Result<T, AllocError>) -> Result<T, Fault> {
-    outcome.map_err(|_| Fault::NoMemory)
+    let (lines, bad) = match player.play(rt, script.text.as_str(), &mut shown) {
+        Ok(()) => (merge.len(), None),
+        Err(Fault::BadLine { line, what }) => (story.lines_before(line), Some((line, what))),
+        Err(fault) => return Err(OrdersFault::Other(fault)),
+    };
+    let (run, left) = merge.split_at(lines.min(merge.len()));
+    let order = PlayedOrder {
+        story,
+        run,
+        left,
+        script,
+        shown,
+    };
+    Ok((order, bad))
 }

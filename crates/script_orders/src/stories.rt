@@ -25,6 +25,8 @@ pub struct Story {
     pub opening: Vec<StoryLine>,
     /// The sessions, in the order of their first lines.
     pub actors: Vec<Actor>,
+    /// The merge of the sessions' lines that the script has itself.
+    pub own_merge: Vec<usize>,
 }
 
 /// A script as a lock manager plays it, and the number that each of its lines has in the script that it was made from.
@@ -35,7 +37,7 @@ pub struct Script {
 }
 
 /// What a line is to the orders.
-enum Part<'a> {
+enum LineKind<'a> {
     /// It says nothing.
     Silent,
     /// It addresses no session.
@@ -46,22 +48,22 @@ enum Part<'a> {
     Of(&'a str),
 }
 
-/// What a line is to the orders.
-fn part_of(line: &str) -> Part<'_> {
+/// The kind of a line.
+fn kind_of(line: &str) -> LineKind<'_> {
     let words = split_words(line);
     let Some((verb, words)) = words.as_slice().split_first() else {
-        return Part::Silent;
+        return LineKind::Silent;
     };
     if verb.starts_with('#') {
-        return Part::Silent;
+        return LineKind::Silent;
     }
     match words.first() {
         Some(name) => match *verb {
-            "session" => Part::Opens(*name),
-            "hash" => Part::Free,
-            _ => Part::Of(*name),
+            "session" => LineKind::Opens(*name),
+            "hash" => LineKind::Free,
+            _ => LineKind::Of(*name),
         },
-        None => Part::Free,
+        None => LineKind::Free,
     }
 }
 
@@ -71,6 +73,7 @@ impl Story {
         let mut story = Story {
             opening: Vec::new(alloc),
             actors: Vec::new(alloc),
+            own_merge: Vec::new(alloc),
         };
         let mut lines = LineReader::new(reader);
         for _ in 0..u64::MAX {
@@ -89,19 +92,19 @@ impl Story {
     fn add(&mut self, alloc: Global, number: u32, line: &str) -> Result<(), AllocError> {
         let text = String::from_str(alloc, line)?;
         let added = StoryLine { number, text };
-        match part_of(line) {
-            Part::Silent => {}
-            Part::Free => self.opening.push(added)?,
-            Part::Opens(name) => match self.place_of(name) {
-                Some(place) => self.give(place, added)?,
+        match kind_of(line) {
+            LineKind::Silent => {}
+            LineKind::Free => self.opening.push(added)?,
+            LineKind::Opens(name) => match self.place_of(name) {
+                Some(place) => self.add_line(place, added)?,
                 None => {
                     self.opening.push(added)?;
-                    self.meet(alloc, name)?;
+                    self.place_or_add(alloc, name)?;
                 }
             },
-            Part::Of(name) => {
-                let place = self.meet(alloc, name)?;
-                self.give(place, added)?;
+            LineKind::Of(name) => {
+                let place = self.place_or_add(alloc, name)?;
+                self.add_line(place, added)?;
             }
         }
         Ok(())
@@ -114,8 +117,8 @@ impl Story {
             .position(|actor| actor.name.as_str() == name)
     }
 
-    /// The place of a session, which is new where its name is.
-    fn meet(&mut self, alloc: Global, name: &str) -> Result<usize, AllocError> {
+    /// The place of the session of this name, which is added where it is new.
+    fn place_or_add(&mut self, alloc: Global, name: &str) -> Result<usize, AllocError> {
         if let Some(place) = self.place_of(name) {
             return Ok(place);
         }
@@ -126,10 +129,11 @@ impl Story {
         Ok(place)
     }
 
-    /// A session has one more line.
-    fn give(&mut self, place: usize, line: StoryLine) -> Result<(), AllocError> {
+    /// Adds a line of a session.
+    fn add_line(&mut self, place: usize, line: StoryLine) -> Result<(), AllocError> {
         if let Some(actor) = self.actors.get_mut(place) {
             actor.lines.push(line)?;
+            self.own_merge.push(place)?;
         }
         Ok(())
     }
@@ -143,6 +147,13 @@ impl Story {
             }
         }
         Ok(merge)
+    }
+
+    /// How many of the sessions' lines stand before a line of an order's script. Lines are counted from 1.
+    pub fn lines_before(&self, line: u32) -> usize {
+        (line as usize)
+            .saturating_sub(1)
+            .saturating_sub(self.opening.len())
     }
 
     /// The script in which the sessions' lines come in the order of this merge.
@@ -180,6 +191,12 @@ impl Script {
         self.text.push('\n')?;
         self.numbers.push(line.number)?;
         Ok(())
+    }
+
+    /// The text of a line. Lines are counted from 1.
+    pub fn line(&self, line: u32) -> &str {
+        let place = line.saturating_sub(1) as usize;
+        self.text.as_str().lines().nth(place).unwrap_or("")
     }
 
     /// The number that a line has in the script that this one was made from. Lines are counted from 1.
