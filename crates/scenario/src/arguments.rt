@@ -1,22 +1,21 @@
 //! The words of the command line.
-ghost use Rattle.std.specs.Prelude.{◌≤◌, IfOk};
-ghost use Rattle.scenario.specs.Tasks.{OfHammer, OfRun};
+ghost use Rattle.std.specs.Prelude.{IfOk};
+ghost use Rattle.scenario.specs.Tasks.{HasSlotGroups, IsForManager, IsPlayable, OfHammer, OfRun};
 
 use crate::style::{DRAWINGS, Drawing, Style};
 use clap::error::ErrorKind;
 use clap::{Arg, ArgAction, ArgMatches, Command, Error, value_parser};
-use local_locks::MOST_LOCAL;
-use lock_manager::MOST_GROUPS;
-use modes_core::SESSIONS;
+use lock_manager::{Config, MOST_GROUPS, MOST_LOCAL, MOST_SESSIONS};
+use script_orders::OrdersOptions;
 use std::alloc::{AllocError, Global};
-
-/// How many sessions a script may open at most.
-const MOST_SESSIONS: u32 = SESSIONS as u32;
 
 /// How many sessions a script may open, where the command line doesn't say, and as `--help` shows it.
 const USUAL_SESSIONS: u32 = 8;
 
 const USUAL_SESSIONS_SHOWN: &str = "8";
+
+/// How many sessions a shell may open in its whole life, where the command line doesn't say.
+const SHELL_SESSIONS_SHOWN: &str = "64";
 
 /// How many local entries a session may have, where the command line doesn't say, and as `--help` shows it.
 const USUAL_LOCAL: u32 = 1024;
@@ -28,9 +27,10 @@ const USUAL_GROUPS: u32 = 1;
 
 const USUAL_GROUPS_SHOWN: &str = "1";
 
-/// The program's name, and the version that `--version` shows.
+/// The program's name.
 pub const PROGRAM: &str = "lock_scenario";
 
+/// The version that `--version` shows.
 pub const VERSION: &str = "0.1.0";
 
 /// What `--help` says first.
@@ -40,51 +40,58 @@ pub const ABOUT: &str = "Run scripts against PostgreSQL's lock manager";
 const MAN: &str = "--man";
 
 /// What `--help` shows of the script language, and of a run.
-const LINES_AND_EXAMPLE: &str = "Lines of a script begin with:
-  session, try, fast, lock, unlock, commit, abort, begin, subcommit, subabort, owned, waiters, queue,
-  blockers, cancel, list, count, hash, close
+const PROGRAM_HELP: &str = "Lines of a script begin with:
+  session, try, fast, lock, unlock, commit, abort, begin, subcommit, subabort,
+  owned, waiters, queue, blockers, cancel, list, count, hash, close
 
 Example:
   lock_scenario run --sessions 2 < scenarios/object_lock.scn";
 
 /// What `run --help` shows beside its options: each line of a script with its words, and what they may be.
-pub const FORMS: &str = "Lines of a script, after lock_scenario run < FILE:
+pub const RUN_HELP: &str = "Lines of a script, after lock_scenario run < FILE:
   session NAME DB                 open a session of a database
   try NAME TAG MODE [session]     take a lock, if nothing is in the way
   fast NAME TAG MODE [session]    take a lock by a fast-path slot, or not at all
-  lock NAME TAG MODE [session]    take a lock, and wait where something is in the way
+  lock NAME TAG MODE [session]    take a lock, and wait for it if need be
   unlock NAME TAG MODE [session]  give one count of a lock back
   commit NAME                     drop what the transaction owns
   abort NAME                      drop what the transaction and the session own,
                                   but for the session's advisory locks
   begin NAME                      begin a level of the transaction, a savepoint
-  subcommit NAME                  end it, and give what it owns to the level outside it
+  subcommit NAME                  end it; what it owns goes to the level outside
   subabort NAME                   end it, and drop what it owns
   owned NAME TAG MODE             say how often each of the two owns a lock: the
                                   transaction's innermost level, and the session
-  waiters NAME TAG MODE           say whether somebody waits for a conflicting mode
+  waiters NAME TAG MODE           say whether somebody awaits a conflicting mode
   queue NAME TAG                  list who waits for an object, in order
-  blockers NAME OTHER TAG         list who stands in the way of a session that waits for an object
+  blockers NAME OTHER TAG         list who is in the way of one that waits
   cancel BY NAME                  ask a session to stop waiting
   list NAME                       list all locks
-  count NAME INDEX                say how many strong locks are counted at a counter
+  count NAME INDEX                say what a strong lock counter shows
   hash TAG                        say a tag's hash, partition and counter
   close NAME                      close a session
   # TEXT                          a comment
 
+NAME is 1 to 16 of a to z, 0 to 9 and _. DB is a number to 4294967295, INDEX one
+  to 1023.
 TAG is DB/REL for a relation, DB/CLASS/OBJ/SUB for another object, and
-  adv/DB/K1/K2/SUB for an advisory lock.
-MODE is AccessShareLock, RowShareLock, RowExclusiveLock, ShareUpdateExclusiveLock,
-  ShareLock, ShareRowExclusiveLock, ExclusiveLock or AccessExclusiveLock.
-A lock is the transaction's, and with the word session at the end of its line the session's.
+  adv/DB/K1/K2/SUB for an advisory lock, of numbers to 4294967295, SUB to 65535.
+MODE is AccessShareLock, RowShareLock, RowExclusiveLock,
+  ShareUpdateExclusiveLock, ShareLock, ShareRowExclusiveLock, ExclusiveLock or
+  AccessExclusiveLock.
+A lock is the transaction's, and with the word session at the end of its line
+  the session's.
+
+Status: 0 the script ended, 1 input, output or memory failed, 2 these words were
+  refused, 3 a bad line, of which lock_scenario shell < FILE says more.
 
 Examples:
   lock_scenario run < scenarios/object_lock.scn
-  lock_scenario run --echo --graph mermaid < scenarios/a_convoy_behind_an_idle_transaction.scn
-  lock_scenario run --json < scenarios/object_lock.scn | jq .";
+  lock_scenario run --json < scenarios/object_lock.scn | jq .
+  lock_scenario run --graph dot < FILE | sed -n '/^digraph/,/^}/p' | dot -Tsvg";
 
 /// What `modes --help` shows beside its options.
-const MASKS: &str =
+const MODES_HELP: &str =
     "Each line has a mode's number, its name, and the modes that it conflicts with: a
 hexadecimal number, whose bit 1 << NUMBER stands for the mode of that number.
 
@@ -92,25 +99,29 @@ Example:
   lock_scenario modes";
 
 /// What `hammer --help` shows beside its options.
-const BLOWS: &str =
-    "Each session locks and unlocks relations 5/16384 to 5/16387 in every mode, in a thread of
-its own. Then each takes AccessShareLock on 5/16384, and the first one ShareLock on
-5/16385. Two lines tell what stands in fast-path slots and in the table, and the sum of
-the strong lock counters: by an audit then, and when all sessions are closed.
+const HAMMER_HELP: &str =
+    "Each session locks and unlocks relations 5/16384 to 5/16387 in every mode, in a
+thread of its own. Then each takes AccessShareLock on 5/16384, and the first one
+ShareLock on 5/16385. Two lines tell what stands in fast-path slots and in the
+table, and the sum of the strong lock counters: by an audit then, and when all
+sessions are closed.
 
 Example:
   lock_scenario hammer --sessions 4 --rounds 1000";
 
 /// What `orders --help` shows beside its options.
-const MERGES: &str =
-    "The lines that open sessions come first. Each session's other lines keep their order, and
-those of different sessions are merged in every way. An order in which a line addresses
-a session that waits is none, and is counted apart. For each way to end, the answers of
-each session and who is left waiting, it prints how many orders lead there, and the first
-of them as a script.
+const ORDERS_HELP: &str =
+    "The lines that open sessions come first. Each session's other lines keep their
+order, and those of different sessions are merged in every way. An order is
+stuck where everybody who has lines left waits, as in a deadlock. Another one in
+which a line addresses a session that waits, or was closed, is not possible, and
+is counted apart. For each way to end, the answers of each session and who is
+left waiting, it prints how many orders lead there, and the first of them as a
+script, up to where it is stuck.
 
-Example:
-  lock_scenario orders < scenarios/an_upgrade_of_two_shared_locks.scn";
+Examples:
+  lock_scenario orders < scenarios/a_deadlock_over_two_tables.scn
+  lock_scenario orders --ends < scenarios/an_upgrade_of_two_shared_locks.scn";
 
 /// The subcommand that runs a script's lines in every order.
 const ORDERS: &str = "orders";
@@ -123,9 +134,10 @@ const USUAL_ORDERS: u32 = 10_000;
 const USUAL_ORDERS_SHOWN: &str = "10000";
 
 /// What `shell --help` shows beside its options.
-const TYPED: &str =
-    "Type the lines of a script, which lock_scenario run --help has, and help, help COMMAND,
-help STATEMENT, as in help alter table, or end. A bad line is told, and the shell goes on.
+const SHELL_HELP: &str =
+    "Type the lines of a script, which lock_scenario run --help has, help, help COMMAND,
+help STATEMENT, as in help alter table, help MODE, help modes, or end. A bad line
+is explained, and the shell goes on.
 
 Example:
   lock_scenario shell";
@@ -147,18 +159,18 @@ fn hammer_command<'a>(alloc: Global) -> Result<Command<'a>, AllocError> {
     let sessions = Arg::new(alloc, "sessions")
         .long("sessions")
         .value_name("N")
-        .help("How many sessions, each in a thread of its own")
+        .help("Sessions, each in a thread of its own, 1 to 64")
         .value_parser(value_parser!(u32).range(1..=i64::from(MOST_SESSIONS)))
         .required(true);
     let rounds = Arg::new(alloc, "rounds")
         .long("rounds")
         .value_name("K")
-        .help("How many locks each asks for")
+        .help("Locks that each asks for, 1 to 1000000")
         .value_parser(value_parser!(u32).range(1..=i64::from(MOST_ROUNDS)))
         .required(true);
     Command::new(alloc, HAMMER)
         .about("Lock and unlock in many threads, and count what is left")
-        .after_help(BLOWS)
+        .after_help(HAMMER_HELP)
         .arg(sessions)?
         .arg(rounds)
 }
@@ -176,63 +188,76 @@ fn with_styles<'a>(alloc: Global, run: Command<'a>) -> Result<Command<'a>, Alloc
     let graph = Arg::new(alloc, "graph")
         .long("graph")
         .value_name("LANGUAGE")
-        .help("Draw who waits for whom behind the rows of each list")
+        .help("Draw who waits for whom, behind each list")
         .value_parser(DRAWINGS.as_slice());
     run.arg(echo)?.arg(json)?.arg(graph)
 }
 
-/// The subcommand with the options of how large the lock manager is.
-fn with_limits<'a>(alloc: Global, command: Command<'a>) -> Result<Command<'a>, AllocError> {
+/// The subcommand with the options of how large the lock manager is, and how many sessions it has where they don't say.
+fn with_config<'a>(
+    alloc: Global,
+    command: Command<'a>,
+    usual_sessions: &'static str,
+) -> Result<Command<'a>, AllocError> {
     let sessions = Arg::new(alloc, "sessions")
         .long("sessions")
         .value_name("N")
-        .help("How many sessions the script may open")
+        .help("Sessions that may be opened, 1 to 64")
         .value_parser(value_parser!(u32).range(1..=i64::from(MOST_SESSIONS)))
-        .default_value(USUAL_SESSIONS_SHOWN);
+        .default_value(usual_sessions);
     let max_local = Arg::new(alloc, "max-local")
         .long("max-local")
         .value_name("M")
-        .help("How many different locks a session may have")
+        .help("Different locks of a session, 1 to 65536")
         .value_parser(value_parser!(u32).range(1..=i64::from(MOST_LOCAL)))
         .default_value(USUAL_LOCAL_SHOWN);
     let slot_groups = Arg::new(alloc, "slot-groups")
         .long("slot-groups")
         .value_name("G")
-        .help("How many groups of sixteen fast-path slots a session has")
+        .help("Groups of 16 fast-path slots, 1 to 8")
         .value_parser(value_parser!(u32).range(1..=i64::from(MOST_GROUPS)))
         .default_value(USUAL_GROUPS_SHOWN);
     command.arg(sessions)?.arg(max_local)?.arg(slot_groups)
 }
 
-/// The subcommand `orders [--sessions N] [--max-local M] [--slot-groups G] [--limit K]`.
+/// The subcommand `orders [--sessions N] [--max-local M] [--slot-groups G] [--limit K] [--ends]`.
 fn orders_command<'a>(alloc: Global) -> Result<Command<'a>, AllocError> {
     let limit = Arg::new(alloc, "limit")
         .long("limit")
         .value_name("K")
-        .help("How many orders are run at most")
+        .help("Orders run at most, 1 to 1000000")
         .value_parser(value_parser!(u32).range(1..=i64::from(MOST_ORDERS)))
         .default_value(USUAL_ORDERS_SHOWN);
+    let ends = Arg::new(alloc, "ends")
+        .long("ends")
+        .help("Leave out what list, count, queue, owned, blockers and waiters answer")
+        .action(ArgAction::SetTrue);
     let orders = Command::new(alloc, ORDERS)
         .about("Run the script's lines in every order, and count how it ends")
-        .after_help(MERGES);
-    with_limits(alloc, orders)?.arg(limit)
+        .override_usage("lock_scenario orders [OPTIONS] < SCRIPT")
+        .after_help(ORDERS_HELP);
+    with_config(alloc, orders, USUAL_SESSIONS_SHOWN)?
+        .arg(limit)?
+        .arg(ends)
 }
 
 /// The command line: `run [--sessions N] [--max-local M] [--slot-groups G] [--echo] [--json] [--graph LANGUAGE]`,
-/// `orders [--sessions N] [--max-local M] [--slot-groups G] [--limit K]`,
+/// `orders [--sessions N] [--max-local M] [--slot-groups G] [--limit K] [--ends]`,
 /// `shell [--sessions N] [--max-local M] [--slot-groups G]`, `modes`, `hammer --sessions N --rounds K`, or `--man`.
 fn command<'a>(alloc: Global) -> Result<Command<'a>, AllocError> {
     let run = Command::new(alloc, "run")
         .about("Run the script on standard input")
-        .after_help(FORMS);
-    let run = with_limits(alloc, run)?;
+        .override_usage("lock_scenario run [OPTIONS] < SCRIPT")
+        .after_help(RUN_HELP);
+    let run = with_config(alloc, run, USUAL_SESSIONS_SHOWN)?;
     let run = with_styles(alloc, run)?;
     let shell = Command::new(alloc, SHELL)
         .about("Run lines as they are typed, with help")
-        .after_help(TYPED);
+        .after_help(SHELL_HELP);
+    let shell = with_config(alloc, shell, SHELL_SESSIONS_SHOWN)?;
     let modes = Command::new(alloc, MODES)
         .about("Print which lock modes conflict")
-        .after_help(MASKS);
+        .after_help(MODES_HELP);
     let man = Arg::new(alloc, "man")
         .long("man")
         .help("Print the man page")
@@ -240,25 +265,14 @@ fn command<'a>(alloc: Global) -> Result<Command<'a>, AllocError> {
     Command::new(alloc, PROGRAM)
         .version(VERSION)
         .about(ABOUT)
-        .after_help(LINES_AND_EXAMPLE)
+        .after_help(PROGRAM_HELP)
         .subcommand_required(true)
         .arg(man)?
         .subcommand(run)?
         .subcommand(orders_command(alloc)?)?
-        .subcommand(with_limits(alloc, shell)?)?
+        .subcommand(shell)?
         .subcommand(modes)?
         .subcommand(hammer_command(alloc)?)
-}
-
-/// How large a lock manager the words ask for.
-#[derive(Clone, Copy, Debug, PartialEq, Eq)]
-pub struct Limits {
-    /// How many sessions the script may open.
-    pub sessions: u32,
-    /// How many local entries each may have.
-    pub max_local: u32,
-    /// How many groups of fast-path slots each has.
-    pub slot_groups: u32,
 }
 
 /// How long a hammer the words ask for.
@@ -274,11 +288,11 @@ pub struct Hammer {
 #[derive(Clone, Copy, Debug, PartialEq, Eq)]
 pub enum Task {
     /// To run the script on standard input, and to show it in this style.
-    Run(Limits, Style),
-    /// To run the lines of the script on standard input in so many orders at most.
-    Orders(Limits, u32),
+    Run(Config, Style),
+    /// To run the lines of the script on standard input in every order.
+    Orders(Config, OrdersOptions),
     /// To run lines as they are typed.
-    Shell(Limits),
+    Shell(Config),
     /// To have sessions lock and unlock in threads.
     Hammer(Hammer),
     /// To print the conflict table.
@@ -315,15 +329,9 @@ impl NoRun {
 /// What the words ask for, with each limit in its range: 1 to 64 sessions, 1 to 65,536 local entries, 1 to 8 groups
 /// of slots, 1 to 1,000,000 rounds. The first word is the program's name.
 pub fn parse_arguments(alloc: Global, words: &[String]) -> Result<Task, NoRun>
-    ensures sessions { IfOk result (λ task. OfRun task (λ limits. (1 ≤ limits.sessions) × (limits.sessions ≤ 64))) }
-    ensures max_local { IfOk result (λ task. OfRun task
-        (λ limits. (1 ≤ limits.max_local) × (limits.max_local ≤ 65536))) }
-    ensures slot_groups { IfOk result (λ task. OfRun task
-        (λ limits. (1 ≤ limits.slot_groups) × (limits.slot_groups ≤ 8))) }
-    ensures hammer { IfOk result (λ task. OfHammer task
-        (λ hammer. (1 ≤ hammer.sessions) × (hammer.sessions ≤ 64))) }
-    ensures rounds { IfOk result (λ task. OfHammer task
-        (λ hammer. (1 ≤ hammer.rounds) × (hammer.rounds ≤ 1000000))) }
+    ensures config { IfOk result (λ task. OfRun task IsForManager) }
+    ensures slot_groups { IfOk result (λ task. OfRun task HasSlotGroups) }
+    ensures hammer { IfOk result (λ task. OfHammer task IsPlayable) }
 {
     if asks_for_man(words) {
         return Ok(Task::Man);
@@ -353,43 +361,43 @@ pub fn help_text(alloc: Global, words: &'static [&'static str]) -> Result<String
 
 /// The same, with `clap`'s own error.
 fn task_of<'a>(alloc: Global, words: &'a [String]) -> Result<Task, Error>
-    ensures sessions { IfOk result (λ task. OfRun task (λ limits. (1 ≤ limits.sessions) × (limits.sessions ≤ 64))) }
-    ensures max_local { IfOk result (λ task. OfRun task
-        (λ limits. (1 ≤ limits.max_local) × (limits.max_local ≤ 65536))) }
-    ensures slot_groups { IfOk result (λ task. OfRun task
-        (λ limits. (1 ≤ limits.slot_groups) × (limits.slot_groups ≤ 8))) }
-    ensures hammer { IfOk result (λ task. OfHammer task
-        (λ hammer. (1 ≤ hammer.sessions) × (hammer.sessions ≤ 64))) }
-    ensures rounds { IfOk result (λ task. OfHammer task
-        (λ hammer. (1 ≤ hammer.rounds) × (hammer.rounds ≤ 1000000))) }
+    ensures config { IfOk result (λ task. OfRun task IsForManager) }
+    ensures slot_groups { IfOk result (λ task. OfRun task HasSlotGroups) }
+    ensures hammer { IfOk result (λ task. OfHammer task IsPlayable) }
 {
     let matches = command(alloc)?.try_get_matches_from(words)?;
     match matches.subcommand() {
         Some((name, _)) if name == MODES => Ok(Task::Modes),
         Some((name, hammer)) if name == HAMMER => Ok(Task::Hammer(hammer_of(hammer))),
-        Some((name, shell)) if name == SHELL => Ok(Task::Shell(limits_of(shell))),
+        Some((name, shell)) if name == SHELL => Ok(Task::Shell(config_of(shell))),
         Some((name, orders)) if name == ORDERS => {
-            let most = orders.get_one::<u32>("limit").unwrap_or(USUAL_ORDERS);
-            Ok(Task::Orders(limits_of(orders), most))
+            Ok(Task::Orders(config_of(orders), options_of(orders)))
         }
-        Some((_, run)) => Ok(Task::Run(limits_of(run), style_of(run))),
+        Some((_, run)) => Ok(Task::Run(config_of(run), style_of(run))),
         None => Ok(Task::Man),
     }
 }
 
 /// How large a lock manager the words ask for.
-fn limits_of(words: &ArgMatches) -> Limits
-    ensures sessions { (1 ≤ result.sessions) × (result.sessions ≤ 64) }
-    ensures max_local { (1 ≤ result.max_local) × (result.max_local ≤ 65536) }
-    ensures slot_groups { (1 ≤ result.slot_groups) × (result.slot_groups ≤ 8) }
+fn config_of(words: &ArgMatches) -> Config
+    ensures for_manager { IsForManager result }
+    ensures slot_groups { HasSlotGroups result }
 {
     let sessions = words.get_one::<u32>("sessions").unwrap_or(USUAL_SESSIONS);
     let max_local = words.get_one::<u32>("max-local").unwrap_or(USUAL_LOCAL);
     let slot_groups = words.get_one::<u32>("slot-groups").unwrap_or(USUAL_GROUPS);
-    Limits {
+    Config {
         sessions: sessions.clamp(1, MOST_SESSIONS),
         max_local: max_local.clamp(1, MOST_LOCAL),
         slot_groups: slot_groups.clamp(1, MOST_GROUPS),
+    }
+}
+
+/// How the words ask for orders to be run and told.
+fn options_of(words: &ArgMatches) -> OrdersOptions {
+    OrdersOptions {
+        limit: words.get_one::<u32>("limit").unwrap_or(USUAL_ORDERS),
+        ends: words.get_flag("ends"),
     }
 }
 
@@ -404,8 +412,7 @@ fn style_of(words: &ArgMatches) -> Style {
 
 /// The numbers of a hammer.
 fn hammer_of(words: &ArgMatches) -> Hammer
-    ensures sessions { (1 ≤ result.sessions) × (result.sessions ≤ 64) }
-    ensures rounds { (1 ≤ result.rounds) × (result.rounds ≤ 1000000) }
+    ensures { IsPlayable result }
 {
     let sessions = words.get_one::<u32>("sessions").unwrap_or(1);
     let rounds = words.get_one::<u32>("rounds").unwrap_or(1);

@@ -2,6 +2,7 @@
 
 ghost use Rattle.std.specs.Prelude.{◌≡◌, ◌≤◌, length};
 ghost use Rattle.lock_manager.specs.Crews.{AreOf, SeatsAre};
+ghost use Rattle.scenario.specs.Tasks.{IsPlayable};
 
 use crate::arguments::Hammer;
 use crate::progress::{Progress, Unwatched};
@@ -46,9 +47,8 @@ pub fn run_watched_hammer<
     G: Gate + Sync,
     P: Progress + Sync,
     W: Write + Drop,
->(rt: &H, gate: &G, progress: &P, writer: W, size: Hammer) -> Result<(), Fault>
-    requires sessions { (1 ≤ size.sessions) × (size.sessions ≤ 64) }
-    requires rounds { (1 ≤ size.rounds) × (size.rounds ≤ 1000000) }
+>(rt: &H, gate: &G, progress: &P, mut writer: W, size: Hammer) -> Result<(), Fault>
+    requires { IsPlayable size }
 {
     let alloc = rt.alloc();
     let config = Config {
@@ -59,7 +59,6 @@ pub fn run_watched_hammer<
     let Ok((manager, opener)) = Manager::new(alloc, config) else {
         return Err(Fault::NoMemory);
     };
-    let mut writer = writer;
     let mut desk = ManagerDesk::new(&manager, opener);
     let reports = Reports::new(progress);
     let hammered = hammer(rt, alloc, gate, &reports, &mut desk, &mut writer, size);

@@ -64,41 +64,27 @@ pub fn not_owned(alloc: Global, line: u32, name: &Name, mode: Mode) -> Object {
 
 /// A call was refused.
 pub fn refused(alloc: Global, line: u32, names: &Names, name: &Name, refusal: Refusal) -> Object {
+    let (number, text) = (refusal.number(), refusal_text(refusal));
     match &refusal {
         Refusal::Conflict { session, mode, how } => {
-            conflict(
-                alloc,
-                line,
-                name,
-                &name_of(names, *session),
-                *mode,
-                how_text(*how),
-            )
+            let other = name_of(names, *session);
+            json!(in alloc; {
+                "line": line, "session": name.as_str(), "answer": "refused", "number": number,
+                "refusal": text, "other": other.as_str(), "mode": mode.name(), "how": how_text(*how)
+            })
         }
         Refusal::SimpleDeadlock { session } => {
             let other = name_of(names, *session);
             json!(in alloc; {
                 "line": line, "session": name.as_str(), "answer": "refused",
-                "number": 5, "refusal": "simple deadlock", "other": other.as_str()
+                "number": number, "refusal": text, "other": other.as_str()
             })
         }
-        _ => {
-            let number = refusal.number();
-            let text = refusal_text(refusal);
-            json!(in alloc; {
-                "line": line, "session": name.as_str(), "answer": "refused",
-                "number": number, "refusal": text
-            })
-        }
+        _ => json!(in alloc; {
+            "line": line, "session": name.as_str(), "answer": "refused",
+            "number": number, "refusal": text
+        }),
     }
-}
-
-/// A call was refused for a conflict.
-fn conflict(alloc: Global, line: u32, name: &Name, other: &Name, mode: Mode, how: &str) -> Object {
-    json!(in alloc; {
-        "line": line, "session": name.as_str(), "answer": "refused", "number": 1,
-        "refusal": "conflict", "other": other.as_str(), "mode": mode.name(), "how": how
-    })
 }
 
 /// A lock in a slot.

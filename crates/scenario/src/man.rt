@@ -19,6 +19,33 @@ static HELPS: [(&str, &[&str]); 6] = [
     ),
 ];
 
+/// How the program is called.
+const SYNOPSIS: &str = "\
+lock_scenario run [OPTIONS] < SCRIPT
+lock_scenario orders [OPTIONS] < SCRIPT
+lock_scenario shell [OPTIONS]
+lock_scenario modes
+lock_scenario hammer --sessions N --rounds K
+lock_scenario --man";
+
+/// What the page says of what is printed where a call is refused, behind the session's name.
+const REFUSALS: &str = "\
+refused 1 conflict OTHER MODE held        another session holds a conflicting mode
+refused 1 conflict OTHER MODE awaited     another session awaits one
+refused 2 no memory                       a growth of memory was refused
+refused 3 local table full                it has as many locks as it may have
+refused 4 count full                      the owner took the lock 65535 times
+refused 5 simple deadlock OTHER           the two would wait for one another
+refused 8 busy                            of fast: another is at its slots
+refused 9 slots full                      of fast: the relation's group is full
+refused 10 strong lock counted            of fast: at the relation's counter
+refused 11 not eligible                   of fast: no weak mode on a relation of
+                                          the session's own database
+refused 12 no more sessions               all that may be opened were opened
+refused 15 too deep                       of begin: 16 levels are the most
+refused 16 no nested transaction          of subcommit, subabort: there is none
+you don't own a lock of type MODE         of unlock, waiters: the lock isn't owned";
+
 /// What the page says of the status.
 const STATUS: &str = "\
 0  the script, its orders, the shell or the hammer ran to their end, or a text was asked for
@@ -32,10 +59,12 @@ pub fn man_page(alloc: Global) -> Result<String, AllocError> {
         ".TH LOCK_SCENARIO 1 \"\" \"{PROGRAM} {VERSION}\" \"User Commands\"\n.SH NAME\n{PROGRAM} \\- "
     )?;
     push_line(&mut page, ABOUT)?;
+    push_section(&mut page, "SYNOPSIS", SYNOPSIS)?;
     for (title, words) in &HELPS {
         let text = help_text(alloc, *words)?;
         push_section(&mut page, title, text.as_str())?;
     }
+    push_section(&mut page, "REFUSALS", REFUSALS)?;
     push_section(&mut page, "EXIT STATUS", STATUS)?;
     Ok(page)
 }

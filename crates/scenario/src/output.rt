@@ -195,7 +195,7 @@ impl<W: Write + Drop> Output<W> {
         }
     }
 
-    /// It waits.
+    /// Tells that the session was asked, since it waits.
     fn write_asked(&mut self, name: &Name, other: &Name) -> Result<(), Fault> {
         match self.form {
             Form::Text => written(writeln!(self.writer, "{name}: asked {other}")),
@@ -205,7 +205,7 @@ impl<W: Write + Drop> Output<W> {
         }
     }
 
-    /// It doesn't.
+    /// Tells that the session doesn't wait, so that nothing was asked of it.
     fn write_not_waiting(&mut self, other: &Name) -> Result<(), Fault> {
         match self.form {
             Form::Text => written(writeln!(self.writer, "{other} isn't waiting")),
@@ -297,7 +297,7 @@ impl<W: Write + Drop> Output<W> {
         }
     }
 
-    /// The same, as text.
+    /// A refusal, as text.
     fn write_refused(&mut self, names: &Names, name: &Name, refusal: Refusal) -> Result<(), Fault> {
         let number = refusal.number();
         let text = refusal_text(refusal);
@@ -445,7 +445,7 @@ impl<W: Write + Drop> Output<W> {
         }
     }
 
-    /// The same, as text.
+    /// A hash, as text.
     fn write_hash(&mut self, tag: Tag) -> Result<(), Fault> {
         let hash = tag.hash();
         let partition = tag.partition();

@@ -1,17 +1,19 @@
 //! The program as a function of its words and its streams.
 ghost use Rattle.std.specs.Prelude.{◌≤◌, IfOk};
+ghost use Rattle.scenario.specs.Tasks.{IsForManager, IsPlayable};
 
-use crate::arguments::{Hammer, Limits, NoRun, Task, parse_arguments};
+use crate::arguments::{Hammer, NoRun, Task, parse_arguments};
 use crate::hammer::{run_hammer, run_watched_hammer};
 use crate::man::man_page;
 use crate::modes::print_modes;
-use crate::orders::OnManagers;
+use crate::orders::{OnManagers, bad_line_text};
 use crate::progress::ProgressLine;
 use crate::run::{run_shell, run_styled_script};
+use crate::style::Style;
 use crate::workers::OpenGate;
 use lock_manager::Config;
 use lock_script::Fault;
-use script_orders::{OrdersLine, run_orders};
+use script_orders::{OrdersFault, OrdersLine, OrdersOptions, run_orders};
 use std::alloc::Global;
 use std::io::{self, BufWriter, Read, Write};
 use std::sync::Wait;
@@ -40,10 +42,41 @@ pub struct Errors<'a, E> {
     pub is_terminal: bool,
 }
 
-/// Runs the program. The words are those of the command line, or the error of reading them; the script comes from
-/// `input`, what it prints goes to `output`, as the texts do that are asked for, and why the program ends early to
-/// `errors`, with a word that it reads a terminal where it does, and how far a hammer is where that is read at one.
-/// Answers the status: 0, 3 for a bad line of the script, 2 for refused words, and 1 for any other fault.
+/// What ends the program early.
+#[derive(Drop)]
+struct Failure {
+    fault: Fault,
+    /// What is said of it, where that is more than the fault's own text.
+    text: Option<String>,
+}
+
+impl From<Fault> for Failure {
+    fn from(fault: Fault) -> Self {
+        Failure { fault, text: None }
+    }
+}
+
+impl Failure {
+    /// What ended the orders of a script.
+    fn of_orders(alloc: Global, ended: OrdersFault) -> Self {
+        match ended {
+            OrdersFault::Other(fault) => Failure::from(fault),
+            OrdersFault::Line(bad) => {
+                let fault = Fault::BadLine {
+                    line: bad.number,
+                    what: bad.what,
+                };
+                let text = bad_line_text(alloc, &bad).ok();
+                Failure { fault, text }
+            }
+        }
+    }
+}
+
+/// Runs the program, and answers its status: 0, 3 for a bad line of the script, 2 for refused words, and 1 for any
+/// other fault. The words are those of the command line, or the error of reading them. The script comes from
+/// `input`. What it prints, and texts that are asked for, go to `output`. Why the program ends early goes to
+/// `errors`; at a terminal it also says there that it reads one, and how far a hammer is.
 pub fn run_program<
     H: AllocGlobal + Clock + Threads + Wait + Sync,
     R: Read + Drop,
@@ -54,12 +87,14 @@ pub fn run_program<
 {
     let ended = match words {
         Ok(words) => run_words(rt, words.as_slice(), input, output, errors),
-        Err(error) if error.kind() == io::ErrorKind::OutOfMemory => Err(Fault::NoMemory),
+        Err(error) if error.kind() == io::ErrorKind::OutOfMemory => {
+            Err(Failure::from(Fault::NoMemory))
+        }
         Err(_) => Ok(refuse_words(errors.writer)),
     };
     match ended {
         Ok(status) => status,
-        Err(fault) => fail(errors.writer, fault),
+        Err(failure) => fail(errors.writer, &failure),
     }
 }
 
@@ -75,66 +110,56 @@ fn run_words<
     input: Source<R>,
     output: W,
     errors: &mut Errors<E>,
-) -> Result<u8, Fault>
+) -> Result<u8, Failure>
     ensures { IfOk result (λ status. status ≤ 2) }
 {
     let alloc = rt.alloc();
     match parse_arguments(alloc, words) {
-        Ok(Task::Modes) => {
-            print_modes(output)?;
-            Ok(SUCCESS)
+        Ok(Task::Modes) => print_modes(output)?,
+        Ok(Task::Man) => print_man(alloc, output)?,
+        Ok(Task::Hammer(hammer)) => run_hammers(rt, hammer, output, errors)?,
+        Ok(Task::Run(config, style)) => run_input(rt, config, style, input, output, errors)?,
+        Ok(Task::Shell(config)) => run_typed(rt, config, input, output)?,
+        Ok(Task::Orders(config, options)) => {
+            run_all_orders(rt, config, options, input, output, errors)?
         }
-        Ok(Task::Man) => {
-            print_man(alloc, output)?;
-            Ok(SUCCESS)
-        }
-        Ok(Task::Hammer(hammer)) => {
-            swing(rt, hammer, output, errors)?;
-            Ok(SUCCESS)
-        }
-        Ok(Task::Run(limits, style)) => {
-            let output = BufWriter::new(alloc, output).map_err(|_| Fault::NoMemory)?;
-            let config = Config {
-                sessions: limits.sessions,
-                max_local: limits.max_local,
-                slot_groups: limits.slot_groups,
-            };
-            if input.is_terminal {
-                invite(errors.writer);
-            }
-            run_styled_script(rt, input.reader, output, config, style)?;
-            Ok(SUCCESS)
-        }
-        Ok(Task::Shell(limits)) => {
-            talk(rt, limits, input, output)?;
-            Ok(SUCCESS)
-        }
-        Ok(Task::Orders(limits, most)) => {
-            merge(rt, limits, most, input.reader, output, errors)?;
-            Ok(SUCCESS)
-        }
-        Err(NoRun::Text(text)) => {
-            print_text(output, text.as_str())?;
-            Ok(SUCCESS)
-        }
+        Err(NoRun::Text(text)) => print_text(output, text.as_str())?,
         Err(NoRun::Refused(text)) => {
             // Where the errors can't be written, the status says it alone.
             let _ = write!(errors.writer, "{text}");
-            Ok(REFUSED_WORDS)
+            return Ok(REFUSED_WORDS);
         }
-        Err(NoRun::NoMemory) => Err(Fault::NoMemory),
+        Err(NoRun::NoMemory) => return Err(Failure::from(Fault::NoMemory)),
     }
+    Ok(SUCCESS)
+}
+
+/// Runs the script of the input, and shows it in this style.
+fn run_input<H: AllocGlobal + Wait, R: Read + Drop, W: Write + Drop, E: Write>(
+    rt: &H,
+    config: Config,
+    style: Style,
+    input: Source<R>,
+    output: W,
+    errors: &mut Errors<E>,
+) -> Result<(), Fault>
+    requires { IsForManager config }
+{
+    let output = BufWriter::new(rt.alloc(), output).map_err(|_| Fault::NoMemory)?;
+    if input.is_terminal {
+        say_input_is_typed(errors.writer);
+    }
+    run_styled_script(rt, input.reader, output, config, style)
 }
 
 /// Has a hammer run, and shows to somebody at a terminal how far it is.
-fn swing<H: AllocGlobal + Clock + Threads + Wait + Sync, W: Write + Drop, E: Write + Send>(
+fn run_hammers<H: AllocGlobal + Clock + Threads + Wait + Sync, W: Write + Drop, E: Write + Send>(
     rt: &H,
     hammer: Hammer,
     output: W,
     errors: &mut Errors<E>,
 ) -> Result<(), Fault>
-    requires sessions { (1 ≤ hammer.sessions) × (hammer.sessions ≤ 64) }
-    requires rounds { (1 ≤ hammer.rounds) × (hammer.rounds ≤ 1000000) }
+    requires { IsPlayable hammer }
 {
     let all = u64::from(hammer.sessions) * u64::from(hammer.rounds);
     if errors.is_terminal {
@@ -145,42 +170,43 @@ fn swing<H: AllocGlobal + Clock + Threads + Wait + Sync, W: Write + Drop, E: Wri
     run_hammer(rt, &OpenGate, output, hammer.sessions, hammer.rounds)
 }
 
-/// Runs the script's lines in every order, so many at most, and shows to somebody at a terminal how many were run.
-fn merge<H: AllocGlobal + Wait, R: Read + Drop, W: Write + Drop, E: Write>(
+/// Runs the script's lines in every order, and shows to somebody at a terminal how many were run.
+fn run_all_orders<H: AllocGlobal + Wait, R: Read + Drop, W: Write + Drop, E: Write>(
     rt: &H,
-    limits: Limits,
-    most: u32,
-    reader: R,
+    config: Config,
+    options: OrdersOptions,
+    input: Source<R>,
     output: W,
     errors: &mut Errors<E>,
-) -> Result<(), Fault>
-    requires sessions { (1 ≤ limits.sessions) × (limits.sessions ≤ 64) }
-    requires max_local { (1 ≤ limits.max_local) × (limits.max_local ≤ 65536) }
+) -> Result<(), Failure>
+    requires { IsForManager config }
 {
-    let output = BufWriter::new(rt.alloc(), output).map_err(|_| Fault::NoMemory)?;
+    let alloc = rt.alloc();
+    let output = BufWriter::new(alloc, output).map_err(|_| Fault::NoMemory)?;
+    if input.is_terminal {
+        say_input_is_typed(errors.writer);
+    }
     let mut line = OrdersLine {
         is_terminal: errors.is_terminal,
         writer: errors.writer,
     };
-    run_orders(rt, &OnManagers { limits }, reader, output, &mut line, most)
+    let player = OnManagers { config };
+    match run_orders(rt, &player, input.reader, output, &mut line, options) {
+        Ok(()) => Ok(()),
+        Err(fault) => Err(Failure::of_orders(alloc, fault)),
+    }
 }
 
 /// Runs lines as they are typed.
-fn talk<H: AllocGlobal + Wait, R: Read + Drop, W: Write + Drop>(
+fn run_typed<H: AllocGlobal + Wait, R: Read + Drop, W: Write + Drop>(
     rt: &H,
-    limits: Limits,
+    config: Config,
     input: Source<R>,
     output: W,
 ) -> Result<(), Fault>
-    requires sessions { (1 ≤ limits.sessions) × (limits.sessions ≤ 64) }
-    requires max_local { (1 ≤ limits.max_local) × (limits.max_local ≤ 65536) }
+    requires { IsForManager config }
 {
     let output = BufWriter::new(rt.alloc(), output).map_err(|_| Fault::NoMemory)?;
-    let config = Config {
-        sessions: limits.sessions,
-        max_local: limits.max_local,
-        slot_groups: limits.slot_groups,
-    };
     run_shell(rt, input.reader, output, config, input.is_terminal)
 }
 
@@ -193,11 +219,11 @@ fn print_man<W: Write + Drop>(alloc: Global, output: W) -> Result<(), Fault> {
 }
 
 /// Says to somebody at a terminal that the script is read from there.
-fn invite<E: Write>(errors: &mut E) {
+fn say_input_is_typed<E: Write>(errors: &mut E) {
     // Where the errors can't be written, the script runs all the same.
     let _ = writeln!(
         errors,
-        "reading a script from the terminal; run --help shows its lines"
+        "reading a script from the terminal, to its end (Ctrl-D); run --help shows its lines"
     );
 }
 
@@ -220,10 +246,13 @@ fn refuse_words<E: Write>(errors: &mut E) -> u8
 }
 
 /// Says what ended the program, and answers the status for it.
-fn fail<E: Write>(errors: &mut E, fault: Fault) -> u8
+fn fail<E: Write>(errors: &mut E, failure: &Failure) -> u8
     ensures { result ≤ 3 }
 {
     // Where the errors can't be written, the status says it alone.
-    let _ = writeln!(errors, "{fault}");
-    fault.status()
+    let _ = match &failure.text {
+        Some(text) => write!(errors, "{text}"),
+        None => writeln!(errors, "{}", failure.fault),
+    };
+    failure.fault.status()
 }

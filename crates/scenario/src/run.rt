@@ -3,9 +3,10 @@ ghost use Rattle.std.specs.Prelude.{◌≡◌, ◌≤◌, ◌<◌, [], true, len
 ghost use Rattle.lock_manager.specs.Crews.{SeatsAre};
 ghost use Rattle.lock_script.specs.Command.{Addresses, NamesCounter};
 ghost use Rattle.lock_script.specs.Sessions.{IsThere, MayAct};
+ghost use Rattle.scenario.specs.Tasks.{IsForManager};
 
 use crate::output::Output;
-use crate::sessions::{Began, Looked, Stage};
+use crate::sessions::{PollAnswer, Stage, StartAnswer};
 use crate::shell::Shell;
 use crate::style::Style;
 use lock_manager::{Config, Desk, Manager, ManagerDesk, OwnSession, Owner, Refusal, TableRow, Tag};
@@ -25,8 +26,7 @@ pub fn run_script<H: AllocGlobal + Wait, R: Read + Drop, W: Write + Drop>(
     writer: W,
     config: Config,
 ) -> Result<(), Fault>
-    requires sessions { (1 ≤ config.sessions) × (config.sessions ≤ 64) }
-    requires max_local { (1 ≤ config.max_local) × (config.max_local ≤ 65536) }
+    requires { IsForManager config }
 {
     run_styled_script(rt, reader, writer, config, Style::PLAIN)
 }
@@ -39,8 +39,7 @@ pub fn run_styled_script<H: AllocGlobal + Wait, R: Read + Drop, W: Write + Drop>
     config: Config,
     style: Style,
 ) -> Result<(), Fault>
-    requires sessions { (1 ≤ config.sessions) × (config.sessions ≤ 64) }
-    requires max_local { (1 ≤ config.max_local) × (config.max_local ≤ 65536) }
+    requires { IsForManager config }
 {
     act_out(rt, reader, writer, config, style, None)
 }
@@ -55,8 +54,7 @@ pub fn run_shell<H: AllocGlobal + Wait, R: Read + Drop, W: Write + Drop>(
     config: Config,
     is_terminal: bool,
 ) -> Result<(), Fault>
-    requires sessions { (1 ≤ config.sessions) × (config.sessions ≤ 64) }
-    requires max_local { (1 ≤ config.max_local) × (config.max_local ≤ 65536) }
+    requires { IsForManager config }
 {
     let shell = Shell {
         alloc: rt.alloc(),
@@ -74,8 +72,7 @@ fn act_out<H: AllocGlobal + Wait, R: Read + Drop, W: Write + Drop>(
     style: Style,
     shell: Option<Shell>,
 ) -> Result<(), Fault>
-    requires sessions { (1 ≤ config.sessions) × (config.sessions ≤ 64) }
-    requires max_local { (1 ≤ config.max_local) × (config.max_local ≤ 65536) }
+    requires { IsForManager config }
 {
     let alloc = rt.alloc();
     let Ok((manager, opener)) = Manager::new(alloc, config) else {
@@ -330,13 +327,13 @@ impl<T: PartTable, B: Board<T>, D: Desk<OwnSession<T, B>>, W: Write + Drop> Scen
         ensures no_more { length self.new.stage.sessions.waiting ≤ length self.old.stage.sessions.waiting }
         ensures manager { D.manager self.new.stage.desk ≡ D.manager self.old.stage.desk }
     {
-        match self.stage.look(rt, place) {
-            Looked::Waits => Ok(false),
-            Looked::Granted(name) => {
+        match self.stage.poll(rt, place) {
+            PollAnswer::Waits => Ok(false),
+            PollAnswer::Granted(name) => {
                 self.output.granted_after_waiting(&name)?;
                 Ok(true)
             }
-            Looked::Cancelled(name) => {
+            PollAnswer::Cancelled(name) => {
                 self.output.cancelled(&name)?;
                 Ok(true)
             }
@@ -382,8 +379,8 @@ impl<T: PartTable, B: Board<T>, D: Desk<OwnSession<T, B>>, W: Write + Drop> Scen
     {
         let Caller { name, place } = target.caller;
         match self.stage.lock(rt, place, target.tag, target.mode, owner) {
-            Ok(Began::Acquired(acquired)) => self.output.acquired(&name, acquired),
-            Ok(Began::Waits) => self.output.waits(&name),
+            Ok(StartAnswer::Acquired(acquired)) => self.output.acquired(&name, acquired),
+            Ok(StartAnswer::Waits) => self.output.waits(&name),
             Err(refusal) => self.refuse(&name, refusal),
         }
     }

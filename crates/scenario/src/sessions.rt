@@ -16,16 +16,16 @@ use shared_rule::Board;
 use std::alloc::{AllocError, Global};
 use std::sync::Wait;
 
-/// How a request began that may wait, and was not refused.
-pub enum Began {
+/// What a request that may wait is answered at its start, where it is not refused.
+pub enum StartAnswer {
     /// The session has the mode.
     Acquired(Acquired),
     /// It waits for it.
     Waits,
 }
 
-/// What came of a look at a wait.
-pub enum Looked {
+/// What a poll of a wait answers.
+pub enum PollAnswer {
     /// The session of this name waits still.
     Waits,
     /// It was granted, and has the mode.
@@ -153,7 +153,7 @@ impl<T: PartTable, B: Board<T>, D: Desk<OwnSession<T, B>>> Stage<T, B, D> {
         tag: Tag,
         mode: Mode,
         owner: Owner,
-    ) -> Result<Began, Refusal>
+    ) -> Result<StartAnswer, Refusal>
         requires { MayAct self.old.sessions place }
         ensures manager { D.manager self.new.desk ≡ D.manager self.old.desk }
     {
@@ -161,11 +161,11 @@ impl<T: PartTable, B: Board<T>, D: Desk<OwnSession<T, B>>> Stage<T, B, D> {
         match begin(rt, session, tag, mode, owner) {
             Ok((session, answer)) => {
                 self.sessions.resting.put(name, session);
-                answer.map(Began::Acquired)
+                answer.map(StartAnswer::Acquired)
             }
             Err(waiting) => {
                 self.sessions.waiting.put(name, waiting);
-                Ok(Began::Waits)
+                Ok(StartAnswer::Waits)
             }
         }
     }
@@ -341,21 +341,21 @@ impl<T: PartTable, B: Board<T>, D: Desk<OwnSession<T, B>>> Stage<T, B, D> {
         }
     }
 
-    /// Looks at the wait of the session at this place of those that wait, and carries a cancel out that was asked.
-    pub fn look<H: Wait>(&mut self, rt: &H, place: usize) -> Looked
+    /// Polls the wait of the session at this place of those that wait, and carries a cancel out that was asked.
+    pub fn poll<H: Wait>(&mut self, rt: &H, place: usize) -> PollAnswer
         requires { place < length self.old.sessions.waiting }
         ensures waiting { length self.new.sessions.waiting + going_on result ≡ length self.old.sessions.waiting }
         ensures manager { D.manager self.new.desk ≡ D.manager self.old.desk }
     {
         let Named { name, session } = self.sessions.waiting.take(place);
-        match look_at(rt, name, session) {
-            Ok((session, looked)) => {
+        match poll_wait(rt, name, session) {
+            Ok((session, answer)) => {
                 self.sessions.resting.put(name, session);
-                looked
+                answer
             }
             Err(waiting) => {
                 self.sessions.waiting.put(name, waiting);
-                Looked::Waits
+                PollAnswer::Waits
             }
         }
     }
@@ -415,23 +415,23 @@ fn begin<T: PartTable, B: Board<T>, H: Wait>(
     }
 }
 
-/// A look at a wait, which carries a cancel out that was asked: the session that waits no more with what came of
+/// Polls a wait, and carries a cancel out that was asked: the session that waits no more with what came of
 /// it, or the wait that goes on.
-fn look_at<T: PartTable, B: Board<T>, H: Wait>(
+fn poll_wait<T: PartTable, B: Board<T>, H: Wait>(
     rt: &H,
     name: Name,
     waiting: OwnWaiting<T, B>,
-) -> Result<(OwnSession<T, B>, Looked), OwnWaiting<T, B>>
+) -> Result<(OwnSession<T, B>, PollAnswer), OwnWaiting<T, B>>
     ensures rests { IfOk result (λ seen. B.seat seen.0.board ≡ B.seat waiting.board) }
     ensures goes_on { IfOk result (λ seen. going_on seen.1 ≡ 1) }
     ensures waits { IfErr result (λ still. B.seat still.board ≡ B.seat waiting.board) }
 {
     match waiting.poll() {
         Polled::Still(waiting) => Err(waiting),
-        Polled::Granted(session) => Ok((session, Looked::Granted(name))),
+        Polled::Granted(session) => Ok((session, PollAnswer::Granted(name))),
         Polled::CancelAsked(waiting) => match cancel(rt, waiting) {
-            (session, true) => Ok((session, Looked::Granted(name))),
-            (session, false) => Ok((session, Looked::Cancelled(name))),
+            (session, true) => Ok((session, PollAnswer::Granted(name))),
+            (session, false) => Ok((session, PollAnswer::Cancelled(name))),
         },
     }
 }

@@ -2,7 +2,7 @@
 ghost use Rattle.std.specs.Prelude.{◌≡◌};
 ghost use Rattle.lock_manager.specs.Crews.{SeatsAre};
 
-use crate::hints::{correction, help};
+use crate::hints::{Reader, help, push_correction};
 use crate::run::Scene;
 use lock_manager::{Desk, OwnSession};
 use lock_script::{Defect, Fault, LineReader, Name, OpenSessions, parse, split_words};
@@ -16,7 +16,7 @@ use std::sync::Wait;
 const PROMPT: &str = "lock> ";
 
 /// What is said first at a terminal.
-const GREETING: &str = "help lists the commands, end closes all sessions\n";
+const GREETING: &str = "help lists the commands, end closes all sessions and leaves\n";
 
 /// A shell, with the memory for what it tells.
 #[derive(Clone, Copy)]
@@ -26,8 +26,8 @@ pub struct Shell {
     pub is_terminal: bool,
 }
 
-/// What a line is to a shell.
-enum Asked {
+/// What a line that somebody typed asks of a shell.
+enum Typed {
     /// To end.
     End,
     /// For help: this text.
@@ -38,12 +38,17 @@ enum Asked {
 
 impl Shell {
     /// What a line asks for.
-    fn understand(self, line: &str) -> Result<Asked, AllocError> {
+    fn understand(self, line: &str) -> Result<Typed, AllocError> {
         let words = split_words(line);
         match words.as_slice().split_first() {
-            Some((verb, _)) if *verb == "end" => Ok(Asked::End),
-            Some((verb, words)) if *verb == "help" => Ok(Asked::Help(help(self.alloc, words)?)),
-            _ => Ok(Asked::Line),
+            Some((verb, [])) if *verb == "end" => Ok(Typed::End),
+            Some((verb, _)) if *verb == "end" => {
+                // Whoever means to close one session would lose them all.
+                let text = told(self.alloc, line, Defect::WrongNumberOfWords, &[])?;
+                Ok(Typed::Help(text))
+            }
+            Some((verb, words)) if *verb == "help" => Ok(Typed::Help(help(self.alloc, words)?)),
+            _ => Ok(Typed::Line),
         }
     }
 }
@@ -107,7 +112,9 @@ impl<T: PartTable, B: Board<T>, D: Desk<OwnSession<T, B>>, W: Write + Drop> Scen
             Fault::BadLine {
                 what: Defect::NotAsciiText,
                 ..
-            } => self.output.tell("bad line: not ASCII text\n"),
+            } => self.output.tell(
+                "bad line: not ASCII text; a line has printable characters and tabs\n",
+            ),
             _ => Err(fault),
         }
     }
@@ -118,12 +125,12 @@ impl<T: PartTable, B: Board<T>, D: Desk<OwnSession<T, B>>, W: Write + Drop> Scen
         ensures manager { D.manager self.new.stage.desk ≡ D.manager self.old.stage.desk }
     {
         match shell.understand(line) {
-            Ok(Asked::End) => Ok(true),
-            Ok(Asked::Help(text)) => {
+            Ok(Typed::End) => Ok(true),
+            Ok(Typed::Help(text)) => {
                 self.output.tell(text.as_str())?;
                 Ok(false)
             }
-            Ok(Asked::Line) => {
+            Ok(Typed::Line) => {
                 self.answer_line(rt, line, shell)?;
                 Ok(false)
             }
@@ -163,5 +170,16 @@ fn correct_text<S, W>(
     sessions: &OpenSessions<S, W>,
 ) -> Result<String, AllocError> {
     let names = names_of(alloc, sessions)?;
-    correction(alloc, line, what, names.as_slice())
+    told(alloc, line, what, names.as_slice())
+}
+
+/// What a shell tells of a bad line, where sessions of these names are open.
+fn told(alloc: Global, line: &str, what: Defect, names: &[Name]) -> Result<String, AllocError> {
+    let reader = Reader {
+        names,
+        is_in_shell: true,
+    };
+    let mut text = String::from_str(alloc, "bad line: ")?;
+    push_correction(alloc, &mut text, line, what, reader)?;
+    Ok(text)
 }

@@ -4,7 +4,7 @@ use modes_core::Mode;
 use std::alloc::AllocError;
 
 /// SQL commands, the mode that each takes on its table, and what else is to be said.
-static STATEMENTS: [(&str, Mode, &str); 36] = [
+static STATEMENTS: [(&str, Mode, &str); 41] = [
     ("SELECT", Mode::AccessShare, ""),
     ("SELECT FOR UPDATE", Mode::RowShare, ""),
     ("SELECT FOR NO KEY UPDATE", Mode::RowShare, ""),
@@ -34,6 +34,17 @@ static STATEMENTS: [(&str, Mode, &str); 36] = [
         " session",
     ),
     ("CREATE TRIGGER", Mode::ShareRowExclusive, ""),
+    ("DROP TRIGGER", Mode::AccessExclusive, ""),
+    (
+        "CREATE TABLE REFERENCES",
+        Mode::ShareRowExclusive,
+        " on the table that it refers to",
+    ),
+    (
+        "CREATE TABLE PARTITION OF",
+        Mode::AccessExclusive,
+        " on the parent",
+    ),
     (
         "REINDEX",
         Mode::Share,
@@ -85,20 +96,91 @@ static STATEMENTS: [(&str, Mode, &str); 36] = [
         " on the parent, AccessExclusiveLock on the table attached",
     ),
     (
+        "ALTER TABLE DETACH PARTITION",
+        Mode::AccessExclusive,
+        " on both tables",
+    ),
+    (
+        "ALTER TABLE DETACH PARTITION CONCURRENTLY",
+        Mode::ShareUpdateExclusive,
+        " on the parent",
+    ),
+    (
         "LOCK TABLE",
         Mode::AccessExclusive,
         ", or the mode that it names",
     ),
 ];
 
-/// Adds a line for each SQL command that begins with these words.
+/// SQL commands on transactions, and the line of a script that does what each does.
+static TRANSACTIONS: [(&str, &str); 5] = [
+    ("COMMIT", "commit NAME"),
+    ("ROLLBACK", "abort NAME"),
+    ("SAVEPOINT", "begin NAME"),
+    ("RELEASE SAVEPOINT", "subcommit NAME"),
+    (
+        "ROLLBACK TO SAVEPOINT",
+        "subabort NAME, and then begin NAME",
+    ),
+];
+
+/// Adds a line for each SQL command that begins with these words. Where none does, as with `alter table add column`, it
+/// is the commands that begin as the longest one does with which these words begin.
 pub fn push_statements(text: &mut String, words: &str) -> Result<(), AllocError> {
+    let before = text.len();
+    push_beginning(text, words)?;
+    if text.len() != before {
+        return Ok(());
+    }
+    match longest_within(words) {
+        Some(name) => push_beginning(text, name),
+        None => Ok(()),
+    }
+}
+
+/// Adds a line for each SQL command that begins with these words.
+fn push_beginning(text: &mut String, words: &str) -> Result<(), AllocError> {
     for (name, mode, note) in &STATEMENTS {
         if begins_with(name, words) {
             write!(text, "  {name} takes {mode}{note}\n")?;
         }
     }
+    for (name, line) in &TRANSACTIONS {
+        if begins_with(name, words) {
+            write!(text, "  {name} is {line}\n")?;
+        }
+    }
     Ok(())
+}
+
+/// The longest SQL command with which these words begin.
+fn longest_within(words: &str) -> Option<&'static str> {
+    let mut longest = None;
+    let mut length = 0;
+    for (name, _, _) in &STATEMENTS {
+        if begins_with(words, name) && length < name.len() {
+            longest = Some(*name);
+            length = name.len();
+        }
+    }
+    longest
+}
+
+/// Adds a line for each SQL command that takes this mode.
+pub fn push_statements_with(text: &mut String, mode: Mode) -> Result<(), AllocError> {
+    for (name, its, note) in &STATEMENTS {
+        if its.is_same(mode) {
+            write!(text, "  {name} takes {mode}{note}\n")?;
+        }
+    }
+    Ok(())
+}
+
+/// Whether an SQL command begins with this word.
+pub fn begins_statement(word: &str) -> bool {
+    STATEMENTS
+        .iter()
+        .any(|(name, _, _)| begins_with(name, word))
 }
 
 /// Whether a text begins with these words, in letters of either case.

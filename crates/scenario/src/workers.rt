@@ -6,6 +6,7 @@ ghost use Rattle.lock_manager.specs.Crews.{KeepManagers, KeepsSeat};
 use crate::progress::Progress;
 use lock_manager::{Acquired, Board, Mode, OwnSession, Owner, Part, Refusal, Tag};
 use lock_script::Fault;
+use lock_table::NoMemory;
 use std::sync::Wait;
 use std::sync::atomic::{AtomicBool, Ordering};
 use std::thread::{Threads, for_each_mut};
@@ -182,7 +183,7 @@ fn work<B: Board<Part>, G: Gate, P: Progress, R: Wait>(
         return;
     }
     'rounds: for round in 0..rounds {
-        if !has_played(rt, worker, round, session) {
+        if play_round(rt, worker, round, session).is_err() {
             reports.run_short();
             return;
         }
@@ -190,14 +191,13 @@ fn work<B: Board<Part>, G: Gate, P: Progress, R: Wait>(
     }
 }
 
-/// A round: the worker asks for a mode on a relation, and gives back what it was granted. Answers whether there was
-/// memory.
-fn has_played<B: Board<Part>, R: Wait>(
+/// Plays a round: the worker asks for a mode on a relation, and gives back what it was granted.
+fn play_round<B: Board<Part>, R: Wait>(
     rt: &R,
     worker: u32,
     round: u32,
     session: &mut OwnSession<Part, B>,
-) -> bool
+) -> Result<(), NoMemory>
     ensures seat { KeepsSeat B.seat session.old session.new }
 {
     let tag = relation(round);
@@ -205,10 +205,10 @@ fn has_played<B: Board<Part>, R: Wait>(
     match ask(rt, round, tag, mode, session) {
         Ok(_) => {
             let _released = session.unlock(rt, tag, mode, Owner::Transaction);
-            true
+            Ok(())
         }
-        Err(Refusal::NoMemory) => false,
-        Err(_) => true,
+        Err(Refusal::NoMemory) => Err(NoMemory),
+        Err(_) => Ok(()),
     }
 }
 

@@ -1,7 +1,7 @@
 use Rattle.std.proofs.Common.{◌≡◌, ℕ, ◌+◌, ◌∙◌, ap, arith, length, sym}
 use Rattle.shared_rule.specs.Boards.{Seated}
 use Rattle.lock_script.proofs.SessionLemmas.{All-put_back, length-put_back, All-left, length-left, All-put, length-put, taken}
-use Rattle.scenario.proofs.sessions.Stage.look.Goals as goal
+use Rattle.scenario.proofs.sessions.Stage.poll.Goals as goal
 
 pub invariant_of-self-clause-counted : goal.invariant_of-self-clause-counted
 invariant_of-self-clause-counted g c =
