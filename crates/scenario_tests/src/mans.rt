@@ -8,9 +8,31 @@ use std::test::Fail;
 
 /// What stands before the texts of the help, and what behind them.
 const HEAD: &str = ".TH LOCK_SCENARIO 1 \"\" \"lock_scenario 0.1.0\" \"User Commands\"\n.SH NAME\n\
-    lock_scenario \\- Run scripts against PostgreSQL\\(aqs lock manager\n";
+    lock_scenario \\- Run scripts against PostgreSQL\\(aqs lock manager\n.SH SYNOPSIS\n.nf\n\
+    lock_scenario run [OPTIONS] < SCRIPT\n\
+    lock_scenario orders [OPTIONS] < SCRIPT\n\
+    lock_scenario shell [OPTIONS]\n\
+    lock_scenario modes\n\
+    lock_scenario hammer \\-\\-sessions N \\-\\-rounds K\n\
+    lock_scenario \\-\\-man\n.fi\n";
 
-const TAIL: &str = ".SH EXIT STATUS\n.nf\n\
+const TAIL: &str = ".SH REFUSALS\n.nf\n\
+    refused 1 conflict OTHER MODE held        another session holds a conflicting mode\n\
+    refused 1 conflict OTHER MODE awaited     another session awaits one\n\
+    refused 2 no memory                       a growth of memory was refused\n\
+    refused 3 local table full                it has as many locks as it may have\n\
+    refused 4 count full                      the owner took the lock 65535 times\n\
+    refused 5 simple deadlock OTHER           the two would wait for one another\n\
+    refused 8 busy                            of fast: another is at its slots\n\
+    refused 9 slots full                      of fast: the relation\\(aqs group is full\n\
+    refused 10 strong lock counted            of fast: at the relation\\(aqs counter\n\
+    refused 11 not eligible                   of fast: no weak mode on a relation of\n\
+    \u{20}                                         the session\\(aqs own database\n\
+    refused 12 no more sessions               all that may be opened were opened\n\
+    refused 15 too deep                       of begin: 16 levels are the most\n\
+    refused 16 no nested transaction          of subcommit, subabort: there is none\n\
+    you don\\(aqt own a lock of type MODE         of unlock, waiters: the lock isn\\(aqt owned\n\
+    .fi\n.SH EXIT STATUS\n.nf\n\
     0  the script, its orders, the shell or the hammer ran to their end, or a text was asked for\n\
     1  a fault of input, output or memory\n\
     2  the program\\(aqs own words were refused\n\

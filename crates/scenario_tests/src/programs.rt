@@ -34,7 +34,7 @@ pub fn words_of(alloc: Global, line: &str) -> Result<Vec<String>, Fail> {
 }
 
 /// Words, and how many sessions and local entries or rounds they ask for, where they aren't refused.
-static WORDS: [(&str, Option<(u32, u32)>); 37] = [
+static WORDS: [(&str, Option<(u32, u32)>); 39] = [
     ("lock_scenario run", Some((8, 1024))),
     ("lock_scenario run --sessions 1", Some((1, 1024))),
     ("lock_scenario run --sessions=64", Some((64, 1024))),
@@ -85,7 +85,9 @@ static WORDS: [(&str, Option<(u32, u32)>); 37] = [
         Some((2, 1_000_000)),
     ),
     ("lock_scenario orders --limit 0", None),
-    ("lock_scenario shell --max-local 3", Some((8, 3))),
+    ("lock_scenario orders --ends", Some((8, 10_000))),
+    ("lock_scenario orders --ends more", None),
+    ("lock_scenario shell --max-local 3", Some((64, 3))),
     ("lock_scenario shell more", None),
 ];
 
@@ -99,7 +101,7 @@ fn reads_its_own_words(rt: HostRuntime) -> Result<(), Fail> {
             Ok(Task::Run(limits, _)) => Some((limits.sessions, limits.max_local)),
             Ok(Task::Hammer(hammer)) => Some((hammer.sessions, hammer.rounds)),
             Err(NoRun::Refused(_)) => None,
-            Ok(Task::Orders(limits, most)) => Some((limits.sessions, most)),
+            Ok(Task::Orders(limits, options)) => Some((limits.sessions, options.limit)),
             Ok(Task::Shell(limits)) => Some((limits.sessions, limits.max_local)),
             // The conflict table and the man page, which have no limits.
             Ok(Task::Modes) | Ok(Task::Man) => Some((0, 0)),
@@ -131,8 +133,8 @@ Options:
   -V, --version  Print version
 
 Lines of a script begin with:
-  session, try, fast, lock, unlock, commit, abort, begin, subcommit, subabort, owned, waiters, queue,
-  blockers, cancel, list, count, hash, close
+  session, try, fast, lock, unlock, commit, abort, begin, subcommit, subabort,
+  owned, waiters, queue, blockers, cancel, list, count, hash, close
 
 Example:
   lock_scenario run --sessions 2 < scenarios/object_lock.scn
@@ -142,51 +144,58 @@ Example:
 const RUN_HELP: &str = "\
 Run the script on standard input
 
-Usage: lock_scenario run [OPTIONS]
+Usage: lock_scenario run [OPTIONS] < SCRIPT
 
 Options:
-      --sessions <N>      How many sessions the script may open [default: 8]
-      --max-local <M>     How many different locks a session may have [default: 1024]
-      --slot-groups <G>   How many groups of sixteen fast-path slots a session has [default: 1]
+      --sessions <N>      Sessions that may be opened, 1 to 64 [default: 8]
+      --max-local <M>     Different locks of a session, 1 to 65536 [default: 1024]
+      --slot-groups <G>   Groups of 16 fast-path slots, 1 to 8 [default: 1]
       --echo              Print each line of the script before its answers
       --json              Print an object of JSON for each line, instead of its text
-      --graph <LANGUAGE>  Draw who waits for whom behind the rows of each list [possible values: mermaid, dot]
+      --graph <LANGUAGE>  Draw who waits for whom, behind each list [possible values: mermaid, dot]
   -h, --help              Print help
 
 Lines of a script, after lock_scenario run < FILE:
   session NAME DB                 open a session of a database
   try NAME TAG MODE [session]     take a lock, if nothing is in the way
   fast NAME TAG MODE [session]    take a lock by a fast-path slot, or not at all
-  lock NAME TAG MODE [session]    take a lock, and wait where something is in the way
+  lock NAME TAG MODE [session]    take a lock, and wait for it if need be
   unlock NAME TAG MODE [session]  give one count of a lock back
   commit NAME                     drop what the transaction owns
   abort NAME                      drop what the transaction and the session own,
                                   but for the session's advisory locks
   begin NAME                      begin a level of the transaction, a savepoint
-  subcommit NAME                  end it, and give what it owns to the level outside it
+  subcommit NAME                  end it; what it owns goes to the level outside
   subabort NAME                   end it, and drop what it owns
   owned NAME TAG MODE             say how often each of the two owns a lock: the
                                   transaction's innermost level, and the session
-  waiters NAME TAG MODE           say whether somebody waits for a conflicting mode
+  waiters NAME TAG MODE           say whether somebody awaits a conflicting mode
   queue NAME TAG                  list who waits for an object, in order
-  blockers NAME OTHER TAG         list who stands in the way of a session that waits for an object
+  blockers NAME OTHER TAG         list who is in the way of one that waits
   cancel BY NAME                  ask a session to stop waiting
   list NAME                       list all locks
-  count NAME INDEX                say how many strong locks are counted at a counter
+  count NAME INDEX                say what a strong lock counter shows
   hash TAG                        say a tag's hash, partition and counter
   close NAME                      close a session
   # TEXT                          a comment
 
+NAME is 1 to 16 of a to z, 0 to 9 and _. DB is a number to 4294967295, INDEX one
+  to 1023.
 TAG is DB/REL for a relation, DB/CLASS/OBJ/SUB for another object, and
-  adv/DB/K1/K2/SUB for an advisory lock.
-MODE is AccessShareLock, RowShareLock, RowExclusiveLock, ShareUpdateExclusiveLock,
-  ShareLock, ShareRowExclusiveLock, ExclusiveLock or AccessExclusiveLock.
-A lock is the transaction's, and with the word session at the end of its line the session's.
+  adv/DB/K1/K2/SUB for an advisory lock, of numbers to 4294967295, SUB to 65535.
+MODE is AccessShareLock, RowShareLock, RowExclusiveLock,
+  ShareUpdateExclusiveLock, ShareLock, ShareRowExclusiveLock, ExclusiveLock or
+  AccessExclusiveLock.
+A lock is the transaction's, and with the word session at the end of its line
+  the session's.
+
+Status: 0 the script ended, 1 input, output or memory failed, 2 these words were
+  refused, 3 a bad line, of which lock_scenario shell < FILE says more.
 
 Examples:
   lock_scenario run < scenarios/object_lock.scn
-  lock_scenario run --echo --graph mermaid < scenarios/a_convoy_behind_an_idle_transaction.scn
   lock_scenario run --json < scenarios/object_lock.scn | jq .
+  lock_scenario run --graph dot < FILE | sed -n '/^digraph/,/^}/p' | dot -Tsvg
 ";
 
 /// The text of `modes --help`.
@@ -224,21 +233,23 @@ Lock and unlock in many threads, and count what is left
 Usage: lock_scenario hammer --sessions <N> --rounds <K>
 
 Options:
-      --sessions <N>  How many sessions, each in a thread of its own
-      --rounds <K>    How many locks each asks for
+      --sessions <N>  Sessions, each in a thread of its own, 1 to 64
+      --rounds <K>    Locks that each asks for, 1 to 1000000
   -h, --help          Print help
 
-Each session locks and unlocks relations 5/16384 to 5/16387 in every mode, in a thread of
-its own. Then each takes AccessShareLock on 5/16384, and the first one ShareLock on
-5/16385. Two lines tell what stands in fast-path slots and in the table, and the sum of
-the strong lock counters: by an audit then, and when all sessions are closed.
+Each session locks and unlocks relations 5/16384 to 5/16387 in every mode, in a
+thread of its own. Then each takes AccessShareLock on 5/16384, and the first one
+ShareLock on 5/16385. Two lines tell what stands in fast-path slots and in the
+table, and the sum of the strong lock counters: by an audit then, and when all
+sessions are closed.
 
 Example:
   lock_scenario hammer --sessions 4 --rounds 1000
 ";
 
 /// What the errors take where the script is typed.
-const INVITATION: &str = "reading a script from the terminal; run --help shows its lines\n";
+const INVITATION: &str =
+    "reading a script from the terminal, to its end (Ctrl-D); run --help shows its lines\n";
 
 /// A script, and whether reading it fails at its end; the status of the program on it, and what it writes to its
 /// output and to its errors.
@@ -446,7 +457,7 @@ static TYPED: [(&str, Run); 4] = [
             true,
             1,
             "",
-            "reading a script from the terminal; run --help shows its lines\nread failed\n",
+            "reading a script from the terminal, to its end (Ctrl-D); run --help shows its lines\nread failed\n",
         ),
     ),
     (

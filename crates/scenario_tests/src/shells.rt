@@ -4,7 +4,7 @@ use crate::programs::{Run, expect_program, words_of};
 use std::test::Fail;
 
 /// Lines of a shell, and what each is answered.
-static ANSWERS: [(&str, &str); 25] = [
+static ANSWERS: [(&str, &str); 48] = [
     ("session a 5", "a: session 0 database 5\n"),
     ("session bob 5", "bob: session 1 database 5\n"),
     ("", ""),
@@ -27,15 +27,21 @@ static ANSWERS: [(&str, &str); 25] = [
     ),
     (
         "lock a 5 ShareLock",
-        "bad line: bad object \"5\"; an object is DB/REL, DB/CLASS/OBJ/SUB or adv/DB/K1/K2/SUB\n",
+        "bad line: bad object \"5\"; an object is DB/REL, DB/CLASS/OBJ/SUB or adv/DB/K1/K2/SUB,\n\
+         of numbers to 4294967295, SUB to 65535: a table is 5/16384, say\n",
     ),
     (
         "hash 5",
-        "bad line: bad object \"5\"; an object is DB/REL, DB/CLASS/OBJ/SUB or adv/DB/K1/K2/SUB\n",
+        "bad line: bad object \"5\"; an object is DB/REL, DB/CLASS/OBJ/SUB or adv/DB/K1/K2/SUB,\n\
+         of numbers to 4294967295, SUB to 65535: a table is 5/16384, say\n",
     ),
     (
         "count a 1024",
-        "bad line: bad number \"1024\"; a number has 1 to 10 digits, and an INDEX is below 1024\n",
+        "bad line: bad number \"1024\"; an INDEX is 0 to 1023\n",
+    ),
+    (
+        "session c 4294967296",
+        "bad line: bad number \"4294967296\"; a number is 0 to 4294967295, of 10 digits at most\n",
     ),
     (
         "cancel a B",
@@ -52,23 +58,29 @@ static ANSWERS: [(&str, &str); 25] = [
     ("session a 5", "bad line: session exists \"a\"\n"),
     (
         "lock a",
-        "bad line: wrong number of words; its form is\n\
-         \u{20} lock NAME TAG MODE [session]    take a lock, and wait where something is in the way\n",
+        "bad line: wrong number of words; the form is\n\
+         \u{20} lock NAME TAG MODE [session]    take a lock, and wait for it if need be\n",
     ),
     (
         "abort",
-        "bad line: wrong number of words; its form is\n\
+        "bad line: wrong number of words; the form is\n\
          \u{20} abort NAME                      drop what the transaction and the session own,\n\
          \u{20}                                 but for the session's advisory locks\n",
     ),
     ("lock a 5/16384 AccessExclusiveLock", "a: granted\n"),
     ("lock bob 5/16384 AccessShareLock", "bob: waits\n"),
-    ("commit bob", "bad line: session waits \"bob\"\n"),
+    (
+        "commit bob",
+        "bad line: session waits \"bob\"; it goes on once it is granted, or another session cancels its wait\n",
+    ),
     (
         "blockers a bob 5/16384",
         "bob waits for a AccessExclusiveLock held\n",
     ),
-    ("caf\u{e9}", "bad line: not ASCII text\n"),
+    (
+        "caf\u{e9}",
+        "bad line: not ASCII text; a line has printable characters and tabs\n",
+    ),
     (
         "help refresh  materialized view",
         "\u{20} REFRESH MATERIALIZED VIEW takes AccessExclusiveLock\n\
@@ -76,10 +88,122 @@ static ANSWERS: [(&str, &str); 25] = [
     ),
     (
         "help lock",
-        "\u{20} lock NAME TAG MODE [session]    take a lock, and wait where something is in the way\n\
+        "\u{20} lock NAME TAG MODE [session]    take a lock, and wait for it if need be\n\
          \u{20} LOCK TABLE takes AccessExclusiveLock, or the mode that it names\n",
     ),
     ("help alt", "no help on \"alt\"; help lists the commands\n"),
+    (
+        "rollback a",
+        "bad line: unknown command \"rollback\", perhaps \"abort\"\n",
+    ),
+    (
+        "savepoint a",
+        "bad line: unknown command \"savepoint\", perhaps \"begin\"\n",
+    ),
+    (
+        "QUIT",
+        "bad line: unknown command \"QUIT\", perhaps \"end\"\n",
+    ),
+    (
+        "\\q",
+        "bad line: unknown command \"\\\\q\", perhaps \"end\"\n",
+    ),
+    ("?", "bad line: unknown command \"?\", perhaps \"help\"\n"),
+    (
+        "frobnicate a",
+        "bad line: unknown command \"frobnicate\"; help lists the commands\n",
+    ),
+    (
+        "select 1",
+        "bad line: unknown command \"select\"; help select says which lock it takes\n",
+    ),
+    (
+        "alter table t add column c int",
+        "bad line: unknown command \"alter\"; help alter says which lock it takes\n",
+    ),
+    (
+        "lock a 5/1 foo",
+        "bad line: bad mode \"foo\"; help modes lists them\n",
+    ),
+    (
+        "commit zz",
+        "bad line: no such session \"zz\"; open sessions: a bob\n",
+    ),
+    (
+        "lock a 5/1 ShareLock x",
+        "bad line: bad owner \"x\"; the session's lock has the word session, the transaction's none\n",
+    ),
+    (
+        "end a",
+        "bad line: wrong number of words; the form is\n\
+         \u{20} end                             close all sessions, and leave\n",
+    ),
+    (
+        "help insert into t values",
+        "\u{20} INSERT takes RowExclusiveLock\n\
+         \u{20} INSERT takes RowShareLock on the table that a foreign key refers to\n",
+    ),
+    (
+        "help vacuum (full) t",
+        "\u{20} VACUUM takes ShareUpdateExclusiveLock\n\
+         \u{20} VACUUM FULL takes AccessExclusiveLock\n",
+    ),
+    (
+        "help LOCK TABLE t IN SHARE MODE",
+        "\u{20} LOCK TABLE takes AccessExclusiveLock, or the mode that it names\n",
+    ),
+    (
+        "help create index concurrently",
+        "\u{20} CREATE INDEX CONCURRENTLY takes ShareUpdateExclusiveLock session\n",
+    ),
+    (
+        "help Rollback",
+        "\u{20} ROLLBACK is abort NAME\n\
+         \u{20} ROLLBACK TO SAVEPOINT is subabort NAME, and then begin NAME\n",
+    ),
+    (
+        "help release savepoint",
+        "\u{20} RELEASE SAVEPOINT is subcommit NAME\n",
+    ),
+    (
+        "help end",
+        "\u{20} end                             close all sessions, and leave\n",
+    ),
+    (
+        "help row share",
+        "\u{20} RowShareLock conflicts with\n\
+         \u{20}   ExclusiveLock\n\
+         \u{20}   AccessExclusiveLock\n\
+         \u{20} SELECT FOR UPDATE takes RowShareLock\n\
+         \u{20} SELECT FOR NO KEY UPDATE takes RowShareLock\n\
+         \u{20} SELECT FOR SHARE takes RowShareLock\n\
+         \u{20} SELECT FOR KEY SHARE takes RowShareLock\n\
+         \u{20} INSERT takes RowShareLock on the table that a foreign key refers to\n",
+    ),
+    (
+        "help exclusivelock",
+        "\u{20} ExclusiveLock conflicts with\n\
+         \u{20}   RowShareLock\n\
+         \u{20}   RowExclusiveLock\n\
+         \u{20}   ShareUpdateExclusiveLock\n\
+         \u{20}   ShareLock\n\
+         \u{20}   ShareRowExclusiveLock\n\
+         \u{20}   ExclusiveLock\n\
+         \u{20}   AccessExclusiveLock\n\
+         \u{20} REFRESH MATERIALIZED VIEW CONCURRENTLY takes ExclusiveLock\n",
+    ),
+    (
+        "help modes",
+        "\u{20} X: no two sessions hold both  1 2 3 4 5 6 7 8\n\
+         \u{20} 1 AccessShareLock                          X\n\
+         \u{20} 2 RowShareLock                           X X\n\
+         \u{20} 3 RowExclusiveLock                   X X X X\n\
+         \u{20} 4 ShareUpdateExclusiveLock         X X X X X\n\
+         \u{20} 5 ShareLock                      X X   X X X\n\
+         \u{20} 6 ShareRowExclusiveLock          X X X X X X\n\
+         \u{20} 7 ExclusiveLock                X X X X X X X\n\
+         \u{20} 8 AccessExclusiveLock        X X X X X X X X\n",
+    ),
 ];
 
 /// All lines in one shell, with `end` behind them, and what stands there is read no more.
@@ -91,7 +215,7 @@ fn answers_each_line(rt: HostRuntime) -> Result<(), Fail> {
         write!(lines, "{line}\n")?;
         answers.push_str(answer)?;
     }
-    lines.push_str("end now\ncommit a\n")?;
+    lines.push_str("end\ncommit a\n")?;
     let told = printed(&rt, "lock_scenario shell", lines.as_str())?;
     assert_eq!(rt; told.as_str(), answers.as_str());
     Ok(())
@@ -105,7 +229,7 @@ static TYPED: [(bool, Run); 4] = [
             "session a 5\nend\n",
             false,
             0,
-            "help lists the commands, end closes all sessions\n\
+            "help lists the commands, end closes all sessions and leaves\n\
              lock> a: session 0 database 5\nlock> ",
             "",
         ),
@@ -116,7 +240,7 @@ static TYPED: [(bool, Run); 4] = [
             "",
             false,
             0,
-            "help lists the commands, end closes all sessions\nlock> \n",
+            "help lists the commands, end closes all sessions and leaves\nlock> \n",
             "",
         ),
     ),
@@ -150,12 +274,13 @@ fn helps(rt: HostRuntime) -> Result<(), Fail> {
     let all = printed(&rt, "lock_scenario shell", "help\n")?;
     for part in [
         "  session NAME DB                 open a session of a database\n",
-        "A lock is the transaction's, and with the word session at the end of its line the session's.\n",
+        "A lock is the transaction's, and with the word session at the end of its line\n  the session's.\n",
+        "Lines of a script:\n  session",
         "  help STATEMENT                  the locks of an SQL command, as help alter table\n",
     ] {
         assert!(rt; all.as_str().contains(part), "{part:?}");
     }
     let table = printed(&rt, "lock_scenario shell", "help ALTER table\n")?;
-    assert_eq!(rt; table.as_str().lines().count(), 5);
+    assert_eq!(rt; table.as_str().lines().count(), 7);
     Ok(())
 }
