@@ -3,7 +3,9 @@
 ghost use Rattle.std.specs.Prelude.{◌≡◌, [], IfOk};
 ghost use Rattle.lock_manager.specs.Crews.{AreOf, IsOf, SeatsAre};
 
-use lock_manager::{Board, Desk, MOST_SESSIONS, OwnSession, Part, Refusal, append_session, close_sessions};
+use lock_manager::{
+    Board, Desk, MOST_SESSIONS, OwnSession, Part, Refusal, append_session, close_sessions,
+};
 use std::alloc::Global;
 use std::sync::Wait;
 
