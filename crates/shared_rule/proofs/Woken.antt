@@ -1,13 +1,15 @@
-use Rattle.std.proofs.Common.{◌≡◌, ℕ, ◌≤◌, true, false, List, Some, None, sym, ap, ◌∙◌, subst}
-use Rattle.std.proofs.lemmas.Bool.{false_from_ne_true}
+use Rattle.std.proofs.Common.{◌≡◌, ℕ, ◌≤◌, true, false, List, [], ◌∷◌, filter, Some, None, refl, sym, ap, ◌∙◌, subst, inl, inr}
+use Rattle.std.proofs.lemmas.Bool.{false_from_ne_true, cases_eq, cases_Bool, cond-true, cond-false}
 use Rattle.atomic_table.specs.declared.shared.Seat.{Seat}
 use Rattle.lw_word.specs.declared.wait_lists.LwWaiter.{LwWaiter}
-use Rattle.lw_word.specs.WaitList.{stands_in, times_in, taken_off, left_waiting}
+use Rattle.lw_word.specs.WaitList.{stands_in, times_in, taken_off, left_waiting, wants_to_share}
 use Rattle.lock_table.specs.Content.{Content}
 use Rattle.lock_world.specs.Account.{Account, ListAccount}
-use Rattle.lock_world.specs.AccountSteps.{account_locking_list, account_unlocking_list}
+use Rattle.lock_world.specs.AccountSteps.{account_locking_list, account_unlocking_list, account_taking_off}
 use Rattle.shared_rule.specs.declared.history.View.{View}
 use Rattle.shared_rule.specs.declared.kept.Kept.{Kept}
+use Rattle.shared_rule.specs.History.{list_here}
+use Rattle.lock_table.proofs.PutLemmas.{set_at-here, set_at-else}
 use Rattle.shared_rule.specs.Led.{Led}
 use Rattle.shared_rule.specs.LwLocks.{no_lists}
 use Rattle.shared_rule.specs.Plays.{account_at, number_at}
@@ -67,3 +69,23 @@ module _ {T : Type 0} (content : T → Content) (before locked : Seat (Kept T) (
           (tells.account ∙ ap (all_told (account_at content unlocked)) same ∙ ap (λ b. all_told b (taken_off ws)) at-unlocked
           ∙ all-told (number_at before) a lock ws once other
           ∙ (λ i. record a { lists = sym idle i }))
+
+-- Whoever was taken off has yet to be told.
+off-kept : (ws : List LwWaiter) (a : Account) (k : ℕ) → a.lists.off k ≡ true → (all_taken_off a ws).lists.off k ≡ true
+off-kept [] a k off = off
+off-kept (w ∷ ws) a k off = off-kept ws (account_taking_off a (list_here a.lists.in_hand) w.session) k (elim (cases_eq k w.session) [
+  | inl same ↦ set_at-here a.lists.off w.session true k same
+  | inr other ↦ set_at-else a.lists.off w.session true k other ∙ off
+])
+
+pub some-off : (ws : List LwWaiter) (a : Account) → (ws ≡ [] → ⊥) → (k : ℕ) × ((all_taken_off a ws).lists.off k ≡ true)
+some-off [] a some = absurd (some refl)
+some-off (w ∷ ws) a some = (w.session, off-kept ws (account_taking_off a (list_here a.lists.in_hand) w.session) w.session (set_at-here a.lists.off w.session true w.session refl))
+
+-- A wakeup that takes nobody off finds nobody.
+pub taken-none : (ws : List LwWaiter) → taken_off ws ≡ [] → ws ≡ []
+taken-none [] none = refl
+taken-none (w ∷ ws) none = elim (cases_Bool (wants_to_share w)) [
+  | inl shares ↦ let some : w ∷ filter wants_to_share ws ≡ [] = sym (cond-true (wants_to_share w) (w ∷ filter wants_to_share ws) (w ∷ []) shares) ∙ none in absurd (cc)
+  | inr alone ↦ let some : w ∷ [] ≡ [] = sym (cond-false (wants_to_share w) (w ∷ filter wants_to_share ws) (w ∷ []) alone) ∙ none in absurd (cc)
+]

@@ -2,7 +2,7 @@
 //! A list is in hand while its bit in the lock's word is set; changes of it are made in memory beside the step that
 //! is told.
 
-ghost use Rattle.std.specs.Prelude.{◌≡◌, ◌≢◌, ◌∷◌, ℕ, Some, None, IfSome, IfNone, true};
+ghost use Rattle.std.specs.Prelude.{◌≡◌, ◌≢◌, ◌∷◌, ℕ, Some, None, IfSome, IfNone, true, false, []};
 ghost use Rattle.atomic_table.specs.Table.{rest};
 ghost use Rattle.lw_word.specs.WaitList.{stands_in};
 ghost use Rattle.lock_world.specs.Account.{ListInHand};
@@ -61,7 +61,8 @@ pub(crate) fn try_lock_list<T: PartTable>(
 }
 
 /// Puts the list in hand home and unlocks it; of the two flags those go that are not to stay
-/// (`LWLockWaitListUnlock`, and the end of `LWLockWakeup`, in lwlock.c).
+/// (`LWLockWaitListUnlock`, and the end of `LWLockWakeup`, in lwlock.c). `has_waiters` may go only from an empty
+/// list, and `release_ok` only where somebody was taken off who is yet to be told, and will set it again.
 pub(crate) fn unlock_list<T: PartTable>(
     top: &Top<T>,
     place: &mut Place<T>,
@@ -76,6 +77,9 @@ pub(crate) fn unlock_list<T: PartTable>(
     requires out { place.old.me.1 ≡ (list_slot_of (lock_number lock.now), Nothing) ∷ rest place.old.me.1 }
     requires in_hand { (account_at T.content place.old).lists.in_hand
         ≡ Some (record { lock = lock_number lock.now; waiters = list.value }) }
+    requires waiters_stay { has_waiters ≡ false → list.value ≡ [] }
+    requires release_stays { release_ok ≡ false
+        → (other : ℕ) × ((account_at T.content place.old).lists.off other ≡ true) }
     ensures led { Led T.content place.old place.new (account_unlocking_list (account_at T.content place.old)) }
     ensures slots { place.new.me.1 ≡ rest place.old.me.1 }
 {

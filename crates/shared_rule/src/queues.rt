@@ -1,11 +1,19 @@
 //! Waiting for a lightweight lock in its list (`LWLockAcquire` in lwlock.c, from the first lost attempt on).
 //!
-//! No wake-up is lost, by these six, of which no clause tells: has-waiters is set before the attempt that follows
-//! the queueing (`queue_self`), so that whoever holds the lock then sees it; that attempt is repeated until it wins
-//! or sees the lock held; whoever was woken sets release-ok before it attempts again; nobody leaves another list
-//! than the one it stands in (`dequeue_self` requires it); a release that finds the list locked may go, since
-//! whoever has the list attempts the lock afterwards, holds it, or has taken somebody off; and `park` looks at the
-//! sleep word again in the kernel.
+//! No wake-up is lost, by these, of which no clause tells. Has-waiters is set before the attempt that follows the
+//! queueing (`queue_self`), so that whoever holds the lock then sees it; and that attempt is made. Whoever was told
+//! sets release-ok before it attempts again, and so does a winner that was taken off its list (`dequeue_self`). A
+//! release looks at the list; where that is locked it may go, since whoever has the list attempts the lock
+//! afterwards, holds it, or has taken somebody off. It stores in a sleep word before it wakes that session, and
+//! `park` looks at the word again in the kernel.
+//!
+//! By clauses a winner leaves the list that it stands in and no other (`dequeue_self`). Whoever unlocks a list
+//! leaves has-waiters where somebody stands there, and release-ok where it took nobody off (`unlock_list`). All
+//! sessions take locks in one order.
+//!
+//! The attempt after the queueing is repeated until it wins or sees the lock held, since a change of a flag may
+//! make it fail. Somebody attempts the lock after each such change, so nobody is known to sleep for ever where it
+//! is made once; but so a session relies on no step of others.
 
 ghost use Rattle.std.specs.Prelude.{◌≡◌, ◌∷◌, true, None, Some};
 ghost use Rattle.lw_word.specs.WaitList.{stands_in};

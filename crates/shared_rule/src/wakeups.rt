@@ -1,6 +1,6 @@
 //! Waking those who wait for a lightweight lock (`LWLockReleaseInternal` and `LWLockWakeup` in lwlock.c).
 
-ghost use Rattle.std.specs.Prelude.{◌≡◌, ◌∷◌, Some};
+ghost use Rattle.std.specs.Prelude.{◌≡◌, ◌∷◌, ℕ, Some, true, false};
 ghost use Rattle.atomic_table.specs.Table.{rest};
 ghost use Rattle.lw_word.specs.declared.words.LwMode.TheVariants.{Exclusive, Shared};
 ghost use Rattle.lw_word.specs.LockState.{state_of, put_in, must_wake};
@@ -103,6 +103,8 @@ fn unlock_after_wakeup<T: PartTable>(
     requires out { place.old.me.1 ≡ (list_slot_of (lock_number lock.now), Nothing) ∷ rest place.old.me.1 }
     requires in_hand { (account_at T.content place.old).lists.in_hand
         ≡ Some (record { lock = lock_number lock.now; waiters = list.value }) }
+    requires release_stays { release_ok ≡ false
+        → (other : ℕ) × ((account_at T.content place.old).lists.off other ≡ true) }
     ensures led { Led T.content place.old place.new (account_unlocking_list (account_at T.content place.old)) }
     ensures slots { place.new.me.1 ≡ rest place.old.me.1 }
 {

@@ -3,7 +3,9 @@ use Rattle.lw_word.specs.declared.wait_lists.LwWaiter.{LwWaiter}
 use Rattle.lw_word.specs.WaitList.{times_in, taken_off, left_waiting}
 use Rattle.shared_rule.specs.LwLocks.{lock_number}
 use Rattle.shared_rule.specs.Plays.{account_at, number_at}
-use Rattle.shared_rule.proofs.Woken.{not-there, may-take_all_off, left-in_hand, may-tell_all, woken}
+use Rattle.std.proofs.Common.{false, sym}
+use Rattle.std.proofs.lemmas.Bool.{both_ways}
+use Rattle.shared_rule.proofs.Woken.{some-off, taken-none, not-there, may-take_all_off, left-in_hand, may-tell_all, woken}
 use Rattle.shared_rule.proofs.wakeups.wake_waiters.Goals as goal
 
 pub take_all_off-requires-clause-lawful : goal.take_all_off-requires-clause-lawful
@@ -75,3 +77,14 @@ returns-clause-led g c =
     woken content place c.try_lock_list.new.place n ws locks c.requires.idle once other c.as_slice.result.now (c.as_slice.ensures.value ∙ taken)
     c.take_all_off.new.place c.take_all_off.ensures.led c.unlock_after_wakeup.new.place c.unlock_after_wakeup.ensures.led
     c.tell_all.new.place c.as_slice-2.result.now (c.as_slice-2.ensures.value ∙ taken) c.tell_all.ensures.led
+
+pub unlock_after_wakeup-requires-clause-release_stays : goal.unlock_after_wakeup-requires-clause-release_stays
+unlock_after_wakeup-requires-clause-release_stays g c = λ clear.
+    let content = g.T.PartTable.content in
+    let ws = c.in-Some.list.value in
+    let taken : c.wake_split-wakeup.result.taken.items ≡ taken_off ws =
+    c.wake_split-wakeup.ensures.taken ∙ ap taken_off c.deref_mut.ensures.value in
+    let f = some-off c.as_slice.result.now (account_at content c.try_lock_list.new.place)
+    (λ none. both_ways c.wake_split-wakeup.result.release_ok clear
+    (c.wake_split-wakeup.ensures.release_ok.1 (c.deref_mut.ensures.value ∙ taken-none ws (sym (c.as_slice.ensures.value ∙ taken) ∙ none)))) in
+    (f.0, ap (λ a. a.lists.off (f.0)) (c.take_all_off.ensures.led).account ∙ f.1)
