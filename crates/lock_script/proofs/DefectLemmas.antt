@@ -9,7 +9,9 @@ use Rattle.modes_core.specs.declared.sessions.Owner.TheVariants.{Transaction}
 use Rattle.modes_core.specs.declared.tags.Tag.{Tag}
 use Rattle.modes_core.specs.Mode.{name_of}
 use Rattle.lock_script.specs.Command.{NamesCaller, NamesOpen}
-use Rattle.lock_script.specs.Defects.{Kind, FreeName, OpenName, CallerName, Number, CounterIndex, TagWord, ModeName, OwnerWord, lock_words, commands, words_behind, AreAsMany, IsUnnamed, IsBarred, IsTaken, IsWrong, IsRight, IsFirstWrong, IsMisfit, IsRefused, MeansNothing}
+use Rattle.lock_script.specs.Defects.{lock_words, commands, words_behind, AreAsMany, IsUnnamed, IsBarred, IsTaken, IsWrong, IsRight, IsFirstWrong, IsMisfit, IsRefused, MeansNothing}
+use Rattle.lock_script.specs.declared.commands.WordKind.{WordKind}
+use Rattle.lock_script.specs.declared.commands.WordKind.TheVariants.{FreeName, OpenName, CallerName, Number, CounterIndex, TagWord, ModeName, OwnerWord}
 use Rattle.lock_script.specs.Meaning.{IsCommandOf, NamesNew, NamesTarget, NamesLone, NamesOwned, NamesActor, NamesBoth, NamesQueue, NamesBlocked, NamesCount, NamesTag}
 use Rattle.lock_script.specs.Names.{IsCalled, IsFree}
 use Rattle.lock_script.specs.Sessions.{IsAt, IsUnknown}
@@ -144,7 +146,7 @@ module _ {S W : Type 0} (sessions : OpenSessions S W) where
   owned-named_owner (a ∷ b ∷ c ∷ x ∷ y ∷ words) d e f k target owner n h o = absurd (omega arith)
 
   -- The first word that is wrong, where it is not the first of all.
-  pub second_wrong : (one two : Kind) (words : List (Bor (List ℕ))) (d e : Bor (List ℕ)) (defect : Defect) → ((a b : List ℕ) → AreAsMany (one ∷ two ∷ []) (a ∷ b ∷ [])) → length words ≡ 2 → IsRight sessions one (get_or words 0 d).now → IsWrong sessions two (get_or words 1 e).now defect → IsMisfit sessions (one ∷ two ∷ []) (texts words) defect
+  pub second_wrong : (one two : WordKind) (words : List (Bor (List ℕ))) (d e : Bor (List ℕ)) (defect : Defect) → ((a b : List ℕ) → AreAsMany (one ∷ two ∷ []) (a ∷ b ∷ [])) → length words ≡ 2 → IsRight sessions one (get_or words 0 d).now → IsWrong sessions two (get_or words 1 e).now defect → IsMisfit sessions (one ∷ two ∷ []) (texts words) defect
   second_wrong one two [] d e defect many n right wrong = absurd (omega arith)
   second_wrong one two (a ∷ []) d e defect many n right wrong = absurd (omega arith)
   second_wrong one two (a ∷ b ∷ []) d e defect many n right wrong = inr (many a.now b.now, inr (right, inl wrong))
@@ -182,21 +184,21 @@ module _ {S W : Type 0} (sessions : OpenSessions S W) where
   owner_wrong (a ∷ b ∷ c ∷ x ∷ y ∷ words) d e f k target defect n h wrong = absurd (omega arith)
 
   -- Words of which each is right have no defect.
-  abbrev AreRight : List Kind → List (List ℕ) → Type 0
+  abbrev AreRight : List WordKind → List (List ℕ) → Type 0
   AreRight (kind ∷ kinds) (word ∷ words) = IsRight sessions kind word × AreRight kinds words
   AreRight _ _ = Unit {0}
 
-  none_wrong : (kinds : List Kind) (words : List (List ℕ)) (defect : Defect) → AreRight kinds words → IsFirstWrong sessions kinds words defect → ⊥
+  none_wrong : (kinds : List WordKind) (words : List (List ℕ)) (defect : Defect) → AreRight kinds words → IsFirstWrong sessions kinds words defect → ⊥
   none_wrong [] words defect right wrong = wrong
   none_wrong (kind ∷ kinds) [] defect right wrong = wrong
   none_wrong (kind ∷ kinds) (word ∷ words) defect right (inl wrong) = right.0 defect wrong
   none_wrong (kind ∷ kinds) (word ∷ words) defect right (inr later) = none_wrong kinds words defect right.1 later.1
 
   -- They are as many as these kinds, and each is right.
-  abbrev Fits : List Kind → List (List ℕ) → Type 0
+  abbrev Fits : List WordKind → List (List ℕ) → Type 0
   Fits kinds words = AreAsMany kinds words × AreRight kinds words
 
-  not_misfit : (kinds : List Kind) (words : List (List ℕ)) (defect : Defect) → Fits kinds words → IsMisfit sessions kinds words defect → ⊥
+  not_misfit : (kinds : List WordKind) (words : List (List ℕ)) (defect : Defect) → Fits kinds words → IsMisfit sessions kinds words defect → ⊥
   not_misfit kinds words defect fit (inl fewer) = fewer.1 fit.0
   not_misfit kinds words defect fit (inr wrong) = none_wrong kinds words defect fit.1 wrong.1
 
@@ -257,11 +259,11 @@ module _ {S W : Type 0} (sessions : OpenSessions S W) where
   fits-tag (a ∷ b ∷ words) tag h = absurd h
 
   -- A line whose words are a command's, and fit, is not refused.
-  not_refused : (verb known : List ℕ) (words : List (List ℕ)) (kinds : List Kind) (defect : Defect) → verb ≡ known → words_behind known commands ≡ Some kinds → Fits kinds words → IsRefused sessions (words_behind verb commands) words defect → ⊥
+  not_refused : (verb known : List ℕ) (words : List (List ℕ)) (kinds : List WordKind) (defect : Defect) → verb ≡ known → words_behind known commands ≡ Some kinds → Fits kinds words → IsRefused sessions (words_behind verb commands) words defect → ⊥
   not_refused verb known words kinds defect is takes fit refused =
       let found : words_behind verb commands ≡ Some kinds =
       ap (λ (v : List ℕ). words_behind v commands) is ∙ takes in
-      not_misfit kinds words defect fit (subst (λ (o : Option (List Kind)). IsRefused sessions o words defect) found refused)
+      not_misfit kinds words defect fit (subst (λ (o : Option (List WordKind)). IsRefused sessions o words defect) found refused)
 
   command-not_refused : (verb : List ℕ) (words : List (List ℕ)) (defect : Defect) → IsRefused sessions (words_behind verb commands) words defect → (its : Command) → IsCommandOf sessions verb words its → ⊥
   command-not_refused verb words defect r (Session name database) h = not_refused verb (codes "session") words _ defect h.0 refl (fits-new words name database h.1) r

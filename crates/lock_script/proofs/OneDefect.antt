@@ -1,6 +1,8 @@
 -- No line has two defects.
 use Rattle.std.proofs.Common.{◌≡◌, ◌∙◌, ℕ, List, [], ◌∷◌, Option, Some, None, refl, sym, inl, inr}
-use Rattle.lock_script.specs.Defects.{Kind, FreeName, OpenName, CallerName, Number, CounterIndex, TagWord, ModeName, OwnerWord, commands, words_behind, IsUnnamed, IsBarred, IsTaken, IsWrong, IsFirstWrong, IsMisfit, IsRefused, IsDefectOf}
+use Rattle.lock_script.specs.Defects.{commands, words_behind, IsUnnamed, IsBarred, IsTaken, IsWrong, IsFirstWrong, IsMisfit, IsRefused, IsDefectOf}
+use Rattle.lock_script.specs.declared.commands.WordKind.{WordKind}
+use Rattle.lock_script.specs.declared.commands.WordKind.TheVariants.{FreeName, OpenName, CallerName, Number, CounterIndex, TagWord, ModeName, OwnerWord}
 use Rattle.lock_script.specs.Words.{is_name}
 use Rattle.lock_script.specs.declared.sessions.OpenSessions.{OpenSessions}
 use Rattle.lock_script.specs.declared.faults.Defect.{Defect}
@@ -41,7 +43,7 @@ module _ {S W : Type 0} (sessions : OpenSessions S W) where
   taken-one word SessionExists _ x y = absurd y
   taken-one word _ b x y = absurd x
 
-  wrong-one : (kind : Kind) (word : List ℕ) (a b : Defect) → IsWrong sessions kind word a → IsWrong sessions kind word b → a ≡ b
+  wrong-one : (kind : WordKind) (word : List ℕ) (a b : Defect) → IsWrong sessions kind word a → IsWrong sessions kind word b → a ≡ b
   wrong-one FreeName word a b x y = taken-one word a b x y
   wrong-one OpenName word a b x y = unnamed-one word a b x y
   wrong-one CallerName word a b x y = barred-one word a b x y
@@ -51,7 +53,7 @@ module _ {S W : Type 0} (sessions : OpenSessions S W) where
   wrong-one ModeName word a b x y = x.0 ∙ sym y.0
   wrong-one OwnerWord word a b x y = x.0 ∙ sym y.0
 
-  first-one : (kinds : List Kind) (words : List (List ℕ)) (a b : Defect) → IsFirstWrong sessions kinds words a → IsFirstWrong sessions kinds words b → a ≡ b
+  first-one : (kinds : List WordKind) (words : List (List ℕ)) (a b : Defect) → IsFirstWrong sessions kinds words a → IsFirstWrong sessions kinds words b → a ≡ b
   first-one [] words a b x y = absurd x
   first-one (kind ∷ kinds) [] a b x y = absurd x
   first-one (kind ∷ kinds) (word ∷ words) a b (inl x) (inl y) = wrong-one kind word a b x y
@@ -59,13 +61,13 @@ module _ {S W : Type 0} (sessions : OpenSessions S W) where
   first-one (kind ∷ kinds) (word ∷ words) a b (inr x) (inl y) = absurd (x.0 b y)
   first-one (kind ∷ kinds) (word ∷ words) a b (inr x) (inr y) = first-one kinds words a b x.1 y.1
 
-  misfit-one : (kinds : List Kind) (words : List (List ℕ)) (a b : Defect) → IsMisfit sessions kinds words a → IsMisfit sessions kinds words b → a ≡ b
+  misfit-one : (kinds : List WordKind) (words : List (List ℕ)) (a b : Defect) → IsMisfit sessions kinds words a → IsMisfit sessions kinds words b → a ≡ b
   misfit-one kinds words a b (inl x) (inl y) = x.0 ∙ sym y.0
   misfit-one kinds words a b (inl x) (inr y) = absurd (x.1 y.0)
   misfit-one kinds words a b (inr x) (inl y) = absurd (y.1 x.0)
   misfit-one kinds words a b (inr x) (inr y) = first-one kinds words a b x.1 y.1
 
-  refused-one : (kinds : Option (List Kind)) (words : List (List ℕ)) (a b : Defect) → IsRefused sessions kinds words a → IsRefused sessions kinds words b → a ≡ b
+  refused-one : (kinds : Option (List WordKind)) (words : List (List ℕ)) (a b : Defect) → IsRefused sessions kinds words a → IsRefused sessions kinds words b → a ≡ b
   refused-one None words a b x y = x ∙ sym y
   refused-one (Some kinds) words a b x y = misfit-one kinds words a b x y
 

@@ -9,32 +9,20 @@ use Rattle.lock_script.specs.Words.{is_name, number_in, strong_index_in, tag_of,
 use Rattle.lock_script.specs.declared.sessions.OpenSessions.{OpenSessions}
 use Rattle.lock_script.specs.declared.sessions.Place.{Place}
 use Rattle.lock_script.specs.declared.command.Command.{Command}
+use Rattle.lock_script.specs.declared.commands.WordKind.{WordKind}
+use Rattle.lock_script.specs.declared.commands.WordKind.TheVariants.{FreeName, OpenName, CallerName, Number, CounterIndex, TagWord, ModeName, OwnerWord}
 use Rattle.lock_script.specs.declared.faults.Defect.{Defect}
 use Rattle.lock_script.specs.declared.faults.Defect.TheVariants.{UnknownCommand, WrongNumberOfWords, BadName, SessionExists, NoSuchSession, SessionWaits, BadNumber, BadObject, BadMode, BadOwner}
 
 -- Which defect a line has, where its words mean nothing.
 
--- what a word behind a command has to be
-pub data Kind : Type 0 where
-  -- a name that no open session has
-  FreeName : Kind
-  -- the name of an open session
-  OpenName : Kind
-  -- the name of an open session that doesn't wait
-  CallerName : Kind
-  Number : Kind
-  CounterIndex : Kind
-  TagWord : Kind
-  ModeName : Kind
-  OwnerWord : Kind
-
 -- what stands behind a command that asks for a lock or gives one back
-abbrev pub lock_words : List Kind
+abbrev pub lock_words : List WordKind
 lock_words = CallerName ∷ TagWord ∷ ModeName ∷ OwnerWord ∷ []
 
 -- The commands, each with the words behind it. First those that open or close a session, and that begin or end a
 -- transaction's levels.
-abbrev pub session_commands : List (List ℕ × List Kind)
+abbrev pub session_commands : List (List ℕ × List WordKind)
 session_commands =
     (codes "session", FreeName ∷ Number ∷ [])
     ∷ (codes "commit", CallerName ∷ [])
@@ -46,7 +34,7 @@ session_commands =
     ∷ []
 
 -- those that ask for a lock, let one go or end a wait for one
-abbrev pub lock_commands : List (List ℕ × List Kind)
+abbrev pub lock_commands : List (List ℕ × List WordKind)
 lock_commands =
     (codes "try", lock_words)
     ∷ (codes "fast", lock_words)
@@ -56,7 +44,7 @@ lock_commands =
     ∷ []
 
 -- those that only look
-abbrev pub look_commands : List (List ℕ × List Kind)
+abbrev pub look_commands : List (List ℕ × List WordKind)
 look_commands =
     (codes "owned", CallerName ∷ TagWord ∷ ModeName ∷ [])
     ∷ (codes "waiters", CallerName ∷ TagWord ∷ ModeName ∷ [])
@@ -68,17 +56,17 @@ look_commands =
     ∷ []
 
 -- all of them
-abbrev pub commands : List (List ℕ × List Kind)
+abbrev pub commands : List (List ℕ × List WordKind)
 commands = session_commands ++ lock_commands ++ look_commands
 
 -- what stands behind the command of this name, if there is one among these
-abbrev pub words_behind : List ℕ → List (List ℕ × List Kind) → Option (List Kind)
+abbrev pub words_behind : List ℕ → List (List ℕ × List WordKind) → Option (List WordKind)
 words_behind verb [] = None
 words_behind verb (command ∷ others) =
     if bytes_eq verb command.0 then Some command.1 else words_behind verb others
 
 -- There is a word for each of these kinds; only an owner may be left out.
-abbrev pub AreAsMany : List Kind → List (List ℕ) → Type 0
+abbrev pub AreAsMany : List WordKind → List (List ℕ) → Type 0
 AreAsMany [] [] = ⊤
 AreAsMany (OwnerWord ∷ []) [] = ⊤
 AreAsMany (kind ∷ kinds) (word ∷ words) = AreAsMany kinds words
@@ -109,7 +97,7 @@ module _ {S W : Type 0} where
   IsTaken sessions word _ = ⊥
 
   -- why a word is not of this kind
-  abbrev pub IsWrong : OpenSessions S W → Kind → List ℕ → Defect → Type 0
+  abbrev pub IsWrong : OpenSessions S W → WordKind → List ℕ → Defect → Type 0
   IsWrong sessions FreeName word defect = IsTaken sessions word defect
   IsWrong sessions OpenName word defect = IsUnnamed sessions word defect
   IsWrong sessions CallerName word defect = IsBarred sessions word defect
@@ -120,23 +108,23 @@ module _ {S W : Type 0} where
   IsWrong sessions OwnerWord word defect = (defect ≡ BadOwner) × (owner_of word ≡ None)
 
   -- nothing is wrong with a word of this kind
-  abbrev pub IsRight : OpenSessions S W → Kind → List ℕ → Type 0
+  abbrev pub IsRight : OpenSessions S W → WordKind → List ℕ → Type 0
   IsRight sessions kind word = (defect : Defect) → ¬ IsWrong sessions kind word defect
 
   -- the defect is that of the first word that is wrong
-  abbrev pub IsFirstWrong : OpenSessions S W → List Kind → List (List ℕ) → Defect → Type 0
+  abbrev pub IsFirstWrong : OpenSessions S W → List WordKind → List (List ℕ) → Defect → Type 0
   IsFirstWrong sessions (kind ∷ kinds) (word ∷ words) defect =
       IsWrong sessions kind word defect ⊎ (IsRight sessions kind word × IsFirstWrong sessions kinds words defect)
   IsFirstWrong sessions _ _ defect = ⊥
 
   -- why words are not of these kinds: by their number, or else by the first of them that is wrong
-  abbrev pub IsMisfit : OpenSessions S W → List Kind → List (List ℕ) → Defect → Type 0
+  abbrev pub IsMisfit : OpenSessions S W → List WordKind → List (List ℕ) → Defect → Type 0
   IsMisfit sessions kinds words defect =
       ((defect ≡ WrongNumberOfWords) × (¬ AreAsMany kinds words))
       ⊎ (AreAsMany kinds words × IsFirstWrong sessions kinds words defect)
 
   -- why they don't stand behind a command, or that there is no such command
-  abbrev pub IsRefused : OpenSessions S W → Option (List Kind) → List (List ℕ) → Defect → Type 0
+  abbrev pub IsRefused : OpenSessions S W → Option (List WordKind) → List (List ℕ) → Defect → Type 0
   IsRefused sessions None words defect = defect ≡ UnknownCommand
   IsRefused sessions (Some kinds) words defect = IsMisfit sessions kinds words defect
 

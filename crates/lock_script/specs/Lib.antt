@@ -8,3 +8,4 @@ pub mod Meaning
 pub mod Names
 pub mod Words
 pub mod Lending
+pub mod Rows

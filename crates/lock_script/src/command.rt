@@ -2,7 +2,8 @@
 ghost use Rattle.std.specs.Prelude.{◌≡◌, [], ◌∷◌, ◌++◌, map, take, Some, IfOk, IfErr, IfSome, MatchOption};
 ghost use Rattle.modes_core.specs.Mode.{name_of};
 ghost use Rattle.lock_script.specs.Command.{Addresses, NamesCounter, NamesOpen, NamesCaller};
-ghost use Rattle.lock_script.specs.Defects.{CallerName, CounterIndex, FreeName, IsBarred, IsDefectOf, IsFirstWrong, IsMisfit, IsNoTag, IsRefused, IsUnnamed, MeansNothing, ModeName, Number, OpenName, TagWord, commands, lock_commands, lock_words, look_commands, words_behind};
+ghost use Rattle.lock_script.specs.Defects.{IsBarred, IsDefectOf, IsFirstWrong, IsMisfit, IsNoTag, IsRefused, IsUnnamed, MeansNothing, commands, lock_commands, lock_words, look_commands, words_behind};
+ghost use Rattle.lock_script.specs.declared.commands.WordKind.TheVariants.{CallerName, CounterIndex, FreeName, ModeName, Number, OpenName, TagWord};
 ghost use Rattle.lock_script.specs.Meaning.{IsCommandOf, IsSilent, Means, NamesActor, NamesBlocked, NamesBoth, NamesCount, NamesLone, NamesNew, NamesOwned, NamesQueue, NamesTag};
 ghost use Rattle.lock_script.specs.Words.{tag_of, words_of};
 

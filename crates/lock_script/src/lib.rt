@@ -4,6 +4,7 @@
 
 mod bytes;
 mod command;
+mod commands;
 mod faults;
 mod lines;
 mod names;
@@ -12,6 +13,7 @@ mod words;
 
 pub use bytes::ByteSource;
 pub use command::{Command, Target, parse};
+pub use commands::{CommandRow, WordKind, command_row, command_rows};
 pub use faults::{Defect, Fault};
 pub use lines::{Line, LineReader};
 pub use names::{Name, Names};

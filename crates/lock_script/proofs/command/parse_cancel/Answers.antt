@@ -1,5 +1,5 @@
 use Rattle.std.proofs.Common.{arith}
-use Rattle.lock_script.specs.Defects.{CallerName, OpenName}
+use Rattle.lock_script.specs.declared.commands.WordKind.TheVariants.{CallerName, OpenName}
 use Rattle.lock_script.proofs.DefectLemmas.{of_err, both-named, caller-right, second_wrong}
 use Rattle.lock_script.proofs.command.parse_cancel.Goals as goal
 

@@ -1,5 +1,5 @@
 use Rattle.std.proofs.Common.{arith, ◌∙◌, sym}
-use Rattle.lock_script.specs.Defects.{CallerName, TagWord}
+use Rattle.lock_script.specs.declared.commands.WordKind.TheVariants.{CallerName, TagWord}
 use Rattle.lock_script.specs.declared.faults.Defect.TheVariants.{BadObject}
 use Rattle.lock_script.proofs.DefectLemmas.{of_err, no_value, caller-right, second_wrong}
 use Rattle.lock_script.proofs.command.parse_queue.Goals as goal

@@ -1,6 +1,6 @@
 use Rattle.std.proofs.Common.{◌≡◌, arith, ◌∙◌, sym, subst, true, false, List, ℕ}
 use Rattle.std.specs.Prelude.{is_some}
-use Rattle.lock_script.specs.Defects.{FreeName, Number}
+use Rattle.lock_script.specs.declared.commands.WordKind.TheVariants.{FreeName, Number}
 use Rattle.lock_script.specs.Sessions.{IsUnknown}
 use Rattle.lock_script.specs.declared.faults.Defect.TheVariants.{BadName, BadNumber}
 use Rattle.lock_script.proofs.DefectLemmas.{of_err, no_value, some_value, name-is, free_in, first_taken, free-right, second_wrong}
