@@ -11,7 +11,7 @@ use std::alloc::Global;
 use std::process::Abort;
 use std::test::Fail;
 use wait_queue::Kind::{Conditional, Waiting};
-use wait_queue::{Decision, Kind, awaited_in_conflict, decide, release, remove_waiter};
+use wait_queue::{Decision, Kind, awaited_in_conflict, decide, remove_waiter, take_hold_out};
 
 /// What the session of a number does, and what that leads to.
 #[derive(Clone, Copy)]
@@ -168,10 +168,10 @@ fn wakes<P: PartTable>(
     ensures { P.begun part.new ≡ P.begun part.old }
 {
     may_release(rt, part, session, &OBJECT, mode);
-    match release(part, session, &OBJECT, mode) {
-        None => expected.is_empty(),
-        Some(woken) => are_woken(&woken, expected),
+    if !take_hold_out(part, session, &OBJECT, mode) {
+        return expected.is_empty();
     }
+    are_woken(&part.wake(&OBJECT), expected)
 }
 
 /// Makes the step, and whether it leads to what it says.

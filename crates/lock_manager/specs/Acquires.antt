@@ -4,6 +4,7 @@ use Rattle.modes_core.specs.declared.tags.Tag.{Tag}
 use Rattle.modes_core.specs.declared.sessions.Owner.{Owner}
 use Rattle.modes_core.specs.declared.refusals.Refusal.{Refusal}
 use Rattle.modes_core.specs.declared.refusals.Refusal.TheVariants.{NoMemory, LocalFull, CountFull, NotEligible}
+use Rattle.modes_core.specs.declared.refusals.Refusal.TheVariants.{Conflict, SimpleDeadlock, SlotsFull, Busy, StrongCounted}
 use Rattle.local_locks.specs.declared.answers.Acquired.{Acquired}
 use Rattle.local_locks.specs.declared.answers.Acquired.TheVariants as acquired
 use Rattle.local_locks.specs.declared.records.Entry.{Entry}
@@ -32,6 +33,16 @@ pub record AnswersByOwned {A : Type 0} (owned : Owned) (tag : Tag) (mode : Mode)
   pub local_full :
       IsErrOf result LocalFull
       ↔ ((has_entry owned.entries tag mode ≡ false) × (may_be_had ≡ true) × (length owned.entries ≡ owned.max_local))
+
+-- Room for the entry comes first: what others have, or that all slots are in use, is answered only where one entry more can be
+-- made with no growth.
+abbrev pub HasEntryRoom : Owned → Refusal → Type 0
+HasEntryRoom owned (Conflict other its how) = 0 < owned.room
+HasEntryRoom owned (SimpleDeadlock other) = 0 < owned.room
+HasEntryRoom owned SlotsFull = 0 < owned.room
+HasEntryRoom owned Busy = 0 < owned.room
+HasEntryRoom owned StrongCounted = 0 < owned.room
+HasEntryRoom owned _ = Unit {0}
 
 -- a refusal by what the session owns, or by its own database
 abbrev pub IsOwnRefusal : Refusal → Type 0

@@ -1,4 +1,4 @@
-use Rattle.std.specs.Prelude.{◌≡◌, ◌≢◌, ◌⊎◌, ℕ, Bool, true, false, List, [], ◌∷◌, ◌++◌}
+use Rattle.std.specs.Prelude.{◌≡◌, ◌≢◌, ◌⊎◌, ℕ, Bool, true, false, List, [], ◌∷◌, ◌++◌, Option}
 use Rattle.std.specs.Prelude.{Result, Ok, Err, OnErr, IfOk, IfErr, Some, if◌then◌else◌}
 use Rattle.modes_core.specs.declared.modes.Mode.{Mode}
 use Rattle.modes_core.specs.declared.tags.Tag.{Tag}
@@ -7,6 +7,7 @@ use Rattle.modes_core.specs.declared.refusals.Refusal.TheVariants.{NoMemory}
 use Rattle.modes_core.specs.Tag.{partition_of, index_of, is_strong_on, is_eligible_for}
 use Rattle.lock_table.specs.declared.moves.Move.TheVariants as move_
 use Rattle.lock_table.specs.Content.{Content}
+use Rattle.lock_table.specs.declared.request.Request.{Request}
 use Rattle.lock_table.specs.Queue.{waits_there}
 use Rattle.wait_queue.specs.declared.requests.Kind.{Kind}
 use Rattle.wait_queue.specs.declared.requests.Decision.{Decision}
@@ -69,6 +70,10 @@ LeadsToTable groups limit a uses tag mode steps =
     ⊎ (FindsStrong groups a uses tag mode steps ⊎ MovesSlots groups limit tag mode steps)
 
 -- ---- the episode that decides
+
+-- There was a part in which room was made for the session's request.
+abbrev pub HadRoom : {T : Type 0} → (T → Option Request) → ℕ → Tag → Mode → Type 0
+HadRoom {T} prepared session tag mode = (part : T) × (prepared part ≡ Some (record { session = session; tag = tag; mode = mode }))
 
 -- the account of a session that waits for the mode on the object, with the modes of it that it has in the table
 abbrev pub account_awaiting : Account → Tag → Mode → (Mode → Bool) → Account

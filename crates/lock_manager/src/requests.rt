@@ -1,14 +1,15 @@
 //! Acquires and requests, of either kind, over any board.
 
-ghost use Rattle.std.specs.Prelude.{◌≡◌, ◌≢◌, ◌<◌, ◌≤◌, ◌↔◌, ℕ, false, true, length, IsErrOf, IfOk, OnOk, OnErr};
+ghost use Rattle.std.specs.Prelude.{◌≡◌, ◌≢◌, ◌<◌, ◌≤◌, ◌↔◌, ℕ, false, true, length, IsErrOf, IfOk, IfErr, OnOk, OnErr};
 ghost use Rattle.modes_core.specs.Tag.{is_strong_on, is_eligible_for};
 ghost use Rattle.local_locks.specs.Owned.{has_entry, with_one_more, IsReserved};
 ghost use Rattle.lock_world.specs.Counted.{is_counted, is_done};
 ghost use Rattle.lock_world.specs.Happens.Counters.{most_counted};
 ghost use Rattle.lock_manager.specs.Rest.{IsIdle, IsUseCount, IsAtRest};
 ghost use Rattle.lock_manager.specs.Sessions.{KeepsOwn};
-ghost use Rattle.lock_manager.specs.Requests.{DecidesInPart, Requests, IsRequested};
-ghost use Rattle.lock_manager.specs.Acquires.{AnswersByOwned, IsOwnAnswer, entries_begun, Begins, AcquiresBySlot};
+ghost use Rattle.wait_queue.specs.Decide.{IsAfterRoom};
+ghost use Rattle.lock_manager.specs.Requests.{DecidesInPart, HadRoom, Requests, IsRequested};
+ghost use Rattle.lock_manager.specs.Acquires.{AnswersByOwned, HasEntryRoom, IsOwnAnswer, entries_begun, Begins, AcquiresBySlot};
 ghost use Rattle.lock_manager.specs.Waiting.{IsWaiting};
 
 use crate::sessions::Own;
@@ -53,6 +54,8 @@ pub fn acquire<T: PartTable, B: Board<T>, R: Wait>(
     ensures at_once { kind ≡ Kind.Conditional → result ≢ Ok Begun.Queued }
     ensures steps { Begins kind (B.seat board.old) own.old.locals (B.view board.old) own.old.uses tag mode result
         (B.view board.new) own.new.uses }
+    ensures room_first { IfErr result (IsAfterRoom (HadRoom T.prepared (B.seat board.old).number tag mode)) }
+    ensures entry_room_first { IfErr result (HasEntryRoom own.new.locals) }
     ensures untouched { IsOwnAnswer Begun.AlreadyHeld result → board.new ≡ board.old }
     ensures entries { IfOk result (λ begun.
         own.new.locals.entries ≡ entries_begun begun own.old.locals.entries tag mode owner) }
@@ -99,6 +102,7 @@ pub fn acquire_by_slot<T: PartTable, B: Board<T>>(
         × (is_eligible_for own.old.database tag mode ≡ false)) }
     ensures steps { AcquiresBySlot (B.seat board.old).groups (B.seat board.old).number own.old.locals
         (B.view board.old) own.old.uses tag mode result (B.view board.new) own.new.uses }
+    ensures entry_room_first { IfErr result (HasEntryRoom own.new.locals) }
     ensures untouched { IsOwnAnswer Acquired.AlreadyHeld result → board.new ≡ board.old }
     ensures entries { OnOk result (own.new.locals.entries ≡ with_one_more own.old.locals.entries tag mode owner) }
     ensures same_entries { OnErr result (own.new.locals.entries ≡ own.old.locals.entries) }
@@ -144,6 +148,7 @@ pub fn request<T: PartTable, B: Board<T>, R: Wait>(
     requires countable { length (B.view board.old).fast.counted < most_counted }
     ensures steps { Requests kind (B.seat board.old) (B.view board.old) uses.old tag.now mode result
         (B.view board.new) uses.new }
+    ensures room_first { IfErr result (IsAfterRoom (HadRoom T.prepared (B.seat board.old).number tag.now mode)) }
     ensures account { IsRequested (B.seat board.old).limit (B.view board.old) tag.now mode result (B.view board.new) }
     ensures use_count { IsUseCount (B.seat board.old).groups (B.view board.new) uses.new }
     ensures stack { B.stack board.new ≡ B.stack board.old }
@@ -179,6 +184,7 @@ fn request_strong<T: PartTable, B: Board<T>, R: Wait>(
     requires countable { length (B.view board.old).fast.counted < most_counted }
     ensures steps { (uses : UseCounts) →
         Requests kind (B.seat board.old) (B.view board.old) uses tag.now mode result (B.view board.new) uses }
+    ensures room_first { IfErr result (IsAfterRoom (HadRoom T.prepared (B.seat board.old).number tag.now mode)) }
     ensures account { IsRequested (B.seat board.old).limit (B.view board.old) tag.now mode result (B.view board.new) }
     ensures use_count { (uses : UseCounts) → IsUseCount (B.seat board.old).groups (B.view board.old) uses
         → IsUseCount (B.seat board.old).groups (B.view board.new) uses }
@@ -212,6 +218,7 @@ fn decide_in_part<T: PartTable, B: Board<T>, R: Wait>(
         is_done (B.seat board.old).limit (B.view board.old).fast.counted tag.now mode ≡ true }
     ensures decided { DecidesInPart kind (B.seat board.old).number (B.view board.old) tag.now mode result
         (B.view board.new) }
+    ensures room_first { IfErr result (IsAfterRoom (HadRoom T.prepared (B.seat board.old).number tag.now mode)) }
     ensures stack { B.stack board.new ≡ B.stack board.old }
     ensures seat { B.seat board.new ≡ B.seat board.old }
 {

@@ -1,7 +1,7 @@
 //! Sessions: the calls that a server's thread makes.
 
 ghost use Rattle.std.specs.Prelude.{ℕ, ◌≡◌, ◌≢◌, ◌<◌, ◌≤◌, ◌-◌, ◌↔◌, [], ◌∷◌, ◌++◌, true, false};
-ghost use Rattle.std.specs.Prelude.{IsErrOf, IsOkUnless, IfOk, OnOk, OnErr};
+ghost use Rattle.std.specs.Prelude.{IsErrOf, IsOkUnless, IfOk, IfErr, OnOk, OnErr};
 ghost use Rattle.modes_core.specs.ModeSet.{set_has};
 ghost use Rattle.modes_core.specs.Tag.{is_eligible_for};
 ghost use Rattle.local_locks.specs.Owned.{max_level, level_of, of_transaction, own_count_of, level_count_of, without_innermost, outer_after, has_entry, total_of, with_one_more, with_one_less, ended_by, left_by, IsWellOwned};
@@ -14,7 +14,9 @@ ghost use Rattle.fast_path.specs.Slots.{count_in};
 ghost use Rattle.lock_manager.specs.Sessions.{IsSame, IsUnchanged, DontConflict};
 ghost use Rattle.lock_manager.specs.Listings.{Lists};
 ghost use Rattle.lock_manager.specs.Managers.{HasClosed};
-ghost use Rattle.lock_manager.specs.Acquires.{AnswersByOwned, IsOwnAnswer, Acquires, AcquiresBySlot};
+ghost use Rattle.wait_queue.specs.Decide.{IsAfterRoom};
+ghost use Rattle.lock_manager.specs.Requests.{HadRoom};
+ghost use Rattle.lock_manager.specs.Acquires.{AnswersByOwned, HasEntryRoom, IsOwnAnswer, Acquires, AcquiresBySlot};
 ghost use Rattle.lock_manager.specs.Releases.{Releases, ReleasesAll};
 
 use crate::keeper::Part;
@@ -190,6 +192,8 @@ impl<T: PartTable, B: Board<T>> OwnSession<T, B> {
     ) -> Result<Acquired, Refusal>
         // What it is answered.
         ensures answers { AnswersByOwned self.old.owned tag mode owner Acquired.AlreadyHeld true result }
+        ensures room_first { IfErr result (IsAfterRoom (HadRoom T.prepared (B.seat self.old.board).number tag mode)) }
+        ensures entry_room_first { IfErr result (HasEntryRoom self.new.owned) }
         ensures steps { Acquires (B.seat self.old.board) self.old.owned (B.view self.old.board) self.old.uses tag mode
             result (B.view self.new.board) self.new.uses }
         ensures untouched { IsOwnAnswer Acquired.AlreadyHeld result → self.new.board ≡ self.old.board }
@@ -227,6 +231,7 @@ impl<T: PartTable, B: Board<T>> OwnSession<T, B> {
         // What it is answered.
         ensures answers { AnswersByOwned self.old.owned tag mode owner Acquired.AlreadyHeld
             (is_eligible_for self.old.database tag mode) result }
+        ensures entry_room_first { IfErr result (HasEntryRoom self.new.owned) }
         ensures not_eligible { IsErrOf result Refusal.NotEligible ↔ ((has_entry self.old.owned.entries tag mode ≡ false)
             × (is_eligible_for self.old.database tag mode ≡ false)) }
         ensures steps { AcquiresBySlot (B.seat self.old.board).groups (B.seat self.old.board).number

@@ -1,10 +1,12 @@
 //! Calls that may wait: a session that has begun to wait is a value of its own, which has the calls of a waiting one.
 
-ghost use Rattle.std.specs.Prelude.{◌≡◌, ◌↔◌, false, true, IsErrOf, IsOkUnless, IfOk, OnOk, OnErr};
+ghost use Rattle.std.specs.Prelude.{◌≡◌, ◌↔◌, false, true, IsErrOf, IsOkUnless, IfOk, IfErr, OnOk, OnErr};
 ghost use Rattle.local_locks.specs.Owned.{has_entry, with_one_more};
 ghost use Rattle.lock_manager.specs.declared.requests.Begun.TheVariants as begun;
 ghost use Rattle.lock_manager.specs.Sessions.{IsSame};
-ghost use Rattle.lock_manager.specs.Acquires.{AnswersByOwned, IsOwnAnswer, entries_begun, Begins};
+ghost use Rattle.wait_queue.specs.Decide.{IsAfterRoom};
+ghost use Rattle.lock_manager.specs.Requests.{HadRoom};
+ghost use Rattle.lock_manager.specs.Acquires.{AnswersByOwned, HasEntryRoom, IsOwnAnswer, entries_begun, Begins};
 ghost use Rattle.lock_manager.specs.Waiting.{Asks, LooksForWaiters, Polls, Cancels, Waits};
 ghost use Rattle.lock_manager.specs.WaitingSessions.{answer_started, board_started, uses_started, owned_started};
 ghost use Rattle.lock_manager.specs.WaitingSessions.{UnlessQueued, IfQueued};
@@ -175,6 +177,9 @@ impl<T: PartTable, B: Board<T>> OwnSession<T, B> {
     ) -> Started<Self, OwnWaiting<T, B>>
         // What it is answered.
         ensures answers { AnswersByOwned self.owned tag mode owner begun.AlreadyHeld true (answer_started result) }
+        ensures room_first { IfErr (answer_started result)
+            (IsAfterRoom (HadRoom T.prepared (B.seat self.board).number tag mode)) }
+        ensures entry_room_first { IfErr (answer_started result) (HasEntryRoom (owned_started result)) }
         ensures steps { Begins Kind.Waiting (B.seat self.board) self.owned (B.view self.board) self.uses tag mode
             (answer_started result) (B.view (board_started result)) (uses_started result) }
         ensures untouched { IsOwnAnswer begun.AlreadyHeld (answer_started result) → board_started result ≡ self.board }

@@ -10,7 +10,7 @@ use Rattle.lock_records.specs.View.{RecordView}
 use Rattle.lock_records.specs.declared.records.Records.TheInside.{Inside}
 
 abbrev pub view_of : Inside → RecordView
-view_of part = record { holders = part.holders.slots; queues = part.queues.slots; begun = part.begun }
+view_of part = record { holders = part.holders.slots; queues = part.queues.slots; begun = part.begun; prepared = part.prepared.value }
 
 -- The records of each object are right, the index finds the lock records, and there is room for the hold that each wait becomes; a begun
 -- request is new, and has room.

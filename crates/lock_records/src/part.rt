@@ -57,6 +57,8 @@ impl PartTable for RecordPart {
 
     ghost begun = { λ part. part.begun };
 
+    ghost prepared = { λ part. part.prepared };
+
     #[inline(always)]
     fn begin(&mut self, session: SessionId, tag: &Tag, mode: Mode) -> Result<(), NoMemory> {
         self.records.begin(session, tag, mode)

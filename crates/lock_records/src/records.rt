@@ -14,6 +14,7 @@ use place_index::PlaceIndex;
 use slab::Slab;
 use std::alloc::Global;
 use std::marker::Model;
+use std::snapshot::Snapshot;
 
 /// One partition of the lock table as lock.c keeps it: lock records, found through an index by the hash of the tag,
 /// holder records, and queue records of the objects that somebody awaits.
@@ -24,6 +25,8 @@ pub struct Records {
     queues: WaitQueues,
     index: PlaceIndex,
     begun: Option<Request>,
+    /// What contracts see of the request that room was made for last.
+    prepared: Snapshot<Option<Request>>,
     /// Where a lock record was found last: the call that follows mostly wants the same one.
     hint: usize,
     /// Whether the object of the begun request has no lock record. Nobody makes one before it is granted or joins.
@@ -60,6 +63,7 @@ impl Records {
             queues: WaitQueues::new(alloc),
             index,
             begun: None,
+            prepared: Snapshot::of(&None),
             hint: 0,
             absent: false,
         })
@@ -190,6 +194,8 @@ impl PartTable for Records {
 
     ghost begun = { λ part. part.begun };
 
+    ghost prepared = { λ part. part.prepared };
+
     #[inline(always)]
     fn begin(&mut self, session: SessionId, tag: &Tag, mode: Mode) -> Result<(), NoMemory> {
         make_room(
@@ -203,6 +209,7 @@ impl PartTable for Records {
         self.hint = found.unwrap_or(self.hint);
         let tag = *tag;
         self.begun = Some(Request { session, tag, mode });
+        self.prepared = Snapshot::of(&Some(Request { session, tag, mode }));
         Ok(())
     }
 

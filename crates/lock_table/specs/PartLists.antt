@@ -5,7 +5,7 @@ use Rattle.lock_table.specs.PartView.{PartView}
 use Rattle.lock_table.specs.PartWaits.{EachOnce, OneWaitEach, times_in}
 
 abbrev pub view_of : Inside → PartView
-view_of part = record { holds = part.holds.items; waits = part.waits.items; begun = part.begun }
+view_of part = record { holds = part.holds.items; waits = part.waits.items; begun = part.begun; prepared = part.prepared }
 
 -- Each request is held or awaited once at most, a session waits once at most on an object, and a begun request is new.
 -- There is room for the hold that each wait becomes, and for the begun request in either list.

@@ -7,11 +7,13 @@ use Rattle.lock_table.specs.Request.{is_request_of}
 use Rattle.lock_table.specs.Content.{Holds, Content}
 use Rattle.lock_table.specs.PartWaits.{queues_in}
 
--- what contracts see of a `PlainPart`: its list of holds, its list of waits, and the request that is begun
+-- what contracts see of a `PlainPart`: its list of holds, its list of waits, the request that is begun, and the one that room was
+-- made for last
 pub record PartView : Type 0 where
   pub holds : List Request
   pub waits : List PartWait
   pub begun : Option Request
+  pub prepared : Option Request
 
 -- the holds of a list
 abbrev pub holds_in : List Request → Holds

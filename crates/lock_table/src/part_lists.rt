@@ -25,6 +25,7 @@ pub struct PartLists {
     holds: Vec<Request>,
     waits: Vec<PartWait>,
     begun: Option<Request>,
+    prepared: Option<Request>,
 }
 
 impl Model for PartLists {
@@ -45,12 +46,13 @@ impl PartLists {
 
     /// Lists with nothing in them, which grow by this allocator.
     pub fn new(alloc: Global) -> Self
-        ensures { result ≡ record { holds = []; waits = []; begun = None } }
+        ensures { result ≡ record { holds = []; waits = []; begun = None; prepared = None } }
     {
         PartLists {
             holds: Vec::new(alloc),
             waits: Vec::new(alloc),
             begun: None,
+            prepared: None,
         }
     }
 
@@ -84,6 +86,7 @@ impl Clone for PartLists {
             holds,
             waits,
             begun: self.begun,
+            prepared: self.prepared,
         })
     }
 }
@@ -95,11 +98,14 @@ impl PartTable for PartLists {
 
     ghost begun = { λ lists. lists.begun };
 
+    ghost prepared = { λ lists. lists.prepared };
+
     fn begin(&mut self, session: SessionId, tag: &Tag, mode: Mode) -> Result<(), NoMemory> {
         self.holds.reserve(self.waits.len() + 1)?;
         self.waits.reserve(1)?;
         let tag = *tag;
         self.begun = Some(Request { session, tag, mode });
+        self.prepared = Some(Request { session, tag, mode });
         Ok(())
     }
 

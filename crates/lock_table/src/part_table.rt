@@ -13,8 +13,8 @@ use crate::rows::TableRow;
 use crate::waits::{Waiter, Woken};
 use modes_core::{Mode, ModeSet, SessionId, Tag};
 
-/// One partition of the lock table, however it keeps its holds and wait queues. Contracts see its `content`, and the
-/// request that is begun in it.
+/// One partition of the lock table, however it keeps its holds and wait queues. Contracts see its `content`, the
+/// request that is begun in it, and the request that it was `prepared` for last: for which `begin` made room.
 ///
 /// A request is made in two steps: `begin` takes all the memory that it can need, as a wait and as the
 /// hold that it becomes; `grant`, `join` or `withdraw`, which ends it, takes none.
@@ -22,6 +22,8 @@ pub trait PartTable {
     ghost content: { Self → Content };
 
     ghost begun: { Self → Option Request };
+
+    ghost prepared: { Self → Option Request };
 
     /// Makes room and records for one request (`SetupLockInTable` in lock.c). After a refusal the part
     /// is as before.
@@ -31,12 +33,15 @@ pub trait PartTable {
         requires none_begun { begun self.old ≡ None }
         ensures content { content self.new ≡ content self.old }
         ensures ok { OnOk result (begun self.new ≡ Some (record { session = session; tag = tag.now; mode = mode })) }
+        ensures prepared { OnOk result
+            (prepared self.new ≡ Some (record { session = session; tag = tag.now; mode = mode })) }
         ensures err { OnErr result (begun self.new ≡ None) };
 
     /// Gives the begun request up (`CleanUpLock` in lock.c).
     fn withdraw(&mut self, session: SessionId, tag: &Tag, mode: Mode)
         requires begun { begun self.old ≡ Some (record { session = session; tag = tag.now; mode = mode }) }
         ensures content { content self.new ≡ content self.old }
+        ensures prepared { prepared self.new ≡ prepared self.old }
         ensures ended { begun self.new ≡ None };
 
     /// Makes the begun request a hold (`GrantLock` in lock.c).

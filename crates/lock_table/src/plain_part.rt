@@ -96,6 +96,8 @@ impl PartTable for PlainPart {
 
     ghost begun = { λ part. part.begun };
 
+    ghost prepared = { λ part. part.prepared };
+
     fn begin(&mut self, session: SessionId, tag: &Tag, mode: Mode) -> Result<(), NoMemory> {
         self.lists.begin(session, tag, mode)
     }

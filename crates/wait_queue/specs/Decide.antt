@@ -33,3 +33,9 @@ RefusedFor Conditional content session tag mode (Conflict other its how) =
 RefusedFor Waiting content session tag mode (SimpleDeadlock other) = WaitingAnswer content session tag mode (answer.SimpleDeadlock other)
 RefusedFor kind content session tag mode NoMemory = Unit {0}
 RefusedFor kind content session tag mode _ = ⊥
+
+-- Room comes first: a refusal for what stands in the way comes where this is so of the room for the request.
+abbrev pub IsAfterRoom : Type 0 → Refusal → Type 0
+IsAfterRoom room (Conflict other its how) = room
+IsAfterRoom room (SimpleDeadlock other) = room
+IsAfterRoom room _ = Unit {0}

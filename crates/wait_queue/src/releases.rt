@@ -1,11 +1,10 @@
-ghost use Rattle.std.specs.Prelude.{◌≡◌, ◌≢◌, true, false, List, [], map, IfNone, IfSome};
+ghost use Rattle.std.specs.Prelude.{◌≡◌, true, false, List, []};
 ghost use Rattle.lock_table.specs.Content.{Wait, Content};
 ghost use Rattle.lock_table.specs.declared.moves.Move.TheVariants.{Release};
 ghost use Rattle.lock_table.specs.Moves.{Moves};
 ghost use Rattle.lock_table.specs.Queue.{some_awaits_conflict, Wakes};
-ghost use Rattle.lock_table.specs.Waiter.{whose_and_mode};
 
-use lock_table::{PartTable, Woken, first_against};
+use lock_table::{PartTable, first_against};
 use modes_core::{Mode, SessionId, Tag};
 
 /// Whether somebody awaits the object in a mode that conflicts with this one (`LockHasWaiters` in
@@ -30,32 +29,4 @@ pub fn take_hold_out<P: PartTable>(part: &mut P, session: SessionId, tag: &Tag, 
     ensures begun { P.begun part.new ≡ P.begun part.old }
 {
     part.ungrant(session, tag, mode)
-}
-
-/// Takes a hold of the session out, and grants the waits that are free to go then, where somebody
-/// awaits a mode in conflict with the one released (`LockRelease` with `UnGrantLock` and `CleanUpLock`
-/// in lock.c). It says whom it granted, in order, and nothing where it granted nobody.
-pub fn release<P: PartTable>(
-    part: &mut P,
-    session: SessionId,
-    tag: &Tag,
-    mode: Mode,
-) -> Option<Woken>
-    requires { (P.content part.old).holds session tag.now mode ≡ true }
-    ensures nobody { IfNone result
-        (Moves (P.content part.old) session (Release tag.now mode) [] (P.content part.new)) }
-    ensures woken { IfSome result (λ woken. (granted : List Wait)
-        × Moves (P.content part.old) session (Release tag.now mode) granted (P.content part.new)
-        × (woken.items ≡ map whose_and_mode granted)) }
-    ensures somebody { IfSome result (λ woken. woken.items ≢ []) }
-    ensures begun { P.begun part.new ≡ P.begun part.old }
-{
-    if !take_hold_out(part, session, tag, mode) {
-        return None;
-    }
-    let woken = part.wake(tag);
-    if woken.is_empty() {
-        return None;
-    }
-    Some(woken)
 }

@@ -1,7 +1,7 @@
-ghost use Rattle.std.specs.Prelude.{◌≡◌, ◌≢◌, false, IfOk, IfErr, OnErr};
+ghost use Rattle.std.specs.Prelude.{◌≡◌, ◌≢◌, false, Some, IfOk, IfErr, OnErr};
 ghost use Rattle.lock_table.specs.Queue.{WaitingAnswer, waits_there};
 ghost use Rattle.lock_table.specs.Clash.{Clashes};
-ghost use Rattle.wait_queue.specs.Decide.{IsDecided, RefusedFor};
+ghost use Rattle.wait_queue.specs.Decide.{IsDecided, RefusedFor, IsAfterRoom};
 
 use lock_table::{Answer, PartTable, answer_by_place, clash_with};
 use modes_core::{Mode, Refusal, SessionId, Tag};
@@ -27,7 +27,8 @@ pub enum Decision {
 /// Decides a request for a mode that the session neither holds nor awaits (`LockAcquireExtended` in
 /// lock.c, with `ProcSleep` in proc.c). Where nothing stands in its way it is granted. Else a
 /// conditional one is refused with what stands in its way, and one that may wait is answered by its
-/// place in the queue. After `NoMemory`, as after each refusal, the content is as before.
+/// place in the queue. After `NoMemory`, as after each refusal, the content is as before. Room for the request is
+/// made first, so that each other refusal comes only where there was memory.
 #[inline(always)]
 pub fn decide<P: PartTable>(
     part: &mut P,
@@ -43,6 +44,8 @@ pub fn decide<P: PartTable>(
     ensures decided { IfOk result (λ decision.
         IsDecided kind (P.content part.old) session tag.now mode decision (P.content part.new)) }
     ensures refused { IfErr result (RefusedFor kind (P.content part.old) session tag.now mode) }
+    ensures room_first { IfErr result (IsAfterRoom
+        (P.prepared part.new ≡ Some (record { session = session; tag = tag.now; mode = mode }))) }
     ensures unchanged { OnErr result (P.content part.new ≡ P.content part.old) }
     ensures at_once { kind ≡ Kind.Conditional → result ≢ Ok Decision.Queued }
     ensures ended { P.begun part.new ≡ None }
@@ -70,6 +73,7 @@ fn decide_begun<P: PartTable>(
         IsDecided kind (P.content part.old) session tag.now mode decision (P.content part.new)) }
     ensures refused { IfErr result (RefusedFor kind (P.content part.old) session tag.now mode) }
     ensures no_memory_taken { result ≢ Err Refusal.NoMemory }
+    ensures room { OnErr result (P.prepared part.new ≡ P.prepared part.old) }
     ensures unchanged { OnErr result (P.content part.new ≡ P.content part.old) }
     ensures at_once { kind ≡ Kind.Conditional → result ≢ Ok Decision.Queued }
     ensures ended { P.begun part.new ≡ None }
@@ -112,6 +116,7 @@ fn end_by_place<P: PartTable>(
         IsDecided Kind.Waiting (P.content part.old) session tag.now mode decision (P.content part.new)) }
     ensures refused { IfErr result (λ other.
         WaitingAnswer (P.content part.old) session tag.now mode (Answer.SimpleDeadlock other)) }
+    ensures room { OnErr result (P.prepared part.new ≡ P.prepared part.old) }
     ensures unchanged { OnErr result (P.content part.new ≡ P.content part.old) }
     ensures ended { P.begun part.new ≡ None }
 {

@@ -3,3 +3,4 @@ pub mod Whole
 pub mod InPart
 pub mod BySlot
 pub mod Refused
+pub mod Room

@@ -14,7 +14,7 @@ ghost use Rattle.lock_model.specs.MovedPart.{IsMoved};
 use super::state::Machine;
 use lock_table::{Move, NoMemory, PartTable, PlainPart, Woken};
 use modes_core::{Mode, SessionId, Tag};
-use wait_queue::{release, remove_waiter};
+use wait_queue::{remove_waiter, take_hold_out};
 
 /// A part after a move, and those whose waits the move granted.
 #[derive(Drop)]
@@ -53,10 +53,10 @@ pub fn after_release(
         return Ok(None);
     }
     let mut after = part.clone()?;
-    let woken = match release(&mut after, session, &tag, mode) {
-        Some(woken) => woken,
-        None => return Ok(Some(MovedPart::alone(after))),
-    };
+    if !take_hold_out(&mut after, session, &tag, mode) {
+        return Ok(Some(MovedPart::alone(after)));
+    }
+    let woken = after.wake(&tag);
     Ok(Some(MovedPart { part: after, woken }))
 }
 

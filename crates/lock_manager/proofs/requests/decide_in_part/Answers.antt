@@ -10,6 +10,7 @@ use Rattle.lock_world.specs.AccountLaw.{MayMoveBy}
 use Rattle.shared_rule.specs.Boards.{Seated}
 use Rattle.shared_rule.specs.Lawful.{MayPutPart}
 use Rattle.lock_manager.proofs.Lemmas.Requests.InPart.{granted-moves, queued-moves, may_put-granted, may_wait, may_put-joined, may_put-kept, queues-in_part}
+use Rattle.lock_manager.proofs.Lemmas.Requests.Room.{room-had}
 use Rattle.lock_manager.proofs.requests.decide_in_part.Goals as goal
 
 pub put_part-requires-clause-lawful : goal.put_part-requires-clause-lawful
@@ -70,3 +71,7 @@ returns-in-Ok-Queued-clause-decided g c =
     c.set_waiting.ensures.view c.put_part-in-Ok-Queued.ensures.view
     (subst (λ k. IsDecided c.args.kind taken k c.args.tag.now c.args.mode Queued put) number
     (subst (λ d. IsDecided c.args.kind taken c.number-number.result c.args.tag.now c.args.mode d put) c.in-Ok-Queued.field-0-is c.in-Ok-Queued.ensures.decided)))
+
+pub returns-in-Err-clause-room_first : goal.returns-in-Err-clause-room_first
+returns-in-Err-clause-room_first g c =
+    room-had g.T.PartTable.prepared c.decide.new.part c.number-number.result (g.B.Board.seat c.args.board.now).number c.args.tag.now c.args.mode c.number-number.ensures.value c.in-Err.refusal c.in-Err.ensures.room_first

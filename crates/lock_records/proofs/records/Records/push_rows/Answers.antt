@@ -7,7 +7,7 @@ use Rattle.lock_records.proofs.records.Records.push_rows.Goals as goal
 
 pub returns-clause-ok : goal.returns-clause-ok
 returns-clause-ok c =
-    let view : RecordView = record { holders = c.self.inside.holders.slots; queues = c.self.inside.queues.slots; begun = c.self.inside.begun } in
+    let view : RecordView = record { holders = c.self.inside.holders.slots; queues = c.self.inside.queues.slots; begun = c.self.inside.begun; prepared = c.self.inside.prepared.value } in
     rw (← c.self.view_is)
     (on_ok_weaker c.push_rows.result
     (appends-more c.args.rows.now.items c.push_holds.new.rows.items c.push_rows.new.rows.items (shown_below view.holders (length view.holders)) (awaited_below view.queues (length view.queues)) _

@@ -21,4 +21,4 @@ pub returns : goal.returns
 returns c =
     let holds : c.reserve.new.self.items ≡ c.self.inside.holds.items = c.reserve.ensures.items ∙ c.in_ok-holds.ensures.items ∙ c.as_slice.ensures.value in
     let waits : c.reserve-2.new.self.items ≡ c.self.inside.waits.items = c.reserve-2.ensures.items ∙ c.in_ok-waits.ensures.items ∙ c.as_slice-2.ensures.value in
-    record { cases = (λ i. record { holds = holds i; waits = waits i; begun = c.self.inside.begun }) ∙ c.self.view_is }
+    record { cases = (λ i. record { holds = holds i; waits = waits i; begun = c.self.inside.begun; prepared = c.self.inside.prepared }) ∙ c.self.view_is }
