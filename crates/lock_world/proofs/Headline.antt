@@ -64,7 +64,7 @@ found-any p q (y ∷ xs) x found is =
     ]
 
 -- What a request clashes with is in its way.
-clash-in_the_way : (content : Content) (s : ℕ) (t : Tag) (m : Mode) (clash : Clash) → ClashIs content s t m (Some clash) → IsInTheWay content s t m clash
+pub clash-in_the_way : (content : Content) (s : ℕ) (t : Tag) (m : Mode) (clash : Clash) → ClashIs content s t m (Some clash) → IsInTheWay content s t m clash
 clash-in_the_way content s t m clash is = at (first_waiter (content.waits t) m) refl is where
   waits : (waiter : Wait) → first_waiter (content.waits t) m ≡ Some waiter → IsInTheWay content s t m (record { session = waiter.session; mode = waiter.mode; how = Awaited })
   waits waiter found = record {
@@ -187,5 +187,4 @@ module _ (w : World) (safe : SafeWorld w) where
     within = stands-within;
     counters = safe.counters.shown;
     strong_is_counted = strong-done;
-    refused_by = λ s p taken before after t m clash at is. clash-in_the_way taken s t m clash is;
   }

@@ -17,6 +17,7 @@ pub mod Listing
 pub mod WaitLists
 pub mod ListWords
 pub mod Headline
+pub mod Refusals
 pub mod Closed
 pub mod Telling
 pub mod Unmissed

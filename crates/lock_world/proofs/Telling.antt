@@ -26,13 +26,13 @@ use Rattle.lock_world.proofs.SafeWorld.Runs.{Next-safe}
 abbrev pub AddsAtMostWhatIs : World → ℕ → World → Type 0
 AddsAtMostWhatIs w s v =
     (v.sessions.trace s ≡ w.sessions.trace s)
-    ⊎ (((entry : TraceEntry) × (v.sessions.trace s ≡ w.sessions.trace s ++ entry ∷ []) × TellsWhatIs w entry)
+    ⊎ (((entry : TraceEntry) × (v.sessions.trace s ≡ w.sessions.trace s ++ entry ∷ []) × TellsWhatIs w v entry)
     ⊎ (v.sessions.trace s ≡ []))
 
 keeps : (w : World) (s : ℕ) (u v : World) → v ≡ u → u.sessions.trace s ≡ w.sessions.trace s → AddsAtMostWhatIs w s v
 keeps w s u v e same = inl (ap (λ (z : World). z.sessions.trace s) e ∙ same)
 
-tells : (w : World) (s : ℕ) (u v : World) → v ≡ u → (entry : TraceEntry) → u.sessions.trace s ≡ w.sessions.trace s ++ entry ∷ [] → TellsWhatIs w entry
+tells : (w : World) (s : ℕ) (u v : World) → v ≡ u → (entry : TraceEntry) → u.sessions.trace s ≡ w.sessions.trace s ++ entry ∷ [] → TellsWhatIs w v entry
     → AddsAtMostWhatIs w s v
 tells w s u v e entry grown is = inr (inl (entry, ap (λ (z : World). z.sessions.trace s) e ∙ grown, is))
 
@@ -49,8 +49,10 @@ adds-taking w s (Strong i) v h = absurd h
 adds-taking w s (Sleep o) v h = absurd h
 
 adds-putting : (w : World) (s : ℕ) (put : Word) (done : Move) (v : World) → HappensPutting w s put done v → AddsAtMostWhatIs w s v
-adds-putting w s (Partition p) done v (inl h) = tells w s _ v h.2 (Episode p (content_taken (w.contents.now p) (w.contents.hand p)) h.0) (set_at-here w.sessions.trace s _ s refl) tt
-adds-putting w s (Partition p) done v (inr h) = tells w s _ v h.1 (Episode p (content_taken (w.contents.now p) (w.contents.hand p)) (w.contents.now p)) (set_at-here w.sessions.trace s _ s refl) tt
+adds-putting w s (Partition p) done v (inl h) = tells w s _ v h.2 (Episode p (content_taken (w.contents.now p) (w.contents.hand p)) h.0) (set_at-here w.sessions.trace s _ s refl)
+    (sym (ap (λ (z : World). z.contents.now p) h.2 ∙ set_at-here w.contents.now p h.0 p refl))
+adds-putting w s (Partition p) done v (inr h) = tells w s _ v h.1 (Episode p (content_taken (w.contents.now p) (w.contents.hand p)) (w.contents.now p)) (set_at-here w.sessions.trace s _ s refl)
+    (sym (ap (λ (z : World). z.contents.now p) h.1 ∙ set_at-here w.contents.now p (w.contents.now p) p refl))
 adds-putting w s (Fast o) done v h = keeps w s _ v h.1.1 refl
 adds-putting w s (Database o) done v h = absurd h
 adds-putting w s (Slot o i) done v h = absurd h
@@ -188,11 +190,11 @@ one-last [] x y e = cc (e)
 one-last (z ∷ xs) x y e = let rest : xs ++ x ∷ [] ≡ xs ++ y ∷ [] = cc (e) in one-last xs x y rest
 
 pub added-tells : (w v : World) (event : Event) (entry : TraceEntry) → Happens w event v
-    → v.sessions.trace event.session ≡ w.sessions.trace event.session ++ entry ∷ [] → TellsWhatIs w entry
+    → v.sessions.trace event.session ≡ w.sessions.trace event.session ++ entry ∷ [] → TellsWhatIs w v entry
 added-tells w v event entry h grown =
     elim (adds-step w event.session event.step v h) [
       | inl same ↦ absurd (no-longer (w.sessions.trace event.session) entry (sym same ∙ grown))
-      | inr (inl added) ↦ subst (TellsWhatIs w) (one-last (w.sessions.trace event.session) added.0 entry (sym added.1 ∙ grown)) added.2
+      | inr (inl added) ↦ subst (TellsWhatIs w v) (one-last (w.sessions.trace event.session) added.0 entry (sym added.1 ∙ grown)) added.2
       | inr (inr gone) ↦ absurd (not-none (w.sessions.trace event.session) entry [] (sym gone ∙ grown))
     ]
 
@@ -220,10 +222,11 @@ split-push (y ∷ xs) last (b ∷ before) x after e =
     ]
 
 -- The entry stood in the session's trace before the run, or tells what is in a World on the way, where the trace was just what
--- stands before the entry.
+-- stands before the entry, and in the next one.
 abbrev pub WasTold : World → List World → ℕ → List TraceEntry → TraceEntry → Type 0
 WasTold w worlds s before entry =
-    (place : ℕ) × (u : World) × (slice_get (w ∷ worlds) place ≡ Some u) × (u.sessions.trace s ≡ before) × TellsWhatIs u entry
+    (place : ℕ) × (u : World) × (next : World) × (slice_get (w ∷ worlds) place ≡ Some u) × (slice_get worlds place ≡ Some next)
+    × (u.sessions.trace s ≡ before) × TellsWhatIs u next entry
 
 pub told-or-stood :
     (w : World) (events : List Event) (worlds : List World) (s : ℕ) (before after : List TraceEntry) (entry : TraceEntry) → SafeWorld w → RunsThrough w events worlds
@@ -234,11 +237,11 @@ told-or-stood w [] (u ∷ worlds) s before after entry safe run stands = absurd 
 told-or-stood w (event ∷ events) [] s before after entry safe run stands = absurd run
 told-or-stood w (event ∷ events) (u ∷ worlds) s before after entry safe run stands =
     elim (told-or-stood u events worlds s before after entry (Next-safe w event u safe run.0) run.1 stands) [
-      | inr later ↦ inr (suc later.0, later.1, later.2, later.3, later.4)
+      | inr later ↦ inr (suc later.0, later.1, later.2, later.3, later.4, later.5, later.6)
       | inl stood ↦ elim (next-adds w event u s safe run.0) [
         | inl same ↦ inl (stood.0, sym same ∙ stood.1)
         | inr (inl added) ↦ elim (split-push (w.sessions.trace s) added.0 before entry stood.0 (sym added.1 ∙ stood.1)) [
-          | inl here ↦ inr (zero, w, refl, here.0, subst (TellsWhatIs w) here.1 added.2)
+          | inl here ↦ inr (zero, w, u, refl, refl, here.0, subst (TellsWhatIs w u) here.1 added.2)
           | inr old ↦ inl old
         ]
         | inr (inr gone) ↦ absurd (not-none before entry stood.0 (sym gone ∙ stood.1))

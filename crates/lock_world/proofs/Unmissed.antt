@@ -70,12 +70,14 @@ too-long : {A : Type 0} (xs ys : List A) (x : A) (zs : List A) → xs ≡ (xs ++
 too-long [] ys x zs e = not-none ys x zs e
 too-long (y ∷ xs) ys x zs e = let rest : xs ≡ (xs ++ ys) ++ x ∷ zs = cc (e) in too-long xs ys x zs rest
 
--- An entry that the trace has not yet, and has at the end of the run, tells what is in a World on the way, from which the run goes on.
+-- An entry that the trace has not yet, and has at the end of the run, tells what is in a World on the way, from which the run goes on,
+-- and in the one after it.
 record IsTold (w : World) (worlds : List World) (last : World) (s : ℕ) (before : List TraceEntry) (entry : TraceEntry) : Type 0 where
   at : World
   on : GoesOn w worlds last at
+  next : World
   trace : at.sessions.trace s ≡ before
-  tells : TellsWhatIs at entry
+  tells : TellsWhatIs at next entry
 
 told-next :
     (w : World) (events : List Event) (worlds : List World) (s : ℕ) (before between after : List TraceEntry) (entry : TraceEntry)
@@ -87,9 +89,10 @@ told-next w events worlds s before between after entry safe run is stands =
       | inl stood ↦ absurd (too-long before between entry stood.0 (sym is ∙ stood.1))
       | inr told ↦ record {
         at = told.1;
-        on = goes_on w events worlds safe run told.0 told.1 told.2;
-        trace = told.3;
-        tells = told.4;
+        on = goes_on w events worlds safe run told.0 told.1 told.3;
+        next = told.2;
+        trace = told.5;
+        tells = told.6;
       }
     ]
 

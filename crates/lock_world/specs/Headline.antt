@@ -1,4 +1,4 @@
-use Rattle.std.specs.Prelude.{◌≡◌, ◌≢◌, ℕ, ◌+◌, ◌<◌, Bool, true, false, ◌||◌, List, ◌∷◌, ◌++◌, Some}
+use Rattle.std.specs.Prelude.{◌≡◌, ◌≢◌, ℕ, ◌+◌, ◌<◌, Bool, true, false, ◌||◌, List, ◌∷◌, ◌++◌, slice_get, Some}
 use Rattle.modes_core.specs.declared.modes.Mode.{Mode}
 use Rattle.modes_core.specs.declared.tags.Tag.{Tag}
 use Rattle.modes_core.specs.declared.refusals.How.{How}
@@ -8,7 +8,7 @@ use Rattle.modes_core.specs.Tag.{partition_of, is_strong_on}
 use Rattle.lock_table.specs.declared.answering.Clash.{Clash}
 use Rattle.lock_table.specs.Content.{Content}
 use Rattle.lock_table.specs.Clash.{ClashIs}
-use Rattle.lock_table.specs.OwnWait.{is_pending}
+use Rattle.lock_table.specs.OwnWait.{is_for, is_pending}
 use Rattle.lock_table.specs.Queue.{waits_there, awaits_mode}
 use Rattle.lock_table.specs.Total.{how_many}
 use Rattle.lock_world.specs.SlotHolds.{IsHeldIn}
@@ -17,7 +17,7 @@ use Rattle.lock_world.specs.World.{World, TraceEntry, Took}
 use Rattle.lock_world.specs.Safe.{stages}
 use Rattle.lock_world.specs.SafeWorld.{slots_of}
 
--- The headline: what is promised of what there is between any two atomic steps, on one page.
+-- The headline, on one page: what is promised of what there is between any two atomic steps, and of what a refusal saw.
 
 -- whether a session stands with a mode on an object: a fast-path slot of its own shows it, or the content of the object's
 -- partition has it, from the grant on, whether the session has taken that over yet or not
@@ -49,7 +49,7 @@ pub record IsInOnePlace (w : World) (session : ℕ) (tag : Tag) (mode : Mode) : 
   pub there : StandsAt w session tag mode place
   pub no_other : (other : Place) → StandsAt w session tag mode other → other ≡ place
 
--- What a request is refused with.
+-- What a request is refused with, in the content that was taken for it.
 
 -- The session named is there with a mode in conflict: with its hold, or with its wait, which is no wait of the session that asks
 -- where that one has none.
@@ -62,7 +62,7 @@ pub record IsInTheWay (content : Content) (session : ℕ) (tag : Tag) (mode : Mo
   pub conflicting : conflict mode clash.mode ≡ true
   pub there : IsThereAs clash.how content session tag clash.session clash.mode
 
--- All of it.
+-- All of it, of one World.
 pub record Headline (w : World) : Type 0 where
   -- no two sessions stand with conflicting modes on one object
   pub no_two_conflict : NoTwoConflict w
@@ -88,8 +88,29 @@ pub record Headline (w : World) : Type 0 where
   pub strong_is_counted :
       (session : ℕ) (tag : Tag) (mode : Mode) → is_strong_on tag mode ≡ true → stands_with w session tag mode ≡ true
       → is_done w.numbers.limit (w.sessions.counted session) tag mode ≡ true
-  -- what a conditional request is refused with is in the content that its session took: another's hold or wait, in conflict
-  pub refused_by :
-      (session partition : ℕ) (taken : Content) (before after : List TraceEntry) (tag : Tag) (mode : Mode) (clash : Clash)
-      → w.sessions.trace session ≡ before ++ Took partition taken ∷ after → ClashIs taken session tag mode (Some clash)
-      → IsInTheWay taken session tag mode clash
+
+-- A refusal saw what it names.
+
+-- The session stands with the mode on the object, or awaits it.
+abbrev pub StandsOrAwaits : How → World → ℕ → Tag → Mode → Type 0
+StandsOrAwaits Held w session tag mode = stands_with w session tag mode ≡ true
+StandsOrAwaits Awaited w session tag mode = is_for (w.sessions.awaited session) tag mode ≡ true
+
+-- In this World the object's partition has the content that was taken. The session that is named, another than the one that asks,
+-- stands with the mode named on the object, or awaits it, and that mode conflicts with the one asked for.
+pub record NamesWhatIs (w : World) (session : ℕ) (tag : Tag) (mode : Mode) (taken : Content) (clash : Clash) : Type 0 where
+  pub content : w.contents.now (partition_of tag) ≡ taken
+  pub another : clash.session ≢ session
+  pub conflicting : conflict mode clash.mode ≡ true
+  pub there : StandsOrAwaits clash.how w clash.session tag clash.mode
+
+-- Of a run that goes through these Worlds, from its first one to `now`: a session took a content of the object's partition, in which it
+-- has no wait on the object, and a conditional request of its own is refused there with a clash. Then one of these Worlds, in which
+-- its trace was just what stands before that step, is as the refusal says.
+abbrev pub RefusalsSawWhatTheyName : List World → World → Type 0
+RefusalsSawWhatTheyName worlds now =
+    (session : ℕ) (before after : List TraceEntry) (tag : Tag) (mode : Mode) (taken : Content) (clash : Clash)
+    → now.sessions.trace session ≡ before ++ Took (partition_of tag) taken ∷ after
+    → waits_there (taken.waits tag) session ≡ false → ClashIs taken session tag mode (Some clash)
+    → (place : ℕ) × (w : World) × (slice_get worlds place ≡ Some w) × (w.sessions.trace session ≡ before)
+    × NamesWhatIs w session tag mode taken clash

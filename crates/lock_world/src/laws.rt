@@ -32,7 +32,7 @@ ghost use Rattle.lock_world.specs.Happens.{Happens, RunsThrough, Runs, last_of};
 ghost use Rattle.lock_world.specs.Telling.{TellsWhatIs};
 ghost use Rattle.lock_world.specs.Safe.{taken_by, taken_in, is_hand_of, IsOneMove};
 ghost use Rattle.lock_world.specs.SafeWorld.{SafeWorld, slots_of};
-ghost use Rattle.lock_world.specs.Headline.{stands_with, NoTwoConflict, Headline};
+ghost use Rattle.lock_world.specs.Headline.{stands_with, NoTwoConflict, Headline, RefusalsSawWhatTheyName};
 ghost use Rattle.lock_world.specs.Listing.{StandsThereOrInContent, TellsHold};
 ghost use Rattle.lock_world.specs.Account.{IsLeftAlone, account};
 ghost use Rattle.lock_world.specs.Closed.{empty_account};
@@ -66,11 +66,20 @@ pub fn one_world_comes()
 
 /// Every safe World has the headline: no two sessions stand with conflicting modes on one object, wherever they
 /// stand; each hold is in one place, one slot or the content of one partition, so as many sessions have a mode on
-/// an object as slots show it and the content has it together; each strong lock counter is how much is counted; and
-/// what a conditional request is refused with is in the content that its session took.
+/// an object as slots show it and the content has it together; and each strong lock counter is how much is counted.
 pub fn no_two_sessions_conflict()
     ensures no_two_conflict { (w : World) → SafeWorld w → NoTwoConflict w }
     ensures whole { (w : World) → SafeWorld w → Headline w }
+{}
+
+/// A refusal saw what it names: where the content that a session took has something in the way of a conditional
+/// request of its own, a World on the way of the run, the one in which it took that content, had it so. The session
+/// named, another one, stood there with the mode named on the object, or awaited it, in conflict with the mode asked
+/// for.
+pub fn a_refusal_saw_what_it_names()
+    ensures { (limit groups : ℕ) (events : List Event) (worlds : List World) → limit < 2 ^ 24 →
+        RunsThrough (opening limit groups) events worlds →
+        RefusalsSawWhatTheyName (opening limit groups ∷ worlds) (last_of (opening limit groups) worlds) }
 {}
 
 /// In a safe World no two sessions hold conflicting modes on one object, wherever the holds stand: both in
@@ -361,9 +370,10 @@ pub fn a_listing_misses_no_hold_that_stands()
         v.sessions.trace session ≡ w.sessions.trace session ++ Took p (w.contents.now p) ∷ [] }
 {}
 
-/// What an event adds to the trace of its session is true: a load that the trace tells shows the word as it was, and
-/// one who asks a session to cancel tells the wait word before that. So of each entry of a trace at the end of a run: a
-/// World on the way had in the trace just what stands before the entry, and there the entry was true.
+/// What an event adds to the trace of its session is true: a load that the trace tells shows the word as it was, one
+/// who asks a session to cancel tells the wait word before that, and the content that an episode put is the partition's
+/// after it. So of each entry of a trace at the end of a run: a World on the way had in the trace just what stands
+/// before the entry, and there, or in the next World, the entry was true.
 pub fn a_trace_tells_what_was_there()
     ensures loaded { (w v : World) (event : Event) (word : Word) (shown : ℕ) → Happens w event v →
         v.sessions.trace event.session ≡ w.sessions.trace event.session ++ Loaded word shown ∷ [] →
@@ -371,12 +381,15 @@ pub fn a_trace_tells_what_was_there()
     ensures asked { (w v : World) (event : Event) (other before : ℕ) → Happens w event v →
         v.sessions.trace event.session ≡ w.sessions.trace event.session ++ AskedToCancel other before ∷ [] →
         before ≡ w.words.wait other }
+    ensures put { (w v : World) (event : Event) (partition : ℕ) (taken put_back : Content) → Happens w event v →
+        v.sessions.trace event.session ≡ w.sessions.trace event.session ++ Episode partition taken put_back ∷ [] →
+        put_back ≡ v.contents.now partition }
     ensures on_the_way { (limit groups : ℕ) (events : List Event) (worlds : List World) (session : ℕ)
         (before after : List TraceEntry) (entry : TraceEntry) →
         limit < 2 ^ 24 → RunsThrough (opening limit groups) events worlds →
         (last_of (opening limit groups) worlds).sessions.trace session ≡ before ++ entry ∷ after →
-        (place : ℕ) × (u : World) × (slice_get (opening limit groups ∷ worlds) place ≡ Some u)
-        × (u.sessions.trace session ≡ before) × TellsWhatIs u entry }
+        (place : ℕ) × (u : World) × (next : World) × (slice_get (opening limit groups ∷ worlds) place ≡ Some u)
+        × (slice_get worlds place ≡ Some next) × (u.sessions.trace session ≡ before) × TellsWhatIs u next entry }
 {}
 
 /// Asking a session to cancel sets bit 2 of its wait word, whatever the word is: it is asked from then

@@ -1,11 +1,11 @@
-use Rattle.std.specs.Prelude.{List, Option}
+use Rattle.std.specs.Prelude.{List, ◌∷◌, Option}
 use Rattle.atomic_table.specs.Table.{State}
 use Rattle.lock_table.specs.declared.request.Request.{Request}
 use Rattle.lock_table.specs.Content.{Content}
 use Rattle.lock_world.specs.declared.events.Event.{Event}
 use Rattle.lock_world.specs.World.{World, opening}
 use Rattle.lock_world.specs.Happens.{Runs}
-use Rattle.lock_world.specs.Headline.{Headline}
+use Rattle.lock_world.specs.Headline.{Headline, RefusalsSawWhatTheyName}
 use Rattle.shared_rule.specs.declared.rule.Sizes.{Sizes}
 use Rattle.shared_rule.specs.declared.history.View.{View}
 use Rattle.shared_rule.specs.declared.kept.Kept.{Kept}
@@ -13,7 +13,7 @@ use Rattle.shared_rule.specs.Shown.{WordsAreShown}
 use Rattle.shared_rule.specs.Ruled.{ContentsAreHome, SeatsAreShown}
 
 -- The headline of the table: its words, its contents at home and the histories of all sessions show a World to which events have led
--- from the opening one, and which has it.
+-- from the opening one, and which has it. Whatever a conditional request was refused with was so in a World on the way.
 pub record ShowsHeadline {T : Type 0} (content : T → Content) (begun : T → Option Request) (sizes : Sizes)
     (state : State (Kept T) (View T)) : Type 0 where
   pub world : World
@@ -23,3 +23,4 @@ pub record ShowsHeadline {T : Type 0} (content : T → Content) (begun : T → O
   pub contents : ContentsAreHome content begun state.homes world.contents
   pub seats : SeatsAreShown content state.views world
   pub headline : Headline world
+  pub refusals : RefusalsSawWhatTheyName (opening sizes.sessions sizes.groups ∷ run.0) world

@@ -6,7 +6,7 @@ use Rattle.lock_world.specs.Telling.{TellsWhatIs}
 use Rattle.shared_rule.specs.declared.rule.Sizes.{Sizes}
 
 -- What an entry of a session's trace tells was so: events lead from the World before the first step to the World `now`, and
--- a World on the way, in which the session's trace was just what stands before the entry, was as it tells.
+-- a World on the way, in which the session's trace was just what stands before the entry, was as it tells, or the next one was.
 pub record WasSo (sizes : Sizes) (now : World) (session : ℕ) (before : List TraceEntry) (entry : TraceEntry) : Type 0 where
   pub events : List Event
   pub worlds : List World
@@ -15,5 +15,7 @@ pub record WasSo (sizes : Sizes) (now : World) (session : ℕ) (before : List Tr
   pub place : ℕ
   pub world : World
   pub on_the_way : slice_get (opening sizes.sessions sizes.groups ∷ worlds) place ≡ Some world
+  pub next : World
+  pub then : slice_get worlds place ≡ Some next
   pub trace : world.sessions.trace session ≡ before
-  pub tells : TellsWhatIs world entry
+  pub tells : TellsWhatIs world next entry

@@ -24,7 +24,8 @@ use lock_table::PartTable;
 
 /// A table that keeps the rule, as it does between any two steps of all threads, shows a World to which events have led
 /// from the opening one, and which has the headline: no two sessions stand with conflicting modes on one object, and
-/// what goes with that.
+/// what goes with that. Whoever a conditional request was refused for stood with the mode named on the object, or
+/// awaited it, in the World in which the session that asked took the content of the object's partition.
 pub fn the_table_shows_no_two_sessions_in_conflict<T: PartTable>()
     ensures { (sizes : Sizes) (state : State (Kept T) (View T)) → Ruled T.content T.begun sizes state
         → ShowsHeadline T.content T.begun sizes state }

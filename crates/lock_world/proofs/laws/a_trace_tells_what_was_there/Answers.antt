@@ -1,4 +1,4 @@
-use Rattle.lock_world.specs.World.{Loaded, AskedToCancel}
+use Rattle.lock_world.specs.World.{Loaded, AskedToCancel, Episode}
 use Rattle.lock_world.proofs.Telling.{added-tells, each-told}
 use Rattle.lock_world.proofs.SafeWorld.Opening.{opening-safe}
 use Rattle.lock_world.proofs.laws.a_trace_tells_what_was_there.Goals as goal
@@ -10,6 +10,10 @@ returns-clause-loaded c =
 pub returns-clause-asked : goal.returns-clause-asked
 returns-clause-asked c =
     λ w v event other before h grown. added-tells w v event (AskedToCancel other before) h grown
+
+pub returns-clause-put : goal.returns-clause-put
+returns-clause-put c =
+    λ w v event partition taken put_back h grown. added-tells w v event (Episode partition taken put_back) h grown
 
 pub returns-clause-on_the_way : goal.returns-clause-on_the_way
 returns-clause-on_the_way c =

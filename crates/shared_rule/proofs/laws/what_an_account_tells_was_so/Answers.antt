@@ -19,7 +19,9 @@ returns g c =
       ends = rule.run.2;
       place = was.0;
       world = was.1;
-      on_the_way = was.2;
-      trace = was.3;
-      tells = was.4;
+      on_the_way = was.3;
+      next = was.2;
+      then = was.4;
+      trace = was.5;
+      tells = was.6;
     }

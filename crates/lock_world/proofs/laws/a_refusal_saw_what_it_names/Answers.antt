@@ -1,0 +1,6 @@
+use Rattle.lock_world.proofs.Refusals.{refusals-saw}
+use Rattle.lock_world.proofs.SafeWorld.Opening.{opening-safe}
+use Rattle.lock_world.proofs.laws.a_refusal_saw_what_it_names.Goals as goal
+
+pub returns : goal.returns
+returns c = λ limit groups events worlds few run. refusals-saw limit groups events worlds (opening-safe limit groups few) run
