@@ -19,8 +19,8 @@ pub const MOST_THREADS: u32 = 64;
 /// How many holds a listing finds.
 const LISTED: u32 = 250;
 
-/// How often a thread looks whether all others have come, with so many microseconds between.
-const LOOKS: u32 = 10_000;
+/// How often a thread looks at most whether all others have come, or have ended, with so many microseconds between.
+const LOOKS: u32 = 100_000;
 
 const PAUSE: u64 = 100;
 
@@ -34,7 +34,7 @@ pub enum Case {
     OneObject,
     /// The same with an object of its own, all of one partition.
     OnePartition,
-    /// Lists what stands, with all partitions in hand.
+    /// Lists what stands, with all partitions in hand. The first thread has what is found, until all have ended.
     Listing,
     /// Takes a standard mutex, works, and releases it. It needs no session.
     Mutex,
@@ -133,8 +133,9 @@ impl Taken {
 #[derive(Drop)]
 struct Round {
     job: Job,
-    /// How many of them have come.
+    /// How many of them have come, and how many have ended.
     came: AtomicU64,
+    ended: AtomicU64,
     /// What those took that have ended.
     taken: Mutex<Taken>,
 }
@@ -144,6 +145,7 @@ impl Round {
         Round {
             job,
             came: AtomicU64::new(0),
+            ended: AtomicU64::new(0),
             taken: Mutex::new(Taken::none()),
         }
     }
@@ -153,19 +155,29 @@ impl Round {
         self.taken.into_inner()
     }
 
-    /// A thread waits until all have come, so that none works alone. It doesn't wait for ever for one that couldn't
-    /// be started.
+    /// A thread waits until all have come, so that none works alone.
     fn begin<R: Clock>(&self, rt: &R) {
-        self.came.fetch_add(1, Ordering::SeqCst);
+        self.wait_for_all(rt, &self.came);
+    }
+
+    /// A thread waits until all have ended, so that what it holds stands while others list it.
+    fn leave<R: Clock>(&self, rt: &R) {
+        self.wait_for_all(rt, &self.ended);
+    }
+
+    /// Counts one more thread here, and waits until all are counted. Nobody waits for ever for one that couldn't be
+    /// started.
+    fn wait_for_all<R: Clock>(&self, rt: &R, counted: &AtomicU64) {
+        counted.fetch_add(1, Ordering::SeqCst);
         for _ in 0..LOOKS {
-            if self.came.load(Ordering::SeqCst) >= u64::from(self.job.threads) {
+            if counted.load(Ordering::SeqCst) >= u64::from(self.job.threads) {
                 return;
             }
             sleep(rt, Duration::from_micros(PAUSE));
         }
     }
 
-    /// A thread has ended that began at this time and had used so much of its processor's.
+    /// A thread's steps are over; they began at this time, when it had used so much of its processor's.
     fn end<R: Wait + Clock + CpuClock>(&self, rt: &R, from: u64, used_before: u64, steps: Taken) {
         let own = Taken {
             from,
@@ -217,12 +229,15 @@ fn hold<B: Board<Part>, R: Wait + Clock>(
     (waited, is_granted)
 }
 
-/// Lists what stands. How long that took, and whether there was memory.
+/// Lists what stands. How long that took, and whether all was found that the first thread has.
 fn list<B: Board<Part>, R: Wait + Clock>(rt: &R, session: &mut OwnSession<Part, B>) -> (u64, bool)
     ensures seat { KeepsSeat B.seat session.old session.new }
 {
     let from = now(rt);
-    let is_listed = session.list(rt).is_ok();
+    let is_listed = match session.list(rt) {
+        Ok(found) => found.table.len() >= LISTED as usize,
+        Err(_) => false,
+    };
     (now(rt).saturating_sub(from), is_listed)
 }
 
@@ -294,6 +309,7 @@ fn run_thread<B: Board<Part>, R: Wait + Clock + CpuClock>(
     let (from, used_before) = (now(rt), used(rt));
     let steps = make_steps(rt, session, job.object(thread), job);
     round.end(rt, from, used_before, steps);
+    round.leave(rt);
     session.commit(rt);
 }
 
