@@ -1,6 +1,6 @@
 use Rattle.std.proofs.Common.{◌≡◌, ◌≢◌, ◌⊎◌, ℕ, zero, suc, true, ◌<◌, ◌≤◌, List, [], ◌∷◌, ◌++◌, length, Option, Some, refl, sym, ap, ◌∙◌, subst, inl, inr, arith}
 use Rattle.std.specs.Prelude.{slice_get, slice_set}
-use Rattle.std.proofs.lemmas.Bool.{cases_eq}
+use Rattle.std.proofs.lemmas.Bool.{cases_eq, both_ways}
 use mathlib.Core.Option.{some}
 use mathlib.Core.Option as maybe
 use lib.ListN.{get_elem?}
@@ -14,9 +14,9 @@ use Rattle.lock_world.specs.World.{World, Words, Numbers, MakesSteps, opening}
 use Rattle.lock_world.specs.SafeWorld.{SafeWorld}
 use Rattle.lock_world.specs.SlotHolds.{most_groups}
 use Rattle.lock_world.specs.Account.{Account, account}
-use Rattle.lock_world.specs.Happens.{HappensStep}
+use Rattle.lock_world.specs.Happens.{Happens, HappensStep}
 use Rattle.lock_world.specs.Happens.Counters.{most_counted}
-use Rattle.lock_world.proofs.SafeWorld.Runs.{event-safe, Runs-push}
+use Rattle.lock_world.proofs.SafeWorld.Runs.{event-safe}
 use Rattle.lock_world.proofs.Others.Events.{event-others}
 use Rattle.shared_rule.specs.declared.history.Mark.{Mark}
 use Rattle.shared_rule.specs.declared.history.History.{History}
@@ -27,9 +27,15 @@ use Rattle.shared_rule.specs.Shown.{WordsAreShown}
 use Rattle.shared_rule.specs.History.{noted, told, noting_first, noting, keeper}
 use Rattle.shared_rule.proofs.Standing.{there-within, there-one}
 use Rattle.shared_rule.proofs.ClosedCounts.{opener-set}
-use Rattle.shared_rule.specs.Ruled.{OpenerHasClosed, NoneBeyondSlots, ContentsAreHome, ListsAreHome, IsClosed, HistoryIsShown, IsBehind, SeatsAreShown, Ruled}
+use Rattle.shared_rule.specs.Tells.{Tells, AreTold, steps_of}
+use Rattle.shared_rule.specs.Ruled.{OpenerHasClosed, NoneBeyondSlots, ContentsAreHome, ListsAreHome, IsClosed, HistoryIsShown, IsBehind, SeatsAreShown, StandsClosed, HasSeat, HasOpener, StepsAreTold, HasClosedSo, Ruled}
+use Rattle.shared_rule.proofs.Told.{leads-push, another's, told-push, told-beside, steps-beside, set-back, set-among, set-seat, seat-here, set-opener, opener-here, closed_so-push}
 
 -- A step of the session that goes on by itself at a seat, noted there, keeps the rule.
+
+-- one thing stands there
+some-get : {A : Type 0} {x y : A} → ◌≡◌ {A = Option A} (Some x) (Some y) → x ≡ y
+some-get {A} {x} {y} same = cc (same)
 
 -- what is above a number is above 0
 pub after-none : (i j : ℕ) → i < j → 0 < j
@@ -173,6 +179,76 @@ module _ {T : Type 0} (content : T → Content) (w v : World) (views : List (Vie
         left n (λ e. let eq : ◌≡◌ {A = ℕ} n x.number = e in omega (arith, old_issued, young, eq)) ∙ seats.not_issued n old_issued;
   }
 
+  -- Whoever stands in another place is another session,
+  else-another : (y : History T) (place : ℕ) → place ≢ 0 → slice_get view.sessions place ≡ Some y → y.number ≢ x.number
+  else-another y place later get e = later (sym (seats.history id place view y at get).place ∙ ap seats.place_in e ∙ own.place)
+
+  -- and so is whoever has closed.
+  closed-another : (y : History T) → StandsClosed views y → y.number ≢ x.number
+  closed-another y stands e =
+      both_ways (w.numbers.live x.number) (ap w.numbers.live (sym e) ∙ (seats.closed stands.seat stands.place stands.view y stands.there stands.stands).1) own.live
+
+  abbrev after_it : List (View T)
+  after_it = slice_set views id (noting view mark)
+
+  closed-stood : (y : History T) → StandsClosed after_it y → StandsClosed views y
+  closed-stood y = set-among (λ (z : View T). z.closed) views id view at (noting view mark) y (λ place get. (place, get))
+
+  module _ (events : List Event) (step : Step) (tells : Tells x.number mark step) (told : StepsAreTold views w.numbers events) where
+    abbrev event : Event
+    event = record { session = x.number; step = step }
+
+    beside : (y : History T) → y.number ≢ x.number → AreTold y.number y.marks (steps_of y.number events) → AreTold y.number y.marks (steps_of y.number (events ++ event ∷ []))
+    beside y other = told-beside y.number y.marks events event (another's y.number event other)
+
+    own-told : AreTold x.number (mark ∷ x.marks) (steps_of x.number (events ++ event ∷ []))
+    own-told =
+        told-push x.number x.marks events mark step tells
+        (told.at_seat x (record { seat = id; place = 0; view = view; there = at; stands = ap (λ sessions. slice_get sessions 0) is }))
+
+    here-told : (y : History T) (j : ℕ) → slice_get (noting view mark).sessions j ≡ Some y → AreTold y.number y.marks (steps_of y.number (events ++ event ∷ []))
+    here-told y j get =
+        elim (noting-get x others mark j y (sym (ap (λ sessions. slice_get sessions j) sessions') ∙ get)) [
+          | inl one ↦ subst (λ (z : History T). AreTold z.number z.marks (steps_of z.number (events ++ event ∷ []))) (sym one.1) own-told
+          | inr other ↦
+              let stands : slice_get view.sessions j ≡ Some y = ap (λ sessions. slice_get sessions j) is ∙ other.1 in
+              beside y (else-another y j other.0 stands) (told.at_seat y (record { seat = id; place = j; view = view; there = at; stands = stands }))
+        ]
+
+    seat-still : (number place : ℕ) (y : History T) → slice_get view.sessions place ≡ Some y → y.number ≡ number → HasSeat after_it number
+    seat-still number zero y get same =
+        let first : x ≡ y = some-get (sym (ap (λ sessions. slice_get sessions 0) is) ∙ get) in
+        seat-here (λ (z : View T). z.sessions) views id view at (noting view mark) number 0 (record { number = x.number; marks = mark ∷ x.marks })
+        (ap (λ sessions. slice_get sessions 0) sessions') (ap (λ (h : History T). h.number) first ∙ same)
+    seat-still number (suc place) y get same =
+        seat-here (λ (z : View T). z.sessions) views id view at (noting view mark) number (suc place) y
+        (ap (λ sessions. slice_get sessions (suc place)) sessions' ∙ sym (ap (λ sessions. slice_get sessions (suc place)) is) ∙ get) same
+
+    pub steps-noted : StepsAreTold (slice_set views id (noting view mark)) v.numbers (events ++ record { session = x.number; step = step } ∷ [])
+    steps-noted = record {
+      opener = subst (λ (n : Numbers). HasOpener after_it n.issued) (sym numbers)
+          (set-opener (λ (z : View T). z.sessions) views id view at (noting view mark) w.numbers.issued
+          (λ says. opener-here (λ (z : View T). z.sessions) views id view at (noting view mark) w.numbers.issued says) (λ has. has) told.opener);
+      live = λ number alive.
+          set-seat (λ (z : View T). z.sessions) views id view at (noting view mark) number (λ place y get same. seat-still number place y get same)
+          (λ has. has) (told.live number (sym (ap (λ (n : Numbers). n.live number) numbers) ∙ alive));
+      at_seat = λ y stands. elim (set-back (λ (z : View T). z.sessions) views id view at (noting view mark) y stands) [
+        | inl here ↦ here-told y here.0 here.1
+        | inr elsewhere ↦
+            let old = seats.history elsewhere.0.seat elsewhere.0.place elsewhere.0.view y elsewhere.0.there elsewhere.0.stands in
+            beside y (λ e. elsewhere.1 (sym old.seat ∙ ap seats.seat_of e ∙ own.seat)) (told.at_seat y elsewhere.0)
+      ];
+      closed = λ y stands. let stood = closed-stood y stands in beside y (closed-another y stood) (told.closed y stood);
+      none = λ number later.
+          let not_yet : w.numbers.issued ≤ number = subst (λ (n : Numbers). n.issued ≤ number) numbers later in
+          let young = issued x.number own.live in
+          steps-beside number events event (another's number event (λ e. let eq : ◌≡◌ {A = ℕ} number x.number = e in omega (arith, not_yet, young, eq))) ∙ told.none number not_yet;
+    }
+
+  pub closed_so-noted : (first : World) (events : List Event) (event : Event) → Happens w event v → ((y : History T) → StandsClosed views y → HasClosedSo content first w events y)
+      → (y : History T) → StandsClosed (slice_set views id (noting view mark)) y → HasClosedSo content first v (events ++ event ∷ []) y
+  closed_so-noted first events event happens so y stands = closed_so-push content first w v events event y happens (so y (closed-stood y stands))
+
 -- What the session that goes on by itself at a seat knows of the World, and what holds there.
 pub record Stepper (sizes : Sizes) (w : World) (number : ℕ) (a : Account) : Type 0 where
   pub safe : SafeWorld w
@@ -191,6 +267,7 @@ pub record IsNoted {T : Type 0} (content : T → Content) (groups : ℕ) (w : Wo
   pub step : Step
   pub after : World
   pub happens : HappensStep w number step after
+  pub tells : Tells number mark step
   pub numbers : after.numbers ≡ w.numbers
   pub account : noted content number a mark ≡ account after number
   pub words : after.words ≡ next
@@ -227,7 +304,11 @@ module _ {T : Type 0} (content : T → Content) (begun : T → Option Request) (
       record {
         world = noted.after;
         events = r.events ++ event ∷ [];
-        run = Runs-push (opening sizes.sessions sizes.groups) r.events event r.world noted.after r.run (inl noted.happens);
+        run = leads-push (opening sizes.sessions sizes.groups) r.events event r.world noted.after r.run noted.happens;
+        steps = steps-noted content r.world noted.after s.views id view x others mark at is noted.numbers left noted.account
+            r.safe.but_slots.table.carriers.numbers.live_is_issued r.seats r.events noted.step noted.tells r.steps;
+        closed_so = closed_so-noted content r.world noted.after s.views id view x others mark at is noted.numbers left noted.account
+            r.safe.but_slots.table.carriers.numbers.live_is_issued r.seats (opening sizes.sessions sizes.groups) r.events event noted.happens r.closed_so;
         safe = event-safe r.world event noted.after r.safe noted.happens;
         is_limit = ap (λ (n : Numbers). n.limit) noted.numbers ∙ r.is_limit;
         are_groups = ap (λ (n : Numbers). n.groups) noted.numbers ∙ r.are_groups;

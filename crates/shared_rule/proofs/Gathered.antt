@@ -96,7 +96,7 @@ module _ {T : Type 0} (content : T → Content) where
       ]
 
   -- No number is at two places, where places tell who is there.
-  not-among : (sessions : List (History T)) (k : ℕ) → ((j : ℕ) (h : History T) → slice_get sessions j ≡ Some h → h.number ≢ k) → IsNone k (gathered_in content sessions)
+  pub not-among : (sessions : List (History T)) (k : ℕ) → ((j : ℕ) (h : History T) → slice_get sessions j ≡ Some h → h.number ≢ k) → IsNone k (gathered_in content sessions)
   not-among [] k each = tt
   not-among (h ∷ hs) k each = (each 0 h refl, not-among hs k (λ j g get. each (suc j) g get))
 
@@ -141,7 +141,7 @@ without-fewer limit test (one ∷ others) distinct pass =
     omega (arith, rest, less)
 
 -- As many distinct ones as pass are all that do.
-none-else : (limit : ℕ) (test : ℕ → Bool) (gathered : List Gathered) → AreDistinct limit gathered → AllPass test gathered → how_many limit test ≡ length gathered
+pub none-else : (limit : ℕ) (test : ℕ → Bool) (gathered : List Gathered) → AreDistinct limit gathered → AllPass test gathered → how_many limit test ≡ length gathered
     → (k : ℕ) → k < limit → test k ≡ true → IsNone k gathered → ⊥
 none-else limit test gathered distinct pass all k below passes none =
     let fewer = without-fewer limit test gathered distinct pass in

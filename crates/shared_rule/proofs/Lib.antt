@@ -1,10 +1,14 @@
 mod Shown
 pub mod Standing
 pub mod ClosedCounts
+pub mod Told
 pub mod Frame
 pub mod Views
 pub mod Meetings
+pub mod SeatSteps
 pub mod Gathered
+pub mod GivenOut
+pub mod NoLie
 pub mod Opening
 pub mod Events
 pub mod Sides

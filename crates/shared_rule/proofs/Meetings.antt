@@ -15,8 +15,8 @@ use Rattle.shared_rule.specs.History.{keeper, lone, spent_view}
 use Rattle.shared_rule.specs.Ruled.{IsClosed, HistoryIsShown, IsBehind, SeatsAreShown}
 use Rattle.shared_rule.specs.Boards.{first_marks}
 use Rattle.shared_rule.specs.Seats.{all_but_last, last_of, handed_back}
-use Rattle.shared_rule.proofs.Standing.{there-within, there-one}
-use Rattle.shared_rule.proofs.Views.{there-snoc, one-get, still-shown, with_numbers, history-alone, nobody-behind}
+use Rattle.shared_rule.proofs.Standing.{there-within, there-one, there-snoc}
+use Rattle.shared_rule.proofs.Views.{one-get, still-shown, with_numbers, history-alone, nobody-behind}
 
 -- Sessions that meet at one seat, each behind those that came before it, and part again, the last one first: the views show what
 -- the World after it has.

@@ -11,7 +11,6 @@ use Rattle.lock_world.specs.SlotHolds.{most_groups}
 use Rattle.lock_world.specs.World.{opening}
 use Rattle.lock_table.specs.Total.{total}
 use Rattle.lock_world.proofs.SafeWorld.Opening.{opening-safe}
-use Rattle.lock_world.proofs.SafeWorld.Runs.{Runs-none}
 use Rattle.shared_rule.specs.declared.history.History.{History}
 use Rattle.shared_rule.specs.declared.rule.Sizes.{Sizes}
 use Rattle.shared_rule.specs.declared.history.View.{View}
@@ -21,7 +20,7 @@ use Rattle.shared_rule.specs.Layout.{content_slot_of, list_slot_of}
 use Rattle.shared_rule.specs.Shown.{WordsAreShown}
 use Rattle.shared_rule.specs.History.{opening_view}
 use Rattle.shared_rule.specs.Opening.{IsNew, AreNew}
-use Rattle.shared_rule.specs.Ruled.{ClosedAreCounted, SeatsAreShown, Ruled}
+use Rattle.shared_rule.specs.Ruled.{ClosedAreCounted, SeatsAreShown, StandsAmong, Ruled}
 
 -- The table before the first step meets the rule.
 
@@ -55,6 +54,13 @@ module _ {T : Type 0} (content : T → Content) (begun : T → Option Request) (
     not_issued = λ number later. refl;
   }
 
+  -- and nobody stands there
+  nobody-there : {P : Type 0} (these : View T → List (History T)) → ((place : ℕ) → slice_get (these opening_view) place ≡ None) → (h : History T)
+      → StandsAmong these (opening_view ∷ []) h → P
+  nobody-there these none h stands =
+      let never : ◌≡◌ {A = Option (History T)} None (Some h) =
+      sym (none stands.place) ∙ ap (λ (z : View T). slice_get (these z) stands.place) (only-one stands.seat stands.view stands.there).1 ∙ stands.stands in absurd (cc (never))
+
   -- nobody was given out, and nobody has closed
   none-closed : ClosedAreCounted {T = T} (opening sizes.sessions sizes.groups).numbers []
   unfolding total
@@ -65,7 +71,15 @@ module _ {T : Type 0} (content : T → Content) (begun : T → Option Request) (
   opening-ruled few some_groups few_groups words shown slots new = record {
     world = opening sizes.sessions sizes.groups;
     events = [];
-    run = Runs-none (opening sizes.sessions sizes.groups);
+    run = refl;
+    steps = record {
+      opener = record { seat = 0; view = opening_view; there = refl; next = refl };
+      live = λ number alive. absurd (cc (alive));
+      at_seat = λ h stands. nobody-there (λ (z : View T). z.sessions) (λ _. refl) h stands;
+      closed = λ h stands. nobody-there (λ (z : View T). z.closed) (λ _. refl) h stands;
+      none = λ number later. refl;
+    };
+    closed_so = λ h stands. nobody-there (λ (z : View T). z.closed) (λ _. refl) h stands;
     safe = opening-safe sizes.sessions sizes.groups (omega (arith, few));
     is_limit = refl;
     are_groups = refl;

@@ -2,7 +2,7 @@ use Rattle.std.proofs.Common.{◌≡◌, ◌≢◌, ◌⊎◌, ℕ, zero, suc, t
 use Rattle.std.specs.Prelude.{slice_get, slice_set}
 use Rattle.std.proofs.lemmas.Bool.{cases_eq}
 use Rattle.std.proofs.lemmas.List.{set_comm}
-use mathlib.Core.Option.{some, some-injective, some-ne-none}
+use mathlib.Core.Option.{some}
 use lib.ListN.{get_elem?}
 use Rattle.atomic_table.specs.Table.{State}
 use Rattle.atomic_table.proofs.Lists.{at_set, set_here, set_else, at_longer}
@@ -19,32 +19,22 @@ use Rattle.lock_world.specs.Account.{Account, fast_account, list_account, accoun
 use Rattle.lock_world.specs.Happens.{Happens}
 use Rattle.lock_world.specs.Happens.Seats.{MayClose, after_issuing, after_closing}
 use Rattle.lock_world.proofs.Remembered.{groups-stay}
-use Rattle.lock_world.proofs.SafeWorld.Runs.{Runs-push}
 use Rattle.shared_rule.specs.declared.history.Mark.{Mark}
 use Rattle.shared_rule.specs.declared.history.History.{History}
 use Rattle.shared_rule.specs.declared.rule.Sizes.{Sizes}
 use Rattle.shared_rule.specs.declared.history.View.{View}
 use Rattle.shared_rule.specs.declared.kept.Kept.{Kept}
-use Rattle.shared_rule.specs.History.{blank_account, keeper, lone, spent_view}
-use Rattle.shared_rule.specs.Ruled.{IsClosed, OpenerHasClosed, HistoryIsShown, IsBehind, SeatsAreShown, Ruled}
-use Rattle.shared_rule.proofs.Standing.{there-within, there-one}
+use Rattle.shared_rule.specs.History.{blank_account, told, keeper, lone, spent_view}
+use Rattle.shared_rule.specs.Tells.{is_of_seats}
+use Rattle.shared_rule.specs.Ruled.{IsClosed, OpenerHasClosed, HistoryIsShown, IsBehind, SeatsAreShown, StandsClosed, StepsAreTold, HasClosedSo, Ruled}
+use Rattle.shared_rule.proofs.Told.{leads-push, told-seats, closed_so-push}
+use Rattle.shared_rule.proofs.Standing.{there-within, there-one, there-snoc}
 
 -- Views that are cut in two and joined show what the World after it has.
 
 -- the World with other numbers
 abbrev pub with_numbers : World → Numbers → World
 with_numbers w numbers = record { words = w.words; contents = w.contents; sessions = w.sessions; numbers = numbers }
-
--- What stands in a list with one more behind.
-pub there-snoc : {A : Type 0} (xs : List A) (a b : A) (j : ℕ) → get_elem? (xs ++ a ∷ []) j ≡ some b → (get_elem? xs j ≡ some b) ⊎ ((j ≡ length xs) × (a ≡ b))
-there-snoc [] a b zero e = inr (refl, some-injective a b e)
-there-snoc [] a b (suc j) e = absurd (some-ne-none b (sym e))
-there-snoc (x ∷ xs) a b zero e = inl e
-there-snoc (x ∷ xs) a b (suc j) e =
-    elim (there-snoc xs a b j e) [
-      | inl there ↦ inl there
-      | inr last ↦ inr (ap suc last.0, last.1)
-    ]
 
 -- An option that is nothing in particular is none.
 none-if : {A : Type 0} (o : Option A) → ((a : A) → o ≡ Some a → ⊥) → o ≡ None
@@ -384,11 +374,15 @@ module _ {T : Type 0} (content : T → Content) (begun : T → Option Request) (
   pub ruled-numbered :
       (event : Event) (numbers : Numbers) (views : List (View T)) → Happens r.world event (with_numbers r.world numbers) → numbers.limit ≡ r.world.numbers.limit
       → SafeWorld (with_numbers r.world numbers) → SeatsAreShown content views (with_numbers r.world numbers) → OpenerHasClosed views numbers
+      → is_of_seats event.step ≡ true → StepsAreTold views numbers r.events → ((h : History T) → StandsClosed views h → StandsClosed s.views h)
       → Ruled content begun sizes (record { words = s.words; homes = s.homes; views = views })
-  ruled-numbered event numbers views happens same safe seats closed = record {
+  ruled-numbered event numbers views happens same safe seats closed of_seats told stood = record {
     world = with_numbers r.world numbers;
     events = r.events ++ event ∷ [];
-    run = Runs-push (opening sizes.sessions sizes.groups) r.events event r.world (with_numbers r.world numbers) r.run (inl happens);
+    run = leads-push (opening sizes.sessions sizes.groups) r.events event r.world (with_numbers r.world numbers) r.run happens;
+    steps = told-seats views numbers r.events event of_seats told;
+    closed_so = λ h stands.
+        closed_so-push content (opening sizes.sessions sizes.groups) r.world (with_numbers r.world numbers) r.events event h happens (r.closed_so h (stood h stands));
     safe = safe;
     is_limit = same ∙ r.is_limit;
     are_groups = groups-stay r.world (with_numbers r.world numbers) event happens ∙ r.are_groups;
@@ -406,12 +400,20 @@ module _ {T : Type 0} (content : T → Content) (begun : T → Option Request) (
 
   -- and in the World in which a session has closed.
   pub ruled-closed :
-      (k : ℕ) (views : List (View T)) → MayClose r.world k → SafeWorld (after_closing r.world k) → SeatsAreShown content views (after_closing r.world k)
-      → OpenerHasClosed views (after_closing r.world k).numbers → Ruled content begun sizes (record { words = s.words; homes = s.homes; views = views })
-  ruled-closed k views may safe seats closed = record {
+      (k : ℕ) (marks : List (Mark T)) (views : List (View T)) → MayClose r.world k → SafeWorld (after_closing r.world k) → SeatsAreShown content views (after_closing r.world k)
+      → OpenerHasClosed views (after_closing r.world k).numbers → told content k marks ≡ account r.world k
+      → StepsAreTold views (after_closing r.world k).numbers r.events
+      → ((h : History T) → StandsClosed views h → StandsClosed s.views h ⊎ (h ≡ record { number = k; marks = marks }))
+      → Ruled content begun sizes (record { words = s.words; homes = s.homes; views = views })
+  ruled-closed k marks views may safe seats closed shown its_steps stood = record {
     world = after_closing r.world k;
-    events = r.events ++ record { session = k; step = JoinSeat None } ∷ [];
-    run = Runs-push (opening sizes.sessions sizes.groups) r.events (record { session = k; step = JoinSeat None }) r.world (after_closing r.world k) r.run (inl (may, refl));
+    events = r.events ++ event ∷ [];
+    run = leads-push first r.events event r.world (after_closing r.world k) r.run (may, refl);
+    steps = told-seats views (after_closing r.world k).numbers r.events event refl its_steps;
+    closed_so = λ h stands. elim (stood h stands) [
+      | inl old ↦ closed_so-push content first r.world (after_closing r.world k) r.events event h (may, refl) (r.closed_so h old)
+      | inr same ↦ subst (HasClosedSo content first (after_closing r.world k) (r.events ++ event ∷ [])) (sym same) now
+    ];
     safe = safe;
     is_limit = r.is_limit;
     are_groups = r.are_groups;
@@ -425,4 +427,20 @@ module _ {T : Type 0} (content : T → Content) (begun : T → Option Request) (
     lists = r.lists;
     seats = seats;
     closed = closed;
-  }
+  } where
+    first : World
+    first = opening sizes.sessions sizes.groups
+
+    event : Event
+    event = record { session = k; step = JoinSeat None }
+
+    now : HasClosedSo content first (after_closing r.world k) (r.events ++ event ∷ []) (record { number = k; marks = marks })
+    now = record {
+      before = r.events;
+      after = [];
+      all = refl;
+      world = r.world;
+      run = r.run;
+      rest = (after_closing r.world k, (may, refl), refl);
+      account = shown;
+    }

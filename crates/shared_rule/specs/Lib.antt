@@ -2,6 +2,7 @@ pub mod Layout
 pub mod Shown
 pub mod Marks
 pub mod History
+pub mod Tells
 pub mod Ruled
 pub mod WasSo
 pub mod Slots

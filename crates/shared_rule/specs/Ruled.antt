@@ -1,4 +1,4 @@
-use Rattle.std.specs.Prelude.{◌≡◌, ◌≢◌, ℕ, ◌+◌, ◌*◌, ◌<◌, ◌≤◌, ◌==◌, true, false, List, length, slice_get, count_by, Option, Some, None}
+use Rattle.std.specs.Prelude.{◌≡◌, ◌≢◌, ℕ, ◌+◌, ◌*◌, ◌<◌, ◌≤◌, ◌==◌, true, false, List, [], ◌∷◌, ◌++◌, length, slice_get, count_by, Option, Some, None}
 use mathlib.Core.Option.{some}
 use mathlib.Core.Option as maybe
 use lib.ListN.{get_elem?}
@@ -8,13 +8,13 @@ use Rattle.lw_word.specs.declared.wait_lists.LwWaiter.{LwWaiter}
 use Rattle.lock_table.specs.declared.request.Request.{Request}
 use Rattle.lock_table.specs.Content.{Content}
 use Rattle.lock_world.specs.declared.events.Event.{Event}
+use Rattle.lock_world.specs.declared.events.Step.TheVariants.{JoinSeat}
 use Rattle.lock_world.specs.World.{World, Words, Contents, Hand, Numbers, opening}
 use Rattle.lock_world.specs.SafeWorld.{SafeWorld}
 use Rattle.lock_table.specs.Total.{how_many}
 use Rattle.lock_world.specs.SlotHolds.{group_size, most_groups}
 use Rattle.lock_world.specs.Account.{account}
 use Rattle.lock_world.specs.Happens.Counters.{most_counted}
-use Rattle.lock_world.specs.Happens.{Runs}
 use Rattle.shared_rule.specs.declared.rule.Sizes.{Sizes}
 use Rattle.shared_rule.specs.declared.history.History.{History}
 use Rattle.shared_rule.specs.declared.history.View.{View}
@@ -23,6 +23,7 @@ use Rattle.shared_rule.specs.declared.kept.Kept.TheVariants as kept
 use Rattle.shared_rule.specs.Layout.{content_slot_of, list_slot_of, lock_count}
 use Rattle.shared_rule.specs.Shown.{WordsAreShown}
 use Rattle.shared_rule.specs.History.{blank_account, told, keeper}
+use Rattle.shared_rule.specs.Tells.{AreTold, Leads, steps_of}
 
 -- The rule of the table: there is a World which its words, its contents at home and the histories of all sessions show,
 -- to which a list of events leads from the World before the first step, and which is safe.
@@ -80,8 +81,72 @@ module _ {T : Type 0} where
       (seat : ℕ) (view : View T) (number : ℕ) → get_elem? views seat ≡ some view → view.next ≡ Some number
       → ClosedAreCounted numbers view.closed
 
+-- Where histories stand in the views of the seats: among these of a seat's view.
+module _ {T : Type 0} where
+  pub record StandsAmong (these : View T → List (History T)) (views : List (View T)) (history : History T) : Type 0 where
+    pub seat : ℕ
+    pub place : ℕ
+    pub view : View T
+    pub there : get_elem? views seat ≡ some view
+    pub stands : slice_get (these view) place ≡ Some history
+
+  -- among the sessions that a seat is for, and among those that have closed
+  abbrev pub StandsAtSeat : List (View T) → History T → Type 0
+  StandsAtSeat views history = StandsAmong (λ view. view.sessions) views history
+
+  abbrev pub StandsClosed : List (View T) → History T → Type 0
+  StandsClosed views history = StandsAmong (λ view. view.closed) views history
+
+  -- The session of this number has a history at a seat.
+  pub record HasSeat (views : List (View T)) (number : ℕ) : Type 0 where
+    pub history : History T
+    pub number_ : history.number ≡ number
+    pub stands : StandsAtSeat views history
+
+  -- The session of this number has closed, and has its history still.
+  pub record HasClosedHistory (views : List (View T)) (number : ℕ) : Type 0 where
+    pub history : History T
+    pub number_ : history.number ≡ number
+    pub stands : StandsClosed views history
+
+  -- Nobody but the session of this number has made a step, of those that seats are for and those that have closed.
+  pub record NobodyElse (views : List (View T)) (number : ℕ) : Type 0 where
+    pub at_seat : (history : History T) → StandsAtSeat views history → history.number ≢ number → history.marks ≡ []
+    pub closed : (history : History T) → StandsClosed views history → history.number ≢ number → history.marks ≡ []
+
+  -- One seat is the opener's, which knows the next number.
+  pub record HasOpener (views : List (View T)) (issued : ℕ) : Type 0 where
+    pub seat : ℕ
+    pub view : View T
+    pub there : get_elem? views seat ≡ some view
+    pub next : view.next ≡ Some issued
+
+  -- Of the session of each number, those that seats are for and those that have closed, the steps among the events are those that its
+  -- history tells, and no other; a number not given out has made none. Whoever is live has its seat, and the opener has its own.
+  pub record StepsAreTold (views : List (View T)) (numbers : Numbers) (events : List Event) : Type 0 where
+    pub opener : HasOpener views numbers.issued
+    pub live : (number : ℕ) → numbers.live number ≡ true → HasSeat views number
+    pub at_seat :
+        (history : History T) → StandsAtSeat views history
+        → AreTold history.number history.marks (steps_of history.number events)
+    pub closed :
+        (history : History T) → StandsClosed views history
+        → AreTold history.number history.marks (steps_of history.number events)
+    pub none : (number : ℕ) → numbers.issued ≤ number → steps_of number events ≡ []
+
 -- What the views of the seats show.
 module _ {T : Type 0} (content : T → Content) where
+  -- What the history of a closed session tells was so as it closed: the events before that lead to a World with just its account, and
+  -- those from then on to the World now.
+  pub record HasClosedSo (first now : World) (events : List Event) (history : History T) : Type 0 where
+    pub before : List Event
+    pub after : List Event
+    pub all : events ≡ before ++ record { session = history.number; step = JoinSeat None } ∷ after
+    pub world : World
+    pub run : Leads first before world
+    pub rest : Leads world (record { session = history.number; step = JoinSeat None } ∷ after) now
+    pub account : told content history.number history.marks ≡ account world history.number
+
   -- A history tells the account of its session, which is live, stands in no other view and not twice in this one, and
   -- makes steps of its own if it is the first there.
   pub record HistoryIsShown (w : World) (seat_of place_in : ℕ → ℕ) (its_seat its_place : ℕ)
@@ -129,9 +194,14 @@ module _ {T : Type 0} (content : T → Content) where
 module _ {T : Type 0} (content : T → Content) (begun : T → Option Request) where
   pub record Ruled (sizes : Sizes) (state : State (Kept T) (View T)) : Type 0 where
     pub world : World
-    -- each step is its event: these lead here from the World before the first step
+    -- each step is its event: these lead here from the World before the first step,
     pub events : List Event
-    pub run : Runs (opening sizes.sessions sizes.groups) events world
+    pub run : Leads (opening sizes.sessions sizes.groups) events world
+    -- and are the steps that the histories tell
+    pub steps : StepsAreTold state.views world.numbers events
+    pub closed_so :
+        (history : History T) → StandsClosed state.views history
+        → HasClosedSo content (opening sizes.sessions sizes.groups) world events history
     pub safe : SafeWorld world
     pub is_limit : world.numbers.limit ≡ sizes.sessions
     pub are_groups : world.numbers.groups ≡ sizes.groups

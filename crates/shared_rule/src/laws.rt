@@ -1,14 +1,15 @@
 //! Laws of the layout, each a clause over all words, and what the rule of the table keeps. The bodies are empty.
 
-ghost use Rattle.std.specs.Prelude.{◌≡◌, ◌≢◌, ◌<◌, ◌≤◌, ℕ, List, ◌∷◌, ◌++◌, Option, Some, slice_get, slice_set};
+ghost use Rattle.std.specs.Prelude.{◌≡◌, ◌≢◌, ◌⊎◌, ◌<◌, ◌≤◌, ℕ, List, ◌∷◌, ◌++◌, slice_set, slice_index};
 ghost use mathlib.Core.Option.{some};
 ghost use lib.ListN.{get_elem?};
 ghost use Rattle.atomic_table.specs.Table.{State};
 ghost use Rattle.lock_world.specs.SlotHolds.{most_groups};
-ghost use Rattle.lock_world.specs.World.{World, TraceEntry};
+ghost use Rattle.lock_world.specs.World.{World, TraceEntry, opening};
 ghost use Rattle.shared_rule.specs.declared.rule.Sizes.{Sizes};
 ghost use Rattle.shared_rule.specs.declared.history.History.{History};
-ghost use Rattle.shared_rule.specs.History.{told};
+ghost use Rattle.shared_rule.specs.declared.history.Mark.{Mark};
+ghost use Rattle.shared_rule.specs.History.{told, lone, spent_view};
 ghost use Rattle.shared_rule.specs.WasSo.{WasSo};
 ghost use Rattle.lock_world.specs.declared.events.Word.{Word};
 ghost use Rattle.shared_rule.specs.Layout.{index_of_word, words_of_groups, IsInTable, MayBeInTable, IsApart, group_of};
@@ -18,7 +19,10 @@ ghost use Rattle.shared_rule.specs.declared.history.View.{View};
 ghost use Rattle.shared_rule.specs.declared.kept.Kept.{Kept};
 ghost use Rattle.shared_rule.specs.declared.layout.TheConstants.{TABLE_WORDS};
 ghost use Rattle.shared_rule.specs.Headline.{ShowsHeadline};
-ghost use Rattle.shared_rule.specs.Ruled.{Ruled};
+ghost use Rattle.shared_rule.specs.Tells.{Leads};
+ghost use Rattle.shared_rule.specs.Ruled.{Ruled, StandsAtSeat, StandsClosed, HasSeat, HasClosedHistory, NobodyElse, StepsAreTold};
+ghost use Rattle.shared_rule.specs.Marks.{LoadedStrong};
+ghost use Rattle.lock_world.specs.declared.events.Word.TheVariants.{Strong};
 
 use lock_table::PartTable;
 
@@ -60,11 +64,58 @@ pub fn a_word_is_set_alone()
 
 /// Where the rule holds, whatever a session's account tells of what it has seen was so: each entry of its trace
 /// tells of a World on the way of events that lead from the World before the first step to the one that the table
-/// shows now.
+/// shows now. It is so of the sessions that seats are for, and of those that have closed.
 pub fn what_an_account_tells_was_so<T: PartTable>()
-    ensures { (sizes : Sizes) (state : State (Kept T) (View T)) (rule : Ruled T.content T.begun sizes state)
-        (seat place : ℕ) (view : View T) (history : History T) → get_elem? state.views seat ≡ some view →
-        slice_get view.sessions place ≡ Some history → (before after : List TraceEntry) (entry : TraceEntry) →
+    ensures at_seat { (sizes : Sizes) (state : State (Kept T) (View T)) (rule : Ruled T.content T.begun sizes state)
+        (history : History T) → StandsAtSeat state.views history →
+        (before after : List TraceEntry) (entry : TraceEntry) →
         (told T.content history.number history.marks).trace ≡ before ++ entry ∷ after →
         WasSo sizes rule.world history.number before entry }
+    ensures closed { (sizes : Sizes) (state : State (Kept T) (View T)) (rule : Ruled T.content T.begun sizes state)
+        (history : History T) → StandsClosed state.views history →
+        (before after : List TraceEntry) (entry : TraceEntry) →
+        (told T.content history.number history.marks).trace ≡ before ++ entry ∷ after →
+        WasSo sizes rule.world history.number before entry }
+{}
+
+/// Where the rule holds, events lead from the World before the first step to the one that the table shows, each of them
+/// happening in its turn, and the steps among them of each session are those that its history tells, one for each mark, in
+/// order, and no other: of the sessions that seats are for, of those that have closed, and of a number not given out,
+/// which has made none. Whoever is live has a seat, where its history stands.
+pub fn no_step_was_made_but_those_told<T: PartTable>()
+    ensures run { (sizes : Sizes) (state : State (Kept T) (View T)) (rule : Ruled T.content T.begun sizes state) →
+        Leads (opening sizes.sessions sizes.groups) rule.events rule.world }
+    ensures steps { (sizes : Sizes) (state : State (Kept T) (View T)) (rule : Ruled T.content T.begun sizes state) →
+        StepsAreTold state.views rule.world.numbers rule.events }
+{}
+
+/// Where the rule holds, each number that was given out has its history: at a seat, where its session is live, or with
+/// the opener, where it has closed. So no session's steps are told by nobody.
+pub fn each_number_given_out_has_its_history<T: PartTable>()
+    ensures { (sizes : Sizes) (state : State (Kept T) (View T)) (rule : Ruled T.content T.begun sizes state)
+        (number : ℕ) → number < rule.world.numbers.issued →
+        HasSeat state.views number ⊎ HasClosedHistory state.views number }
+{}
+
+/// No load of a strong lock counter lies: where the rule holds, nobody else has made a step, and the load is a session's last
+/// step, it shows what the counter's word shows. Where others make steps too, it shows what the word showed in a World on
+/// the way, by `what_an_account_tells_was_so`, and no step but those that histories tell led there.
+pub fn no_load_of_a_counter_lies<T: PartTable>()
+    ensures { (sizes : Sizes) (state : State (Kept T) (View T)) → Ruled T.content T.begun sizes state →
+        (number index shown : ℕ) (marks : List (Mark T)) →
+        StandsAtSeat state.views (record { number = number; marks = LoadedStrong index shown ∷ marks }) →
+        index < 1024 → NobodyElse state.views number →
+        shown ≡ slice_index state.words (index_of_word (Strong index)) }
+{}
+
+/// No seat vanishes: where the rule holds and a seat is one session's, it doesn't hold with that session's view gone and all
+/// else the same.
+pub fn no_seat_vanishes<T: PartTable>()
+    ensures { (sizes : Sizes) (state : State (Kept T) (View T)) → Ruled T.content T.begun sizes state →
+        (seat number : ℕ) (marks : List (Mark T)) → get_elem? state.views seat ≡ some (lone number marks) →
+        Ruled T.content T.begun sizes (record {
+          words = state.words;
+          homes = state.homes;
+          views = slice_set state.views seat spent_view;
+        }) → ⊥ }
 {}

@@ -69,6 +69,7 @@ module _ {T : Type 0} (content : T → Content) (sizes : Sizes) (x : History T) 
         list = w.words.list;
         noted = record {
           step = Count tag mode;
+          tells = refl;
           after = after_counting w x.number tag mode;
           happens = (count-lawful w steps.safe x.number steps.makes tag mode may', refl);
           numbers = refl;
@@ -101,6 +102,7 @@ module _ {T : Type 0} (content : T → Content) (sizes : Sizes) (x : History T) 
         list = w.words.list;
         noted = record {
           step = Uncount tag mode;
+          tells = refl;
           after = after_uncounting w x.number tag mode;
           happens = (uncount-lawful w steps.safe x.number steps.makes tag mode may', refl);
           numbers = refl;

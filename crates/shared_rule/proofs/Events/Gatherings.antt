@@ -7,7 +7,7 @@ use Rattle.lock_table.specs.declared.request.Request.{Request}
 use Rattle.lock_table.specs.Content.{Content}
 use Rattle.lock_world.specs.declared.events.Word.{Word}
 use Rattle.lock_world.specs.declared.events.Word.TheVariants.{Partition, Fast, Database, Slot, Wait, Strong, Sleep}
-use Rattle.lock_world.specs.World.{word_in}
+use Rattle.lock_world.specs.World.{opening, word_in}
 use Rattle.shared_rule.specs.declared.history.History.{History}
 use Rattle.shared_rule.specs.declared.history.Mark.{Mark}
 use Rattle.shared_rule.specs.declared.rule.Sizes.{Sizes}
@@ -21,6 +21,7 @@ use Rattle.lock_world.specs.Tallies.{OwnStand}
 use Rattle.shared_rule.specs.Gatherings.{AreAll, account_among, gathered_in, HasAllInHand, KnowsOfAll, LookedOver, ToldAll}
 use Rattle.shared_rule.proofs.Events.Counters.{counter-most}
 use Rattle.shared_rule.proofs.Events.Words.{IsAlwaysLawful, rule-after, nothing-changes}
+use Rattle.shared_rule.proofs.Told.{leads-runs}
 use Rattle.shared_rule.proofs.Gathered.{distinct, stands-among, slots-among, counters-among}
 
 -- Loads by a seat at which all sessions are.
@@ -39,14 +40,14 @@ module _ {T : Type 0} (content : T → Content) (begun : T → Option Request) (
   all-known (Fast k) exists = tt
   all-known (Database k) exists = tt
   all-known (Slot k place) exists = λ contents has.
-      slots-among content r.world sizes r.events few r.run r.safe s.views id issued view at r.seats r.closed are x first contents
+      slots-among content r.world sizes r.events few (leads-runs (opening sizes.sessions sizes.groups) r.events r.world r.run) r.safe s.views id issued view at r.seats r.closed are x first contents
       (subst (λ (xs : List (History T)). HasAllInHand (first_account content xs) contents) is has) k place exists.0
   all-known (Wait k) exists = tt
   all-known (Strong index) exists =
       let most_limit : r.world.numbers.limit ≤ 64 = subst (λ n. n ≤ 64) (sym r.is_limit) r.few in
       let most = counter-most r.world.numbers.limit r.world.sessions.counted index most_limit r.few_counted in
       let shown = r.safe.counters.shown index in
-      (counters-among content r.world sizes r.events few r.run r.safe s.views id issued view at r.seats r.closed are index, omega (arith, shown, most))
+      (counters-among content r.world sizes r.events few (leads-runs (opening sizes.sessions sizes.groups) r.events r.world r.run) r.safe s.views id issued view at r.seats r.closed are index, omega (arith, shown, most))
   all-known (Sleep k) exists = tt
 
 module _ {T : Type 0} (content : T → Content) (begun : T → Option Request) (sizes : Sizes) (slots id : ℕ) (me : Side T) (x : History T) (others : List (History T)) (is : me.0.sessions ≡ x ∷ others) where
@@ -80,10 +81,10 @@ module _ {T : Type 0} (content : T → Content) (begun : T → Option Request) (
     (
       refl,
       λ issued are. record {
-        distinct = distinct content r.world sizes r.events (few content begun sizes s r id me.0 at x others is issued are) r.run r.safe s.views id issued me.0 at r.seats r.closed are;
+        distinct = distinct content r.world sizes r.events (few content begun sizes s r id me.0 at x others is issued are) (leads-runs (opening sizes.sessions sizes.groups) r.events r.world r.run) r.safe s.views id issued me.0 at r.seats r.closed are;
         stand = λ contents nobody has number.
             subst (λ n. OwnStand n number (account_among (gathered_in content me.0.sessions) number) contents) (sym same)
-            (stands-among content r.world sizes r.events (few content begun sizes s r id me.0 at x others is issued are) r.run r.safe s.views id issued me.0 at r.seats r.closed are x
+            (stands-among content r.world sizes r.events (few content begun sizes s r id me.0 at x others is issued are) (leads-runs (opening sizes.sessions sizes.groups) r.events r.world r.run) r.safe s.views id issued me.0 at r.seats r.closed are x
             (first content begun sizes s r id me.0 at x others is issued are) contents nobody
             (subst (λ (xs : List (History T)). HasAllInHand (first_account content xs) contents) is has) number);
       },

@@ -176,6 +176,7 @@ module _ {T : Type 0} (content : T → Content) (sizes : Sizes) (x : History T) 
   locking-noted (OfPart p) w steps exists may unlocked waiters is = record {
     noted = record {
       step = step_of.LockList (Partition p);
+      tells = (OfPart p, refl, refl);
       after = after_locking_partition_list w x.number p;
       happens = (exists, lock_list-lawful w steps.safe x.number steps.makes (w.words.partition p) (subst MayLockListBy steps.account may) unlocked, refl);
       numbers = refl;
@@ -191,6 +192,7 @@ module _ {T : Type 0} (content : T → Content) (sizes : Sizes) (x : History T) 
   locking-noted (OfSlots o) w steps exists may unlocked waiters is = record {
     noted = record {
       step = step_of.LockList (Fast o);
+      tells = (OfSlots o, refl, refl);
       after = after_locking_fast_list w x.number o;
       happens = (
         subst (λ n. o < n) (sym steps.is_limit) exists,
@@ -216,6 +218,7 @@ module _ {T : Type 0} (content : T → Content) (sizes : Sizes) (x : History T) 
   unlocking-noted (OfPart p) has_waiters release_ok w steps has = record {
     noted = record {
       step = step_of.UnlockList (Partition p) has_waiters release_ok;
+      tells = (OfPart p, has_waiters, release_ok, refl);
       after = after_unlocking_partition_list w x.number p has_waiters release_ok;
       happens = (has, refl);
       numbers = refl;
@@ -231,6 +234,7 @@ module _ {T : Type 0} (content : T → Content) (sizes : Sizes) (x : History T) 
   unlocking-noted (OfSlots o) has_waiters release_ok w steps has = record {
     noted = record {
       step = step_of.UnlockList (Fast o) has_waiters release_ok;
+      tells = (OfSlots o, has_waiters, release_ok, refl);
       after = after_unlocking_fast_list w x.number o has_waiters release_ok;
       happens = (has, refl);
       numbers = refl;
@@ -264,6 +268,7 @@ module _ {T : Type 0} (content : T → Content) (sizes : Sizes) (x : History T) 
         list = set_at w.words.list mine.lock (w.words.list mine.lock ++ waiter ∷ []);
         noted = record {
           step = step_of.JoinList mode;
+          tells = refl;
           after = after_joining_list w x.number mine.lock mode;
           happens = (mine.lock, lawful, refl);
           numbers = refl;
@@ -286,6 +291,7 @@ module _ {T : Type 0} (content : T → Content) (sizes : Sizes) (x : History T) 
         list = set_at w.words.list mine.lock (without x.number (w.words.list mine.lock));
         noted = record {
           step = step_of.LeaveList;
+          tells = refl;
           after = after_leaving_the_list w x.number mine.lock;
           happens = (mine.lock, lawful, refl);
           numbers = refl;
@@ -309,6 +315,7 @@ module _ {T : Type 0} (content : T → Content) (sizes : Sizes) (x : History T) 
         list = set_at w.words.list mine.lock (without other (w.words.list mine.lock));
         noted = record {
           step = step_of.TakeOff other;
+          tells = refl;
           after = after_taking_off_the_list w x.number other mine.lock;
           happens = (mine.lock, lawful, refl);
           numbers = refl;
@@ -330,6 +337,7 @@ module _ {T : Type 0} (content : T → Content) (sizes : Sizes) (x : History T) 
         list = w.words.list;
         noted = record {
           step = step_of.Tell other;
+          tells = refl;
           after = after_telling_one w x.number other;
           happens = (lawful, refl);
           numbers = refl;
@@ -355,6 +363,7 @@ module _ {T : Type 0} (content : T → Content) (sizes : Sizes) (x : History T) 
         list = w.words.list;
         noted = record {
           step = step_of.LoadSleep n;
+          tells = refl;
           after = after_loading_sleep w x.number n;
           happens = (record { steps = steps.makes; is_word = shown }, refl);
           numbers = refl;
@@ -374,6 +383,7 @@ module _ {T : Type 0} (content : T → Content) (sizes : Sizes) (x : History T) 
     list = w.words.list;
     noted = record {
       step = step_of.SetReleaseOk (Partition p) n;
+      tells = (n, (OfPart p, refl, refl));
       after = after_flagging_partition w p (release_ok_word (w.words.partition p));
       happens = (exists, record { steps = steps.makes; is_word = shown }, refl);
       numbers = refl;
@@ -389,6 +399,7 @@ module _ {T : Type 0} (content : T → Content) (sizes : Sizes) (x : History T) 
     list = w.words.list;
     noted = record {
       step = step_of.SetReleaseOk (Fast o) n;
+      tells = (n, (OfSlots o, refl, refl));
       after = after_flagging_fast w o (release_ok_word (w.words.fast o));
       happens = (subst (λ k. o < k) (sym steps.is_limit) exists, record { steps = steps.makes; is_word = shown }, refl);
       numbers = refl;
@@ -409,6 +420,7 @@ module _ {T : Type 0} (content : T → Content) (sizes : Sizes) (x : History T) 
         list = w.words.list;
         noted = record {
           step = step_of.SetHasWaiters (Partition p) n;
+          tells = (n, (OfPart p, refl, refl));
           after = after_flagging_partition w p (has_waiters_word (w.words.partition p));
           happens = (record { has = subst (HasList w x.number) its has; is_word = shown }, refl);
           numbers = refl;
@@ -426,6 +438,7 @@ module _ {T : Type 0} (content : T → Content) (sizes : Sizes) (x : History T) 
         list = w.words.list;
         noted = record {
           step = step_of.SetHasWaiters (Fast o) n;
+          tells = (n, (OfSlots o, refl, refl));
           after = after_flagging_fast w o (has_waiters_word (w.words.fast o));
           happens = (record { has = subst (HasList w x.number) its has; is_word = shown }, refl);
           numbers = refl;

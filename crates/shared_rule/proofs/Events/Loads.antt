@@ -35,6 +35,7 @@ module _ {T : Type 0} (content : T → Content) (sizes : Sizes) (x : History T) 
     list = w.words.list;
     noted = record {
       step = LoadWord (Database owner) n;
+      tells = refl;
       after = after_loading w x.number (Database owner) n;
       happens = (record { steps = steps.makes; exists = tt; is_shown = shown }, refl);
       numbers = refl;
@@ -54,6 +55,7 @@ module _ {T : Type 0} (content : T → Content) (sizes : Sizes) (x : History T) 
     list = w.words.list;
     noted = record {
       step = LoadWord (Slot owner place) n;
+      tells = refl;
       after = after_loading w x.number (Slot owner place) n;
       happens = (record { steps = steps.makes; exists = subst (λ n. place < group_size * n) (sym steps.are_groups) within; is_shown = shown }, refl);
       numbers = refl;
@@ -74,6 +76,7 @@ module _ {T : Type 0} (content : T → Content) (sizes : Sizes) (x : History T) 
     list = w.words.list;
     noted = record {
       step = LoadWord (Fast x.number) n;
+      tells = refl;
       after = after_loading w x.number (Fast x.number) n;
       happens = (refl, record { steps = steps.makes; exists = tt; is_shown = shown }, refl);
       numbers = refl;
@@ -93,6 +96,7 @@ module _ {T : Type 0} (content : T → Content) (sizes : Sizes) (x : History T) 
     list = w.words.list;
     noted = record {
       step = LoadStrong index n;
+      tells = refl;
       after = after_reading_counter w x.number index n;
       happens = (record { steps = steps.makes; exists = within; is_shown = shown }, refl);
       numbers = refl;

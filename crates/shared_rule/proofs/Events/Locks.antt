@@ -92,6 +92,7 @@ abbrev taking_fast-noted :
     (listed slot_count (w.words.slot owner))) (set_word w.words (Fast owner) (taken_word (w.words.fast owner)))
 taking_fast-noted content sizes x owner w steps exists free = record {
   step = TakeExclusive (Fast owner);
+  tells = refl;
   after = after_taking_fast w x.number owner;
   happens = (record { steps = steps.makes; exists = exists; free = free }, refl);
   numbers = refl;
@@ -112,6 +113,7 @@ abbrev sharing_fast-noted :
     (listed slot_count (w.words.slot owner))) (set_word w.words (Fast owner) (shared_word (w.words.fast owner)))
 sharing_fast-noted content sizes x owner w steps exists free may = record {
   step = TakeShared (Fast owner);
+  tells = refl;
   after = after_sharing_fast w x.number owner;
   happens = (
     exists,
@@ -300,6 +302,7 @@ module _ {T : Type 0} (content : T → Content) (sizes : Sizes) (x : History T) 
         list = w.words.list;
         noted = record {
           step = PutExclusive (Fast owner) Keep;
+          tells = refl;
           after = after_putting_fast w x.number owner;
           happens = (refl, (put_fast-lawful w steps.safe x.number steps.makes owner slots may', refl));
           numbers = refl;
@@ -326,6 +329,7 @@ module _ {T : Type 0} (content : T → Content) (sizes : Sizes) (x : History T) 
         list = w.words.list;
         noted = record {
           step = PutShared (Fast owner);
+          tells = refl;
           after = after_unsharing_fast w x.number owner;
           happens = (may', refl);
           numbers = refl;
@@ -348,6 +352,7 @@ module _ {T : Type 0} (content : T → Content) (sizes : Sizes) (x : History T) 
         list = w.words.list;
         noted = record {
           step = PutPassing owner tag mode;
+          tells = refl;
           after = after_passing w x.number owner tag mode;
           happens = (pass-lawful w steps.safe x.number steps.makes owner slots tag mode (there w steps) may', refl);
           numbers = refl;

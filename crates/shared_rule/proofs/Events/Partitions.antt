@@ -41,6 +41,7 @@ use Rattle.shared_rule.specs.declared.kept.Kept.{Kept}
 use Rattle.shared_rule.specs.declared.kept.Kept.TheVariants.{Part}
 use Rattle.shared_rule.specs.declared.layout.TheConstants.{TABLE_SLOTS}
 use Rattle.shared_rule.specs.Layout.{index_of_word, content_slot_of, list_slot_of}
+use Rattle.shared_rule.specs.Tells.{Puts}
 use Rattle.shared_rule.specs.Shown.{set_word}
 use Rattle.shared_rule.specs.History.{told, noting, taken_of, first_account, first_number}
 use Rattle.shared_rule.specs.Ruled.{IsAtHome, IsHomeUnlessInHand, ContentsAreHome, ListIsAtHome, ListsAreHome, Ruled}
@@ -134,6 +135,7 @@ module _ {T : Type 0} (content : T → Content) (begun : T → Option Request) (
       → IsNoted content sizes.groups w x.number (told content x.number x.marks) (TookPart p part) (set_word w.words (Partition p) (taken_word (w.words.partition p)))
   taking-noted w steps free part is_content = record {
     step = TakeExclusive (Partition p);
+    tells = refl;
     after = after_taking_partition w x.number p;
     happens = (record { steps = steps.makes; exists = exists; free = free }, refl);
     numbers = refl;
@@ -194,15 +196,16 @@ module _ {T : Type 0} (content : T → Content) (begun : T → Option Request) (
 
   -- Putting it is an event.
   put-happens : (w : World) → SafeWorld w → MakesSteps w.numbers x.number → w.numbers.limit ≡ sizes.sessions → (its : InHand) (done : Move) (part : T)
-      → MayPutPart sizes.sessions x.number (account w x.number) p its done (content part) → (step : event.Step) × HappensStep w x.number step (after_putting_partition w x.number p done (content part))
+      → MayPutPart sizes.sessions x.number (account w x.number) p its done (content part) → (step : event.Step) × Puts p done step × HappensStep w x.number step (after_putting_partition w x.number p done (content part))
   put-happens w safe makes is_limit its done part (inl may) =
       let may' : MayPutBy w.numbers.limit x.number (account w x.number) p its done (content part) =
       subst (λ k. MayPutBy k x.number (account w x.number) p its done (content part)) (sym is_limit) may in
-      (PutExclusive (Partition p) done, inl (content part, put-lawful w safe x.number makes p its done (content part) may', refl))
+      (PutExclusive (Partition p) done, (done, refl, inl refl), inl (content part, put-lawful w safe x.number makes p its done (content part) may', refl))
   put-happens w safe makes is_limit its done part (inr may) =
       let own = hand-known (w.contents.hand p) (w.contents.now p) x.number its may.may_put.in_hand in
       let same : content part ≡ w.contents.now p = may.same ∙ ap (λ (k : InHand). k.now) own.as_known in (
         PutExclusive (Partition p) may.made,
+        (may.made, refl, inr may.keeps),
         inr (put_recorded-lawful w safe x.number makes p its may.made may.may_put, λ i. after_putting_partition w x.number p (may.keeps i) (same i)),
       )
 
@@ -219,8 +222,9 @@ module _ {T : Type 0} (content : T → Content) (begun : T → Option Request) (
       ap taken_of had ∙ (ap (λ (k : InHand). k.taken) own.as_known ∙ sym (ap (content_taken (w.contents.now p)) own.is_hand)) in
       record {
         step = made.0;
+        tells = made.1;
         after = after_putting_partition w x.number p done (content part);
-        happens = made.1;
+        happens = made.2;
         numbers = refl;
         account = (λ i. account_putting (steps.account i) p (taken i) (content part) done) ∙ sym (account-putting w x.number p done (content part));
         words = refl;

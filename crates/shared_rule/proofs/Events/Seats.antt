@@ -26,11 +26,13 @@ use Rattle.std.proofs.lemmas.Bool.{false_from_ne_true}
 use Rattle.shared_rule.specs.History.{keeper, lone, spent_view, first_account}
 use Rattle.shared_rule.specs.Plays.{Side}
 use Rattle.shared_rule.specs.Openers.{HaveClosed}
-use Rattle.shared_rule.specs.Ruled.{HistoryIsShown, ClosedAreCounted, OpenerHasClosed, SeatsAreShown, Ruled}
+use Rattle.shared_rule.specs.Ruled.{HistoryIsShown, ClosedAreCounted, OpenerHasClosed, SeatsAreShown, StandsClosed, StepsAreTold, Ruled}
 use Rattle.shared_rule.proofs.ClosedCounts.{opener-set, counted-opened, counted-closed, counted-told}
 use Rattle.shared_rule.specs.Seats.{MayCloseBy, MayBeKeptApartBy, DoNotConflict, HasNumber, HasNext, HasLast, all_but_last, last_of, ToldClosed, IsForOne, IsForTwo, number_in, number_after, behind_of, opened, newcomer, with_closed, met, parted, handed_back, ToldApart}
-use Rattle.shared_rule.proofs.Views.{with_numbers, there-snoc, ruled-numbered, ruled-closed, seats-opened, seats-closed, history-alone, keeps-nobody}
+use Rattle.shared_rule.proofs.Standing.{there-snoc}
+use Rattle.shared_rule.proofs.Views.{with_numbers, ruled-numbered, ruled-closed, seats-opened, seats-closed, history-alone, keeps-nobody}
 use Rattle.shared_rule.proofs.Meetings.{second-shown, another-there, seats-met, last-shown, seats-parted, all_but_last-of, last_of-of}
+use Rattle.shared_rule.proofs.SeatSteps.{told-kept, told-opened, closed-opened, told-closing, closed-closing, told-met, closed-met, told-parted, closed-parted}
 use Rattle.shared_rule.proofs.Events.Words.{nothing-changes}
 
 -- Seats that are cut in two and joined keep the rule.
@@ -129,7 +131,9 @@ module _ {T : Type 0} (content : T → Content) (begun : T → Option Request) (
       let within : has.number < r.world.numbers.limit = subst (λ (n : ℕ). has.number < n) (sym r.is_limit) has.within in
       let may : MayBeIssued r.world has.number = record { next = (r.seats.next id view has.number at has.next).1; within = within } in
       ruled-numbered content begun sizes s r (record { session = has.number; step = SplitSeat }) (after_issuing r.world has.number).numbers _ (inl (may, refl)) refl (issuing-safe_world r.world has.number r.safe may) seats
-      (opened-counted s r id view has.number at has.next))
+      (opened-counted s r id view has.number at has.next)
+      refl (told-opened s.views r.world.numbers r.events id view has.number at (r.seats.next id view has.number at has.next).1 r.steps)
+      (closed-opened s.views r.world.numbers r.events id view has.number at (r.seats.next id view has.number at has.next).1 r.steps))
 
   -- A session closes.
   pub closes : (id : ℕ) (opener : View T) (other : ℕ) (view : View T) → HasNext opener → IsForOne view → MayCloseBy (first_account content view.sessions)
@@ -142,9 +146,11 @@ module _ {T : Type 0} (content : T → Content) (begun : T → Option Request) (
       let may_by : MayCloseBy (account r.world k) = subst MayCloseBy (ap (λ (z : View T). first_account content z.sessions) one.one ∙ shown.account) may in
       let may_close = closing-lawful r.world r.safe k (record { live = shown.live; by_itself = shown.kept_by }) (keeps-nobody content r.world s.views other k one.marks stands r.seats) may_by in
       subst (λ (v : View T). Ruled content begun sizes (record { words = s.words; homes = s.homes; views = slice_set (slice_set s.views id v) other spent_view })) (sym same)
-      (ruled-closed content begun sizes s r k _ may_close (closing-safe_world r.world k r.safe may_close)
+      (ruled-closed content begun sizes s r k one.marks _ may_close (closing-safe_world r.world k r.safe may_close)
       (seats-closed content r.world s.views other k one.marks stands r.seats id opener at apart r.safe.but_slots.table.carriers.numbers)
-      (closed-counted s r id opener has.number other k one.marks at has.next apart shown.live))
+      (closed-counted s r id opener has.number other k one.marks at has.next apart shown.live)
+      shown.account (told-closing s.views r.world.numbers r.events id opener other k one.marks at stands apart r.steps)
+      (closed-closing s.views r.world.numbers r.events id opener other k one.marks at stands apart r.steps))
 
   -- A session meets those at a seat, behind them.
   meets : (s : State (Kept T) (View T)) (r : Ruled content begun sizes s) (id : ℕ) (view : View T) (other b : ℕ) (marks : List (Mark T)) (at : get_elem? s.views id ≡ some view)
@@ -172,11 +178,19 @@ module _ {T : Type 0} (content : T → Content) (begun : T → Option Request) (
         subst (λ (k : ℕ → Option ℕ). SeatsAreShown content after (with_numbers r.world (record (r.world.numbers) { kept_by = k }))) same
         (seats-met content r.world s.views id view other b marks at there apart r.seats)
 
+    met_steps : StepsAreTold after r.world.numbers r.events
+    met_steps = told-met s.views r.world.numbers r.events id view other b marks at there apart r.steps
+
+    stood : (h : History T) → StandsClosed after h → StandsClosed s.views h
+    stood = closed-met s.views r.world.numbers r.events id view other b marks at there apart
+
     by : (sessions : List (History T)) → view.sessions ≡ sessions → Ruled content begun sizes (record { words = s.words; homes = s.homes; views = after })
     by [] none = record {
       world = r.world;
       events = r.events;
       run = r.run;
+      steps = met_steps;
+      closed_so = λ h stands. r.closed_so h (stood h stands);
       safe = r.safe;
       is_limit = r.is_limit;
       are_groups = r.are_groups;
@@ -207,6 +221,7 @@ module _ {T : Type 0} (content : T → Content) (begun : T → Option Request) (
         (keeping_apart-safe_world r.world b x.number r.safe may_be)
         (seats_as (set_at r.world.numbers.kept_by b (Some x.number)) (ap (λ (xs : List (History T)). set_at r.world.numbers.kept_by b (keeper (xs ++ theirs ∷ []) (length xs))) its))
         (kept-counted r.world.numbers (after_keeping_apart r.world b x.number).numbers.kept_by after closed)
+        refl (told-kept after r.world.numbers r.events (after_keeping_apart r.world b x.number).numbers.kept_by met_steps) stood
 
   -- A session is kept apart.
   pub keeps_apart : (id : ℕ) (view : View T) (other : ℕ) (theirs : View T) → IsForOne theirs → MayBeKeptApartBy (first_account content theirs.sessions)
@@ -234,6 +249,8 @@ module _ {T : Type 0} (content : T → Content) (begun : T → Option Request) (
         world = r.world;
         events = r.events;
         run = r.run;
+        steps = told-parted s.views r.world.numbers r.events id view [] y at is r.steps;
+        closed_so = λ h stands. r.closed_so h (closed-parted s.views r.world.numbers r.events id view [] y at is h stands);
         safe = r.safe;
         is_limit = r.is_limit;
         are_groups = r.are_groups;
@@ -266,6 +283,10 @@ module _ {T : Type 0} (content : T → Content) (begun : T → Option Request) (
       (kept-counted r.world.numbers (after_going_on r.world y.number).numbers.kept_by _
       (opener-longer r.world.numbers (slice_set s.views id (record { next = view.next; closed = view.closed; sessions = x ∷ before })) (record { next = None; closed = []; sessions = y ∷ [] }) refl
       (opener-set r.world.numbers s.views id view (record { next = view.next; closed = view.closed; sessions = x ∷ before }) at refl (λ n says. says) r.closed)))
+      refl
+      (told-kept (slice_set s.views id (record { next = view.next; closed = view.closed; sessions = x ∷ before }) ++ record { next = None; closed = []; sessions = y ∷ [] } ∷ [])
+      r.world.numbers r.events (after_going_on r.world y.number).numbers.kept_by (told-parted s.views r.world.numbers r.events id view (x ∷ before) y at is r.steps))
+      (closed-parted s.views r.world.numbers r.events id view (x ∷ before) y at is)
 
   pub hands_back : (id : ℕ) (view : View T) → HasLast view → Splits (Ruled content begun sizes) id view (parted view) (handed_back view)
   hands_back id view is s r at =

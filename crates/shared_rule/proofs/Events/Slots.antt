@@ -77,6 +77,7 @@ module _ {T : Type 0} (content : T → Content) (sizes : Sizes) (x : History T) 
         list = w.words.list;
         noted = record {
           step = step.SetSlot place tag mode;
+          tells = refl;
           after = after_setting_slot w s place tag mode;
           happens = (lawful, refl);
           numbers = refl;
@@ -109,6 +110,7 @@ module _ {T : Type 0} (content : T → Content) (sizes : Sizes) (x : History T) 
         list = w.words.list;
         noted = record {
           step = step.ClearSlot place tag mode;
+          tells = refl;
           after = after_clearing_slot w s place tag mode;
           happens = (lawful, refl);
           numbers = refl;
@@ -148,6 +150,7 @@ module _ {T : Type 0} (content : T → Content) (sizes : Sizes) (x : History T) 
         list = w.words.list;
         noted = record {
           step = step.TransferSlot owner place tag mode strong;
+          tells = (strong, refl);
           after = after_transferring w owner place tag mode;
           happens = (lawful, refl);
           numbers = refl;
@@ -184,6 +187,7 @@ module _ {T : Type 0} (content : T → Content) (sizes : Sizes) (x : History T) 
         list = w.words.list;
         noted = record {
           step = step.StoreDatabase database;
+          tells = refl;
           after = after_storing_database w s database;
           happens = (may, refl);
           numbers = refl;

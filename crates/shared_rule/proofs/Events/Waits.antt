@@ -59,6 +59,7 @@ module _ {T : Type 0} (content : T → Content) (sizes : Sizes) (x : History T) 
         list = w.words.list;
         noted = record {
           step = step.LoadWait n;
+          tells = refl;
           after = after_loading_wait w x.number n;
           happens = (record { steps = steps.makes; is_word = shown }, refl);
           numbers = refl;
@@ -78,6 +79,7 @@ module _ {T : Type 0} (content : T → Content) (sizes : Sizes) (x : History T) 
     list = w.words.list;
     noted = record {
       step = step.AskCancel other;
+      tells = refl;
       after = after_asking w x.number other;
       happens = (steps.makes, refl);
       numbers = refl;
@@ -104,6 +106,7 @@ module _ {T : Type 0} (content : T → Content) (sizes : Sizes) (x : History T) 
         list = w.words.list;
         noted = record {
           step = step.SetWaiting tag mode;
+          tells = refl;
           after = after_setting_waiting w x.number tag mode (content now);
           happens = (content now, move-lawful w steps.safe x.number steps.makes p its (Join tag mode) [] (content now) may', refl);
           numbers = refl;
@@ -165,6 +168,7 @@ module _ {T : Type 0} (content : T → Content) (sizes : Sizes) (x : History T) 
         list = w.words.list;
         noted = record {
           step = step.MarkGranted other done;
+          tells = refl;
           after = after_marking_first w x.number other p done granted (content now);
           happens = marking-happens w x.number other p done _ grants (inl (granted, content now, lawful, refl));
           numbers = refl;
@@ -194,6 +198,7 @@ module _ {T : Type 0} (content : T → Content) (sizes : Sizes) (x : History T) 
         list = w.words.list;
         noted = record {
           step = step.MarkGranted other done;
+          tells = refl;
           after = after_marking_next w other p done;
           happens = marking-happens w x.number other p done _ grants (inr (lawful, refl));
           numbers = refl;
@@ -245,6 +250,7 @@ module _ {T : Type 0} (content : T → Content) (sizes : Sizes) (x : History T) 
         list = w.words.list;
         noted = record {
           step = step.ClearWait false;
+          tells = refl;
           after = after_clearing w x.number wait;
           happens = (wait, clearing-happens w steps.safe x.number steps.makes wait may', refl);
           numbers = refl;
@@ -275,6 +281,7 @@ module _ {T : Type 0} (content : T → Content) (sizes : Sizes) (x : History T) 
         list = w.words.list;
         noted = record {
           step = step.ClearWait true;
+          tells = refl;
           after = after_leaving w x.number wait granted (content now);
           happens = inl (wait, granted, content now, leave-lawful w steps.safe x.number steps.makes wait its granted (content now) may', refl);
           numbers = refl;

@@ -4,20 +4,22 @@ use Rattle.lock_world.specs.Headline.{RefusalsSawWhatTheyName}
 use Rattle.lock_world.proofs.Headline.{headline}
 use Rattle.lock_world.proofs.Refusals.{refusals-saw}
 use Rattle.lock_world.proofs.SafeWorld.Opening.{opening-safe}
+use Rattle.shared_rule.proofs.Told.{leads-runs}
 use Rattle.shared_rule.proofs.laws.the_table_shows_no_two_sessions_in_conflict.Goals as goal
 
 pub returns : goal.returns
 returns g c =
     λ sizes state rule.
     let few : sizes.sessions ≤ 64 = rule.few in
+    let run = leads-runs (opening sizes.sessions sizes.groups) rule.events rule.world rule.run in
     record {
       world = rule.world;
       events = rule.events;
-      run = rule.run;
+      run = run;
       words = rule.words;
       contents = rule.contents;
       seats = rule.seats;
       headline = headline rule.world rule.safe;
-      refusals = subst (λ (w : World). RefusalsSawWhatTheyName (opening sizes.sessions sizes.groups ∷ rule.run.0) w) (sym rule.run.2)
-          (refusals-saw sizes.sessions sizes.groups rule.events rule.run.0 (opening-safe sizes.sessions sizes.groups (omega (arith, few))) rule.run.1);
+      refusals = subst (λ (w : World). RefusalsSawWhatTheyName (opening sizes.sessions sizes.groups ∷ run.0) w) (sym run.2)
+          (refusals-saw sizes.sessions sizes.groups rule.events run.0 (opening-safe sizes.sessions sizes.groups (omega (arith, few))) run.1);
     }
