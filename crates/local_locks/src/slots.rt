@@ -365,7 +365,8 @@ pub(crate) fn compact(slots: &mut Vec<Entry>, index: &mut PlaceIndex, outer: &mu
     note_all(slots.as_slice(), index);
 }
 
-/// Ends an end that may have left places of empty slots in the index: then the entries are moved together.
+/// Ends an end that may have left places of empty slots in the index, beside those of `len` entries: then the entries
+/// are moved together, and no slot is empty. Else nothing is done, in no time.
 #[inline(always)]
 pub(crate) fn tidy(
     slots: &mut Vec<Entry>,
@@ -378,6 +379,9 @@ pub(crate) fn tidy(
     requires lists { length slots.old.items ≤ length outer.old.items }
     requires empty { AreEmpty (opened slots.old.items) outer.old.items }
     ensures entries { present (opened slots.new.items) ≡ present (opened slots.old.items) }
+    ensures full { len < length index.old.notes →
+        length slots.new.items ≡ length (present (opened slots.old.items)) }
+    ensures untouched { length index.old.notes ≤ len → (slots.new ≡ slots.old) × (index.new ≡ index.old) }
     ensures shorter { length slots.new.items ≤ length slots.old.items }
     ensures indexed { IsIndexed (opened slots.new.items) index.new }
     ensures capacity { vec_capacity slots.new ≡ vec_capacity slots.old }

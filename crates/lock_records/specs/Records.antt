@@ -10,7 +10,20 @@ use Rattle.lock_records.specs.View.{RecordView}
 use Rattle.lock_records.specs.declared.records.Records.TheInside.{Inside}
 
 abbrev pub view_of : Inside → RecordView
-view_of part = record { holders = part.holders.slots; queues = part.queues.slots; begun = part.begun; prepared = part.prepared.value }
+view_of part = record {
+  locks = part.locks.slots;
+  next_lock = part.locks.vacant_key;
+  holders = part.holders.slots;
+  queues = part.queues.slots;
+  begun = part.begun;
+  prepared = part.prepared.value;
+  capacity = record {
+    locks = part.locks.capacity;
+    holders = part.holders.capacity;
+    queues = part.queues.capacity;
+    places = part.index.places;
+  };
+}
 
 -- The records of each object are right, the index finds the lock records, and there is room for the hold that each wait becomes; a begun
 -- request is new, and has room.

@@ -8,7 +8,7 @@ ghost use Rattle.lock_table.specs.Clash.{HolderInTheWay};
 ghost use Rattle.lock_records.specs.Tally.{counts_in, one_more, one_less};
 ghost use Rattle.lock_records.specs.Counting.{awaited_of};
 ghost use Rattle.lock_records.specs.Holders.{holds_in, AreHolders, SetsHold};
-ghost use Rattle.lock_records.specs.Queues.{queue_on, IsQueueAt};
+ghost use Rattle.lock_records.specs.Queues.{queue_on, waiting_in, IsQueueAt};
 ghost use Rattle.lock_records.specs.Locks.{IsLockAt, IsRelocked};
 ghost use Rattle.lock_records.specs.Objects.{IsHeldLock, HasRoom};
 
@@ -36,6 +36,13 @@ pub(crate) fn make_room(
     ensures queues { queues.new.slots ≡ queues.old.slots }
     ensures notes { HasSameNotes index.old index.new }
     ensures places { index.old.places ≤ index.new.places }
+
+    // Each grows only where it is full.
+    ensures locks_grow { HasRoomFor locks.old 1 → locks.new.capacity ≡ locks.old.capacity }
+    ensures holders_grow { HasRoomFor holders.old (waiting_in queues.old.slots + 1) →
+        holders.new.capacity ≡ holders.old.capacity }
+    ensures queues_grow { HasRoomFor queues.old 1 → queues.new.capacity ≡ queues.old.capacity }
+    ensures index_grows { locks.old.vacant_key < index.old.places → index.new.places ≡ index.old.places }
 {
     let Ok(place) = u32::try_from(locks.vacant_key()) else {
         return Err(NoMemory);

@@ -188,7 +188,9 @@ impl Records {
 }
 
 impl PartTable for Records {
-    ghost use Rattle.lock_records.specs.View.{content_of};
+    ghost use Rattle.std.specs.Prelude.{◌≡◌, false, Some, None, OnOk, OnErr};
+    ghost use Rattle.lock_table.specs.Queue.{awaits_mode};
+    ghost use Rattle.lock_records.specs.View.{content_of, GrowsWhereFull};
 
     ghost content = { content_of };
 
@@ -197,7 +199,17 @@ impl PartTable for Records {
     ghost prepared = { λ part. part.prepared };
 
     #[inline(always)]
-    fn begin(&mut self, session: SessionId, tag: &Tag, mode: Mode) -> Result<(), NoMemory> {
+    fn begin(&mut self, session: SessionId, tag: &Tag, mode: Mode) -> Result<(), NoMemory>
+        requires new { (content_of self.old).holds session tag.now mode ≡ false }
+        requires not_awaited { awaits_mode ((content_of self.old).waits tag.now) session mode ≡ false }
+        requires none_begun { self.old.begun ≡ None }
+        ensures content { content_of self.new ≡ content_of self.old }
+        ensures ok { OnOk result (self.new.begun ≡ Some (record { session = session; tag = tag.now; mode = mode })) }
+        ensures prepared { OnOk result
+            (self.new.prepared ≡ Some (record { session = session; tag = tag.now; mode = mode })) }
+        ensures err { OnErr result (self.new.begun ≡ None) }
+        ensures grows { GrowsWhereFull self.old self.new }
+    {
         make_room(
             &mut self.locks,
             &mut self.holders,

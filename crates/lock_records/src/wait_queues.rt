@@ -65,6 +65,7 @@ impl WaitQueues {
     pub(crate) fn reserve(&mut self) -> Result<(), NoMemory>
         ensures room { OnOk result (HasRoomFor self.new 1) }
         ensures same { self.new.slots ≡ self.old.slots }
+        ensures grows { HasRoomFor self.old 1 → self.new.capacity ≡ self.old.capacity }
     {
         self.slots.reserve(1)?;
         Ok(())

@@ -122,6 +122,7 @@ impl PlaceIndex {
     pub fn reserve(&mut self, place: u32) -> Result<(), AllocError>
         ensures ok { OnOk result (place < self.new.places) }
         ensures full { OnErr result (self.old.places ≤ place) }
+        ensures grows { place < self.old.places → self.new.places ≡ self.old.places }
         ensures room { self.old.places ≤ self.new.places }
         ensures notes { HasSameNotes self.old self.new }
     {

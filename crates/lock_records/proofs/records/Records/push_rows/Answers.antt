@@ -1,13 +1,14 @@
 use Rattle.std.proofs.Common.{not, length, ap, ◌∙◌}
 use Rattle.std.proofs.lemmas.Result.{on_ok_weaker}
 use Rattle.lock_records.specs.Rows.{shown_below, awaited_below}
+use Rattle.lock_records.specs.Records.{view_of}
 use Rattle.lock_records.specs.View.{RecordView}
 use Rattle.lock_records.proofs.Listings.{appends-more, shown-once, on-ok}
 use Rattle.lock_records.proofs.records.Records.push_rows.Goals as goal
 
 pub returns-clause-ok : goal.returns-clause-ok
 returns-clause-ok c =
-    let view : RecordView = record { holders = c.self.inside.holders.slots; queues = c.self.inside.queues.slots; begun = c.self.inside.begun; prepared = c.self.inside.prepared.value } in
+    let view : RecordView = view_of c.self.inside in
     rw (← c.self.view_is)
     (on_ok_weaker c.push_rows.result
     (appends-more c.args.rows.now.items c.push_holds.new.rows.items c.push_rows.new.rows.items (shown_below view.holders (length view.holders)) (awaited_below view.queues (length view.queues)) _

@@ -1,6 +1,6 @@
 use Rattle.std.proofs.lemmas.Bool.{true≢false}
 use Rattle.std.specs.Prelude.{is_some, not, IfNone, Option, Some}
-use Rattle.std.proofs.Common.{◌≡◌, false, None, List, sym, ap, ◌∙◌, subst, arith}
+use Rattle.std.proofs.Common.{◌≡◌, false, None, List, refl, sym, ap, ◌∙◌, subst, arith}
 use Rattle.slab.specs.Slab.{Slab, slab_len}
 use Rattle.lock_table.specs.declared.request.Request.{Request}
 use Rattle.lock_records.specs.declared.wait_queues.QueueRecord.{QueueRecord}
@@ -12,7 +12,7 @@ use Rattle.lock_records.specs.declared.holders.HolderRecord.{HolderRecord}
 use Rattle.lock_records.specs.Holders.{holds_in}
 use Rattle.lock_records.specs.Locks.{AreNoted, HasNoLock}
 use Rattle.lock_records.specs.Objects.{HasRoom, AreObjects}
-use Rattle.lock_records.specs.View.{RecordView}
+use Rattle.lock_records.specs.View.{RecordView, Capacity, GrowsWhereFull}
 use Rattle.lock_records.proofs.Parts.{objects-same, noted-grown}
 use Rattle.lock_records.proofs.records.RecordsPartTable.begin.Goals as goal
 use Rattle.lock_records.proofs.records.RecordsPartTable.begin.Goals.{After-make_room}
@@ -82,3 +82,27 @@ invariant_of-self-2 c =
       begun_absent = λ absent.
           ForSome-some (λ (x : Request). HasNoLock c.make_room.new.locks.slots x.tag) request (found-none c.find_lock-found.result (c.is_none-self-inside.ensures ∙ ap not absent) c.find_lock-found.ensures.absent);
     }
+
+-- each slab and the index grew only where it was full
+grows :
+    (c : After-make_room) (new : RecordView) →
+    new.capacity ≡ record {
+      locks = c.make_room.new.locks.capacity;
+      holders = c.make_room.new.holders.capacity;
+      queues = c.make_room.new.queues.capacity;
+      places = c.make_room.new.index.places;
+    } → GrowsWhereFull c.args.self.now new
+grows c new is =
+    subst (λ (old : RecordView). GrowsWhereFull old new) c.self.view_is
+    (record {
+      locks = λ room. ap (λ (x : Capacity). x.locks) is ∙ c.make_room.ensures.locks_grow (omega (arith, room));
+      holders = λ room. ap (λ (x : Capacity). x.holders) is ∙ c.make_room.ensures.holders_grow (omega (arith, room));
+      queues = λ room. ap (λ (x : Capacity). x.queues) is ∙ c.make_room.ensures.queues_grow (omega (arith, room));
+      places = λ room. ap (λ (x : Capacity). x.places) is ∙ c.make_room.ensures.index_grows room;
+    })
+
+pub returns-in_err-make_room-clause-grows : goal.returns-in_err-make_room-clause-grows
+returns-in_err-make_room-clause-grows c = grows (goal.at.returns-in_err-make_room-clause-grows c).After-make_room _ refl
+
+pub returns-clause-grows : goal.returns-clause-grows
+returns-clause-grows c = grows (goal.at.returns-clause-grows c).After-make_room _ refl
