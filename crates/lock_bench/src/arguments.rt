@@ -1,6 +1,6 @@
 //! The words of the command line.
 
-use clap::{Arg, ArgAction, Command, Error};
+use clap::{Arg, ArgAction, ArgMatches, Command, Error, value_parser};
 use std::alloc::{AllocError, Global};
 
 /// The names of the pages, as the command line has them.
@@ -13,6 +13,23 @@ static PAGES: [&str; 7] = [
     "contended",
     "workloads",
 ];
+
+/// The words of the workloads, each of which can be made alone.
+static WORKLOADS: [&str; 10] = [
+    "weak",
+    "ten",
+    "strong",
+    "strong-of-8",
+    "object",
+    "object-crowded",
+    "held",
+    "refused-relation",
+    "refused-object",
+    "refused-object-crowded",
+];
+
+/// How many steps of a workload there are at most where it is made alone.
+const MOST_STEPS: u32 = 1_000_000_000;
 
 /// What `--help` shows of the pages.
 const EACH_PAGE: &str = "Pages, all of which are printed where none is named:
@@ -70,6 +87,16 @@ pub struct Wanted<'a> {
     /// The files that the figures of the workloads are written to.
     pub csv: Option<&'a str>,
     pub svg: Option<&'a str>,
+    /// The workload that is made alone in place of all pages.
+    pub alone: Option<Alone<'a>>,
+}
+
+/// A workload that is made alone, with nothing timed.
+#[derive(Clone, Copy)]
+pub struct Alone<'a> {
+    /// The word that names it.
+    pub workload: &'a str,
+    pub steps: u32,
 }
 
 impl Wanted<'_> {
@@ -92,7 +119,15 @@ pub fn parse<'a>(alloc: Global, words: &'a [String]) -> Result<Wanted<'a>, Error
         page: matches.get_str("page"),
         csv: matches.get_str("csv"),
         svg: matches.get_str("svg"),
+        alone: alone_of(&matches),
     })
+}
+
+/// The workload that is made alone, if one is named.
+fn alone_of<'a>(matches: &ArgMatches<'a>) -> Option<Alone<'a>> {
+    let workload = matches.get_str("workload")?;
+    let steps = matches.get_one::<u32>("steps")?;
+    Some(Alone { workload, steps })
 }
 
 /// What words there can be.
@@ -110,7 +145,28 @@ fn command<'a>(alloc: Global) -> Result<Command<'a>, AllocError> {
         .after_help(EACH_PAGE)
         .arg(page)?
         .arg(check)?;
-    with_files(alloc, command)
+    with_workload(alloc, with_files(alloc, command)?)
+}
+
+/// The command with a workload that is made alone.
+fn with_workload<'a>(alloc: Global, command: Command<'a>) -> Result<Command<'a>, AllocError> {
+    let workload = Arg::new(alloc, "workload")
+        .long("workload")
+        .value_name("NAME")
+        .help("Make the steps of this workload alone, and time nothing: what they leave is told")
+        .value_parser(WORKLOADS.as_slice())
+        .requires_arg("steps")?
+        .conflicts_with("page")?
+        .conflicts_with("check")?
+        .conflicts_with("csv")?
+        .conflicts_with("svg")?;
+    let steps = Arg::new(alloc, "steps")
+        .long("steps")
+        .value_name("N")
+        .help("How many steps of the workload, 1 to 1000000000")
+        .value_parser(value_parser!(u32).range(1..=i64::from(MOST_STEPS)))
+        .requires_arg("workload")?;
+    command.arg(workload)?.arg(steps)
 }
 
 /// The command with the files of figures. A small fixed run has none.

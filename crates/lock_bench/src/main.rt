@@ -106,6 +106,9 @@ fn print_pages<R: Threads + Wait + Clock + CpuClock + AllocGlobal + Print + Epri
     asked: Asked,
     progress: Progress,
 ) -> anyhow::Result<()> {
+    if let Some(alone) = wanted.alone {
+        return workloads::make_alone(rt, asked, alone.workload, alone.steps);
+    }
     open_files(rt, wanted)?;
     print_on_one_thread(rt, wanted, asked, progress)?;
     print_in_threads(rt, wanted, asked, progress)?;

@@ -1,9 +1,10 @@
-//! The page of workloads: each beside its own floor and the same work on a map in a mutex, in one run.
+//! The page of workloads: each beside its own floor and the same work on a map in a mutex, in one run. And one
+//! workload alone, with nothing timed, so that its instructions can be counted.
 
 use crate::progress::Progress;
 use crate::session_bed::Work;
 use crate::session_page::{Asked, print_heading, run_lines};
-use anyhow::Result;
+use anyhow::{Result, bail};
 use bench_base::{
     Figures, KeyList, Line, Row, STEPS, Size, WIDTH, lines, print_table, print_times, time_of,
 };
@@ -22,6 +23,8 @@ const FEW: u32 = 10;
 /// What is timed with a manager of its own.
 #[derive(Clone, Copy)]
 struct Workload {
+    /// What names it where it is made alone.
+    word: &'static str,
     name: &'static str,
     work: Work,
     list: KeyList,
@@ -38,6 +41,7 @@ struct Workload {
 
 static WORKLOADS: [Workload; 9] = [
     Workload {
+        word: "weak",
         name: "weak relation lock, by a slot",
         work: Work::Pair,
         list: KeyList::Weak,
@@ -49,6 +53,7 @@ static WORKLOADS: [Workload; 9] = [
         crowd: 0,
     },
     Workload {
+        word: "ten",
         name: "ten relations and a commit, for each",
         work: Work::TakeAndCommit,
         list: KeyList::Ten,
@@ -60,6 +65,7 @@ static WORKLOADS: [Workload; 9] = [
         crowd: 0,
     },
     Workload {
+        word: "strong",
         name: "strong relation lock",
         work: Work::Pair,
         list: KeyList::Strong,
@@ -71,6 +77,7 @@ static WORKLOADS: [Workload; 9] = [
         crowd: 0,
     },
     Workload {
+        word: "object",
         name: "object lock, beside 10",
         work: Work::Pair,
         list: KeyList::InPartition,
@@ -82,6 +89,7 @@ static WORKLOADS: [Workload; 9] = [
         crowd: 10,
     },
     Workload {
+        word: "object-crowded",
         name: "object lock, beside 10,000",
         work: Work::Pair,
         list: KeyList::InPartition,
@@ -94,6 +102,7 @@ static WORKLOADS: [Workload; 9] = [
     },
     // It makes no atomic step.
     Workload {
+        word: "held",
         name: "held already",
         work: Work::HeldPair,
         list: KeyList::Few,
@@ -105,6 +114,7 @@ static WORKLOADS: [Workload; 9] = [
         crowd: 0,
     },
     Workload {
+        word: "refused-relation",
         name: "refused attempt, relation",
         work: Work::RefusedRelation,
         list: KeyList::Few,
@@ -116,6 +126,7 @@ static WORKLOADS: [Workload; 9] = [
         crowd: 0,
     },
     Workload {
+        word: "refused-object",
         name: "refused attempt, object, beside 10",
         work: Work::Refused,
         list: KeyList::RefusedInCrowd,
@@ -127,6 +138,7 @@ static WORKLOADS: [Workload; 9] = [
         crowd: 10,
     },
     Workload {
+        word: "refused-object-crowded",
         name: "refused attempt, object, beside 10,000",
         work: Work::Refused,
         list: KeyList::RefusedInCrowd,
@@ -138,6 +150,20 @@ static WORKLOADS: [Workload; 9] = [
         crowd: 10_000,
     },
 ];
+
+/// A strong lock where there can be few sessions: it is made alone, and stands on no page.
+static STRONG_OF_FEW: Workload = Workload {
+    word: "strong-of-8",
+    name: "strong relation lock, of 8 sessions",
+    work: Work::Pair,
+    list: KeyList::Strong,
+    empty: Work::TwoEmptyCalls,
+    floor: Work::StrongFloor,
+    map: Work::MapPair,
+    map_list: KeyList::Strong,
+    sessions: 8,
+    crowd: 0,
+};
 
 impl Workload {
     fn size(&self) -> Size {
@@ -239,4 +265,36 @@ fn print_workload<R: Wait + CpuClock + AllocGlobal + Print>(
     }
     print_times(rt, WIDTH, lines.as_slice())?;
     Ok(Some(workload.figures(lines.as_slice())))
+}
+
+/// The workload of this word.
+fn workload_of(word: &str) -> Option<&'static Workload> {
+    for workload in &WORKLOADS {
+        if workload.word == word {
+            return Some(workload);
+        }
+    }
+    (STRONG_OF_FEW.word == word).then_some(&STRONG_OF_FEW)
+}
+
+/// Makes so many steps of the workload that `word` names, with a manager of its own, times none, and tells what they
+/// leave. Fewer steps than its list has keys become one for each key.
+pub fn make_alone<R: Wait + CpuClock + AllocGlobal + Print>(
+    rt: &R,
+    asked: Asked,
+    word: &str,
+    steps: u32,
+) -> Result<()> {
+    let Some(workload) = workload_of(word) else {
+        bail!("no workload has the word {word}");
+    };
+    let size = workload.size();
+    let mut only = row(workload.name, workload.work, workload.list, None);
+    only.steps = steps;
+    let mut lines = lines(rt.alloc(), [only].as_slice(), asked.database, size, false)?;
+    let untimed = Asked {
+        check: true,
+        ..asked
+    };
+    run_lines(rt, untimed, size, lines.as_mut_slice())
 }
