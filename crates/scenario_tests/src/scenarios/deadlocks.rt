@@ -16,9 +16,8 @@ lock anna 5/16384 ShareLock
 lock bert 5/16384 ShareLock
 # anna: LOCK TABLE accounts IN EXCLUSIVE MODE;
 lock anna 5/16384 ExclusiveLock
-# bert: LOCK TABLE accounts IN EXCLUSIVE MODE;
+# bert: LOCK TABLE accounts IN EXCLUSIVE MODE; the error ends its transaction, and so its lock on the table goes
 lock bert 5/16384 ExclusiveLock
-# bert: COMMIT; which rolls back, since the transaction failed
 commit bert
 # anna: COMMIT;
 commit anna
@@ -56,9 +55,8 @@ lock a 5/16385 AccessExclusiveLock
 lock b 5/16384 AccessExclusiveLock
 list guard
 # The way out: one gives up its wait, and what it has.
-# guard: SELECT pg_cancel_backend(..);
+# guard: SELECT pg_cancel_backend(..); the error rolls b's transaction back
 cancel guard b
-# b: ROLLBACK;
 abort b
 list guard
 ",

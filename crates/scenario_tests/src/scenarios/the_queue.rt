@@ -74,9 +74,8 @@ lock web1 5/16384 AccessShareLock
 lock web2 5/16384 RowExclusiveLock
 # dba: SELECT * FROM pg_locks;
 list dba
-# dba: SELECT pg_cancel_backend(..);
+# dba: SELECT pg_cancel_backend(..); the error rolls the ALTER back
 cancel dba alter
-# alter: ROLLBACK;
 abort alter
 # dba: SELECT * FROM pg_locks;
 list dba
@@ -228,43 +227,102 @@ builder: released
 const AN_INDEX_BUILT_CONCURRENTLY: Row<'static> = (
     0,
     "\
-# CREATE INDEX CONCURRENTLY holds its table for the session in ShareUpdateExclusiveLock, through several transactions. Reads and
-# writes go on beside it. A VACUUM of the table waits for it, and so does a second index.
-session builder 5
+# CREATE INDEX CONCURRENTLY holds its table for the session in ShareUpdateExclusiveLock, through several transactions, and reads and
+# writes go on beside it. But it waits until each transaction that has written the table has ended. So a writer that sits idle in its
+# transaction stops the build, and a VACUUM of the table waits behind the build.
+# The server waits for the writer's virtual transaction, which is no lock of this manager. An advisory lock stands for it here: the writer
+# takes it at its BEGIN, and the build asks for it in ShareLock.
 session writer 5
+session builder 5
+session web 5
 session vacuum 5
+# writer: BEGIN; UPDATE accounts SET balance = 0 WHERE id = 1;
+lock writer adv/5/0/1/1 ExclusiveLock
+lock writer 5/16384 RowExclusiveLock
 # builder: CREATE INDEX CONCURRENTLY ON accounts (owner);
 lock builder 5/16384 ShareUpdateExclusiveLock session
-# writer: BEGIN; UPDATE accounts SET balance = 0 WHERE id = 1;
-lock writer 5/16384 RowExclusiveLock
-commit builder
+lock builder adv/5/0/1/1 ShareLock
+# web: UPDATE accounts SET balance = 0 WHERE id = 2;
+lock web 5/16384 RowExclusiveLock
+commit web
 # vacuum: VACUUM accounts;
 lock vacuum 5/16384 ShareUpdateExclusiveLock
-# writer: SELECT * FROM pg_locks;
-list writer
+# web: SELECT * FROM pg_locks;
+list web
+# writer: COMMIT; the build ends, and then the VACUUM
+commit writer
 commit builder
 unlock builder 5/16384 ShareUpdateExclusiveLock session
-# writer: COMMIT;
-commit writer
 commit vacuum
+
+# An ALTER TABLE waits behind the build too, and has a snapshot meanwhile. Before its end the build waits for older snapshots,
+# so each waits for the other. An advisory lock stands for that snapshot. The server finds the deadlock after deadlock_timeout, and ends
+# one of the two with an error: here the build.
+session alter 5
+# writer: BEGIN; UPDATE accounts SET balance = 0 WHERE id = 1;
+lock writer adv/5/0/1/1 ExclusiveLock
+lock writer 5/16384 RowExclusiveLock
+# builder: CREATE INDEX CONCURRENTLY ON accounts (balance);
+lock builder 5/16384 ShareUpdateExclusiveLock session
+lock builder adv/5/0/1/1 ShareLock
+# alter: ALTER TABLE accounts ADD COLUMN note text;
+lock alter adv/5/0/2/1 ExclusiveLock
+lock alter 5/16384 AccessExclusiveLock
+# web: SELECT * FROM accounts WHERE id = 2;
+lock web 5/16384 AccessShareLock
+# writer: COMMIT; the build goes on, and waits for the ALTER
+commit writer
+commit builder
+lock builder adv/5/0/2/1 ShareLock
+# The build leaves an invalid index behind.
+cancel vacuum builder
+abort builder
+commit alter
+commit web
 ",
     "\
-builder: session 0 database 5
-writer: session 1 database 5
-vacuum: session 2 database 5
-builder: granted
+writer: session 0 database 5
+builder: session 1 database 5
+web: session 2 database 5
+vacuum: session 3 database 5
 writer: granted
-builder: committed
+writer: granted
+builder: granted
+builder: waits
+web: granted
+web: committed
 vacuum: waits
 fast writer 15 5/16384 RowExclusiveLock
+table writer adv/5/0/1/1 ExclusiveLock granted
+table builder adv/5/0/1/1 ShareLock awaited
 table builder 5/16384 ShareUpdateExclusiveLock granted
 table vacuum 5/16384 ShareUpdateExclusiveLock awaited
-rows 3
+rows 5
+writer: committed
+builder: granted after waiting
 builder: committed
 builder: released
 vacuum: granted after waiting
-writer: committed
 vacuum: committed
+alter: session 4 database 5
+writer: granted
+writer: granted
+builder: granted
+builder: waits
+alter: granted
+alter: waits
+web: waits
+writer: committed
+builder: granted after waiting
+builder: committed
+builder: waits
+vacuum: asked builder
+builder: cancelled
+builder: aborted
+alter: granted after waiting
+alter: committed
+web: granted after waiting
+web: committed
 ",
     "",
 );
@@ -433,7 +491,7 @@ session alter 5
 lock anna 5/16384 AccessShareLock
 # alter: ALTER TABLE accounts ADD COLUMN note text;
 lock alter 5/16384 AccessExclusiveLock
-# bert: UPDATE accounts SET balance = 0 WHERE id = 1; it has nothing and waits behind the ALTER
+# bert: BEGIN; UPDATE accounts SET balance = 0 WHERE id = 1; it has nothing and waits behind the ALTER
 lock bert 5/16384 RowExclusiveLock
 # anna: UPDATE accounts SET balance = 0 WHERE id = 2; the same statement passes the ALTER
 lock anna 5/16384 RowExclusiveLock
@@ -444,9 +502,9 @@ commit anna
 commit alter
 
 # and else it stands before that waiter.
-# anna: BEGIN; SELECT * FROM accounts; while bert's UPDATE goes on
+# anna: BEGIN; SELECT * FROM accounts; while bert's transaction goes on
 lock anna 5/16384 AccessShareLock
-# alter: ALTER TABLE accounts ADD COLUMN note text;
+# alter: ALTER TABLE accounts ADD COLUMN since date;
 lock alter 5/16384 AccessExclusiveLock
 # anna: LOCK TABLE accounts IN SHARE MODE; it waits for bert, before the ALTER
 lock anna 5/16384 ShareLock
