@@ -4,7 +4,7 @@ use crate::programs::{Run, expect_program, words_of};
 use std::test::Fail;
 
 /// Lines of a shell, and what each is answered.
-static ANSWERS: [(&str, &str); 48] = [
+static ANSWERS: [(&str, &str); 49] = [
     ("session a 5", "a: session 0 database 5\n"),
     ("session bob 5", "bob: session 1 database 5\n"),
     ("", ""),
@@ -154,12 +154,16 @@ static ANSWERS: [(&str, &str); 48] = [
     ),
     (
         "help create index concurrently",
-        "\u{20} CREATE INDEX CONCURRENTLY takes ShareUpdateExclusiveLock session\n",
+        "\u{20} CREATE INDEX CONCURRENTLY takes ShareUpdateExclusiveLock session, and waits until each writer's transaction has ended\n",
     ),
     (
         "help Rollback",
         "\u{20} ROLLBACK is abort NAME\n\
          \u{20} ROLLBACK TO SAVEPOINT is subabort NAME, and then begin NAME\n",
+    ),
+    (
+        "help grant select on t to clerk",
+        "\u{20} GRANT is nothing here: it locks no table\n",
     ),
     (
         "help release savepoint",
@@ -178,7 +182,9 @@ static ANSWERS: [(&str, &str); 48] = [
          \u{20} SELECT FOR NO KEY UPDATE takes RowShareLock\n\
          \u{20} SELECT FOR SHARE takes RowShareLock\n\
          \u{20} SELECT FOR KEY SHARE takes RowShareLock\n\
-         \u{20} INSERT takes RowShareLock on the table that a foreign key refers to\n",
+         \u{20} INSERT takes RowShareLock on the table that a foreign key refers to\n\
+         \u{20} UPDATE takes RowShareLock on the table that a changed foreign key refers to, or that refers to a changed key\n\
+         \u{20} DELETE takes RowShareLock on a table that refers to it, RowExclusiveLock where that cascades\n",
     ),
     (
         "help exclusivelock",
@@ -281,6 +287,6 @@ fn helps(rt: HostRuntime) -> Result<(), Fail> {
         assert!(rt; all.as_str().contains(part), "{part:?}");
     }
     let table = printed(&rt, "lock_scenario shell", "help ALTER table\n")?;
-    assert_eq!(rt; table.as_str().lines().count(), 7);
+    assert_eq!(rt; table.as_str().lines().count(), 12);
     Ok(())
 }
