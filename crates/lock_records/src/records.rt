@@ -14,7 +14,6 @@ use place_index::PlaceIndex;
 use slab::Slab;
 use std::alloc::Global;
 use std::marker::Model;
-use std::snapshot::Snapshot;
 
 /// One partition of the lock table as lock.c keeps it: lock records, found through an index by the hash of the tag,
 /// holder records, and queue records of the objects that somebody awaits.
@@ -25,8 +24,8 @@ pub struct Records {
     queues: WaitQueues,
     index: PlaceIndex,
     begun: Option<Request>,
-    /// What contracts see of the request that room was made for last.
-    prepared: Snapshot<Option<Request>>,
+    /// The request that room was made for last. Contracts alone read it.
+    prepared: Option<Request>,
     /// Where a lock record was found last: the call that follows mostly wants the same one.
     hint: usize,
     /// Whether the object of the begun request has no lock record. Nobody makes one before it is granted or joins.
@@ -63,7 +62,7 @@ impl Records {
             queues: WaitQueues::new(alloc),
             index,
             begun: None,
-            prepared: Snapshot::of(&None),
+            prepared: None,
             hint: 0,
             absent: false,
         })
@@ -221,7 +220,7 @@ impl PartTable for Records {
         self.hint = found.unwrap_or(self.hint);
         let tag = *tag;
         self.begun = Some(Request { session, tag, mode });
-        self.prepared = Snapshot::of(&Some(Request { session, tag, mode }));
+        self.prepared = self.begun;
         Ok(())
     }
 
