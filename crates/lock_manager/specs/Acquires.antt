@@ -57,6 +57,22 @@ abbrev pub IsOwnAnswer : {A : Type 0} → A → Result A Refusal → Type 0
 IsOwnAnswer already (Ok answer) = answer ≡ already
 IsOwnAnswer already (Err refusal) = IsOwnRefusal refusal
 
+-- One by the fast path is answered so too where all slots of the relation's group are in use, which its use counts tell, and
+-- where memory runs out, which is for the session's own entry then.
+abbrev pub IsOwnAnswerBySlot : Result Acquired Refusal → Type 0
+IsOwnAnswerBySlot (Ok answer) = answer ≡ acquired.AlreadyHeld
+IsOwnAnswerBySlot (Err SlotsFull) = Unit {0}
+IsOwnAnswerBySlot (Err NoMemory) = Unit {0}
+IsOwnAnswerBySlot (Err refusal) = IsOwnRefusal refusal
+
+-- An acquire is refused for want of memory: for the session's own entry, and then nothing was done on the board, which is the
+-- one that it was, or for the request. `old` and `new` are the boards before and after it.
+abbrev pub IsRefusedForMemory :
+    {B : Type 0} → (B → Account) → Kind → Seated → Owned → UseCounts → Tag → Mode → B → B → UseCounts → Type 0
+IsRefusedForMemory view kind seat owned uses tag mode old new left =
+    ((owned.room ≡ 0) × (new ≡ old))
+    ⊎ Requests kind seat (view old) uses tag mode (Err NoMemory) (view new) left
+
 -- the entries once it has begun
 abbrev pub entries_begun : Begun → List Entry → Tag → Mode → Owner → List Entry
 entries_begun Granted entries tag mode owner = with_one_more entries tag mode owner

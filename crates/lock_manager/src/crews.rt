@@ -1,6 +1,6 @@
 //! Crews: lists of sessions that are opened at a desk, and closed there together.
 
-ghost use Rattle.std.specs.Prelude.{◌≡◌, ◌+◌, ◌-◌, ◌++◌, ◌∷◌, [], length, IfOk, MatchResult};
+ghost use Rattle.std.specs.Prelude.{◌≡◌, ◌⊎◌, ◌+◌, ◌-◌, ◌++◌, ◌∷◌, [], length, IfOk, IfErr, IsErrOf, OnOk, MatchResult};
 ghost use Rattle.lock_manager.specs.Crews.{AddsOf, AreOf, SeatsAre};
 
 use crate::desk::Desk;
@@ -28,6 +28,9 @@ pub fn open_sessions<T: PartTable, B: Board<T>, D: Desk<OwnSession<T, B>>, R: Wa
     ensures live { D.live desk.new + length crew.old.items ≡ D.live desk.old + length crew.new.items }
     ensures added { AddsOf D.database_of database crew.old.items crew.new.items }
     ensures all { IfOk result (λ _. length crew.new.items ≡ length crew.old.items + number) }
+    ensures issued { OnOk result (D.issued desk.new ≡ D.issued desk.old + number) }
+    ensures no_more { IsErrOf result Refusal.NoMoreSessions → D.issued desk.new ≡ (D.manager desk.old).limit }
+    ensures no_other { IfErr result (λ refusal. (refusal ≡ Refusal.NoMoreSessions) ⊎ (refusal ≡ Refusal.NoMemory)) }
 {
     'sessions: for opened in 0..number {
         open_behind(rt, desk, crew, database)?;
@@ -49,6 +52,9 @@ fn open_behind<T: PartTable, B: Board<T>, D: Desk<OwnSession<T, B>>, R: Wait>(
     ensures live { D.live desk.new + length crew.old.items ≡ D.live desk.old + length crew.new.items }
     ensures added { AddsOf D.database_of database crew.old.items crew.new.items }
     ensures one_more { IfOk result (λ _. length crew.new.items ≡ length crew.old.items + 1) }
+    ensures issued { OnOk result (D.issued desk.new ≡ D.issued desk.old + 1) }
+    ensures no_more { IsErrOf result Refusal.NoMoreSessions → D.issued desk.new ≡ (D.manager desk.old).limit }
+    ensures no_other { IfErr result (λ refusal. (refusal ≡ Refusal.NoMoreSessions) ⊎ (refusal ≡ Refusal.NoMemory)) }
 {
     let session = desk.open(database)?;
     match append_session(crew, session) {
@@ -82,6 +88,7 @@ pub fn close_sessions<T: PartTable, B: Board<T>, D: Desk<OwnSession<T, B>>, R: W
     requires own { AreOf B.seat (D.manager desk.old) crew.items }
     ensures manager { D.manager desk.new ≡ D.manager desk.old }
     ensures live { D.live desk.new ≡ D.live desk.old - length crew.items }
+    ensures issued { D.issued desk.new ≡ D.issued desk.old }
 {
     'sessions: while let Some(session) = crew.pop() {
         desk.close(rt, session);

@@ -1,7 +1,9 @@
 //! Desks, which open, count and close the sessions of a manager for a program that is written over any board.
 
-ghost use Rattle.std.specs.Prelude.{◌≡◌, ◌<◌, ◌+◌, ◌-◌, [], All, length, map, IfOk, OnOk, OnErr};
+ghost use Rattle.std.specs.Prelude.{◌≡◌, ◌⊎◌, ◌↔◌, ◌<◌, ◌+◌, ◌-◌, [], All, length, map, IsErrOf, IfOk, IfErr, OnOk, OnErr};
 ghost use Rattle.lock_manager.specs.Audits.{entries_owned, strong_owned};
+ghost use Rattle.shared_rule.specs.History.{first_account};
+ghost use Rattle.lock_manager.specs.Keeper.{content_of};
 ghost use Rattle.lock_manager.specs.Managers.{IsOpenerOf};
 ghost use Rattle.lock_manager.specs.Sessions.{DontConflict};
 
@@ -18,6 +20,7 @@ use std::sync::Wait;
 pub trait Desk<S> {
     ghost use Rattle.std.specs.Prelude.{ℕ, List};
     ghost use Rattle.local_locks.specs.declared.records.Entry.{Entry};
+    ghost use Rattle.lock_world.specs.Account.{Account};
     ghost use Rattle.shared_rule.specs.Boards.{Seated};
     ghost use Rattle.lock_manager.specs.Managers.{ManagerView};
 
@@ -32,6 +35,9 @@ pub trait Desk<S> {
     // At which table a session is, and under which number.
     ghost seat: { S → Seated };
 
+    // What a session has and awaits by its own account, with its trace.
+    ghost account: { S → Account };
+
     // The database of a session, and its local entries.
     ghost database_of: { S → ℕ };
 
@@ -45,6 +51,8 @@ pub trait Desk<S> {
         ensures database { IfOk result (λ session. database_of session ≡ database) }
         ensures nothing { IfOk result (λ session. entries session ≡ []) }
         ensures live { OnOk result (live self.new ≡ live self.old + 1) }
+        ensures no_more { IsErrOf result Refusal.NoMoreSessions ↔ (issued self.old ≡ (manager self.old).limit) }
+        ensures no_other { IfErr result (λ refusal. (refusal ≡ Refusal.NoMoreSessions) ⊎ (refusal ≡ Refusal.NoMemory)) }
         ensures refused { OnErr result (live self.new ≡ live self.old) }
         ensures few { OnOk result (issued self.old < 64) }
         ensures issued { OnOk result (issued self.new ≡ issued self.old + 1) }
@@ -54,13 +62,15 @@ pub trait Desk<S> {
     fn live(&self) -> u32
         ensures { result ≡ live self.now };
 
-    /// Two sessions meet (`Session::meet`): no hold of the one conflicts with a hold of the other, and they keep
-    /// them. The other comes back.
+    /// Two sessions meet (`Session::meet`): no hold of the one conflicts with a hold of the other. Both keep what
+    /// they have, and make no step. The other comes back.
     fn meet(&self, session: &mut S, other: S) -> S
         requires same_manager { (seat other).table ≡ (seat session.old).table }
         ensures told { DontConflict (entries session.old) (entries other) }
         ensures kept { seat session.new ≡ seat session.old }
         ensures its_kept { seat result ≡ seat other }
+        ensures no_step { account session.new ≡ account session.old }
+        ensures its_no_step { account result ≡ account other }
         ensures same_entries { entries session.new ≡ entries session.old }
         ensures its_entries { entries result ≡ entries other };
 
@@ -130,6 +140,8 @@ impl<'a> Desk<Session<'a>> for ManagerDesk<'a> {
       table = session.board.table.now.table_id;
     } };
 
+    ghost account = { λ session. first_account content_of session.board.place.me.0.sessions };
+
     ghost database_of = { λ session. session.database };
 
     ghost entries = { λ session. session.owned.entries };
@@ -150,6 +162,10 @@ impl<'a> Desk<Session<'a>> for ManagerDesk<'a> {
             B.seat session.new.board ≡ B.seat session.old.board }
         ensures its_kept { let B = ⟦<SeatBoard<'a, Part> as Board<Part>>⟧ in
             B.seat result.board ≡ B.seat other.entry.board }
+        ensures no_step { let B = ⟦<SeatBoard<'a, Part> as Board<Part>>⟧ in
+            B.view session.new.board ≡ B.view session.old.board }
+        ensures its_no_step { let B = ⟦<SeatBoard<'a, Part> as Board<Part>>⟧ in
+            B.view result.board ≡ B.view other.entry.board }
         ensures same_entries { session.new.owned.entries ≡ session.old.owned.entries }
         ensures its_entries { result.owned.entries ≡ other.entry.owned.entries }
     {

@@ -1,6 +1,6 @@
 //! The manager, which has the shared table, and the opener, who gives sessions out and takes them back.
 
-ghost use Rattle.std.specs.Prelude.{◌≡◌, ◌<◌, ◌+◌, ◌-◌, ◌↔◌, [], ◌∷◌, length, true, false, IfOk, IsErrOf, IsOkUnless, OnOk, OnErr};
+ghost use Rattle.std.specs.Prelude.{◌≡◌, ◌<◌, ◌+◌, ◌-◌, ◌↔◌, ◌⊎◌, [], ◌∷◌, length, true, false, IfOk, IfErr, IsErrOf, IsOkUnless, OnOk, OnErr};
 ghost use Rattle.shared_rule.specs.Seats.{MayCloseBy};
 ghost use Rattle.shared_rule.specs.Boards.{nothing_due};
 ghost use Rattle.lock_manager.specs.Managers.{IsNew, IsOpenerOf, IsOpened, TakesBack, is_in_range};
@@ -157,6 +157,7 @@ impl Opener {
             record (self.old) { issued = self.old.issued + 1; live = self.old.live + 1 }) }
         ensures no_more { IsErrOf result Refusal.NoMoreSessions ↔ (self.old.issued ≡ self.old.limit) }
         ensures no_other { self.old.issued < self.old.limit → IsOkUnless result Refusal.NoMemory }
+        ensures two { IfErr result (λ refusal. (refusal ≡ Refusal.NoMoreSessions) ⊎ (refusal ≡ Refusal.NoMemory)) }
         ensures unchanged { OnErr result (self.new ≡ self.old) }
     {
         if self.issued == self.sessions {

@@ -9,7 +9,7 @@ ghost use Rattle.lock_manager.specs.Rest.{IsIdle, IsUseCount, IsAtRest};
 ghost use Rattle.lock_manager.specs.Sessions.{KeepsOwn};
 ghost use Rattle.wait_queue.specs.Decide.{IsAfterRoom};
 ghost use Rattle.lock_manager.specs.Requests.{DecidesInPart, HadRoom, Requests, IsRequested};
-ghost use Rattle.lock_manager.specs.Acquires.{AnswersByOwned, HasEntryRoom, IsOwnAnswer, entries_begun, Begins, AcquiresBySlot};
+ghost use Rattle.lock_manager.specs.Acquires.{AnswersByOwned, HasEntryRoom, IsOwnAnswer, IsOwnAnswerBySlot, IsRefusedForMemory, entries_begun, Begins, AcquiresBySlot};
 ghost use Rattle.lock_manager.specs.Waiting.{IsWaiting};
 
 use crate::sessions::Own;
@@ -57,6 +57,8 @@ pub fn acquire<T: PartTable, B: Board<T>, R: Wait>(
     ensures room_first { IfErr result (IsAfterRoom (HadRoom T.prepared (B.seat board.old).number tag mode)) }
     ensures entry_room_first { IfErr result (HasEntryRoom own.new.locals) }
     ensures untouched { IsOwnAnswer Begun.AlreadyHeld result → board.new ≡ board.old }
+    ensures no_memory { IfErr result (λ refusal. refusal ≡ Refusal.NoMemory → IsRefusedForMemory B.view kind
+        (B.seat board.old) own.old.locals own.old.uses tag mode board.old board.new own.new.uses) }
     ensures entries { IfOk result (λ begun.
         own.new.locals.entries ≡ entries_begun begun own.old.locals.entries tag mode owner) }
     ensures same_entries { OnErr result (own.new.locals.entries ≡ own.old.locals.entries) }
@@ -103,7 +105,7 @@ pub fn acquire_by_slot<T: PartTable, B: Board<T>>(
     ensures steps { AcquiresBySlot (B.seat board.old).groups (B.seat board.old).number own.old.locals
         (B.view board.old) own.old.uses tag mode result (B.view board.new) own.new.uses }
     ensures entry_room_first { IfErr result (HasEntryRoom own.new.locals) }
-    ensures untouched { IsOwnAnswer Acquired.AlreadyHeld result → board.new ≡ board.old }
+    ensures untouched { IsOwnAnswerBySlot result → board.new ≡ board.old }
     ensures entries { OnOk result (own.new.locals.entries ≡ with_one_more own.old.locals.entries tag mode owner) }
     ensures same_entries { OnErr result (own.new.locals.entries ≡ own.old.locals.entries) }
     ensures rest { IsAtRest (B.seat board.old).groups (B.seat board.old).limit own.old.database own.new.uses

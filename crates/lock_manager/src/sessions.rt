@@ -16,7 +16,7 @@ ghost use Rattle.lock_manager.specs.Listings.{Lists};
 ghost use Rattle.lock_manager.specs.Managers.{HasClosed};
 ghost use Rattle.wait_queue.specs.Decide.{IsAfterRoom};
 ghost use Rattle.lock_manager.specs.Requests.{HadRoom};
-ghost use Rattle.lock_manager.specs.Acquires.{AnswersByOwned, HasEntryRoom, IsOwnAnswer, Acquires, AcquiresBySlot};
+ghost use Rattle.lock_manager.specs.Acquires.{AnswersByOwned, HasEntryRoom, IsOwnAnswer, IsOwnAnswerBySlot, IsRefusedForMemory, Acquires, AcquiresBySlot};
 ghost use Rattle.lock_manager.specs.Releases.{Releases, ReleasesAll};
 
 use crate::keeper::Part;
@@ -197,6 +197,9 @@ impl<T: PartTable, B: Board<T>> OwnSession<T, B> {
         ensures steps { Acquires (B.seat self.old.board) self.old.owned (B.view self.old.board) self.old.uses tag mode
             result (B.view self.new.board) self.new.uses }
         ensures untouched { IsOwnAnswer Acquired.AlreadyHeld result → self.new.board ≡ self.old.board }
+        ensures no_memory { IfErr result (λ refusal. refusal ≡ Refusal.NoMemory → IsRefusedForMemory B.view
+            Kind.Conditional (B.seat self.old.board) self.old.owned self.old.uses tag mode self.old.board self.new.board
+            self.new.uses) }
 
         // What stands after it.
         ensures entries { OnOk result (self.new.owned.entries
@@ -236,7 +239,7 @@ impl<T: PartTable, B: Board<T>> OwnSession<T, B> {
             × (is_eligible_for self.old.database tag mode ≡ false)) }
         ensures steps { AcquiresBySlot (B.seat self.old.board).groups (B.seat self.old.board).number
             self.old.owned (B.view self.old.board) self.old.uses tag mode result (B.view self.new.board) self.new.uses }
-        ensures untouched { IsOwnAnswer Acquired.AlreadyHeld result → self.new.board ≡ self.old.board }
+        ensures untouched { IsOwnAnswerBySlot result → self.new.board ≡ self.old.board }
 
         // What stands after it.
         ensures entries { OnOk result (self.new.owned.entries

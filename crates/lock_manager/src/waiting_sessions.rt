@@ -6,7 +6,7 @@ ghost use Rattle.lock_manager.specs.declared.requests.Begun.TheVariants as begun
 ghost use Rattle.lock_manager.specs.Sessions.{IsSame};
 ghost use Rattle.wait_queue.specs.Decide.{IsAfterRoom};
 ghost use Rattle.lock_manager.specs.Requests.{HadRoom};
-ghost use Rattle.lock_manager.specs.Acquires.{AnswersByOwned, HasEntryRoom, IsOwnAnswer, entries_begun, Begins};
+ghost use Rattle.lock_manager.specs.Acquires.{AnswersByOwned, HasEntryRoom, IsOwnAnswer, IsRefusedForMemory, entries_begun, Begins};
 ghost use Rattle.lock_manager.specs.Waiting.{Asks, LooksForWaiters, Polls, Cancels, Waits};
 ghost use Rattle.lock_manager.specs.WaitingSessions.{answer_started, board_started, uses_started, owned_started};
 ghost use Rattle.lock_manager.specs.WaitingSessions.{UnlessQueued, IfQueued};
@@ -183,6 +183,9 @@ impl<T: PartTable, B: Board<T>> OwnSession<T, B> {
         ensures steps { Begins Kind.Waiting (B.seat self.board) self.owned (B.view self.board) self.uses tag mode
             (answer_started result) (B.view (board_started result)) (uses_started result) }
         ensures untouched { IsOwnAnswer begun.AlreadyHeld (answer_started result) → board_started result ≡ self.board }
+        ensures no_memory { IfErr (answer_started result) (λ refusal. refusal ≡ Refusal.NoMemory → IsRefusedForMemory B.view
+            Kind.Waiting (B.seat self.board) self.owned self.uses tag mode self.board (board_started result)
+            (uses_started result)) }
 
         // What stands after it.
         ensures entries { IfOk (answer_started result) (λ answer. (owned_started result).entries
@@ -224,6 +227,9 @@ impl<T: PartTable, B: Board<T>> OwnSession<T, B> {
             (answer_locked result) (B.view (session_locked result).board) (session_locked result).uses }
         ensures untouched { IsOwnAnswer Acquired.AlreadyHeld (answer_locked result) →
             (session_locked result).board ≡ self.board }
+        ensures no_memory { IfErr (answer_locked result) (λ refusal. refusal ≡ Refusal.NoMemory → IsRefusedForMemory B.view
+            Kind.Waiting (B.seat self.board) self.owned self.uses tag mode self.board (session_locked result).board
+            (session_locked result).uses) }
 
         // What stands after it.
         ensures entries { OnOk (answer_locked result) ((session_locked result).owned.entries
@@ -258,6 +264,8 @@ impl<T: PartTable, B: Board<T>> OwnSession<T, B> {
         ensures steps { Locks (B.seat self.old.board) self.old.owned (B.view self.old.board) self.old.uses tag mode
             result (B.view self.new.board) self.new.uses }
         ensures untouched { IsOwnAnswer Acquired.AlreadyHeld result → self.new.board ≡ self.old.board }
+        ensures no_memory { IfErr result (λ refusal. refusal ≡ Refusal.NoMemory → IsRefusedForMemory B.view Kind.Waiting
+            (B.seat self.old.board) self.old.owned self.old.uses tag mode self.old.board self.new.board self.new.uses) }
 
         // What stands after it.
         ensures entries { OnOk result (self.new.owned.entries

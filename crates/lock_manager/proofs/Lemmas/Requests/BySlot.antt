@@ -1,4 +1,4 @@
-use Rattle.std.proofs.Common.{◌≡◌, ℕ, true, List, Err, sym, ap, ◌∙◌}
+use Rattle.std.proofs.Common.{◌≡◌, ℕ, true, List, Result, Err, refl, sym, ap, ◌∙◌}
 use Rattle.modes_core.specs.declared.modes.Mode.{Mode}
 use Rattle.modes_core.specs.declared.tags.Tag.{Tag}
 use Rattle.modes_core.specs.declared.refusals.Refusal.{Refusal}
@@ -9,7 +9,7 @@ use Rattle.lock_world.specs.AccountSteps.{own_with}
 use Rattle.lock_world.specs.World.{TraceEntry}
 use Rattle.fast_path.specs.Grants.{GrantsInSlot, TriesGrant}
 use Rattle.fast_path.specs.declared.use_counts.UseCounts.{UseCounts}
-use Rattle.lock_manager.specs.Acquires.{IsOwnRefusal}
+use Rattle.lock_manager.specs.Acquires.{IsOwnAnswerBySlot}
 use Rattle.lock_manager.specs.Requests.{account_granted}
 use Rattle.lock_manager.proofs.Lemmas.Requests.Whole.{eligible-weak, weak-counted}
 
@@ -30,22 +30,24 @@ by_slot-account groups limit number a b before uses left tag mode eligible grant
       trace = sym (ap (λ (x : Account). x.trace) granted.account) i;
     })
 
--- Nor is it answered, once it is tried, by what the session owns alone.
-pub tried-not_own :
-    (groups number : ℕ) (a b : Account) (uses left : UseCounts) (tag : Tag) (mode : Mode) (refusal : Refusal)
-    → TriesGrant groups number a uses tag mode (Err refusal) b left → IsOwnRefusal refusal → ⊥
-tried-not_own groups number a b uses left tag mode CountFull tried own = tried
-tried-not_own groups number a b uses left tag mode LocalFull tried own = tried
-tried-not_own groups number a b uses left tag mode NotEligible tried own = tried
-tried-not_own groups number a b uses left tag mode NoMemory tried own = own
-tried-not_own groups number a b uses left tag mode (Conflict other its how) tried own = own
-tried-not_own groups number a b uses left tag mode (SimpleDeadlock other) tried own = own
-tried-not_own groups number a b uses left tag mode Cancelled tried own = own
-tried-not_own groups number a b uses left tag mode NotHeld tried own = own
-tried-not_own groups number a b uses left tag mode Busy tried own = own
-tried-not_own groups number a b uses left tag mode SlotsFull tried own = own
-tried-not_own groups number a b uses left tag mode StrongCounted tried own = own
-tried-not_own groups number a b uses left tag mode NoMoreSessions tried own = own
-tried-not_own groups number a b uses left tag mode BadConfig tried own = own
-tried-not_own groups number a b uses left tag mode TooDeep tried own = own
-tried-not_own groups number a b uses left tag mode NoNested tried own = own
+-- Once it is tried it is answered by what the session has of its own where its slots are full alone: then this holds, which does
+-- for such an answer.
+pub tried-untouched :
+    (P : Type 0) (groups number : ℕ) (a b : Account) (uses left : UseCounts) (tag : Tag) (mode : Mode) (refusal : Refusal)
+    → TriesGrant groups number a uses tag mode (Err refusal) b left → IsOwnAnswerBySlot (Err refusal)
+    → ((let refused : Result (Unit {0}) Refusal = Err refusal in refused) ≡ Err SlotsFull → P) → P
+tried-untouched P groups number a b uses left tag mode CountFull tried own full = absurd tried
+tried-untouched P groups number a b uses left tag mode LocalFull tried own full = absurd tried
+tried-untouched P groups number a b uses left tag mode NotEligible tried own full = absurd tried
+tried-untouched P groups number a b uses left tag mode NoMemory tried own full = absurd tried
+tried-untouched P groups number a b uses left tag mode SlotsFull tried own full = full refl
+tried-untouched P groups number a b uses left tag mode (Conflict other its how) tried own full = absurd own
+tried-untouched P groups number a b uses left tag mode (SimpleDeadlock other) tried own full = absurd own
+tried-untouched P groups number a b uses left tag mode Cancelled tried own full = absurd own
+tried-untouched P groups number a b uses left tag mode NotHeld tried own full = absurd own
+tried-untouched P groups number a b uses left tag mode Busy tried own full = absurd own
+tried-untouched P groups number a b uses left tag mode StrongCounted tried own full = absurd own
+tried-untouched P groups number a b uses left tag mode NoMoreSessions tried own full = absurd own
+tried-untouched P groups number a b uses left tag mode BadConfig tried own full = absurd own
+tried-untouched P groups number a b uses left tag mode TooDeep tried own full = absurd own
+tried-untouched P groups number a b uses left tag mode NoNested tried own full = absurd own

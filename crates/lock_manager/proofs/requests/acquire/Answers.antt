@@ -1,8 +1,8 @@
-use Rattle.std.proofs.Common.{◌≡◌, ◌<◌, List, Ok, length, arith, ap, ◌∙◌, subst}
+use Rattle.std.proofs.Common.{◌≡◌, ◌<◌, List, Ok, Err, length, arith, ap, ◌∙◌, subst, inr}
 use Rattle.local_locks.specs.declared.records.Entry.{Entry}
 use Rattle.local_locks.specs.Owned.{has_entry, with_one_more}
 use Rattle.lock_world.specs.Happens.Counters.{most_counted}
-use Rattle.lock_manager.specs.Requests.{IsRequested}
+use Rattle.lock_manager.specs.Requests.{Requests, IsRequested}
 use Rattle.local_locks.proofs.NewLaws.{reserved-new}
 use Rattle.lock_manager.proofs.Lemmas.Rest.Acquires.{held_again, not_held_yet, rest-not_counted, rest-few, rest-granted, rest-held_again}
 use Rattle.lock_manager.proofs.Lemmas.Requests.Whole.{never-queued, requested-not_own}
@@ -63,3 +63,8 @@ pub returns-in-Err-clause-untouched : goal.returns-in-Err-clause-untouched
 returns-in-Err-clause-untouched g c own = absurd
     (requested-not_own c.args.kind (g.B.Board.seat c.args.board.now) (g.B.Board.view c.args.board.now) (g.B.Board.view c.request.new.board) c.args.own.now.uses c.request.new.uses
     c.args.tag c.args.mode c.in-Err.refusal c.in-Err.ensures.steps own)
+
+pub returns-in-Err-clause-no_memory : goal.returns-in-Err-clause-no_memory
+returns-in-Err-clause-no_memory g c is = inr
+    (subst (λ refusal. Requests c.args.kind (g.B.Board.seat c.args.board.now) (g.B.Board.view c.args.board.now) c.args.own.now.uses c.args.tag c.args.mode (Err refusal) (g.B.Board.view c.request.new.board) c.request.new.uses)
+    is c.in-Err.ensures.steps)

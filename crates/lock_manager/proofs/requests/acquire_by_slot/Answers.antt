@@ -3,7 +3,7 @@ use Rattle.modes_core.specs.Tag.{is_eligible_for}
 use Rattle.local_locks.specs.declared.records.Entry.{Entry}
 use Rattle.local_locks.specs.Owned.{has_entry, with_one_more}
 use Rattle.lock_manager.proofs.Lemmas.Rest.Acquires.{rest-database, held_again, not_held_yet, rest-granted, rest-held_again}
-use Rattle.lock_manager.proofs.Lemmas.Requests.BySlot.{by_slot-account, tried-not_own}
+use Rattle.lock_manager.proofs.Lemmas.Requests.BySlot.{by_slot-account, tried-untouched}
 use Rattle.lock_manager.proofs.requests.acquire_by_slot.Goals as goal
 
 pub returns-then-branch-clause-rest : goal.returns-then-branch-clause-rest
@@ -39,6 +39,6 @@ returns-in-Ok-clause-rest g c =
     (c.add_new.ensures.entries ∙ ap (λ (es : List Entry). with_one_more es c.args.tag c.args.mode c.args.owner) (c.reserve_new.ensures.entries ∙ yet.1)) c.requires.rest
 
 pub returns-in-Err-clause-untouched : goal.returns-in-Err-clause-untouched
-returns-in-Err-clause-untouched g c own = absurd
-    (tried-not_own (g.B.Board.seat c.args.board.now).groups (g.B.Board.seat c.args.board.now).number (g.B.Board.view c.args.board.now) (g.B.Board.view c.try_grant.new.board)
-    c.args.own.now.uses c.try_grant.new.uses c.args.tag c.args.mode c.in-Err.refusal c.in-Err.ensures.granted own)
+returns-in-Err-clause-untouched g c own =
+    tried-untouched _ (g.B.Board.seat c.args.board.now).groups (g.B.Board.seat c.args.board.now).number (g.B.Board.view c.args.board.now) (g.B.Board.view c.try_grant.new.board)
+    c.args.own.now.uses c.try_grant.new.uses c.args.tag c.args.mode c.in-Err.refusal c.in-Err.ensures.granted own c.in-Err.ensures.untouched

@@ -1,0 +1,14 @@
+use Rattle.std.proofs.Common.{subst}
+use Rattle.wait_queue.specs.declared.requests.Kind.TheVariants.{Waiting}
+use Rattle.lock_manager.specs.declared.sessions.Own.{Own}
+use Rattle.lock_manager.specs.Acquires.{IsRefusedForMemory}
+use Rattle.lock_manager.proofs.sessions.OwnSession.start.Goals as goal
+
+pub returns-in-Err-clause-no_memory : goal.returns-in-Err-clause-no_memory
+returns-in-Err-clause-no_memory g c is =
+    let board = c.acquire.new.board in
+    let left = c.acquire.new.own.uses in
+    let own = subst
+    (λ (own : Own). IsRefusedForMemory g.B.Board.view Waiting (g.B.Board.seat c.self.inside.board) own.locals own.uses c.args.tag c.args.mode c.self.inside.board board left)
+    c.deref_mut.ensures.value (c.in-Err.ensures.no_memory is) in
+    subst (λ s. IsRefusedForMemory g.B.Board.view Waiting (g.B.Board.seat s.board) s.owned s.uses c.args.tag c.args.mode s.board board left) c.self.view_is own

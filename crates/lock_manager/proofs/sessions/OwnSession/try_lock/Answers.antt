@@ -1,0 +1,21 @@
+use Rattle.std.proofs.Common.{subst}
+use Rattle.wait_queue.specs.declared.requests.Kind.TheVariants.{Conditional}
+use Rattle.lock_manager.specs.declared.sessions.Own.{Own}
+use Rattle.lock_manager.specs.Acquires.{IsRefusedForMemory}
+use Rattle.lock_manager.proofs.sessions.OwnSession.try_lock.Goals as goal
+use Rattle.lock_manager.proofs.sessions.OwnSession.try_lock.Goals.{in-Ok-AlreadyHeld, in-Ok-Granted, in-Err}
+
+pub returns-clause-no_memory : goal.returns-clause-no_memory
+returns-clause-no_memory g c =
+    let board = c.acquire.new.board in
+    let left = c.acquire.new.own.uses in
+    elim c.match-acquire.branch [
+      | in-Ok-AlreadyHeld w ↦ rw w.result-is tt
+      | in-Ok-Granted w ↦ rw w.result-is tt
+      | in-Err w ↦
+          rw w.result-is (λ is.
+          let own = subst
+          (λ (own : Own). IsRefusedForMemory g.B.Board.view Conditional (g.B.Board.seat c.self.inside.board) own.locals own.uses c.args.tag c.args.mode c.self.inside.board board left)
+          c.deref_mut.ensures.value (w.in-Err.ensures.no_memory is) in
+          subst (λ s. IsRefusedForMemory g.B.Board.view Conditional (g.B.Board.seat s.board) s.owned s.uses c.args.tag c.args.mode s.board board left) c.self.view_is own)
+    ]
