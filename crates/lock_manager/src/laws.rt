@@ -1,7 +1,10 @@
 //! What the contracts of a session's calls say together. Each function here is a law: its clause is proved, and its
 //! body is empty.
 
-ghost use Rattle.std.specs.Prelude.{◌≢◌, ℕ, Err};
+ghost use Rattle.std.specs.Prelude.{◌≡◌, ◌≢◌, ◌<◌, ℕ, Err, None};
+ghost use mathlib.Core.Option.{some};
+ghost use lib.ListN.{get_elem?};
+ghost use Rattle.atomic_table.specs.Table.{State};
 ghost use Rattle.modes_core.specs.declared.modes.Mode.{Mode};
 ghost use Rattle.modes_core.specs.declared.tags.Tag.{Tag};
 ghost use Rattle.modes_core.specs.declared.refusals.How.{How};
@@ -9,7 +12,17 @@ ghost use Rattle.modes_core.specs.declared.refusals.Refusal.TheVariants.{Conflic
 ghost use Rattle.wait_queue.specs.declared.requests.Kind.TheVariants.{Conditional};
 ghost use Rattle.lock_world.specs.Account.{Account};
 ghost use Rattle.lock_world.specs.Headline.{IsInTheWay};
+ghost use Rattle.lock_world.specs.World.{World};
 ghost use Rattle.shared_rule.specs.Boards.{Seated};
+ghost use Rattle.shared_rule.specs.Ruled.{Ruled};
+ghost use Rattle.shared_rule.specs.declared.history.View.{View};
+ghost use Rattle.shared_rule.specs.declared.kept.Kept.{Kept};
+ghost use Rattle.shared_rule.specs.declared.kept.Kept.TheVariants as kept;
+ghost use Rattle.shared_rule.specs.Layout.{content_slot_of};
+ghost use Rattle.lock_records.specs.declared.counts.Counts.{Counts};
+ghost use Rattle.lock_records.specs.Counts.{AreCountsOf, CountSessions, IsUntouched};
+ghost use Rattle.lock_records.specs.View.{RecordView, content_of};
+ghost use Rattle.shared_rule.specs.declared.rule.Sizes.{Sizes};
 ghost use Rattle.fast_path.specs.declared.use_counts.UseCounts.{UseCounts};
 ghost use Rattle.lock_manager.specs.Requests.{Decides};
 
@@ -24,4 +37,18 @@ pub fn a_conflict_names_another_session_in_the_way()
         (tag : Tag) (mode its : Mode) (other : ℕ) (how : How) →
         (decides : Decides Conditional seat a uses tag mode (Err (Conflict other its how)) b left) →
         IsInTheWay decides.taken seat.number tag mode (record { session = other; mode = its; how = how }) }
+{}
+
+/// The counts of the running table are exact. The rule of the table holds between any two steps of all threads; where
+/// it does, a partition that nobody has in hand has its part at home, with the content that the World has there. What
+/// `RecordPart::counts` says of an object of that part is how many sessions hold it in each mode in that content, and
+/// how many hold or await it so; where it has no counts, nobody does.
+pub fn the_counts_of_the_table_are_exact()
+    ensures { (sizes : Sizes) (state : State (Kept RecordView) (View RecordView))
+        (rule : Ruled content_of (λ part. part.begun) sizes state) (partition : ℕ) → partition < 16 →
+        rule.world.contents.hand partition ≡ None →
+        (part : RecordView) × (get_elem? state.homes (content_slot_of partition) ≡ some (some (kept.Part part)))
+        × ((tag : Tag) (counts : Counts) → AreCountsOf (content_of part) tag counts →
+        CountSessions (rule.world.contents.now partition) tag counts)
+        × ((tag : Tag) → IsUntouched (content_of part) tag → IsUntouched (rule.world.contents.now partition) tag) }
 {}

@@ -16,3 +16,4 @@ pub mod Parts
 pub mod Wakings
 pub mod Listings
 pub mod CountLaws
+pub mod Sessions
