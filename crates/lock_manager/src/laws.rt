@@ -1,7 +1,7 @@
 //! What the contracts of a session's calls say together. Each function here is a law: its clause is proved, and its
 //! body is empty.
 
-ghost use Rattle.std.specs.Prelude.{◌≡◌, ◌≢◌, ◌<◌, ℕ, Err, None};
+ghost use Rattle.std.specs.Prelude.{◌≡◌, ◌≢◌, ◌<◌, ℕ, List, ◌∷◌, ◌++◌, Err, None, Some, slice_get};
 ghost use mathlib.Core.Option.{some};
 ghost use lib.ListN.{get_elem?};
 ghost use Rattle.atomic_table.specs.Table.{State};
@@ -11,10 +11,13 @@ ghost use Rattle.modes_core.specs.declared.refusals.How.{How};
 ghost use Rattle.modes_core.specs.declared.refusals.Refusal.TheVariants.{Conflict};
 ghost use Rattle.wait_queue.specs.declared.requests.Kind.TheVariants.{Conditional};
 ghost use Rattle.lock_world.specs.Account.{Account};
-ghost use Rattle.lock_world.specs.Headline.{IsInTheWay};
-ghost use Rattle.lock_world.specs.World.{World};
+ghost use Rattle.lock_world.specs.Headline.{IsInTheWay, NamesWhatIs};
+ghost use Rattle.lock_world.specs.Happens.{Runs};
+ghost use Rattle.lock_world.specs.World.{World, TraceEntry, opening};
 ghost use Rattle.shared_rule.specs.Boards.{Seated};
+ghost use Rattle.shared_rule.specs.History.{told};
 ghost use Rattle.shared_rule.specs.Ruled.{Ruled};
+ghost use Rattle.shared_rule.specs.declared.history.History.{History};
 ghost use Rattle.shared_rule.specs.declared.history.View.{View};
 ghost use Rattle.shared_rule.specs.declared.kept.Kept.{Kept};
 ghost use Rattle.shared_rule.specs.declared.kept.Kept.TheVariants as kept;
@@ -25,6 +28,8 @@ ghost use Rattle.lock_records.specs.View.{RecordView, content_of};
 ghost use Rattle.shared_rule.specs.declared.rule.Sizes.{Sizes};
 ghost use Rattle.fast_path.specs.declared.use_counts.UseCounts.{UseCounts};
 ghost use Rattle.lock_manager.specs.Requests.{Decides};
+
+use lock_table::PartTable;
 
 /// A conditional request that is refused with a conflict, as `steps` of `try_lock` says it then, names another session.
 /// In the content that was taken for it that session holds the object in the mode that is named, or awaits it so, and
@@ -37,6 +42,25 @@ pub fn a_conflict_names_another_session_in_the_way()
         (tag : Tag) (mode its : Mode) (other : ℕ) (how : How) →
         (decides : Decides Conditional seat a uses tag mode (Err (Conflict other its how)) b left) →
         IsInTheWay decides.taken seat.number tag mode (record { session = other; mode = its; how = how }) }
+{}
+
+/// A refusal saw what it names. The rule of the table holds between any two steps of all threads; where it does, let a
+/// session's account have gone on from the one that `try_lock` left when it was refused with a conflict, as `steps` of
+/// `try_lock` says it then. Events lead from the opening World to the one that the table shows. In a World on their
+/// way, in which the session had made just the steps before the episode that decided, the content of the object's
+/// partition was the one that was taken. There the session named, another one, stood with the mode named on the object,
+/// or awaited it, and that mode conflicts with the one asked for.
+pub fn a_refusal_saw_what_it_names<T: PartTable>()
+    ensures { (sizes : Sizes) (state : State (Kept T) (View T)) (rule : Ruled T.content T.begun sizes state)
+        (at place : ℕ) (view : View T) (history : History T) → get_elem? state.views at ≡ some view →
+        slice_get view.sessions place ≡ Some history → (seat : Seated) (a b : Account) (uses left : UseCounts)
+        (tag : Tag) (mode its : Mode) (other : ℕ) (how : How) → seat.number ≡ history.number →
+        (decides : Decides Conditional seat a uses tag mode (Err (Conflict other its how)) b left) →
+        (after : List TraceEntry) → (told T.content history.number history.marks).trace ≡ b.trace ++ after →
+        (run : Runs (opening sizes.sessions sizes.groups) rule.events rule.world) × (way : ℕ) × (world : World)
+        × (slice_get (opening sizes.sessions sizes.groups ∷ run.0) way ≡ Some world)
+        × (world.sessions.trace seat.number ≡ a.trace ++ decides.steps)
+        × NamesWhatIs world seat.number tag mode decides.taken (record { session = other; mode = its; how = how }) }
 {}
 
 /// The counts of the running table are exact. The rule of the table holds between any two steps of all threads; where
