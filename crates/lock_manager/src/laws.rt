@@ -1,7 +1,7 @@
 //! What the contracts of a session's calls say together. Each function here is a law: its clause is proved, and its
 //! body is empty.
 
-ghost use Rattle.std.specs.Prelude.{◌≡◌, ◌≢◌, ◌<◌, ℕ, List, ◌∷◌, ◌++◌, Err, None, Some, slice_get};
+ghost use Rattle.std.specs.Prelude.{◌≡◌, ◌≢◌, ◌⊎◌, ◌<◌, ℕ, true, List, ◌∷◌, ◌++◌, Err, None, Some, slice_get};
 ghost use mathlib.Core.Option.{some};
 ghost use lib.ListN.{get_elem?};
 ghost use Rattle.atomic_table.specs.Table.{State};
@@ -14,7 +14,7 @@ ghost use Rattle.lock_world.specs.Account.{Account};
 ghost use Rattle.lock_world.specs.Headline.{IsInTheWay, NamesWhatIs};
 ghost use Rattle.lock_world.specs.Happens.{Runs};
 ghost use Rattle.lock_world.specs.World.{World, TraceEntry, opening};
-ghost use Rattle.shared_rule.specs.Boards.{Seated};
+ghost use Rattle.shared_rule.specs.Boards.{Seated, Stack};
 ghost use Rattle.shared_rule.specs.History.{told};
 ghost use Rattle.shared_rule.specs.Ruled.{Ruled};
 ghost use Rattle.shared_rule.specs.declared.history.History.{History};
@@ -28,6 +28,11 @@ ghost use Rattle.lock_records.specs.View.{RecordView, content_of};
 ghost use Rattle.shared_rule.specs.declared.rule.Sizes.{Sizes};
 ghost use Rattle.fast_path.specs.declared.use_counts.UseCounts.{UseCounts};
 ghost use Rattle.lock_manager.specs.Requests.{Decides};
+ghost use Rattle.lock_manager.specs.Rest.{IsAtRest};
+ghost use Rattle.lock_manager.specs.Waiting.{IsWaiting};
+ghost use Rattle.local_locks.specs.declared.records.Entry.{Entry};
+ghost use Rattle.lock_table.specs.OwnWait.{is_for};
+ghost use Rattle.lock_world.specs.Counted.{is_counted};
 
 use lock_table::PartTable;
 
@@ -75,4 +80,17 @@ pub fn the_counts_of_the_table_are_exact()
         × ((tag : Tag) (counts : Counts) → AreCountsOf (content_of part) tag counts →
         CountSessions (rule.world.contents.now partition) tag counts)
         × ((tag : Tag) → IsUntouched (content_of part) tag → IsUntouched (rule.world.contents.now partition) tag) }
+{}
+
+/// Nothing is counted without a reason. Between two calls of a session that waits for nothing, as `rest` of each call
+/// says it, a strong mode on an object that it has counted is its own hold; of one that waits, its own hold or what it
+/// awaits. Within a call a count is for what is being acquired or given up.
+pub fn what_is_counted_is_held_or_awaited()
+    ensures at_rest { (groups limit database : ℕ) (uses : UseCounts) (a : Account) (stack : Stack) (entries : List Entry)
+        → IsAtRest groups limit database uses a stack entries → (tag : Tag) (mode : Mode)
+        → is_counted a.fast.counted tag mode ≡ true → a.own tag mode ≡ true }
+    ensures in_wait { (groups limit database : ℕ) (uses : UseCounts) (a : Account) (stack : Stack) (entries : List Entry)
+        (awaited : Tag) (its : Mode) → IsWaiting groups limit database uses a stack entries awaited its
+        → (tag : Tag) (mode : Mode) → is_counted a.fast.counted tag mode ≡ true
+        → (a.own tag mode ≡ true) ⊎ (is_for a.awaited tag mode ≡ true) }
 {}
