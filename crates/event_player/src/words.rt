@@ -66,9 +66,13 @@ pub fn mode(words: &mut Words) -> Option<Mode> {
     Mode::from_name(words.next()?)
 }
 
-/// A tag: `DB/REL` is a relation, `DB/CLASS/OBJ/SUB` an object.
+/// A tag: `DB/REL` is a relation, `DB/CLASS/OBJ/SUB` an object and `adv/DB/K1/K2/SUB` what an advisory lock is on.
 pub fn tag(words: &mut Words) -> Option<Tag> {
-    let mut numbers = words.next()?.split('/');
+    let word = words.next()?;
+    if let Some(numbers) = word.strip_prefix("adv/") {
+        return advisory_tag(numbers);
+    }
+    let mut numbers = word.split('/');
     let database = numbers.next()?.parse::<u32>().ok()?;
     let class = numbers.next()?.parse::<u32>().ok()?;
     let Some(object) = numbers.next() else {
@@ -77,6 +81,16 @@ pub fn tag(words: &mut Words) -> Option<Tag> {
     let object = object.parse::<u32>().ok()?;
     let sub_object = numbers.next()?.parse::<u16>().ok()?;
     Some(Tag::object(database, class, object, sub_object))
+}
+
+/// What an advisory lock is on, by its four numbers.
+fn advisory_tag(numbers: &str) -> Option<Tag> {
+    let mut numbers = numbers.split('/');
+    let database = numbers.next()?.parse::<u32>().ok()?;
+    let key1 = numbers.next()?.parse::<u32>().ok()?;
+    let key2 = numbers.next()?.parse::<u32>().ok()?;
+    let sub = numbers.next()?.parse::<u16>().ok()?;
+    Some(Tag::advisory(database, key1, key2, sub))
 }
 
 /// A word of the shared table.
