@@ -62,6 +62,7 @@ slots-put groups number its owner a b c idle took put =
       no_count = idle.no_count;
       no_list = idle.no_list;
       no_stand = idle.no_stand;
+      none_untold = idle.none_untold;
     })
 
 -- So has whoever shares it and gives it back.
@@ -92,4 +93,5 @@ slots-given_back groups number owner a b c idle shares back =
       no_count = idle.no_count;
       no_list = idle.no_list;
       no_stand = idle.no_stand;
+      none_untold = idle.none_untold;
     })

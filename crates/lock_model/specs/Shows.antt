@@ -190,6 +190,10 @@ abbrev pub has_no_list : Machine → ℕ → Bool
 has_no_list machine session =
     is_none (slice_index_or machine.lists.has_list session None) && is_none (slice_index_or machine.lists.stands session None)
 
+-- whether the session has taken somebody off a wait list and not told it
+abbrev pub owes_a_telling : Machine → ℕ → Bool
+owes_a_telling machine session = list_any (λ untold. untold) (slice_index_or machine.lists.off session [])
+
 -- whether the session has a mark of any lock
 abbrev pub has_a_mark : ℕ → List (List Bool) → Bool
 has_a_mark session marks = list_any (λ of_lock. slice_index_or of_lock session false) marks

@@ -59,6 +59,7 @@ kept-idle a p content idle = record {
   no_count = idle.no_count;
   no_list = idle.no_list;
   no_stand = idle.no_stand;
+  none_untold = idle.none_untold;
 }
 
 -- A partition that was taken, and put as it was after steps that left of the account all but the trace.

@@ -15,7 +15,8 @@ use Rattle.shared_rule.specs.Openers.{HaveClosed}
 
 -- Seats that are cut in two and joined: sessions open and close, and meet at one seat, each behind those that came before it.
 
--- Closing, by the session's account: nothing is held, awaited or counted, and it has no wait list nor stands in one.
+-- Closing, by the session's account: nothing is held, awaited or counted, it has no wait list nor stands in one, and nobody whom it
+-- took off a list is untold.
 pub record MayCloseBy (a : Account) : Type 0 where
   pub no_hold : (tag : Tag) (mode : Mode) → a.own tag mode ≡ false
   pub no_wait : a.awaited ≡ None
@@ -26,11 +27,14 @@ pub record MayCloseBy (a : Account) : Type 0 where
   pub no_count : a.fast.counted ≡ []
   pub no_list : a.lists.in_hand ≡ None
   pub no_stand : a.lists.stands ≡ None
+  pub none_untold : (other : ℕ) → a.lists.off other ≡ false
 
--- Being kept apart, by the session's account: it holds no word exclusively.
+-- Being kept apart, by the session's account: it holds no word, exclusively or shared.
 pub record MayBeKeptApartBy (a : Account) : Type 0 where
   pub no_partition : (partition : ℕ) → a.hand partition ≡ None
   pub no_fast_word : (owner : ℕ) → a.fast.slots owner ≡ None
+  pub no_shared_partition : (partition : ℕ) → a.shares partition ≡ false
+  pub no_shared_fast_word : (owner : ℕ) → a.fast.shared_slots owner ≡ None
 
 -- No hold of the one conflicts with a hold of the other on an object.
 abbrev pub DoNotConflict : Account → Account → Type 0

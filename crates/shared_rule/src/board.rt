@@ -317,10 +317,13 @@ pub trait Board<T: PartTable> {
 
     /// Sleeps while its own wait word shows this, until somebody wakes the session; it may also return for no reason
     /// (`WaitLatch` in `ProcSleep` of proc.c). The session has loaded that number just before, so no grant and no
-    /// request to cancel that came since is slept through.
+    /// request to cancel that came since is slept through. It has no lightweight lock, so nobody waits for one that it
+    /// would keep while it sleeps, and owes nobody a wake.
     fn sleep<R: Wait>(&self, rt: &R, shown: u64)
         requires looked { HasJustLooked (seat self.now).number (view self.now) shown }
-        requires none_owed { (stack self.now).owed ≡ [] };
+        requires nothing_due { stack self.now ≡ nothing_due }
+        requires no_slots { (owner : ℕ) → (view self.now).fast.slots owner ≡ None }
+        requires no_shared_slots { (owner : ℕ) → (view self.now).fast.shared_slots owner ≡ None };
 
     /// Wakes a session that sleeps until its wait word changes (`SetLatch` in `ProcWakeup` of proc.c): it is then
     /// owed one wake less. This is not a step.

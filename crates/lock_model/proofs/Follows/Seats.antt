@@ -1,4 +1,4 @@
-use Rattle.std.proofs.Common.{◌≡◌, ◌≢◌, ℕ, ◌+◌, ◌<◌, Bool, true, false, ◌||◌, List, length, get_or, Option, Some, None, is_none, refl, sym, ap, ◌∙◌, subst, inl, inr}
+use Rattle.std.proofs.Common.{◌≡◌, ◌≢◌, ℕ, ◌+◌, ◌<◌, Bool, true, false, ◌||◌, List, [], length, get_or, Option, Some, None, is_none, refl, sym, ap, ◌∙◌, subst, inl, inr}
 use Rattle.std.specs.Prelude.{◌==◌, count_by, replicate}
 use Rattle.std.specs.List.{list_any}
 use Rattle.std.proofs.Math.ListN.{set}
@@ -21,7 +21,7 @@ use Rattle.lock_table.specs.OwnWait.{is_for}
 use Rattle.lw_word.specs.SlotWord.{in_use}
 use Rattle.lock_model.specs.SlotLooks.{slots_at}
 use Rattle.lock_model.proofs.Shows.SlotLooks.{no_slot_hold}
-use Rattle.lock_model.specs.Shows.{Shows, is_number, is_holder, has_a_mark, has_no_list, makes_steps, awaits}
+use Rattle.lock_model.specs.Shows.{Shows, is_number, is_holder, has_a_mark, has_no_list, owes_a_telling, makes_steps, awaits}
 use Rattle.lock_model.proofs.Shows.Locks.{no_mark, some_mark}
 use Rattle.lock_model.proofs.Shows.Lists.{off-emptied}
 use Rattle.lock_table.proofs.PutLemmas.{written-at}
@@ -172,15 +172,19 @@ module _ (m : Machine) (w : World) (safe : SafeWorld w) (shows : Shows m w) wher
       let found = any_found (is_number s) m.numbers.kept_by any in
       nobody found.0 (sym (shows.numbers.kept_by found.0) ∙ number_of_some (get_or m.numbers.kept_by found.0 None) s (ap (is_number s) (found.3 None) ∙ found.4))
 
-  pub was_kept_apart : (s joiner : ℕ) → makes_steps m s ≡ true → joiner ≢ s → makes_steps m joiner ≡ true → list_any (is_holder s) m.contents.hands ≡ false → has_a_mark s m.locks.fast_holders ≡ false → s < length m.numbers.kept_by
+  pub was_kept_apart : (s joiner : ℕ) → makes_steps m s ≡ true → joiner ≢ s → makes_steps m joiner ≡ true → list_any (is_holder s) m.contents.hands ≡ false → has_a_mark s m.locks.fast_holders ≡ false
+      → (has_a_mark s m.locks.fast_sharers || has_a_mark s m.locks.partition_sharers) ≡ false → s < length m.numbers.kept_by
       → (v : World) × Next w (record { session = s; step = JoinSeat (Some joiner) }) v × Shows (record m { numbers = record (m.numbers) { kept_by = set m.numbers.kept_by s (Some joiner) } }) v
-  was_kept_apart s joiner steps another joiner_steps no_hand no_fast in_kept_by =
+  was_kept_apart s joiner steps another joiner_steps no_hand no_fast no_shared in_kept_by =
+      let shares_none = or_parts (has_a_mark s m.locks.fast_sharers) (has_a_mark s m.locks.partition_sharers) no_shared in
       let may : MayBeKeptApart w s joiner = record {
         steps = steps_from m w safe shows s steps;
         another = another;
         joiner_steps = steps_from m w safe shows joiner joiner_steps;
         no_word = no_word s no_hand;
         no_fast_word = no_fast_word s no_fast;
+        no_shared_word = no_mark m.locks.partition_sharers 16 w.sessions.shares_partition s shows.locks.partition_sharers shares_none.1;
+        no_shared_fast_word = no_mark m.locks.fast_sharers 64 w.sessions.shares_fast s shows.locks.fast_sharers shares_none.0;
       } in (
         after_keeping_apart w s joiner,
         inl (may, refl),
@@ -203,18 +207,29 @@ module _ (m : Machine) (w : World) (safe : SafeWorld w) (shows : Shows m w) wher
         },
       )
 
+  -- Whom it took off and hasn't told, by the machine's marks and in the World.
+  none-untold : (s : ℕ) → owes_a_telling m s ≡ false → (o : ℕ) → w.sessions.off s o ≡ false
+  none-untold s none o =
+      sym (shows.lists.off s o) ∙ false_from_ne_true _ (λ its.
+      both_ways (owes_a_telling m s) none (found_within (λ untold. untold) (get_or m.lists.off s []) o false refl its))
+
+  pub some_untold : (s : ℕ) → owes_a_telling m s ≡ true → ((o : ℕ) → w.sessions.off s o ≡ false) → ⊥
+  some_untold s any none =
+      let found = any_found (λ untold. untold) (get_or m.lists.off s []) any in
+      both_ways (w.sessions.off s found.0) (none found.0) (sym (shows.lists.off s found.0) ∙ found.3 false ∙ found.4)
+
   pub no_list_needs : (s : ℕ) → w.sessions.has_list s ≡ None → w.sessions.stands s ≡ None → has_no_list m s ≡ true
   no_list_needs s no_list no_stand =
       and_from (is_none (get_or m.lists.has_list s None)) (is_none (get_or m.lists.stands s None))
       (ap is_none (shows.lists.has_list s ∙ no_list)) (ap is_none (shows.lists.stands s ∙ no_stand))
 
   pub was_closed : (s : ℕ) → makes_steps m s ≡ true → list_any (is_holder s) m.contents.hands ≡ false → has_a_mark s m.locks.fast_holders ≡ false → (has_a_mark s m.locks.fast_sharers || has_a_mark s m.locks.partition_sharers) ≡ false
-      → list_any (has_hold_of s) m.contents.parts.items ≡ false → list_any in_use (slots_at m s) ≡ false → is_none (get_or m.waits.awaited s None) ≡ true → list_any (is_number s) m.numbers.kept_by ≡ false → (count_by (λ c. c.session == s) m.counted.items == 0) ≡ true → has_no_list m s ≡ true → s < length m.numbers.live → s < 64
+      → list_any (has_hold_of s) m.contents.parts.items ≡ false → list_any in_use (slots_at m s) ≡ false → is_none (get_or m.waits.awaited s None) ≡ true → list_any (is_number s) m.numbers.kept_by ≡ false → (count_by (λ c. c.session == s) m.counted.items == 0) ≡ true → has_no_list m s ≡ true → owes_a_telling m s ≡ false → s < length m.numbers.live → s < 64
       → (v : World) × Next w (record { session = s; step = JoinSeat None }) v × Shows (record m {
         numbers = record (m.numbers) { live = set m.numbers.live s false };
         lists = record (m.lists) { off = set m.lists.off s (replicate 64 false) };
       }) v
-  was_closed s steps no_hand no_fast no_shared none_held none_used no_wait keeps_none none_counted no_list in_live below =
+  was_closed s steps no_hand no_fast no_shared none_held none_used no_wait keeps_none none_counted no_list told in_live below =
       let shares_none = or_parts (has_a_mark s m.locks.fast_sharers) (has_a_mark s m.locks.partition_sharers) no_shared in
       let may : MayClose w s = record {
         steps = steps_from m w safe shows s steps;
@@ -227,6 +242,7 @@ module _ (m : Machine) (w : World) (safe : SafeWorld w) (shows : Shows m w) wher
         no_count = nothing_from m w safe shows s none_counted;
         no_list = sym (shows.lists.has_list s) ∙ none_is (get_or m.lists.has_list s None) (and_parts (is_none (get_or m.lists.has_list s None)) (is_none (get_or m.lists.stands s None)) no_list).0;
         no_stand = sym (shows.lists.stands s) ∙ none_is (get_or m.lists.stands s None) (and_parts (is_none (get_or m.lists.has_list s None)) (is_none (get_or m.lists.stands s None)) no_list).1;
+        none_untold = none-untold s told;
         keeps_nobody = keeps_nobody s keeps_none;
       } in (
         after_closing w s,

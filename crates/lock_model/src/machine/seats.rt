@@ -22,7 +22,7 @@ impl Machine {
     ghost use Rattle.std.specs.Prelude.{◌≡◌, ◌==◌, Some, None};
     ghost use Rattle.std.specs.List.{list_any};
     ghost use Rattle.lock_world.specs.declared.events.Step.{Step};
-    ghost use Rattle.lock_model.specs.Shows.{Follows, is_number, is_holder, has_no_list};
+    ghost use Rattle.lock_model.specs.Shows.{Follows, is_number, is_holder, has_no_list, owes_a_telling};
 
     /// Issues the session's number, where it is the next one, or lets a session that is kept apart go on.
     pub fn split_seat(&mut self, session: SessionId)
@@ -56,12 +56,13 @@ impl Machine {
             && self.makes_steps(joiner)
             && !self.has_a_word(session)
             && !self.has_a_fast_word(session)
+            && !self.shares_a_word(session)
         {
             self.numbers.kept_by[usize::from(session.number())] = Some(joiner);
         }
     }
 
-    /// Closes the session. Whom it took off a list and has not told is no more its to tell.
+    /// Closes the session.
     fn close(&mut self, session: SessionId)
         ensures { Follows self.old session (Step.JoinSeat None) self.new }
     {
@@ -76,6 +77,7 @@ impl Machine {
             && !self.keeps_someone(session)
             && self.counts_nothing(session)
             && self.has_no_list(session)
+            && !self.owes_a_telling(session)
         {
             self.numbers.live[index] = false;
             self.lists.off[index] = [false; 64];
@@ -88,6 +90,14 @@ impl Machine {
     {
         let index = usize::from(session.number());
         self.lists.has_list[index].is_none() && self.lists.stands[index].is_none()
+    }
+
+    /// Whether the session has taken somebody off a wait list and not told it.
+    fn owes_a_telling(&self, session: SessionId) -> bool
+        ensures { result ≡ owes_a_telling self.now session }
+    {
+        let off = &self.lists.off[usize::from(session.number())];
+        off.iter().any(|untold| *untold)
     }
 
     /// Whether the session has a partition in hand.

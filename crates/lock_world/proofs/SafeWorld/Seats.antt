@@ -60,6 +60,8 @@ keeping_apart-safe_world w s joiner safe may = record {
     joiner_steps = may.joiner_steps;
     no_word = may.no_word;
     no_fast_word = may.no_fast_word;
+    no_shared_word = may.no_shared_word;
+    no_shared_fast_word = may.no_shared_fast_word;
   });
   lists = safe.lists;
   slots = safe.slots;
@@ -85,6 +87,7 @@ closing-safe_world w s safe may = record {
     no_count = may.no_count;
     no_list = may.no_list;
     no_stand = may.no_stand;
+    none_untold = may.none_untold;
     keeps_nobody = may.keeps_nobody;
   });
   lists = record {

@@ -35,13 +35,16 @@ abbrev pub HappensSplitting : World → ℕ → World → Type 0
 HappensSplitting w session v =
     (MayBeIssued w session × (v ≡ after_issuing w session)) ⊎ (MayGoOn w session × (v ≡ after_going_on w session))
 
--- Being kept apart: by another session that makes steps of its own, and with no word held exclusively.
+-- Being kept apart: by another session that makes steps of its own, and with no word held, exclusively or shared, since whoever is
+-- kept apart makes no step that would put it.
 pub record MayBeKeptApart (w : World) (session joiner : ℕ) : Type 0 where
   pub steps : MakesSteps w.numbers session
   pub another : joiner ≢ session
   pub joiner_steps : MakesSteps w.numbers joiner
   pub no_word : (partition : ℕ) → w.sessions.holds_partition session partition ≡ false
   pub no_fast_word : (owner : ℕ) → w.sessions.holds_fast session owner ≡ false
+  pub no_shared_word : (partition : ℕ) → w.sessions.shares_partition session partition ≡ false
+  pub no_shared_fast_word : (owner : ℕ) → w.sessions.shares_fast session owner ≡ false
 
 abbrev pub after_keeping_apart : World → ℕ → ℕ → World
 after_keeping_apart w session joiner = record {
@@ -52,7 +55,7 @@ after_keeping_apart w session joiner = record {
 }
 
 -- Closing: with no word held, exclusively or shared, no hold, no wait, nothing counted, no wait list in hand nor one that the
--- session stands in, and no other session kept apart.
+-- session stands in, nobody whom it took off a list and hasn't told, and no other session kept apart.
 pub record MayClose (w : World) (session : ℕ) : Type 0 where
   pub steps : MakesSteps w.numbers session
   pub no_word : (partition : ℕ) → w.sessions.holds_partition session partition ≡ false
@@ -64,6 +67,7 @@ pub record MayClose (w : World) (session : ℕ) : Type 0 where
   pub no_count : w.sessions.counted session ≡ []
   pub no_list : w.sessions.has_list session ≡ None
   pub no_stand : w.sessions.stands session ≡ None
+  pub none_untold : (other : ℕ) → w.sessions.off session other ≡ false
   pub keeps_nobody : (other : ℕ) → w.numbers.kept_by other ≢ Some session
 
 -- A closed session has an account with nothing in it: it remembers nothing of its slots, of which none is in use, nobody whom it

@@ -65,6 +65,7 @@ closing-lawful w safe k steps nobody may = record {
   no_count = may.no_count;
   no_list = no-list (w.sessions.has_list k) w.words.list may.no_list;
   no_stand = may.no_stand;
+  none_untold = may.none_untold;
   keeps_nobody = nobody;
 }
 
@@ -216,6 +217,8 @@ module _ {T : Type 0} (content : T → Content) (begun : T → Option Request) (
           joiner_steps = record { live = joiner.live; by_itself = joiner.kept_by ∙ ap (λ (xs : List (History T)). keeper xs 0) its };
           no_word = λ p. r.safe.but_slots.table.carriers.hands p b ∙ no-hand (r.world.contents.hand p) (r.world.contents.now p) b (may.no_partition p);
           no_fast_word = λ o. none-tested (r.world.sessions.holds_fast b o) _ (may.no_fast_word o);
+          no_shared_word = may.no_shared_partition;
+          no_shared_fast_word = λ o. none-tested (r.world.sessions.shares_fast b o) _ (may.no_shared_fast_word o);
         } in
         ruled-numbered content begun sizes s r (record { session = b; step = JoinSeat (Some x.number) }) (after_keeping_apart r.world b x.number).numbers after (may_be, refl) refl
         (keeping_apart-safe_world r.world b x.number r.safe may_be)

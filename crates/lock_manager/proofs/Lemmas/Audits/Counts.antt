@@ -135,7 +135,12 @@ all-to P (x ∷ xs) all (suc k) d below = all-to P xs all.1 k d (omega (arith, b
 -- Who rests may be kept apart, and rests after steps that only joined the trace.
 pub kept_apart-rest : (groups limit database : ℕ) (uses : UseCounts) (a : Account) (stack : Stack) (entries : List Entry) → IsAtRest groups limit database uses a stack entries → MayBeKeptApartBy a
 kept_apart-rest groups limit database uses a stack entries rest =
-    subst MayBeKeptApartBy (sym rest.account) (record { no_partition = λ partition. refl; no_fast_word = λ owner. refl })
+    subst MayBeKeptApartBy (sym rest.account) (record {
+      no_partition = λ partition. refl;
+      no_fast_word = λ owner. refl;
+      no_shared_partition = λ partition. refl;
+      no_shared_fast_word = λ owner. refl;
+    })
 
 pub no_wait-rest : (groups limit database : ℕ) (uses : UseCounts) (a : Account) (stack : Stack) (entries : List Entry) → IsAtRest groups limit database uses a stack entries → a.awaited ≡ None
 no_wait-rest groups limit database uses a stack entries rest = ap (λ (x : Account). x.awaited) rest.account

@@ -56,6 +56,7 @@ MayCloseBy-rest groups limit database uses a stack entries rest none =
       no_count = refl;
       no_list = refl;
       no_stand = refl;
+      none_untold = λ other. refl;
     })
 
 -- ---- what is counted

@@ -1,6 +1,6 @@
 use Rattle.std.proofs.Common.{◌∙◌, ◌++◌, ◌∷◌, [], ap, subst, sym}
 use Rattle.lock_world.specs.Account.{Account}
-use Rattle.shared_rule.specs.Boards.{Seated, Stack}
+use Rattle.shared_rule.specs.Boards.{Seated}
 use Rattle.lock_world.specs.declared.events.Word.TheVariants.{Wait}
 use Rattle.lock_world.specs.World.{Loaded}
 use Rattle.lock_manager.specs.declared.sessions.Own.{Own}
@@ -27,15 +27,22 @@ loop-preserved g c =
       seat = c.take_up.ensures.seat ∙ seat;
     }
 
-pub sleep-requires : goal.sleep-requires
-sleep-requires g c =
+pub sleep-requires-clause-looked : goal.sleep-requires-clause-looked
+sleep-requires-clause-looked g c =
     let now = g.B.Board.view c.loop.board in
     let seat = c.take_up.ensures.seat ∙ c.load_wait-shown.ensures.seat in
-    record {
-      looked = just_looked _ _ _ _ (g.B.Board.seat c.take_up.new.board).number (g.B.Board.view c.take_up.new.board) _ _ _ _ c.load_wait-shown.result now.trace
-          (c.in-Still.ensures.waiting still_not_granted)
-          (c.in-Still.ensures.no_step ∙ ap (λ (a : Account). a.trace) c.load_wait-shown.ensures.view
-          ∙ ap (λ (s : Seated). now.trace ++ Loaded (Wait s.number) c.load_wait-shown.result ∷ []) (sym seat))
-          (sym c.in-Still.ensures.answer);
-      none_owed = ap (λ (s : Stack). s.owed) (c.in-Still.ensures.waiting still_not_granted).nothing_left;
-    }
+    just_looked _ _ _ _ (g.B.Board.seat c.take_up.new.board).number (g.B.Board.view c.take_up.new.board) _ _ _ _ c.load_wait-shown.result now.trace
+    (c.in-Still.ensures.waiting still_not_granted)
+    (c.in-Still.ensures.no_step ∙ ap (λ (a : Account). a.trace) c.load_wait-shown.ensures.view
+    ∙ ap (λ (s : Seated). now.trace ++ Loaded (Wait s.number) c.load_wait-shown.result ∷ []) (sym seat))
+    (sym c.in-Still.ensures.answer)
+
+pub sleep-requires-clause-nothing_due : goal.sleep-requires-clause-nothing_due
+sleep-requires-clause-nothing_due g c = (c.in-Still.ensures.waiting still_not_granted).nothing_left
+
+pub sleep-requires-clause-no_slots : goal.sleep-requires-clause-no_slots
+sleep-requires-clause-no_slots g c = λ owner. ap (λ (a : Account). a.fast.slots owner) (c.in-Still.ensures.waiting still_not_granted).account
+
+pub sleep-requires-clause-no_shared_slots : goal.sleep-requires-clause-no_shared_slots
+sleep-requires-clause-no_shared_slots g c =
+    λ owner. ap (λ (a : Account). a.fast.shared_slots owner) (c.in-Still.ensures.waiting still_not_granted).account

@@ -6,25 +6,27 @@ use Rattle.lock_model.proofs.Shows.SlotLooks.{some_slot_hold}
 use Rattle.std.proofs.lemmas.Bool.{both_ways}
 use Rattle.lock_model.proofs.Follows.Counters.{nothing_needs}
 use Rattle.lock_model.proofs.Follows.Skipped.{skipped}
-use Rattle.lock_model.proofs.Follows.Seats.{was_closed, some_word, some_fast_word, some_shared_word, some_hold, keeps_somebody, no_list_needs}
+use Rattle.lock_model.proofs.Follows.Seats.{was_closed, some_word, some_fast_word, some_shared_word, some_hold, keeps_somebody, no_list_needs, some_untold}
 use Rattle.lock_model.proofs.machine.state.Machine.close.Goals as goal
-use Rattle.lock_model.proofs.machine.state.Machine.close.Goals.{else-makes_steps-via-then-makes_steps+then-not-has_a_word+then-not-has_a_fast_word+then-not-shares_a_word+then-not-has_a_hold+else-not-has_a_slot, else-makes_steps-via-then-makes_steps+then-not-has_a_word+then-not-has_a_fast_word+then-not-shares_a_word+then-not-has_a_hold+then-not-has_a_slot+then-is_none+else-not-keeps_someone, else-makes_steps-via-then-makes_steps+then-not-has_a_word+then-not-has_a_fast_word+then-not-shares_a_word+then-not-has_a_hold+then-not-has_a_slot+then-is_none+then-not-keeps_someone+else-counts_nothing, else-makes_steps-via-then-makes_steps+then-not-has_a_word+then-not-has_a_fast_word+then-not-shares_a_word+then-not-has_a_hold+then-not-has_a_slot+then-is_none+then-not-keeps_someone+then-counts_nothing+else-has_no_list, else-makes_steps-via-then-makes_steps+then-not-has_a_word+then-not-has_a_fast_word+then-not-shares_a_word+then-not-has_a_hold+then-not-has_a_slot+else-is_none, else-makes_steps-via-then-makes_steps+then-not-has_a_word+then-not-has_a_fast_word+then-not-shares_a_word+else-not-has_a_hold, else-makes_steps-via-then-makes_steps+then-not-has_a_word+then-not-has_a_fast_word+else-not-shares_a_word, else-makes_steps-via-then-makes_steps+then-not-has_a_word+else-not-has_a_fast_word, else-makes_steps-via-then-makes_steps+else-not-has_a_word, else-makes_steps-via-else-makes_steps}
+use Rattle.lock_model.proofs.machine.state.Machine.close.Goals.{else-makes_steps-via-then-makes_steps+then-not-has_a_word+then-not-has_a_fast_word+then-not-shares_a_word+then-not-has_a_hold+then-not-has_a_slot+then-is_none+then-not-keeps_someone+then-counts_nothing+then-has_no_list+else-not-owes_a_telling, else-makes_steps-via-then-makes_steps+then-not-has_a_word+then-not-has_a_fast_word+then-not-shares_a_word+then-not-has_a_hold+else-not-has_a_slot, else-makes_steps-via-then-makes_steps+then-not-has_a_word+then-not-has_a_fast_word+then-not-shares_a_word+then-not-has_a_hold+then-not-has_a_slot+then-is_none+else-not-keeps_someone, else-makes_steps-via-then-makes_steps+then-not-has_a_word+then-not-has_a_fast_word+then-not-shares_a_word+then-not-has_a_hold+then-not-has_a_slot+then-is_none+then-not-keeps_someone+else-counts_nothing, else-makes_steps-via-then-makes_steps+then-not-has_a_word+then-not-has_a_fast_word+then-not-shares_a_word+then-not-has_a_hold+then-not-has_a_slot+then-is_none+then-not-keeps_someone+then-counts_nothing+else-has_no_list, else-makes_steps-via-then-makes_steps+then-not-has_a_word+then-not-has_a_fast_word+then-not-shares_a_word+then-not-has_a_hold+then-not-has_a_slot+else-is_none, else-makes_steps-via-then-makes_steps+then-not-has_a_word+then-not-has_a_fast_word+then-not-shares_a_word+else-not-has_a_hold, else-makes_steps-via-then-makes_steps+then-not-has_a_word+then-not-has_a_fast_word+else-not-shares_a_word, else-makes_steps-via-then-makes_steps+then-not-has_a_word+else-not-has_a_fast_word, else-makes_steps-via-then-makes_steps+else-not-has_a_word, else-makes_steps-via-else-makes_steps}
 
-pub returns-then-has_no_list : goal.returns-then-has_no_list
-returns-then-has_no_list c = λ w safe shows.
+pub returns-then-not-owes_a_telling : goal.returns-then-not-owes_a_telling
+returns-then-not-owes_a_telling c = λ w safe shows.
     let now = c.args.self.now in
     let place : c.from-index.result ≡ c.args.session = c.from-index.ensures ∙ c.number.ensures.value in
     let in_live : c.args.session < length now.numbers.live = omega arith in
     let below : c.args.session < 64 = omega arith in
     let no_wait : is_none (get_or now.waits.awaited c.args.session None) ≡ true = not_there_none _ (ap (λ i. is_some (get_or now.waits.awaited i None)) (sym place) ∙ c.if-is_none.ensures) in
     rw place (was_closed now w safe shows c.args.session
-    (sym c.if-makes_steps.ensures) (sym c.if-not-has_a_word.ensures) (sym c.if-not-has_a_fast_word.ensures) (sym c.if-not-shares_a_word.ensures) (sym c.if-not-has_a_hold.ensures) (sym c.if-not-has_a_slot.ensures) no_wait (sym c.if-not-keeps_someone.ensures) (sym c.if-counts_nothing.ensures) (sym c.if-has_no_list.ensures) in_live below)
+    (sym c.if-makes_steps.ensures) (sym c.if-not-has_a_word.ensures) (sym c.if-not-has_a_fast_word.ensures) (sym c.if-not-shares_a_word.ensures) (sym c.if-not-has_a_hold.ensures) (sym c.if-not-has_a_slot.ensures) no_wait (sym c.if-not-keeps_someone.ensures) (sym c.if-counts_nothing.ensures) (sym c.if-has_no_list.ensures) (sym c.if-not-owes_a_telling.ensures) in_live below)
 
 pub returns-else-makes_steps : goal.returns-else-makes_steps
 returns-else-makes_steps c = λ w safe shows.
     let now = c.args.self.now in
     skipped now w safe shows c.args.session (JoinSeat None)
     (λ lawful. elim c.else-makes_steps.branch [
+      | else-makes_steps-via-then-makes_steps+then-not-has_a_word+then-not-has_a_fast_word+then-not-shares_a_word+then-not-has_a_hold+then-not-has_a_slot+then-is_none+then-not-keeps_someone+then-counts_nothing+then-has_no_list+else-not-owes_a_telling b ↦
+          some_untold now w safe shows c.args.session (sym b.if-not-owes_a_telling.ensures) lawful.1.0.none_untold
       | else-makes_steps-via-then-makes_steps+then-not-has_a_word+then-not-has_a_fast_word+then-not-shares_a_word+then-not-has_a_hold+then-not-has_a_slot+then-is_none+then-not-keeps_someone+then-counts_nothing+else-has_no_list b ↦
           both_ways _ (sym b.if-has_no_list.ensures) (no_list_needs now w safe shows c.args.session lawful.1.0.no_list lawful.1.0.no_stand)
       | else-makes_steps-via-then-makes_steps+then-not-has_a_word+then-not-has_a_fast_word+then-not-shares_a_word+then-not-has_a_hold+then-not-has_a_slot+then-is_none+then-not-keeps_someone+else-counts_nothing b ↦
