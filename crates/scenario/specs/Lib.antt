@@ -1,2 +1,6 @@
-pub mod Stage
+pub mod Told
+pub mod Calls
+pub mod Made
+pub mod Waits
+pub mod Answered
 pub mod Tasks

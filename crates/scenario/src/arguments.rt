@@ -2,6 +2,8 @@
 ghost use Rattle.std.specs.Prelude.{IfOk};
 ghost use Rattle.scenario.specs.Tasks.{HasSlotGroups, IsForManager, IsPlayable, OfHammer, OfRun};
 
+use crate::forms::{push_script_lines, push_verbs};
+use crate::statuses::push_statuses_of_run;
 use crate::style::{DRAWINGS, Drawing, Style};
 use clap::error::ErrorKind;
 use clap::{Arg, ArgAction, ArgMatches, Command, Error, value_parser};
@@ -39,53 +41,40 @@ pub const ABOUT: &str = "Run scripts against PostgreSQL's lock manager";
 /// The option that prints the man page.
 const MAN: &str = "--man";
 
-/// What `--help` shows of the script language, and of a run.
-const PROGRAM_HELP: &str = "Lines of a script begin with:
-  session, try, fast, lock, unlock, commit, abort, begin, subcommit, subabort,
-  owned, waiters, queue, blockers, cancel, list, count, hash, close
+/// What `--help` and `run --help` show beside their options.
+#[derive(Drop)]
+struct Helps {
+    /// The words with which a script's lines begin.
+    program: String,
+    /// Each line of a script with its words, what they may be, and how a run ends.
+    run: String,
+}
 
-Example:
+impl Helps {
+    fn new(alloc: Global) -> Result<Self, AllocError> {
+        let mut program = String::from_str(alloc, "Lines of a script begin with:\n")?;
+        push_verbs(alloc, &mut program)?;
+        program.push_str("\n\n")?;
+        program.push_str(PROGRAM_EXAMPLE)?;
+        let mut run = String::from_str(
+            alloc,
+            "Lines of a script, after lock_scenario run < FILE:\n",
+        )?;
+        push_script_lines(&mut run)?;
+        run.push('\n')?;
+        push_statuses_of_run(alloc, &mut run)?;
+        run.push_str("\n\n")?;
+        run.push_str(RUN_EXAMPLES)?;
+        Ok(Helps { program, run })
+    }
+}
+
+/// The example of `--help`.
+const PROGRAM_EXAMPLE: &str = "Example:
   lock_scenario run --sessions 2 < scenarios/object_lock.scn";
 
-/// What `run --help` shows beside its options: each line of a script with its words, and what they may be.
-pub const RUN_HELP: &str = "Lines of a script, after lock_scenario run < FILE:
-  session NAME DB                 open a session of a database
-  try NAME TAG MODE [session]     take a lock, if nothing is in the way
-  fast NAME TAG MODE [session]    take a lock by a fast-path slot, or not at all
-  lock NAME TAG MODE [session]    take a lock, and wait for it if need be
-  unlock NAME TAG MODE [session]  give one count of a lock back
-  commit NAME                     drop what the transaction owns
-  abort NAME                      drop what the transaction and the session own,
-                                  but for the session's advisory locks
-  begin NAME                      begin a level of the transaction, a savepoint
-  subcommit NAME                  end it; what it owns goes to the level outside
-  subabort NAME                   end it, and drop what it owns
-  owned NAME TAG MODE             say how often each of the two owns a lock: the
-                                  transaction's innermost level, and the session
-  waiters NAME TAG MODE           say whether somebody awaits a conflicting mode
-  queue NAME TAG                  list who waits for an object, in order
-  blockers NAME OTHER TAG         list who is in the way of one that waits
-  cancel BY NAME                  ask a session to stop waiting
-  list NAME                       list all locks
-  count NAME INDEX                say what a strong lock counter shows
-  hash TAG                        say a tag's hash, partition and counter
-  close NAME                      close a session
-  # TEXT                          a comment
-
-NAME is 1 to 16 of a to z, 0 to 9 and _. DB is a number to 4294967295, INDEX one
-  to 1023.
-TAG is DB/REL for a relation, DB/CLASS/OBJ/SUB for another object, and
-  adv/DB/K1/K2/SUB for an advisory lock, of numbers to 4294967295, SUB to 65535.
-MODE is AccessShareLock, RowShareLock, RowExclusiveLock,
-  ShareUpdateExclusiveLock, ShareLock, ShareRowExclusiveLock, ExclusiveLock or
-  AccessExclusiveLock.
-A lock is the transaction's, and with the word session at the end of its line
-  the session's.
-
-Status: 0 the script ended, 1 input, output or memory failed, 2 these words were
-  refused, 3 a bad line, of which lock_scenario shell < FILE says more.
-
-Examples:
+/// The examples of `run --help`.
+const RUN_EXAMPLES: &str = "Examples:
   lock_scenario run < scenarios/object_lock.scn
   lock_scenario run --json < scenarios/object_lock.scn | jq .
   lock_scenario run --graph dot < FILE | sed -n '/^digraph/,/^}/p' | dot -Tsvg";
@@ -244,11 +233,11 @@ fn orders_command<'a>(alloc: Global) -> Result<Command<'a>, AllocError> {
 /// The command line: `run [--sessions N] [--max-local M] [--slot-groups G] [--echo] [--json] [--graph LANGUAGE]`,
 /// `orders [--sessions N] [--max-local M] [--slot-groups G] [--limit K] [--ends]`,
 /// `shell [--sessions N] [--max-local M] [--slot-groups G]`, `modes`, `hammer --sessions N --rounds K`, or `--man`.
-fn command<'a>(alloc: Global) -> Result<Command<'a>, AllocError> {
+fn command<'a>(alloc: Global, helps: &'a Helps) -> Result<Command<'a>, AllocError> {
     let run = Command::new(alloc, "run")
         .about("Run the script on standard input")
         .override_usage("lock_scenario run [OPTIONS] < SCRIPT")
-        .after_help(RUN_HELP);
+        .after_help(helps.run.as_str());
     let run = with_config(alloc, run, USUAL_SESSIONS_SHOWN)?;
     let run = with_styles(alloc, run)?;
     let shell = Command::new(alloc, SHELL)
@@ -265,7 +254,7 @@ fn command<'a>(alloc: Global) -> Result<Command<'a>, AllocError> {
     Command::new(alloc, PROGRAM)
         .version(VERSION)
         .about(ABOUT)
-        .after_help(PROGRAM_HELP)
+        .after_help(helps.program.as_str())
         .subcommand_required(true)
         .arg(man)?
         .subcommand(run)?
@@ -353,7 +342,8 @@ fn asks_for_man(words: &[String]) -> bool {
 
 /// The text of the help that these words ask for.
 pub fn help_text(alloc: Global, words: &'static [&'static str]) -> Result<String, AllocError> {
-    match command(alloc)?.try_get_matches_from(words) {
+    let helps = Helps::new(alloc)?;
+    match command(alloc, &helps)?.try_get_matches_from(words) {
         Ok(_) => Ok(String::new(alloc)),
         Err(error) => format!(in alloc; "{error}"),
     }
@@ -365,7 +355,8 @@ fn task_of<'a>(alloc: Global, words: &'a [String]) -> Result<Task, Error>
     ensures slot_groups { IfOk result (λ task. OfRun task HasSlotGroups) }
     ensures hammer { IfOk result (λ task. OfHammer task IsPlayable) }
 {
-    let matches = command(alloc)?.try_get_matches_from(words)?;
+    let helps = Helps::new(alloc)?;
+    let matches = command(alloc, &helps)?.try_get_matches_from(words)?;
     match matches.subcommand() {
         Some((name, _)) if name == MODES => Ok(Task::Modes),
         Some((name, hammer)) if name == HAMMER => Ok(Task::Hammer(hammer_of(hammer))),

@@ -1,21 +1,14 @@
 //! What somebody is told at a shell, help and what is wrong with a line, and of a bad line where orders are run.
 
-use crate::arguments::RUN_HELP;
+use crate::forms::{SHELL_LINES, push_forms, push_script_lines, push_shell_lines};
 use crate::mode_help::{push_mode, push_modes};
 use crate::statements::{begins_statement, push_statements};
-use lock_script::{Defect, Name, parse_name, split_words};
+use lock_script::{
+    CommandRow, Defect, Name, WordKind, command_row, command_rows, parse_name, split_words,
+};
 use modes_core::Mode;
 use std::alloc::{AllocError, Global};
 use strsim::jaro_winkler;
-
-/// What a shell has beside the lines of a script.
-const SHELL_LINES: &str = "  help                            this
-  help COMMAND                    the form of a command
-  help STATEMENT                  the locks of an SQL command, as help alter table
-  help MODE                       what a mode conflicts with, and what takes it
-  help modes                      which modes conflict
-  end                             close all sessions, and leave
-";
 
 /// How like two words are, from 0 to 1, of which one is told as a guess at the other.
 const LIKE: f64 = 0.8;
@@ -73,35 +66,9 @@ fn topic_of(alloc: Global, words: &[&str]) -> Result<String, AllocError> {
 /// Adds the forms of all lines, and what their words may be.
 fn push_all(text: &mut String) -> Result<(), AllocError> {
     text.push_str("Lines of a script:\n")?;
-    text.push_str(forms_and_words())?;
-    text.push_str("\n\nLines of a shell:\n")?;
-    text.push_str(SHELL_LINES)
-}
-
-/// The forms of a script's lines, and what their words may be.
-fn forms_and_words() -> &'static str {
-    front_of(below_title(RUN_HELP), "\n\nStatus:")
-}
-
-/// The forms of a script's lines.
-fn forms() -> &'static str {
-    front_of(below_title(RUN_HELP), "\n\n")
-}
-
-/// What stands before the end of a text, or all of it where this end isn't there.
-fn front_of(text: &'static str, end: &str) -> &'static str {
-    match text.split_once(end) {
-        Some((front, _)) => front,
-        None => text,
-    }
-}
-
-/// What stands below the first line of a text.
-fn below_title(text: &'static str) -> &'static str {
-    match text.split_once("\n") {
-        Some((_, below)) => below,
-        None => text,
-    }
+    push_script_lines(text)?;
+    text.push_str("\nLines of a shell:\n")?;
+    push_shell_lines(text)
 }
 
 /// Adds which modes conflict, or what is to be said of the mode that these words name.
@@ -110,36 +77,6 @@ fn push_modes_of(text: &mut String, topic: &str) -> Result<(), AllocError> {
         return push_modes(text);
     }
     push_mode(text, topic)
-}
-
-/// Adds the form of a command, of a script or of the shell.
-fn push_forms(text: &mut String, verb: &str) -> Result<(), AllocError> {
-    push_form(text, forms(), verb)?;
-    push_form(text, SHELL_LINES, verb)
-}
-
-/// Adds those of these lines that begin with a word, each with the lines behind it that go on with it.
-fn push_form(text: &mut String, lines: &'static str, verb: &str) -> Result<(), AllocError> {
-    let mut is_its = false;
-    for line in lines.lines() {
-        is_its = match line.strip_prefix("  ") {
-            Some(form) if form.starts_with(' ') => is_its,
-            Some(form) => first_word(form) == verb,
-            None => false,
-        };
-        if is_its {
-            write!(text, "{line}\n")?;
-        }
-    }
-    Ok(())
-}
-
-/// What stands before the first blank.
-fn first_word(text: &str) -> &str {
-    match text.split_once(' ') {
-        Some((word, _)) => word,
-        None => text,
-    }
 }
 
 /// For whom it is told what is wrong with a line.
@@ -172,30 +109,34 @@ pub fn push_correction(
 
 /// The word of a line that has the defect, if it is one's.
 fn word_meant<'a>(what: Defect, words: &[&'a str], names: &[Name]) -> Option<&'a str> {
-    let place = match what {
-        Defect::UnknownCommand => 0,
-        Defect::SessionExists | Defect::SessionWaits => 1,
-        Defect::BadNumber => 2,
-        Defect::BadMode => 3,
-        Defect::BadOwner => 4,
-        Defect::BadObject => place_of_tag(words),
-        Defect::BadName if is_named(words) => 2,
-        Defect::NoSuchSession if is_open(words, names) => 2,
-        Defect::BadName | Defect::NoSuchSession => 1,
-        Defect::TooManyLines
-        | Defect::LineTooLong
-        | Defect::NotAsciiText
-        | Defect::WrongNumberOfWords => return None,
-    };
+    let verb = words.first().copied()?;
+    if what == Defect::UnknownCommand {
+        return Some(verb);
+    }
+    let place = place_meant(what, command_row(verb)?, words, names)?;
     words.get(place).copied()
 }
 
-/// Where the object stands in a line.
-fn place_of_tag(words: &[&str]) -> usize {
-    match words.first() {
-        Some(verb) if *verb == "hash" => 1,
-        Some(verb) if *verb == "blockers" => 3,
-        _ => 2,
+/// Where in the lines of a command the word stands that has the defect, if it is one's.
+fn place_meant(what: Defect, row: &CommandRow, words: &[&str], names: &[Name]) -> Option<usize> {
+    match what {
+        Defect::SessionExists => row.place_of(WordKind::FreeName),
+        Defect::SessionWaits => row.place_of(WordKind::CallerName),
+        Defect::BadObject => row.place_of(WordKind::TagWord),
+        Defect::BadMode => row.place_of(WordKind::ModeName),
+        Defect::BadOwner => row.place_of(WordKind::OwnerWord),
+        Defect::BadNumber => match row.place_of(WordKind::Number) {
+            Some(place) => Some(place),
+            None => row.place_of(WordKind::CounterIndex),
+        },
+        Defect::BadName if is_named(words) => row.place_of(WordKind::OpenName),
+        Defect::NoSuchSession if is_open(words, names) => row.place_of(WordKind::OpenName),
+        Defect::BadName | Defect::NoSuchSession => Some(1),
+        Defect::TooManyLines
+        | Defect::LineTooLong
+        | Defect::NotAsciiText
+        | Defect::UnknownCommand
+        | Defect::WrongNumberOfWords => None,
     }
 }
 
@@ -263,10 +204,14 @@ impl Nearest {
 
     /// Looks at the words with which lines begin, and at those that others have for them.
     fn look_at_verbs(&mut self, alloc: Global, is_in_shell: bool) -> Result<(), AllocError> {
-        self.look_at_forms(alloc, forms())?;
+        for row in command_rows() {
+            self.look_at(alloc, row.verb, row.verb)?;
+        }
         self.look_at_pairs(alloc, SQL_WORDS.as_slice())?;
         if is_in_shell {
-            self.look_at_forms(alloc, SHELL_LINES)?;
+            for line in &SHELL_LINES {
+                self.look_at(alloc, line.verb, line.verb)?;
+            }
             self.look_at_pairs(alloc, SHELL_WORDS.as_slice())?;
         }
         Ok(())
@@ -280,17 +225,6 @@ impl Nearest {
     ) -> Result<(), AllocError> {
         for (other, verb) in pairs {
             self.look_at(alloc, *other, *verb)?;
-        }
-        Ok(())
-    }
-
-    /// Looks at the first words of these forms.
-    fn look_at_forms(&mut self, alloc: Global, forms: &'static str) -> Result<(), AllocError> {
-        for line in forms.lines() {
-            if let Some(form) = line.strip_prefix("  ") {
-                let verb = first_word(form);
-                self.look_at(alloc, verb, verb)?;
-            }
         }
         Ok(())
     }
@@ -370,7 +304,10 @@ fn rule_of(what: Defect, words: &[&str]) -> &'static str {
 /// Whether a line asks for a counter.
 fn is_count(words: &[&str]) -> bool {
     match words.first() {
-        Some(verb) => *verb == "count",
+        Some(verb) => match command_row(*verb) {
+            Some(row) => row.place_of(WordKind::CounterIndex).is_some(),
+            None => false,
+        },
         None => false,
     }
 }

@@ -1,7 +1,9 @@
-//! The lines that a script prints, as objects of JSON: each has the number of the script's line that it answers.
+//! The answers of a script as JSON: an object for each line of text, with the number of the script's line that it
+//! answers.
 
-use crate::output::{how_text, in_the_way_text, name_of, refusal_text};
-use lock_manager::{Blocker, Mode, QueueRow, Refusal, SessionId, SlotRow, TableRow, Tag};
+use crate::answers::{Row, Said};
+use crate::text::{how_text, in_the_way_text, name_of, plain_text, refusal_text};
+use lock_manager::{Blocker, Mode, QueueRow, Refusal, SlotRow, TableRow};
 use lock_script::{Name, Names};
 use serde_json::{Value, json};
 use std::alloc::{AllocError, Global};
@@ -9,61 +11,51 @@ use std::alloc::{AllocError, Global};
 /// An object of JSON, if there was the memory for it.
 pub type Object = Result<Value, AllocError>;
 
-/// An answer to a session.
-pub fn answer(alloc: Global, line: u32, name: &Name, answer: &str) -> Object {
-    json!(in alloc; {"line": line, "session": name.as_str(), "answer": answer})
-}
-
 /// A line of the script.
 pub fn echo(alloc: Global, line: u32, text: &str) -> Object {
     json!(in alloc; {"line": line, "echo": text})
 }
 
-/// A session was opened.
-pub fn opened(alloc: Global, line: u32, name: &Name, session: SessionId, database: u32) -> Object {
-    json!(in alloc; {
-        "line": line, "session": name.as_str(), "answer": "opened",
-        "number": session.number(), "database": database
-    })
+/// A picture of who waits for whom.
+pub fn picture(alloc: Global, line: u32, drawing: &str, text: &str) -> Object {
+    json!(in alloc; {"line": line, "graph": drawing, "text": text})
 }
 
-/// A transaction is at a level.
-pub fn level(alloc: Global, line: u32, name: &Name, level: u8) -> Object {
-    json!(in alloc; {
-        "line": line, "session": name.as_str(), "answer": "at a level", "level": level
-    })
+/// What the session of this name is told.
+pub fn said(alloc: Global, line: u32, names: &Names, name: &Name, said: Said) -> Object {
+    match said {
+        Said::Opened { session, database } => json!(in alloc; {
+            "line": line, "session": name.as_str(), "answer": "opened",
+            "number": session.number(), "database": database
+        }),
+        Said::Asked(other) => json!(in alloc; {
+            "line": line, "session": name.as_str(), "answer": "asked", "other": other.as_str()
+        }),
+        Said::Level(level) => json!(in alloc; {
+            "line": line, "session": name.as_str(), "answer": "at a level", "level": level
+        }),
+        Said::Owned {
+            of_transaction,
+            of_session,
+        } => json!(in alloc; {
+            "line": line, "session": name.as_str(), "answer": "owned",
+            "of_transaction": of_transaction, "of_session": of_session
+        }),
+        Said::NotOwned(mode) => json!(in alloc; {
+            "line": line, "session": name.as_str(), "answer": "not owned", "mode": mode.name()
+        }),
+        Said::Refused(refusal) => refused(alloc, line, names, name, refusal),
+        plain => answer(alloc, line, name, plain_text(plain)),
+    }
 }
 
-/// A session asked another one to stop waiting.
-pub fn asked(alloc: Global, line: u32, name: &Name, other: &Name) -> Object {
-    json!(in alloc; {
-        "line": line, "session": name.as_str(), "answer": "asked", "other": other.as_str()
-    })
-}
-
-/// How often a lock is held for each owner.
-pub fn owned(
-    alloc: Global,
-    line: u32,
-    name: &Name,
-    of_transaction: u16,
-    of_session: u16,
-) -> Object {
-    json!(in alloc; {
-        "line": line, "session": name.as_str(), "answer": "owned",
-        "of_transaction": of_transaction, "of_session": of_session
-    })
-}
-
-/// A lock that was to be given back isn't held.
-pub fn not_owned(alloc: Global, line: u32, name: &Name, mode: Mode) -> Object {
-    json!(in alloc; {
-        "line": line, "session": name.as_str(), "answer": "not owned", "mode": mode.name()
-    })
+/// An answer to a session in words alone.
+fn answer(alloc: Global, line: u32, name: &Name, text: &str) -> Object {
+    json!(in alloc; {"line": line, "session": name.as_str(), "answer": text})
 }
 
 /// A call was refused.
-pub fn refused(alloc: Global, line: u32, names: &Names, name: &Name, refusal: Refusal) -> Object {
+fn refused(alloc: Global, line: u32, names: &Names, name: &Name, refusal: Refusal) -> Object {
     let (number, text) = (refusal.number(), refusal_text(refusal));
     match &refusal {
         Refusal::Conflict { session, mode, how } => {
@@ -87,8 +79,29 @@ pub fn refused(alloc: Global, line: u32, names: &Names, name: &Name, refusal: Re
     }
 }
 
+/// A row.
+pub fn row(alloc: Global, line: u32, names: &Names, row: Row) -> Object {
+    match row {
+        Row::Slot(row) => slot_row(alloc, line, names, row),
+        Row::Table(row) => table_row(alloc, line, names, row),
+        Row::Rows(rows) => json!(in alloc; {"line": line, "rows": rows}),
+        Row::Wait(row) => queue_row(alloc, line, names, &row),
+        Row::Waits(waits) => json!(in alloc; {"line": line, "waits": waits}),
+        Row::InTheWay(name, blocker) => in_the_way(alloc, line, names, name, blocker),
+        Row::NotWaiting(name) => answer(alloc, line, &name, "isn't waiting"),
+        Row::Counter { index, shown } => {
+            json!(in alloc; {"line": line, "strong": index, "value": shown})
+        }
+        Row::Hash(tag) => json!(in alloc; {
+            "line": line, "hash": tag.hash(), "partition": tag.partition(),
+            "strong": tag.strong_index()
+        }),
+    }
+}
+
 /// A lock in a slot.
-pub fn slot_row(alloc: Global, line: u32, name: &Name, row: &SlotRow) -> Object {
+fn slot_row(alloc: Global, line: u32, names: &Names, row: SlotRow) -> Object {
+    let name = name_of(names, row.session);
     let tag = format!(in alloc; "{}", row.tag)?;
     json!(in alloc; {
         "line": line, "row": "fast", "session": name.as_str(), "slot": row.slot,
@@ -97,7 +110,8 @@ pub fn slot_row(alloc: Global, line: u32, name: &Name, row: &SlotRow) -> Object 
 }
 
 /// A lock in the table.
-pub fn table_row(alloc: Global, line: u32, name: &Name, row: &TableRow) -> Object {
+fn table_row(alloc: Global, line: u32, names: &Names, row: TableRow) -> Object {
+    let name = name_of(names, row.session);
     let tag = format!(in alloc; "{}", row.tag)?;
     json!(in alloc; {
         "line": line, "row": "table", "session": name.as_str(),
@@ -105,13 +119,9 @@ pub fn table_row(alloc: Global, line: u32, name: &Name, row: &TableRow) -> Objec
     })
 }
 
-/// How many rows a listing has.
-pub fn rows(alloc: Global, line: u32, rows: u64) -> Object {
-    json!(in alloc; {"line": line, "rows": rows})
-}
-
 /// A wait in a queue, with the modes that its session held when it joined.
-pub fn queue_row(alloc: Global, line: u32, name: &Name, row: &QueueRow) -> Object {
+fn queue_row(alloc: Global, line: u32, names: &Names, row: &QueueRow) -> Object {
+    let name = name_of(names, row.session);
     let mut held = Vec::new(alloc);
     for mode in Mode::ALL {
         if row.held.has(mode) {
@@ -124,32 +134,11 @@ pub fn queue_row(alloc: Global, line: u32, name: &Name, row: &QueueRow) -> Objec
     })
 }
 
-/// How many waits a queue has.
-pub fn waits(alloc: Global, line: u32, waits: u64) -> Object {
-    json!(in alloc; {"line": line, "waits": waits})
-}
-
 /// One that is in the way of a session that waits.
-pub fn blocker(alloc: Global, line: u32, name: &Name, who: &Name, blocker: &Blocker) -> Object {
+fn in_the_way(alloc: Global, line: u32, names: &Names, name: Name, blocker: Blocker) -> Object {
+    let who = name_of(names, blocker.session);
     json!(in alloc; {
         "line": line, "row": "blocker", "session": name.as_str(), "waits_for": who.as_str(),
         "mode": blocker.mode.name(), "how": in_the_way_text(blocker.how)
     })
-}
-
-/// What a strong lock counter shows.
-pub fn strong(alloc: Global, line: u32, index: u16, shown: u64) -> Object {
-    json!(in alloc; {"line": line, "strong": index, "value": shown})
-}
-
-/// The hash of an object, with its partition and its strong lock counter.
-pub fn hash(alloc: Global, line: u32, tag: Tag) -> Object {
-    json!(in alloc; {
-        "line": line, "hash": tag.hash(), "partition": tag.partition(), "strong": tag.strong_index()
-    })
-}
-
-/// A picture of who waits for whom.
-pub fn picture(alloc: Global, line: u32, drawing: &str, text: &str) -> Object {
-    json!(in alloc; {"line": line, "graph": drawing, "text": text})
 }

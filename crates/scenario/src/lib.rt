@@ -2,7 +2,10 @@
 //! what it prints, and the program that runs one.
 #![tactic(auto)]
 
+mod answers;
 mod arguments;
+mod calls;
+mod forms;
 mod hammer;
 mod hints;
 mod json;
@@ -18,17 +21,22 @@ mod run;
 mod sessions;
 mod shell;
 mod statements;
+mod statuses;
 mod style;
+mod text;
 mod workers;
 
+pub use answers::{Answer, Row, Said};
 pub use arguments::{Hammer, NoRun, Task, parse_arguments};
+pub use calls::Call;
 pub use hammer::{run_hammer, run_watched_hammer};
 pub use modes::print_modes;
-pub use output::Output;
+pub use output::{Listener, Output, tell_answer};
+pub use picture::Picture;
 pub use program::{Errors, Source, run_program};
 pub use progress::{Progress, ProgressLine, Unwatched};
-pub use run::{Scene, run_script, run_shell, run_styled_script};
+pub use run::{Scene, run_before, run_script, run_shell, run_styled_script};
 pub use script_orders::OrdersOptions;
-pub use sessions::{PollAnswer, Stage, StartAnswer};
-pub use style::{Drawing, Style};
+pub use sessions::{Deed, Stage};
+pub use style::{Drawing, Pen, Style};
 pub use workers::{Gate, OpenGate};

@@ -1,6 +1,7 @@
 //! The man page. Its sections are the texts of the help, so that the two can't differ.
 
 use crate::arguments::{ABOUT, PROGRAM, VERSION, help_text};
+use crate::statuses::{push_refusals, push_statuses};
 use std::alloc::{AllocError, Global};
 
 /// The sections that are texts of the help: their titles, and the words that ask for them.
@@ -28,31 +29,6 @@ lock_scenario modes
 lock_scenario hammer --sessions N --rounds K
 lock_scenario --man";
 
-/// What the page says of what is printed where a call is refused, behind the session's name.
-const REFUSALS: &str = "\
-refused 1 conflict OTHER MODE held        another session holds a conflicting mode
-refused 1 conflict OTHER MODE awaited     another session awaits one
-refused 2 no memory                       a growth of memory was refused
-refused 3 local table full                it has as many locks as it may have
-refused 4 count full                      the owner took the lock 65535 times
-refused 5 simple deadlock OTHER           the two would wait for one another
-refused 8 busy                            of fast: another is at its slots
-refused 9 slots full                      of fast: the relation's group is full
-refused 10 strong lock counted            of fast: at the relation's counter
-refused 11 not eligible                   of fast: no weak mode on a relation of
-                                          the session's own database
-refused 12 no more sessions               all that may be opened were opened
-refused 15 too deep                       of begin: 16 levels are the most
-refused 16 no nested transaction          of subcommit, subabort: there is none
-you don't own a lock of type MODE         of unlock, waiters: the lock isn't owned";
-
-/// What the page says of the status.
-const STATUS: &str = "\
-0  the script, its orders, the shell or the hammer ran to their end, or a text was asked for
-1  a fault of input, output or memory
-2  the program's own words were refused
-3  a bad line of a script; what the lines before it printed stays";
-
 /// The man page of the program, as `man` reads it.
 pub fn man_page(alloc: Global) -> Result<String, AllocError> {
     let mut page = format!(in alloc;
@@ -64,8 +40,12 @@ pub fn man_page(alloc: Global) -> Result<String, AllocError> {
         let text = help_text(alloc, *words)?;
         push_section(&mut page, title, text.as_str())?;
     }
-    push_section(&mut page, "REFUSALS", REFUSALS)?;
-    push_section(&mut page, "EXIT STATUS", STATUS)?;
+    let mut refusals = String::new(alloc);
+    push_refusals(&mut refusals)?;
+    push_section(&mut page, "REFUSALS", refusals.as_str())?;
+    let mut statuses = String::new(alloc);
+    push_statuses(&mut statuses)?;
+    push_section(&mut page, "EXIT STATUS", statuses.as_str())?;
     Ok(page)
 }
 

@@ -1,16 +1,82 @@
-//! What the lines of a script print.
+//! Where the answers of a script go: to a writer, as text or as JSON.
+
+use crate::answers::{Answer, Row, Said};
 use crate::json::{self, Object};
 use crate::picture::Picture;
 use crate::style::{Form, Pen, Style};
-use lock_manager::{
-    Acquired, Asked, Blocker, How, InTheWay, Listing, Mode, QueueRow, Refusal, SessionId, SlotRow,
-    TableRow, Tag, Unlocked,
-};
+use crate::text::{RowText, SaidText};
+use lock_manager::Listing;
 use lock_script::{Fault, Name, Names};
 use std::alloc::Global;
 use std::io::{self, Write};
 
-/// The printed answers of a script. Each line goes to the writer at once, and `flush` passes them on.
+/// What hears the answers of a script, each as soon as it is given.
+pub trait Listener {
+    /// A line of the script was read, with this number. What follows answers it.
+    fn begin_line(&mut self, number: u32, text: &str) -> Result<(), Fault>;
+
+    /// The session of this name is told this. The other sessions are known by `names`.
+    fn said(&mut self, names: &Names, name: Name, said: Said) -> Result<(), Fault>;
+
+    /// A row of an answer. Its sessions are known by `names`.
+    fn row(&mut self, names: &Names, row: Row) -> Result<(), Fault>;
+
+    /// What draws the pictures, if any are wanted.
+    fn pen(&self) -> Option<Pen>;
+
+    /// A picture of who waits for whom. Its sessions are known by `names`.
+    fn picture(&mut self, names: &Names, picture: &Picture) -> Result<(), Fault>;
+
+    /// Tells somebody at a shell this text, at once.
+    fn tell(&mut self, text: &str) -> Result<(), Fault>;
+
+    /// A line is answered, and all who go on have said so.
+    fn end_line(&mut self) -> Result<(), Fault>;
+}
+
+/// Tells a listener an answer, row by row. The sessions are known by `names`.
+pub fn tell_answer<L: Listener>(
+    listener: &mut L,
+    names: &Names,
+    answer: &Answer,
+) -> Result<(), Fault> {
+    match answer {
+        Answer::Said(name, said) => listener.said(names, *name, *said),
+        Answer::Row(row) => listener.row(names, *row),
+        Answer::Listing(listing) => tell_listing(listener, names, listing),
+        Answer::Queue(rows) => {
+            for row in rows {
+                listener.row(names, Row::Wait(*row))?;
+            }
+            listener.row(names, Row::Waits(rows.len() as u64))
+        }
+        Answer::Blockers(name, found) => {
+            for blocker in found {
+                listener.row(names, Row::InTheWay(*name, *blocker))?;
+            }
+            Ok(())
+        }
+    }
+}
+
+/// Tells a listener a listing: each row, and then how many they are.
+fn tell_listing<L: Listener>(
+    listener: &mut L,
+    names: &Names,
+    listing: &Listing,
+) -> Result<(), Fault> {
+    for row in &listing.fast {
+        listener.row(names, Row::Slot(*row))?;
+    }
+    for row in &listing.table {
+        listener.row(names, Row::Table(*row))?;
+    }
+    let rows = (listing.fast.len() as u64).saturating_add(listing.table.len() as u64);
+    listener.row(names, Row::Rows(rows))
+}
+
+/// The printed answers of a script. Each line goes to the writer at once, and is passed on where a line of the script is
+/// answered.
 #[derive(Drop)]
 pub struct Output<W: Write + Drop> {
     writer: W,
@@ -24,48 +90,6 @@ pub struct Output<W: Write + Drop> {
 /// A writer's error is a fault of the script.
 fn written(outcome: io::Result<()>) -> Result<(), Fault> {
     outcome.map_err(|_| Fault::WriteFailed)
-}
-
-/// What a conflicting session does with the mode.
-pub fn how_text(how: How) -> &'static str {
-    match how {
-        How::Held => "held",
-        How::Awaited => "awaited",
-    }
-}
-
-/// How a session stands in the way of one that waits, by its mode.
-pub fn in_the_way_text(how: InTheWay) -> &'static str {
-    match how {
-        InTheWay::Holds => "held",
-        InTheWay::StandsBefore => "awaited",
-    }
-}
-
-/// The text of a refusal, before what it names.
-pub fn refusal_text(refusal: Refusal) -> &'static str {
-    match refusal {
-        Refusal::Conflict { .. } => "conflict",
-        Refusal::NoMemory => "no memory",
-        Refusal::LocalFull => "local table full",
-        Refusal::CountFull => "count full",
-        Refusal::SimpleDeadlock { .. } => "simple deadlock",
-        Refusal::Cancelled => "cancelled",
-        Refusal::NotHeld => "not held",
-        Refusal::Busy => "busy",
-        Refusal::SlotsFull => "slots full",
-        Refusal::StrongCounted => "strong lock counted",
-        Refusal::NotEligible => "not eligible",
-        Refusal::NoMoreSessions => "no more sessions",
-        Refusal::BadConfig => "bad config",
-        Refusal::TooDeep => "too deep",
-        Refusal::NoNested => "no nested transaction",
-    }
-}
-
-/// The name of a session that a row or a refusal tells of. All of them were opened under a name.
-pub fn name_of(names: &Names, session: SessionId) -> Name {
-    names.name(session).unwrap_or(Name::new())
 }
 
 impl<W: Write + Drop> Output<W> {
@@ -100,24 +124,6 @@ impl<W: Write + Drop> Output<W> {
         }
     }
 
-    /// What draws the pictures, if any are wanted.
-    pub fn pen(&self) -> Option<Pen> {
-        self.pen
-    }
-
-    /// Goes on to a line of the script, and shows it where that is wanted.
-    pub fn begin_line(&mut self, number: u32, text: &str) -> Result<(), Fault> {
-        self.line = number;
-        if !self.is_echoing {
-            return Ok(());
-        }
-        match self.form {
-            Form::Text => written(writeln!(self.writer, "> {text}"))?,
-            Form::Json(alloc) => self.write_object(alloc, json::echo(alloc, number, text))?,
-        }
-        self.flush()
-    }
-
     /// A line of JSON.
     fn write_object(&mut self, alloc: Global, object: Object) -> Result<(), Fault> {
         let Ok(object) = object else {
@@ -129,288 +135,54 @@ impl<W: Write + Drop> Output<W> {
         written(writeln!(self.writer, "{text}"))
     }
 
-    /// Tells somebody at a shell this text, at once.
-    pub fn tell(&mut self, text: &str) -> Result<(), Fault> {
-        written(write!(self.writer, "{text}"))?;
+    /// Passes on what was printed.
+    fn flush(&mut self) -> Result<(), Fault> {
+        written(self.writer.flush())
+    }
+}
+
+impl<W: Write + Drop> Listener for Output<W> {
+    fn begin_line(&mut self, number: u32, text: &str) -> Result<(), Fault> {
+        self.line = number;
+        if !self.is_echoing {
+            return Ok(());
+        }
+        match self.form {
+            Form::Text => written(writeln!(self.writer, "> {text}"))?,
+            Form::Json(alloc) => self.write_object(alloc, json::echo(alloc, number, text))?,
+        }
         self.flush()
     }
 
-    /// Passes on what was printed.
-    pub fn flush(&mut self) -> Result<(), Fault> {
-        written(self.writer.flush())
-    }
-
-    /// A line on a session.
-    fn say(&mut self, name: &Name, text: &'static str) -> Result<(), Fault> {
-        match self.form {
-            Form::Text => written(writeln!(self.writer, "{name}: {text}")),
-            Form::Json(alloc) => self.write_object(
-                alloc,
-                json::answer(alloc, self.line, name, text),
-            ),
-        }
-    }
-
-    /// A session was opened.
-    pub fn opened(&mut self, name: &Name, session: SessionId, database: u32) -> Result<(), Fault> {
+    fn said(&mut self, names: &Names, name: Name, said: Said) -> Result<(), Fault> {
         match self.form {
             Form::Text => {
-                written(writeln!(self.writer, "{name}: session {session} database {database}"))
+                let text = SaidText { names, said };
+                written(writeln!(self.writer, "{name}: {text}"))
             }
-            Form::Json(alloc) => self.write_object(
-                alloc,
-                json::opened(alloc, self.line, name, session, database),
-            ),
-        }
-    }
-
-    /// A lock was asked for, and the session has it.
-    pub fn acquired(&mut self, name: &Name, acquired: Acquired) -> Result<(), Fault> {
-        match acquired {
-            Acquired::Granted => self.say(name, "granted"),
-            Acquired::AlreadyHeld => self.say(name, "already held"),
-        }
-    }
-
-    /// A lock was asked for, and the session waits for it.
-    pub fn waits(&mut self, name: &Name) -> Result<(), Fault> {
-        self.say(name, "waits")
-    }
-
-    /// A session that waited has its lock.
-    pub fn granted_after_waiting(&mut self, name: &Name) -> Result<(), Fault> {
-        self.say(name, "granted after waiting")
-    }
-
-    /// A session that waited was cancelled.
-    pub fn cancelled(&mut self, name: &Name) -> Result<(), Fault> {
-        self.say(name, "cancelled")
-    }
-
-    /// A session asked another one to stop waiting.
-    pub fn asked(&mut self, name: &Name, other: &Name, asked: Asked) -> Result<(), Fault> {
-        match asked {
-            Asked::Waiting => self.write_asked(name, other),
-            Asked::NotWaiting => self.write_not_waiting(other),
-        }
-    }
-
-    /// Tells that the session was asked, since it waits.
-    fn write_asked(&mut self, name: &Name, other: &Name) -> Result<(), Fault> {
-        match self.form {
-            Form::Text => written(writeln!(self.writer, "{name}: asked {other}")),
             Form::Json(alloc) => {
-                self.write_object(alloc, json::asked(alloc, self.line, name, other))
+                self.write_object(alloc, json::said(alloc, self.line, names, &name, said))
             }
         }
     }
 
-    /// Tells that the session doesn't wait, so that nothing was asked of it.
-    fn write_not_waiting(&mut self, other: &Name) -> Result<(), Fault> {
-        match self.form {
-            Form::Text => written(writeln!(self.writer, "{other} isn't waiting")),
-            Form::Json(alloc) => {
-                self.write_object(
-                    alloc,
-                    json::answer(alloc, self.line, other, "isn't waiting"),
-                )
-            }
-        }
-    }
-
-    /// Whether somebody waits for what a session holds.
-    pub fn waiters(&mut self, name: &Name, is_awaited: bool) -> Result<(), Fault> {
-        if is_awaited {
-            self.say(name, "waiters yes")
-        } else {
-            self.say(name, "waiters no")
-        }
-    }
-
-    /// A lock was given back.
-    pub fn unlocked(&mut self, name: &Name, unlocked: Unlocked) -> Result<(), Fault> {
-        match unlocked {
-            Unlocked::Released => self.say(name, "released"),
-            Unlocked::StillHeld => self.say(name, "still held"),
-        }
-    }
-
-    /// A transaction ended with success.
-    pub fn committed(&mut self, name: &Name) -> Result<(), Fault> {
-        self.say(name, "committed")
-    }
-
-    /// A transaction ended with failure.
-    pub fn aborted(&mut self, name: &Name) -> Result<(), Fault> {
-        self.say(name, "aborted")
-    }
-
-    /// A transaction is at a level.
-    pub fn level(&mut self, name: &Name, level: u8) -> Result<(), Fault> {
-        match self.form {
-            Form::Text => written(writeln!(self.writer, "{name}: level {level}")),
-            Form::Json(alloc) => {
-                self.write_object(alloc, json::level(alloc, self.line, name, level))
-            }
-        }
-    }
-
-    /// A session was closed.
-    pub fn closed(&mut self, name: &Name) -> Result<(), Fault> {
-        self.say(name, "closed")
-    }
-
-    /// How often a lock is held for each owner.
-    pub fn owned(&mut self, name: &Name, transaction: u16, session: u16) -> Result<(), Fault> {
-        match self.form {
-            Form::Text => written(writeln!(
-                self.writer,
-                "{name}: transaction {transaction} session {session}"
-            )),
-            Form::Json(alloc) => self.write_object(
-                alloc,
-                json::owned(alloc, self.line, name, transaction, session),
-            ),
-        }
-    }
-
-    /// A lock that was to be given back isn't held.
-    pub fn not_owned(&mut self, name: &Name, mode: Mode) -> Result<(), Fault> {
+    fn row(&mut self, names: &Names, row: Row) -> Result<(), Fault> {
         match self.form {
             Form::Text => {
-                written(writeln!(self.writer, "{name}: you don't own a lock of type {mode}"))
+                let text = RowText { names, row };
+                written(writeln!(self.writer, "{text}"))
             }
             Form::Json(alloc) => {
-                self.write_object(alloc, json::not_owned(alloc, self.line, name, mode))
+                self.write_object(alloc, json::row(alloc, self.line, names, row))
             }
         }
     }
 
-    /// A call was refused.
-    pub fn refused(&mut self, names: &Names, name: &Name, refusal: Refusal) -> Result<(), Fault> {
-        match self.form {
-            Form::Text => self.write_refused(names, name, refusal),
-            Form::Json(alloc) => self.write_object(
-                alloc,
-                json::refused(alloc, self.line, names, name, refusal),
-            ),
-        }
+    fn pen(&self) -> Option<Pen> {
+        self.pen
     }
 
-    /// A refusal, as text.
-    fn write_refused(&mut self, names: &Names, name: &Name, refusal: Refusal) -> Result<(), Fault> {
-        let number = refusal.number();
-        let text = refusal_text(refusal);
-        match &refusal {
-            Refusal::Conflict { session, mode, how } => {
-                let other = name_of(names, *session);
-                let how = how_text(*how);
-                written(writeln!(
-                    self.writer,
-                    "{name}: refused {number} {text} {other} {mode} {how}"
-                ))
-            }
-            Refusal::SimpleDeadlock { session } => {
-                let other = name_of(names, *session);
-                written(writeln!(self.writer, "{name}: refused {number} {text} {other}"))
-            }
-            _ => written(writeln!(self.writer, "{name}: refused {number} {text}")),
-        }
-    }
-
-    /// All locks: a line for each row, and then their number.
-    pub fn listing(&mut self, names: &Names, listing: &Listing) -> Result<(), Fault> {
-        for row in &listing.fast {
-            self.slot_row(names, row)?;
-        }
-        for row in &listing.table {
-            self.table_row(names, row)?;
-        }
-        let rows = (listing.fast.len() as u64).saturating_add(listing.table.len() as u64);
-        match self.form {
-            Form::Text => written(writeln!(self.writer, "rows {rows}")),
-            Form::Json(alloc) => self.write_object(alloc, json::rows(alloc, self.line, rows)),
-        }
-    }
-
-    /// A lock in a slot.
-    fn slot_row(&mut self, names: &Names, row: &SlotRow) -> Result<(), Fault> {
-        let name = name_of(names, row.session);
-        let SlotRow {
-            slot,
-            tag,
-            mode,
-            ..
-        } = *row;
-        match self.form {
-            Form::Text => written(writeln!(self.writer, "fast {name} {slot} {tag} {mode}")),
-            Form::Json(alloc) => {
-                self.write_object(alloc, json::slot_row(alloc, self.line, &name, row))
-            }
-        }
-    }
-
-    /// A lock in the table.
-    fn table_row(&mut self, names: &Names, row: &TableRow) -> Result<(), Fault> {
-        let name = name_of(names, row.session);
-        let how = if row.granted { "granted" } else { "awaited" };
-        let TableRow { tag, mode, .. } = *row;
-        match self.form {
-            Form::Text => written(writeln!(self.writer, "table {name} {tag} {mode} {how}")),
-            Form::Json(alloc) => {
-                self.write_object(alloc, json::table_row(alloc, self.line, &name, row))
-            }
-        }
-    }
-
-    /// The waits on an object, in the order of its queue: a line for each, and then their number.
-    pub fn queue(&mut self, names: &Names, rows: &[QueueRow]) -> Result<(), Fault> {
-        for row in rows {
-            self.queue_row(names, row)?;
-        }
-        let waits = rows.len() as u64;
-        match self.form {
-            Form::Text => written(writeln!(self.writer, "waits {waits}")),
-            Form::Json(alloc) => self.write_object(alloc, json::waits(alloc, self.line, waits)),
-        }
-    }
-
-    /// A wait in a queue.
-    fn queue_row(&mut self, names: &Names, row: &QueueRow) -> Result<(), Fault> {
-        let name = name_of(names, row.session);
-        let mode = row.mode;
-        match self.form {
-            Form::Text => written(writeln!(self.writer, "queue {name} {mode}")),
-            Form::Json(alloc) => {
-                self.write_object(alloc, json::queue_row(alloc, self.line, &name, row))
-            }
-        }
-    }
-
-    /// Those who stand in the way of a session that waits, a line for each.
-    pub fn blockers(&mut self, names: &Names, name: &Name, found: &[Blocker]) -> Result<(), Fault> {
-        for blocker in found {
-            self.blocker(names, name, blocker)?;
-        }
-        Ok(())
-    }
-
-    /// One who stands in the way.
-    fn blocker(&mut self, names: &Names, name: &Name, blocker: &Blocker) -> Result<(), Fault> {
-        let who = name_of(names, blocker.session);
-        let mode = blocker.mode;
-        let how = in_the_way_text(blocker.how);
-        match self.form {
-            Form::Text => written(writeln!(self.writer, "{name} waits for {who} {mode} {how}")),
-            Form::Json(alloc) => {
-                let object = json::blocker(alloc, self.line, name, &who, blocker);
-                self.write_object(alloc, object)
-            }
-        }
-    }
-
-    /// A picture of who waits for whom, if anybody does.
-    pub fn picture(&mut self, names: &Names, picture: &Picture) -> Result<(), Fault> {
+    fn picture(&mut self, names: &Names, picture: &Picture) -> Result<(), Fault> {
         if picture.is_empty() {
             return Ok(());
         }
@@ -427,32 +199,12 @@ impl<W: Write + Drop> Output<W> {
         }
     }
 
-    /// What a strong lock counter shows.
-    pub fn strong(&mut self, index: u16, shown: u64) -> Result<(), Fault> {
-        match self.form {
-            Form::Text => written(writeln!(self.writer, "strong {index} {shown}")),
-            Form::Json(alloc) => {
-                self.write_object(alloc, json::strong(alloc, self.line, index, shown))
-            }
-        }
+    fn tell(&mut self, text: &str) -> Result<(), Fault> {
+        written(write!(self.writer, "{text}"))?;
+        self.flush()
     }
 
-    /// The hash of an object, with its partition and its strong lock counter.
-    pub fn hash(&mut self, tag: Tag) -> Result<(), Fault> {
-        match self.form {
-            Form::Text => self.write_hash(tag),
-            Form::Json(alloc) => self.write_object(alloc, json::hash(alloc, self.line, tag)),
-        }
-    }
-
-    /// A hash, as text.
-    fn write_hash(&mut self, tag: Tag) -> Result<(), Fault> {
-        let hash = tag.hash();
-        let partition = tag.partition();
-        let strong = tag.strong_index();
-        written(writeln!(
-            self.writer,
-            "hash {hash} partition {partition} strong {strong}"
-        ))
+    fn end_line(&mut self) -> Result<(), Fault> {
+        self.flush()
     }
 }

@@ -2,8 +2,8 @@
 
 ghost use Rattle.std.specs.Prelude.{◌≡◌, ◌<◌, length};
 
-use crate::output::name_of;
 use crate::style::{Drawing, Pen};
+use crate::text::name_of;
 use lock_manager::{Blocker, InTheWay, Mode, SessionId, TableRow, Tag};
 use lock_script::Names;
 use modes_core::SESSIONS;

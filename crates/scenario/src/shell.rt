@@ -3,13 +3,14 @@ ghost use Rattle.std.specs.Prelude.{◌≡◌};
 ghost use Rattle.lock_manager.specs.Crews.{SeatsAre};
 
 use crate::hints::{Reader, help, push_correction};
+use crate::output::Listener;
 use crate::run::Scene;
 use lock_manager::{Desk, OwnSession};
 use lock_script::{Defect, Fault, LineReader, Name, OpenSessions, parse, split_words};
 use lock_table::PartTable;
 use shared_rule::Board;
 use std::alloc::{AllocError, Global};
-use std::io::{Read, Write};
+use std::io::Read;
 use std::sync::Wait;
 
 /// What stands before each line at a terminal.
@@ -65,7 +66,7 @@ fn names_of<S, W>(alloc: Global, sessions: &OpenSessions<S, W>) -> Result<Vec<Na
     Ok(names)
 }
 
-impl<T: PartTable, B: Board<T>, D: Desk<OwnSession<T, B>>, W: Write + Drop> Scene<T, B, D, W> {
+impl<T: PartTable, B: Board<T>, D: Desk<OwnSession<T, B>>, L: Listener> Scene<T, B, D, L> {
     /// Runs the lines of a shell, to the line that ends it, the end of the reader, or a fault that is no bad line's.
     pub fn converse<H: Wait, R: Read + Drop>(
         &mut self,
@@ -98,7 +99,7 @@ impl<T: PartTable, B: Board<T>, D: Desk<OwnSession<T, B>>, W: Write + Drop> Scen
         ensures manager { D.manager self.new.stage.desk ≡ D.manager self.old.stage.desk }
     {
         if shell.is_terminal {
-            self.output.tell(text)
+            self.listener.tell(text)
         } else {
             Ok(())
         }
@@ -112,7 +113,7 @@ impl<T: PartTable, B: Board<T>, D: Desk<OwnSession<T, B>>, W: Write + Drop> Scen
             Fault::BadLine {
                 what: Defect::NotAsciiText,
                 ..
-            } => self.output.tell(
+            } => self.listener.tell(
                 "bad line: not ASCII text; a line has printable characters and tabs\n",
             ),
             _ => Err(fault),
@@ -127,7 +128,7 @@ impl<T: PartTable, B: Board<T>, D: Desk<OwnSession<T, B>>, W: Write + Drop> Scen
         match shell.understand(line) {
             Ok(Typed::End) => Ok(true),
             Ok(Typed::Help(text)) => {
-                self.output.tell(text.as_str())?;
+                self.listener.tell(text.as_str())?;
                 Ok(false)
             }
             Ok(Typed::Line) => {
@@ -156,7 +157,7 @@ impl<T: PartTable, B: Board<T>, D: Desk<OwnSession<T, B>>, W: Write + Drop> Scen
     {
         let stage = &self.stage;
         match correct_text(shell.alloc, line, what, &stage.sessions) {
-            Ok(text) => self.output.tell(text.as_str()),
+            Ok(text) => self.listener.tell(text.as_str()),
             Err(_) => Err(Fault::NoMemory),
         }
     }

@@ -6,11 +6,15 @@
 #[cfg(test)]
 mod advisory;
 #[cfg(test)]
+mod commands;
+#[cfg(test)]
 mod groups;
 #[cfg(test)]
 mod hammers;
 #[cfg(test)]
 mod inputs;
+#[cfg(test)]
+mod language_lines;
 #[cfg(test)]
 mod mans;
 #[cfg(test)]

@@ -79,7 +79,7 @@ fn play_in_turn<T: PartTable, B: Board<T>, D: Desk<OwnSession<T, B>> + Drop, R: 
         let ended = scene.play(rt, script.as_bytes());
         assert_eq!(rt; ended.is_ok(), is_good, "{script:?}");
     }
-    let Scene { stage, output: _ } = scene;
+    let Scene { stage, listener: _ } = scene;
     let Stage {
         desk: _,
         names: _,

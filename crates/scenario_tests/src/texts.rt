@@ -1,9 +1,9 @@
 //! Every text that a script can print, by variant.
 use lock_manager::{
-    Acquired, Asked, How, Listing, Mode, Refusal, SessionId, SlotRow, TableRow, Tag, Unlocked,
+    Acquired, How, Listing, Mode, Refusal, SessionId, SlotRow, TableRow, Tag, Unlocked,
 };
 use lock_script::{Fault, Name, Names};
-use scenario::Output;
+use scenario::{Answer, Listener, Output, Row, Said, tell_answer};
 use std::process::Abort;
 use std::test::Fail;
 
@@ -57,7 +57,7 @@ fn a_refusal_has_its_number_and_text(rt: HostRuntime) -> Result<(), Fail> {
     ] {
         let mut printed = Vec::new(rt.alloc());
         let mut output = Output::new(&mut printed);
-        let written = output.refused(&names, &name(&rt, "a"), refusal);
+        let written = output.said(&names, name(&rt, "a"), Said::Refused(refusal));
         assert!(rt; written == Ok(()));
         drop(output);
         assert_eq!(rt; printed.as_slice(), text.as_bytes());
@@ -65,64 +65,67 @@ fn a_refusal_has_its_number_and_text(rt: HostRuntime) -> Result<(), Fail> {
     Ok(())
 }
 
-/// Prints what requests and waits come to, in each variant.
-fn print_requests(rt: &impl Abort, output: &mut Output<&mut Vec<u8>>) -> Result<(), Fault> {
+/// Prints what sessions are told, in each variant.
+fn print_said(rt: &impl Abort, output: &mut Output<&mut Vec<u8>>) -> Result<(), Fault> {
+    let names = Names::new();
     let b = name(rt, "b");
-    for acquired in [Acquired::Granted, Acquired::AlreadyHeld] {
-        output.acquired(&b, acquired)?;
-    }
-    output.waits(&b)?;
-    output.granted_after_waiting(&b)?;
-    output.cancelled(&b)
-}
-
-/// Prints what a session is told of others that wait, in each variant.
-fn print_waits(rt: &impl Abort, output: &mut Output<&mut Vec<u8>>) -> Result<(), Fault> {
-    let (a, b) = (name(rt, "a"), name(rt, "b"));
-    for asked in [Asked::Waiting, Asked::NotWaiting] {
-        output.asked(&a, &b, asked)?;
-    }
-    for is_awaited in [true, false] {
-        output.waiters(&a, is_awaited)?;
+    for said in [
+        Said::Acquired(Acquired::Granted),
+        Said::Acquired(Acquired::AlreadyHeld),
+        Said::Waits,
+        Said::GrantedAfterWaiting,
+        Said::Cancelled,
+        Said::Asked(name(rt, "c")),
+        Said::Waiters(true),
+        Said::Waiters(false),
+        Said::Unlocked(Unlocked::Released),
+        Said::Unlocked(Unlocked::StillHeld),
+        Said::Committed,
+        Said::Aborted,
+        Said::Closed,
+        Said::Level(16),
+        Said::Owned {
+            of_transaction: 12,
+            of_session: 65_535,
+        },
+        Said::NotOwned(Mode::ShareRowExclusive),
+    ] {
+        output.said(&names, b, said)?;
     }
     Ok(())
 }
 
-/// Prints what releases and ends come to, in each variant.
-fn print_ends(rt: &impl Abort, output: &mut Output<&mut Vec<u8>>) -> Result<(), Fault> {
-    let a = name(rt, "a");
-    for unlocked in [Unlocked::Released, Unlocked::StillHeld] {
-        output.unlocked(&a, unlocked)?;
+/// Prints rows that name no session by its number.
+fn print_rows(rt: &impl Abort, output: &mut Output<&mut Vec<u8>>) -> Result<(), Fault> {
+    let names = Names::new();
+    for row in [
+        Row::NotWaiting(name(rt, "b")),
+        Row::Rows(3),
+        Row::Waits(2),
+        Row::Counter { index: 0, shown: 0 },
+        Row::Counter {
+            index: 1_023,
+            shown: u64::MAX,
+        },
+    ] {
+        output.row(&names, row)?;
     }
-    output.committed(&a)?;
-    output.aborted(&a)?;
-    output.closed(&a)
-}
-
-/// Prints counts.
-fn print_counts(rt: &impl Abort, output: &mut Output<&mut Vec<u8>>) -> Result<(), Fault> {
-    let a = name(rt, "a");
-    output.owned(&a, 12, 65_535)?;
-    output.not_owned(&a, Mode::ShareRowExclusive)?;
-    output.strong(0, 0)?;
-    output.strong(1_023, u64::MAX)?;
-    output.flush()
+    output.end_line()
 }
 
 #[test]
 fn an_answer_has_its_text(rt: HostRuntime) -> Result<(), Fail> {
     let mut printed = Vec::new(rt.alloc());
     let mut output = Output::new(&mut printed);
-    assert!(rt; print_requests(&rt, &mut output) == Ok(()));
-    assert!(rt; print_waits(&rt, &mut output) == Ok(()));
-    assert!(rt; print_ends(&rt, &mut output) == Ok(()));
-    assert!(rt; print_counts(&rt, &mut output) == Ok(()));
+    assert!(rt; print_said(&rt, &mut output) == Ok(()));
+    assert!(rt; print_rows(&rt, &mut output) == Ok(()));
     drop(output);
     let text = "b: granted\nb: already held\nb: waits\n\
-                b: granted after waiting\nb: cancelled\na: asked b\nb isn't waiting\n\
-                a: waiters yes\na: waiters no\na: released\na: still held\na: committed\na: aborted\n\
-                a: closed\na: transaction 12 session 65535\n\
-                a: you don't own a lock of type ShareRowExclusiveLock\n\
+                b: granted after waiting\nb: cancelled\nb: asked c\n\
+                b: waiters yes\nb: waiters no\nb: released\nb: still held\nb: committed\nb: aborted\n\
+                b: closed\nb: level 16\nb: transaction 12 session 65535\n\
+                b: you don't own a lock of type ShareRowExclusiveLock\n\
+                b isn't waiting\nrows 3\nwaits 2\n\
                 strong 0 0\nstrong 1023 18446744073709551615\n";
     assert_eq!(rt; printed.as_slice(), text.as_bytes());
     Ok(())
@@ -154,7 +157,8 @@ fn a_row_has_its_text(rt: HostRuntime) -> Result<(), Fail> {
     }
     let mut printed = Vec::new(alloc);
     let mut output = Output::new(&mut printed);
-    assert!(rt; output.listing(&names, &listing) == Ok(()));
+    let answer = Answer::Listing(listing);
+    assert!(rt; tell_answer(&mut output, &names, &answer) == Ok(()));
     drop(output);
     let text = "fast a 15 5/16384 RowExclusiveLock\n\
                 table a 5/1259/16384/3 ShareUpdateExclusiveLock granted\n\

@@ -1,6 +1,6 @@
 //! What ends the orders of a script early.
 
-use lock_script::{Defect, Fault};
+use lock_script::{Defect, Fault, Name};
 use std::alloc::AllocError;
 
 /// A line of a script that is bad.
@@ -12,7 +12,7 @@ pub struct BadLine {
     pub what: Defect,
     pub text: String,
     /// The names of the sessions that were open before it.
-    pub open: Vec<String>,
+    pub open: Vec<Name>,
 }
 
 /// What ends the orders of a script early.

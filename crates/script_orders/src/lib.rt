@@ -15,4 +15,5 @@ pub use faults::{BadLine, OrdersFault};
 pub use merges::next_merge;
 pub use options::OrdersOptions;
 pub use orders::{Player, run_orders};
+pub use played::{News, Played, Told};
 pub use progress::OrdersLine;

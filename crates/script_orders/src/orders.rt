@@ -4,7 +4,7 @@ use crate::ends::Endings;
 use crate::faults::OrdersFault;
 use crate::merges::next_merge;
 use crate::options::OrdersOptions;
-use crate::played::PlayedOrder;
+use crate::played::{Played, PlayedOrder};
 use crate::progress::OrdersLine;
 use crate::stories::Story;
 use lock_script::{Defect, Fault};
@@ -13,12 +13,12 @@ use std::sync::Wait;
 
 /// Plays scripts, each against a lock manager of its own.
 pub trait Player {
-    /// Plays a script: each of its lines goes to `shown` as `> LINE`, with its answers behind it.
+    /// Plays a script: `played` is told each line that is read, and its answers.
     fn play<H: AllocGlobal + Wait>(
         &self,
         rt: &H,
         script: &str,
-        shown: &mut Vec<u8>,
+        played: &mut Played,
     ) -> Result<(), Fault>;
 }
 
@@ -130,8 +130,8 @@ fn play_order<'a, P: Player, H: AllocGlobal + Wait>(
 ) -> Result<(PlayedOrder<'a>, Option<(u32, Defect)>), OrdersFault> {
     let alloc = rt.alloc();
     let script = story.script(alloc, merge)?;
-    let mut shown = Vec::new(alloc);
-    let (lines, bad) = match player.play(rt, script.text.as_str(), &mut shown) {
+    let mut played = Played::new(alloc);
+    let (lines, bad) = match player.play(rt, script.text.as_str(), &mut played) {
         Ok(()) => (merge.len(), None),
         Err(Fault::BadLine { line, what }) => (story.lines_before(line), Some((line, what))),
         Err(fault) => return Err(OrdersFault::Other(fault)),
@@ -142,7 +142,7 @@ fn play_order<'a, P: Player, H: AllocGlobal + Wait>(
         run,
         left,
         script,
-        shown,
+        played,
     };
     Ok((order, bad))
 }

@@ -2,9 +2,68 @@
 
 use crate::faults::BadLine;
 use crate::stories::{Script, Story};
-use lock_script::{Defect, split_words};
+use lock_script::{Defect, Name, WordKind, command_row, split_words};
 use std::alloc::{AllocError, Global};
-use std::str;
+use std::fmt::Display;
+
+/// What an answer says of its session.
+#[derive(Clone, Copy, Debug, PartialEq, Eq)]
+pub enum News {
+    /// It was opened.
+    Opened,
+    /// It waits.
+    Waits,
+    /// It was closed.
+    Closed,
+    /// It is open, and doesn't wait.
+    Rests,
+}
+
+/// An answer to a line, as orders look at it.
+#[derive(Drop)]
+pub struct Told {
+    /// The session that is answered, and what that says of it. None is for a row, which is its asker's.
+    pub session: Option<(Name, News)>,
+    /// The text of the answer, without the session's name.
+    pub text: String,
+}
+
+/// What was played of a script: for each line that was read its answers.
+#[derive(Drop)]
+pub struct Played {
+    alloc: Global,
+    lines: Vec<Vec<Told>>,
+}
+
+impl Played {
+    /// Nothing yet.
+    pub fn new(alloc: Global) -> Self {
+        Played {
+            alloc,
+            lines: Vec::new(alloc),
+        }
+    }
+
+    /// The next line was read.
+    pub fn begin_line(&mut self) -> Result<(), AllocError> {
+        self.lines.push(Vec::new(self.alloc))?;
+        Ok(())
+    }
+
+    /// The line that was read last is answered, or a session goes on behind it. `session` is the session that is
+    /// answered with what that says of it, and `text` the answer without its name.
+    pub fn tell<D: Display + Drop>(
+        &mut self,
+        session: Option<(Name, News)>,
+        text: D,
+    ) -> Result<(), AllocError> {
+        let text = format!(in self.alloc; "{text}")?;
+        if let Some(line) = self.lines.last_mut() {
+            line.push(Told { session, text })?;
+        }
+        Ok(())
+    }
+}
 
 /// An order that was played: to its end, or up to a line that is bad there.
 #[derive(Drop)]
@@ -16,27 +75,21 @@ pub struct PlayedOrder<'a> {
     pub left: &'a [usize],
     /// The whole order.
     pub script: Script,
-    /// Each line that was read as `> LINE`, with its answers behind it.
-    pub shown: Vec<u8>,
+    /// The answers to each line that was read.
+    pub played: Played,
 }
 
 impl PlayedOrder<'_> {
-    /// What was shown, which is text.
-    fn shown(&self) -> &str {
-        match str::from_utf8(self.shown.as_slice()) {
-            Ok(shown) => shown,
-            Err(_) => "",
-        }
-    }
-
     /// Which of the sessions wait.
     pub fn who_waits(&self, alloc: Global) -> Result<Vec<bool>, AllocError> {
         let mut waiting = vec![in alloc; false; self.story.actors.len()]?;
-        for line in self.shown().lines() {
-            if let Some((name, answer)) = line.split_once(": ") {
-                let place = self.story.place_of(name);
-                if let Some(waits) = place.and_then(|place| waiting.get_mut(place)) {
-                    *waits = answer == "waits";
+        for line in &self.played.lines {
+            for told in line {
+                if let Some((name, news)) = told.session {
+                    let place = self.story.place_of(name.as_str());
+                    if let Some(waits) = place.and_then(|place| waiting.get_mut(place)) {
+                        *waits = news == News::Waits;
+                    }
                 }
             }
         }
@@ -56,28 +109,26 @@ impl PlayedOrder<'_> {
     /// Whether this line, the first one left, names another session that was closed before.
     pub fn names_closed_session(&self, line: &str) -> bool {
         let words = split_words(line);
-        match (words.as_slice().get(0), words.as_slice().get(2)) {
-            (Some(verb), Some(name)) if *verb == "cancel" || *verb == "blockers" => {
-                match self.story.place_of(*name) {
-                    Some(place) => self.left.first().copied() != Some(place)
-                        && self.was_closed(place),
-                    None => false,
-                }
-            }
-            _ => false,
+        match named_word(words.as_slice()) {
+            Some(name) => match self.story.place_of(name) {
+                Some(place) => self.left.first().copied() != Some(place) && self.was_closed(name),
+                None => false,
+            },
+            None => false,
         }
     }
 
-    /// Whether a session closed itself in a line that was run.
-    fn was_closed(&self, place: usize) -> bool {
-        match self.story.actors.get(place) {
-            Some(actor) => actor.lines.iter().take(self.lines_run(place)).any(|line| split_words(
-                line.text.as_str(),
-            ).as_slice()
-                .first()
-                == Some(&"close")),
-            None => false,
+    /// Whether a session of this name was closed.
+    fn was_closed(&self, name: &str) -> bool {
+        for line in &self.played.lines {
+            for told in line {
+                match told.session {
+                    Some((other, News::Closed)) if other.as_str() == name => return true,
+                    _ => {}
+                }
+            }
         }
+        false
     }
 
     /// How many lines of a session were run.
@@ -138,17 +189,14 @@ impl PlayedOrder<'_> {
         for _ in &self.story.actors {
             answers.push(String::new(alloc))?;
         }
-        let mut opening = self.story.opening.iter();
-        let mut turns = self.run.iter();
-        let mut asked = None;
-        for line in self.shown().lines() {
-            if let Some(text) = line.strip_prefix("> ") {
-                if opening.next().is_none() {
-                    let turn = turns.next().copied();
-                    asked = if ends && is_look(text) { None } else { turn };
-                }
-            } else if let Some(asked) = asked {
-                add_answer(self.story, answers.as_mut_slice(), asked, line)?;
+        let lines = self.script.text.as_str().lines().zip(&self.played.lines);
+        let turns = self.run.iter();
+        for ((line, told), asked) in lines.skip(self.story.opening.len()).zip(turns) {
+            if ends && is_look(line) {
+                continue;
+            }
+            for told in told {
+                add_answer(self.story, answers.as_mut_slice(), *asked, told)?;
             }
         }
         Ok(answers)
@@ -165,16 +213,15 @@ impl PlayedOrder<'_> {
     }
 
     /// The names of the sessions that are open.
-    fn open_sessions(&self, alloc: Global) -> Result<Vec<String>, AllocError> {
-        let mut open: Vec<String> = Vec::new(alloc);
-        for line in self.shown().lines() {
-            let Some((name, answer)) = line.split_once(": ") else {
-                continue;
-            };
-            if answer.starts_with("session ") {
-                open.push(String::from_str(alloc, name)?)?;
-            } else if answer == "closed" {
-                open.retain(|other| other.as_str() != name);
+    fn open_sessions(&self, alloc: Global) -> Result<Vec<Name>, AllocError> {
+        let mut open: Vec<Name> = Vec::new(alloc);
+        for line in &self.played.lines {
+            for told in line {
+                match told.session {
+                    Some((name, News::Opened)) => open.push(name)?,
+                    Some((name, News::Closed)) => open.retain(|other| *other != name),
+                    _ => {}
+                }
             }
         }
         Ok(open)
@@ -195,34 +242,41 @@ fn end_line(told: &mut String, is_any: bool) -> Result<(), AllocError> {
     if is_any { told.push('\n') } else { Ok(()) }
 }
 
+/// The word of a line that names another session than the one that acts, if its command has one.
+fn named_word<'a>(words: &[&'a str]) -> Option<&'a str> {
+    let verb = words.first()?;
+    let place = command_row(*verb)?.place_of(WordKind::OpenName)?;
+    words.get(place).copied()
+}
+
 /// Whether a line only looks at locks.
 fn is_look(line: &str) -> bool {
     let words = split_words(line);
     match words.as_slice().first() {
-        Some(verb) => matches!(
-            *verb,
-            "list" | "count" | "queue" | "owned" | "blockers" | "waiters"
-        ),
+        Some(verb) => match command_row(*verb) {
+            Some(row) => row.looks,
+            None => false,
+        },
         None => false,
     }
 }
 
-/// Adds a line that was printed for a line of this session.
+/// Adds an answer to a line of this session: to those of the session that is answered, or else to its own.
 fn add_answer(
     story: &Story,
     answers: &mut [String],
     asked: usize,
-    line: &str,
+    told: &Told,
 ) -> Result<(), AllocError> {
-    let (place, answer) = match line.split_once(": ") {
-        Some((name, answer)) => (story.place_of(name).unwrap_or(asked), answer),
-        None => (asked, line),
+    let place = match told.session {
+        Some((name, _)) => story.place_of(name.as_str()).unwrap_or(asked),
+        None => asked,
     };
     if let Some(answers) = answers.get_mut(place) {
         if answers.len() > 0 {
             answers.push_str("; ")?;
         }
-        answers.push_str(answer)?;
+        answers.push_str(told.text.as_str())?;
     }
     Ok(())
 }

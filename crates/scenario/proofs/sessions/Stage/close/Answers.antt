@@ -7,20 +7,20 @@ pub close-requires : goal.close-requires
 close-requires g c =
     let own =
     ap (λ (seat : Seated). seat.table) (c.requires.seats c.take-session.result.session) ∙
-    taken (λ one. (g.B.Board.seat one.session.board).table ≡ (g.D.Desk.manager c.args.self.now.desk).table) c.args.self.now.sessions.resting c.args.place
+    taken (λ one. (g.B.Board.seat one.session.board).table ≡ (g.D.Desk.manager c.args.self.now.desk).table) c.args.self.now.sessions.resting c.args.caller.place
     c.take-session.result c.requires.place c.args.self.now.resting c.take-session.ensures.taken
     in
     record { own = own }
 
 pub invariant_of-self-clause-counted : goal.invariant_of-self-clause-counted
 invariant_of-self-clause-counted g c =
-    let left = length-left c.args.self.now.sessions.resting c.take-session.new.self c.args.place c.requires.place c.take-session.ensures.left in
+    let left = length-left c.args.self.now.sessions.resting c.take-session.new.self c.args.caller.place c.requires.place c.take-session.ensures.left in
     omega (arith, left, c.close.ensures.live, c.args.self.now.counted)
 
 pub invariant_of-self-clause-resting : goal.invariant_of-self-clause-resting
 invariant_of-self-clause-resting g c =
     rw c.close.ensures.manager
-    (All-left c.args.self.now.sessions.resting c.take-session.new.self c.args.place c.requires.place c.take-session.ensures.left
+    (All-left c.args.self.now.sessions.resting c.take-session.new.self c.args.caller.place c.requires.place c.take-session.ensures.left
     (λ one. (g.B.Board.seat one.session.board).table ≡ (g.D.Desk.manager c.args.self.now.desk).table) c.args.self.now.resting)
 
 pub invariant_of-self-clause-waiting : goal.invariant_of-self-clause-waiting

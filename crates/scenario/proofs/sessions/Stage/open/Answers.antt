@@ -5,15 +5,15 @@ use Rattle.scenario.proofs.sessions.Stage.open.Goals as goal
 
 pub invariant_of-self-clause-counted : goal.invariant_of-self-clause-counted
 invariant_of-self-clause-counted g c =
-    let more = length-put c.args.self.now.sessions.resting c.put.new.self (record { name = c.args.name; session = c.in-Ok.session }) c.put.ensures in
+    let more = length-put c.args.self.now.sessions.resting c.put.new.self (record { name = c.args.name; session = c.in-Ok.opened }) c.put.ensures in
     omega (arith, c.in-Ok.ensures.live, more, c.args.self.now.counted)
 
 pub invariant_of-self-clause-resting : goal.invariant_of-self-clause-resting
 invariant_of-self-clause-resting g c =
     rw c.open.ensures.manager
-    (All-put c.args.self.now.sessions.resting c.put.new.self (record { name = c.args.name; session = c.in-Ok.session }) c.put.ensures
+    (All-put c.args.self.now.sessions.resting c.put.new.self (record { name = c.args.name; session = c.in-Ok.opened }) c.put.ensures
     (λ one. (g.B.Board.seat one.session.board).table ≡ (g.D.Desk.manager c.args.self.now.desk).table) c.args.self.now.resting
-    (ap (λ (seat : Seated). seat.table) (sym (c.requires.seats c.in-Ok.session)) ∙ c.in-Ok.ensures.own))
+    (ap (λ (seat : Seated). seat.table) (sym (c.requires.seats c.in-Ok.opened)) ∙ c.in-Ok.ensures.own))
 
 pub invariant_of-self-clause-waiting : goal.invariant_of-self-clause-waiting
 invariant_of-self-clause-waiting g c = rw c.open.ensures.manager c.args.self.now.waiting

@@ -1,0 +1,25 @@
+use Rattle.std.proofs.Common.{◌≡◌, ℕ, ◌+◌, ◌∙◌, ap, length, refl, subst, sym}
+use Rattle.shared_rule.specs.Boards.{Seated}
+use Rattle.lock_script.proofs.Lending.{All-called, length-with_session}
+use Rattle.scenario.specs.Made.{IsMade}
+use Rattle.scenario.proofs.sessions.Stage.call.Goals as goal
+
+pub invariant_of-self-clause-counted : goal.invariant_of-self-clause-counted
+invariant_of-self-clause-counted g c =
+    c.args.self.now.counted ∙ ap (λ (n : ℕ). n + length c.args.self.now.sessions.waiting) (sym (length-with_session c.args.self.now.sessions.resting c.args.caller.place c.make.new.session))
+
+pub invariant_of-self-clause-resting : goal.invariant_of-self-clause-resting
+invariant_of-self-clause-resting g c =
+    All-called c.args.self.now.sessions.resting c.args.caller.place c.session_mut-session.result.now c.make.new.session c.requires.place c.session_mut-session.ensures.value
+    (λ session. (g.B.Board.seat session.board).table ≡ (g.D.Desk.manager c.args.self.now.desk).table) c.args.self.now.resting
+    (λ h. ap (λ (seat : Seated). seat.table) c.make.ensures.seat ∙ h)
+
+pub returns-clause-called : goal.returns-clause-called
+returns-clause-called g c = record {
+  after = c.make.new.session;
+  made = λ d. subst
+      (λ s. IsMade g.B.Board.seat g.B.Board.view g.B.Board.stack s c.make.new.session c.args.caller.name c.args.call c.make.result)
+      (c.session_mut-session.ensures.value d) c.make.ensures.made;
+  there = refl;
+  waiting = refl;
+}

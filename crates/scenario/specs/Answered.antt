@@ -1,0 +1,59 @@
+use Rattle.std.specs.Prelude.{◌≡◌, ◌⊎◌, ℕ, remove}
+use Rattle.std.specs.List.{HoldsAt}
+use Rattle.modes_core.specs.declared.sessions.Owner.{Owner}
+use Rattle.modes_core.specs.declared.refusals.Refusal.{Refusal}
+use Rattle.lock_world.specs.Account.{Account}
+use Rattle.shared_rule.specs.Boards.{Seated, Stack}
+use Rattle.lock_manager.specs.Sessions.{SessionView}
+use Rattle.lock_manager.specs.WaitingSessions.{WaitingView}
+use Rattle.lock_script.specs.declared.command.Target.{Target}
+use Rattle.lock_script.specs.declared.sessions.Caller.{Caller}
+use Rattle.lock_script.specs.declared.sessions.OpenSessions.{OpenSessions}
+use Rattle.lock_script.specs.Lending.{with_session}
+use Rattle.lock_script.specs.Names.{PutsIn}
+use Rattle.scenario.specs.declared.answers.Answer.{Answer}
+use Rattle.scenario.specs.declared.answers.Answer.TheVariants as answer
+use Rattle.scenario.specs.declared.answers.Said.{Said}
+use Rattle.scenario.specs.declared.answers.Said.TheVariants as said
+use Rattle.scenario.specs.declared.answers.Row.TheVariants as row
+use Rattle.scenario.specs.declared.calls.Call.{Call}
+use Rattle.scenario.specs.declared.sessions.Deed.{Deed}
+use Rattle.scenario.specs.declared.sessions.Deed.TheVariants as deed
+use Rattle.scenario.specs.Made.{IsMade}
+use Rattle.scenario.specs.Waits.{IsBegun, IsQueued}
+
+-- What a command leaves of the sessions of a script, and what it is answered.
+
+module _ {B : Type 0} (seat : B → Seated) (view : B → Account) (stack : B → Stack) (old new : OpenSessions (SessionView B) (WaitingView B)) where
+  -- The session at its place has made the call and is answered under its name, and all others are as they were.
+  pub record CallsAt (caller : Caller) (call : Call) (it : Answer) : Type 0 where
+    pub after : SessionView B
+    pub made : HoldsAt (λ one. IsMade seat view stack one.session after caller.name call it) old.resting caller.place
+    pub there : new.resting ≡ with_session old.resting caller.place after
+    pub waiting : new.waiting ≡ old.waiting
+
+  -- The session at its place has asked for a lock that it may wait for, is told what came of it, and doesn't wait.
+  pub record AcquiresAt (target : Target) (owner : Owner) (it : Answer) : Type 0 where
+    pub told : Said
+    pub after : SessionView B
+    pub begun : HoldsAt (λ one. IsBegun seat view stack one.session target.tag target.mode owner told after) old.resting target.caller.place
+    pub answered : HoldsAt (λ one. it ≡ answer.Said one.name told) old.resting target.caller.place
+    pub back :
+        HoldsAt (λ one. PutsIn (remove old.resting target.caller.place) (record { name = one.name; session = after }) new.resting)
+        old.resting target.caller.place
+    pub waiting : new.waiting ≡ old.waiting
+
+  -- It waits from now on.
+  pub record WaitsAt (target : Target) (owner : Owner) (it : Answer) : Type 0 where
+    pub after : WaitingView B
+    pub queued : HoldsAt (λ one. IsQueued seat view stack one.session target.tag target.mode owner after) old.resting target.caller.place
+    pub answered : HoldsAt (λ one. it ≡ answer.Said one.name said.Waits) old.resting target.caller.place
+    pub joins :
+        HoldsAt (λ one. PutsIn old.waiting (record { name = one.name; session = after }) new.waiting) old.resting target.caller.place
+    pub resting : new.resting ≡ remove old.resting target.caller.place
+
+  -- A session is closed. All others are as they were.
+  pub record ClosesAt (caller : Caller) (it : Answer) : Type 0 where
+    pub answered : it ≡ answer.Said caller.name said.Closed
+    pub resting : new.resting ≡ remove old.resting caller.place
+    pub waiting : new.waiting ≡ old.waiting

@@ -1,0 +1,46 @@
+use Rattle.std.specs.Prelude.{◌≡◌, true, Result, Ok, Err, IfOk, OnErr}
+use Rattle.modes_core.specs.declared.modes.Mode.{Mode}
+use Rattle.modes_core.specs.declared.tags.Tag.{Tag}
+use Rattle.modes_core.specs.declared.sessions.Owner.{Owner}
+use Rattle.modes_core.specs.declared.refusals.Refusal.{Refusal}
+use Rattle.local_locks.specs.declared.answers.Acquired.TheVariants as acquired
+use Rattle.local_locks.specs.Owned.{with_one_more}
+use Rattle.lock_world.specs.Account.{Account}
+use Rattle.shared_rule.specs.Boards.{Seated, Stack}
+use Rattle.wait_queue.specs.declared.requests.Kind.TheVariants.{Waiting}
+use Rattle.lock_manager.specs.declared.requests.Begun.{Begun}
+use Rattle.lock_manager.specs.declared.requests.Begun.TheVariants as begun
+use Rattle.lock_manager.specs.Acquires.{AnswersByOwned, Begins, entries_begun}
+use Rattle.lock_manager.specs.Sessions.{SessionView, IsSame}
+use Rattle.lock_manager.specs.WaitingSessions.{WaitingView, HasBegun}
+use Rattle.scenario.specs.declared.answers.Said.{Said}
+use Rattle.scenario.specs.declared.answers.Said.TheVariants as said
+
+-- What a session is told of an acquire that may wait, and of its wait.
+
+-- how the acquire began of which a session is told this
+abbrev pub begun_by : Said → Result Begun Refusal
+begun_by (said.Acquired acquired.Granted) = Ok begun.Granted
+begun_by (said.Acquired acquired.AlreadyHeld) = Ok begun.AlreadyHeld
+begun_by (said.Refused refusal) = Err refusal
+begun_by _ = Ok begun.Queued
+
+-- The session that waited goes on, and is told this: its lock is counted, or it has what it had.
+abbrev pub GoesOn : {B : Type 0} → WaitingView B → Said → SessionView B → Type 0
+GoesOn old said.GrantedAfterWaiting new = new.owned.entries ≡ with_one_more old.owned.entries old.tag old.mode old.owner
+GoesOn old said.Cancelled new = new.owned ≡ old.owned
+GoesOn old _ new = ⊥
+
+module _ {B : Type 0} (seat : B → Seated) (view : B → Account) (stack : B → Stack) (old : SessionView B) (tag : Tag) (mode : Mode) (owner : Owner) where
+  -- The acquire was answered at once.
+  pub record IsBegun (told : Said) (new : SessionView B) : Type 0 where
+    pub answers : AnswersByOwned old.owned tag mode owner begun.AlreadyHeld true (begun_by told)
+    pub steps : Begins Waiting (seat old.board) old.owned (view old.board) old.uses tag mode (begun_by told) (view new.board) new.uses
+    pub entries : IfOk (begun_by told) (λ answer. new.owned.entries ≡ entries_begun answer old.owned.entries tag mode owner)
+    pub same_entries : OnErr (begun_by told) (new.owned.entries ≡ old.owned.entries)
+    pub same : IsSame seat view stack old new
+
+  -- It was queued.
+  pub record IsQueued (new : WaitingView B) : Type 0 where
+    pub steps : Begins Waiting (seat old.board) old.owned (view old.board) old.uses tag mode (Ok begun.Queued) (view new.board) new.uses
+    pub begun : HasBegun seat view stack old tag mode owner new

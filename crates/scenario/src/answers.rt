@@ -1,0 +1,169 @@
+//! What the lines of a script are answered.
+
+ghost use Rattle.std.specs.Prelude.{◌≡◌};
+ghost use Rattle.scenario.specs.Told.{acquire_told, blockers_told, cancel_told, level_told, list_told, queue_told, unlock_told, waiters_told};
+
+use lock_manager::{
+    Acquired, Asked, Blocker, Listing, Mode, QueueRow, Refusal, SessionId, SlotRow, TableRow, Tag,
+    Unlocked,
+};
+use lock_script::Name;
+
+/// What a session is told: the answer to its line, or that it goes on.
+#[derive(Clone, Copy, Debug, PartialEq, Eq)]
+pub enum Said {
+    /// It was opened, with this number, of this database.
+    Opened {
+        session: SessionId,
+        database: u32,
+    },
+    /// It has the lock that it asked for.
+    Acquired(Acquired),
+    /// It waits for the lock that it asked for.
+    Waits,
+    /// It waited, and has its lock.
+    GrantedAfterWaiting,
+    /// It waited, and was asked to stop.
+    Cancelled,
+    /// The other session, which waits, was asked to stop.
+    Asked(Name),
+    /// Whether somebody waits for what it holds.
+    Waiters(bool),
+    /// It gave one count of a lock back.
+    Unlocked(Unlocked),
+    /// Its transaction ended with success.
+    Committed,
+    /// Its transaction ended with failure.
+    Aborted,
+    /// It was closed.
+    Closed,
+    /// Its transaction is at this level.
+    Level(u8),
+    /// How often each of its owners has a lock.
+    Owned {
+        of_transaction: u16,
+        of_session: u16,
+    },
+    /// It doesn't own the lock, in this mode, that it gives back.
+    NotOwned(Mode),
+    /// Its call was refused.
+    Refused(Refusal),
+}
+
+/// A line of an answer that is no session's own.
+#[derive(Clone, Copy, Debug, PartialEq, Eq)]
+pub enum Row {
+    /// A lock in a slot.
+    Slot(SlotRow),
+    /// A lock in the table, or a wait for one.
+    Table(TableRow),
+    /// How many rows a listing has.
+    Rows(u64),
+    /// A wait in a queue.
+    Wait(QueueRow),
+    /// How many waits a queue has.
+    Waits(u64),
+    /// One that is in the way of the session of this name.
+    InTheWay(Name, Blocker),
+    /// The session of this name doesn't wait, so that nothing was asked of it.
+    NotWaiting(Name),
+    /// What the strong lock counter with this index shows.
+    Counter { index: u16, shown: u64 },
+    /// An object, of which the hash is told.
+    Hash(Tag),
+}
+
+/// What a line of a script is answered.
+#[derive(Drop)]
+pub enum Answer {
+    /// The session of this name is told this.
+    Said(Name, Said),
+    /// A row by itself.
+    Row(Row),
+    /// All that is held and awaited.
+    Listing(Listing),
+    /// The waits on an object, in the order of its queue.
+    Queue(Vec<QueueRow>),
+    /// Those who stand in the way of the session of this name.
+    Blockers(Name, Vec<Blocker>),
+}
+
+/// What a session is told of an acquire that doesn't wait.
+pub fn of_acquire(name: Name, answer: Result<Acquired, Refusal>) -> Answer
+    ensures { result ≡ acquire_told name answer }
+{
+    match answer {
+        Ok(acquired) => Answer::Said(name, Said::Acquired(acquired)),
+        Err(refusal) => Answer::Said(name, Said::Refused(refusal)),
+    }
+}
+
+/// What a session is told of a release of this mode.
+pub fn of_unlock(name: Name, mode: Mode, answer: Result<Unlocked, Refusal>) -> Answer
+    ensures { result ≡ unlock_told name mode answer }
+{
+    match answer {
+        Ok(unlocked) => Answer::Said(name, Said::Unlocked(unlocked)),
+        Err(_) => Answer::Said(name, Said::NotOwned(mode)),
+    }
+}
+
+/// What a session is told of whether somebody waits for this mode, which it has.
+pub fn of_waiters(name: Name, mode: Mode, answer: Result<bool, Refusal>) -> Answer
+    ensures { result ≡ waiters_told name mode answer }
+{
+    match answer {
+        Ok(is_awaited) => Answer::Said(name, Said::Waiters(is_awaited)),
+        Err(_) => Answer::Said(name, Said::NotOwned(mode)),
+    }
+}
+
+/// What a session is told of the level that its transaction is at now.
+pub fn of_level(name: Name, answer: Result<u8, Refusal>) -> Answer
+    ensures { result ≡ level_told name answer }
+{
+    match answer {
+        Ok(level) => Answer::Said(name, Said::Level(level)),
+        Err(refusal) => Answer::Said(name, Said::Refused(refusal)),
+    }
+}
+
+/// What a session is told that asked the other one to stop waiting.
+pub fn of_cancel(name: Name, other: Name, asked: Asked) -> Answer
+    ensures { result ≡ cancel_told name other asked }
+{
+    match asked {
+        Asked::Waiting => Answer::Said(name, Said::Asked(other)),
+        Asked::NotWaiting => Answer::Row(Row::NotWaiting(other)),
+    }
+}
+
+/// What is told of a listing that the session of this name asked for.
+pub fn of_list(name: Name, answer: Result<Listing, Refusal>) -> Answer
+    ensures { result ≡ list_told name answer }
+{
+    match answer {
+        Ok(listing) => Answer::Listing(listing),
+        Err(refusal) => Answer::Said(name, Said::Refused(refusal)),
+    }
+}
+
+/// What is told of a queue that the session of this name asked for.
+pub fn of_queue(name: Name, answer: Result<Vec<QueueRow>, Refusal>) -> Answer
+    ensures { result ≡ queue_told name answer }
+{
+    match answer {
+        Ok(rows) => Answer::Queue(rows),
+        Err(refusal) => Answer::Said(name, Said::Refused(refusal)),
+    }
+}
+
+/// What is told of those in the way of the other session, where the session of this name asked for them.
+pub fn of_blockers(name: Name, other: Name, answer: Result<Vec<Blocker>, Refusal>) -> Answer
+    ensures { result ≡ blockers_told name other answer }
+{
+    match answer {
+        Ok(found) => Answer::Blockers(other, found),
+        Err(refusal) => Answer::Said(name, Said::Refused(refusal)),
+    }
+}

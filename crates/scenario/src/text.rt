@@ -1,0 +1,194 @@
+//! The answers of a script as text.
+
+use crate::answers::{Row, Said};
+use lock_manager::{Acquired, How, InTheWay, Refusal, SessionId, SlotRow, TableRow, Tag, Unlocked};
+use lock_script::{Name, Names};
+use std::fmt;
+
+/// What a conflicting session does with the mode.
+pub fn how_text(how: How) -> &'static str {
+    match how {
+        How::Held => "held",
+        How::Awaited => "awaited",
+    }
+}
+
+/// How a session stands in the way of one that waits, by its mode.
+pub fn in_the_way_text(how: InTheWay) -> &'static str {
+    match how {
+        InTheWay::Holds => "held",
+        InTheWay::StandsBefore => "awaited",
+    }
+}
+
+/// The text of a refusal, before what it names.
+pub fn refusal_text(refusal: Refusal) -> &'static str {
+    match refusal {
+        Refusal::Conflict { .. } => "conflict",
+        Refusal::NoMemory => "no memory",
+        Refusal::LocalFull => "local table full",
+        Refusal::CountFull => "count full",
+        Refusal::SimpleDeadlock { .. } => "simple deadlock",
+        Refusal::Cancelled => "cancelled",
+        Refusal::NotHeld => "not held",
+        Refusal::Busy => "busy",
+        Refusal::SlotsFull => "slots full",
+        Refusal::StrongCounted => "strong lock counted",
+        Refusal::NotEligible => "not eligible",
+        Refusal::NoMoreSessions => "no more sessions",
+        Refusal::BadConfig => "bad config",
+        Refusal::TooDeep => "too deep",
+        Refusal::NoNested => "no nested transaction",
+    }
+}
+
+/// The name of a session that a row or a refusal tells of. All of them were opened under a name.
+pub fn name_of(names: &Names, session: SessionId) -> Name {
+    names.name(session).unwrap_or(Name::new())
+}
+
+/// What a session is told in words alone, or none where that has more to it.
+pub fn plain_text(said: Said) -> &'static str {
+    match said {
+        Said::Acquired(Acquired::Granted) => "granted",
+        Said::Acquired(Acquired::AlreadyHeld) => "already held",
+        Said::Waits => "waits",
+        Said::GrantedAfterWaiting => "granted after waiting",
+        Said::Cancelled => "cancelled",
+        Said::Waiters(true) => "waiters yes",
+        Said::Waiters(false) => "waiters no",
+        Said::Unlocked(Unlocked::Released) => "released",
+        Said::Unlocked(Unlocked::StillHeld) => "still held",
+        Said::Committed => "committed",
+        Said::Aborted => "aborted",
+        Said::Closed => "closed",
+        Said::Opened { .. }
+        | Said::Asked(_)
+        | Said::Level(_)
+        | Said::Owned { .. }
+        | Said::NotOwned(_)
+        | Said::Refused(_) => "",
+    }
+}
+
+/// What a session is told, as text, without its name. The others are known by these names.
+#[derive(Clone, Copy, Drop)]
+pub struct SaidText<'a> {
+    pub names: &'a Names,
+    pub said: Said,
+}
+
+impl fmt::Display for SaidText<'_> {
+    fn fmt<W: fmt::Write>(&self, f: &mut fmt::Formatter<W>) -> fmt::Result {
+        match self.said {
+            Said::Opened { session, database } => write!(
+                f,
+                "session {session} database {database}"
+            ),
+            Said::Asked(other) => write!(f, "asked {other}"),
+            Said::Level(level) => write!(f, "level {level}"),
+            Said::Owned {
+                of_transaction,
+                of_session,
+            } => write!(f, "transaction {of_transaction} session {of_session}"),
+            Said::NotOwned(mode) => write!(f, "you don't own a lock of type {mode}"),
+            Said::Refused(refusal) => {
+                let names = self.names;
+                let refused = RefusedText { names, refusal };
+                write!(f, "{refused}")
+            }
+            plain => write!(f, "{}", plain_text(plain)),
+        }
+    }
+}
+
+/// A refusal, as text.
+#[derive(Clone, Copy, Drop)]
+struct RefusedText<'a> {
+    names: &'a Names,
+    refusal: Refusal,
+}
+
+impl fmt::Display for RefusedText<'_> {
+    fn fmt<W: fmt::Write>(&self, f: &mut fmt::Formatter<W>) -> fmt::Result {
+        let number = self.refusal.number();
+        let text = refusal_text(self.refusal);
+        match &self.refusal {
+            Refusal::Conflict { session, mode, how } => {
+                let other = name_of(self.names, *session);
+                let how = how_text(*how);
+                write!(f, "refused {number} {text} {other} {mode} {how}")
+            }
+            Refusal::SimpleDeadlock { session } => {
+                let other = name_of(self.names, *session);
+                write!(f, "refused {number} {text} {other}")
+            }
+            _ => write!(f, "refused {number} {text}"),
+        }
+    }
+}
+
+/// A row, as text. Its sessions are known by these names.
+#[derive(Clone, Copy, Drop)]
+pub struct RowText<'a> {
+    pub names: &'a Names,
+    pub row: Row,
+}
+
+impl fmt::Display for RowText<'_> {
+    fn fmt<W: fmt::Write>(&self, f: &mut fmt::Formatter<W>) -> fmt::Result {
+        let names = self.names;
+        match self.row {
+            Row::Slot(row) => {
+                let name = name_of(names, row.session);
+                let SlotRow {
+                    slot,
+                    tag,
+                    mode,
+                    ..
+                } = row;
+                write!(f, "fast {name} {slot} {tag} {mode}")
+            }
+            Row::Table(row) => {
+                let name = name_of(names, row.session);
+                let how = if row.granted { "granted" } else { "awaited" };
+                let TableRow { tag, mode, .. } = row;
+                write!(f, "table {name} {tag} {mode} {how}")
+            }
+            Row::Rows(rows) => write!(f, "rows {rows}"),
+            Row::Wait(row) => {
+                let name = name_of(names, row.session);
+                let mode = row.mode;
+                write!(f, "queue {name} {mode}")
+            }
+            Row::Waits(waits) => write!(f, "waits {waits}"),
+            Row::InTheWay(name, blocker) => {
+                let who = name_of(names, blocker.session);
+                let mode = blocker.mode;
+                let how = in_the_way_text(blocker.how);
+                write!(f, "{name} waits for {who} {mode} {how}")
+            }
+            Row::NotWaiting(name) => write!(f, "{name} isn't waiting"),
+            Row::Counter { index, shown } => write!(f, "strong {index} {shown}"),
+            Row::Hash(tag) => {
+                let hash = HashText { tag };
+                write!(f, "{hash}")
+            }
+        }
+    }
+}
+
+/// The hash of an object with its partition and its strong lock counter, as text.
+#[derive(Clone, Copy, Drop)]
+struct HashText {
+    tag: Tag,
+}
+
+impl fmt::Display for HashText {
+    fn fmt<W: fmt::Write>(&self, f: &mut fmt::Formatter<W>) -> fmt::Result {
+        let hash = self.tag.hash();
+        let partition = self.tag.partition();
+        let strong = self.tag.strong_index();
+        write!(f, "hash {hash} partition {partition} strong {strong}")
+    }
+}
