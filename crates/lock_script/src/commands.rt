@@ -32,7 +32,7 @@ pub struct CommandRow {
     pub verb: &'static str,
     /// What the words behind that have to be.
     pub kinds: &'static [WordKind],
-    /// These words, as a help names them.
+    /// The words behind the verb, as a help names them.
     pub form: &'static str,
     /// What it does, as a help says it.
     pub help: &'static str,

@@ -12,30 +12,30 @@ use lock_script::Name;
 /// What a session is told: the answer to its line, or that it goes on.
 #[derive(Clone, Copy, Debug, PartialEq, Eq)]
 pub enum Said {
-    /// It was opened, with this number, of this database.
+    /// The session was opened, with this number, of this database.
     Opened {
         session: SessionId,
         database: u32,
     },
-    /// It has the lock that it asked for.
+    /// The session has the lock that it asked for.
     Acquired(Acquired),
-    /// It waits for the lock that it asked for.
+    /// The session waits for the lock that it asked for.
     Waits,
-    /// It waited, and has its lock.
+    /// The session waited, and has its lock.
     GrantedAfterWaiting,
-    /// It waited, and was asked to stop.
+    /// The session waited, and was asked to stop.
     Cancelled,
     /// The other session, which waits, was asked to stop.
     Asked(Name),
     /// Whether somebody waits for what it holds.
     Waiters(bool),
-    /// It gave one count of a lock back.
+    /// The session gave one count of a lock back.
     Unlocked(Unlocked),
     /// Its transaction ended with success.
     Committed,
     /// Its transaction ended with failure.
     Aborted,
-    /// It was closed.
+    /// The session was closed.
     Closed,
     /// Its transaction is at this level.
     Level(u8),
@@ -44,7 +44,7 @@ pub enum Said {
         of_transaction: u16,
         of_session: u16,
     },
-    /// It doesn't own the lock, in this mode, that it gives back.
+    /// The session doesn't own the lock, in this mode, that it gives back.
     NotOwned(Mode),
     /// Its call was refused.
     Refused(Refusal),
