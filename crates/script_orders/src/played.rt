@@ -9,13 +9,13 @@ use std::fmt::Display;
 /// What an answer says of its session.
 #[derive(Clone, Copy, Debug, PartialEq, Eq)]
 pub enum News {
-    /// It was opened.
+    /// The session was opened.
     Opened,
-    /// It waits.
+    /// The session waits.
     Waits,
-    /// It was closed.
+    /// The session was closed.
     Closed,
-    /// It is open, and doesn't wait.
+    /// The session is open, and doesn't wait.
     Rests,
 }
 
