@@ -68,7 +68,7 @@ impl fmt::Display for Ratio {
 }
 
 impl Figures {
-    /// How many times its floor it took, by the medians.
+    /// How many times its floor it took, by the medians; `untold` where there is no floor.
     fn to_floor(&self, untold: &'static str) -> Ratio {
         Ratio {
             part: self.time.median,
@@ -77,7 +77,7 @@ impl Figures {
         }
     }
 
-    /// How many times the map it took, by the medians.
+    /// How many times the map it took, by the medians; `untold` where there is no map.
     fn to_map(&self, untold: &'static str) -> Ratio {
         Ratio {
             part: self.time.median,
@@ -96,7 +96,7 @@ impl Figures {
     }
 }
 
-/// Prints a line for each workload.
+/// Prints a line for each workload of `figures`.
 pub fn print_table<R: Print>(rt: &R, figures: &[Figures]) -> io::Result<()> {
     println!(rt;
         "all workloads: nanoseconds, median of {ROUNDS} rounds (smallest to largest); beside them the medians' ratios"
@@ -107,7 +107,7 @@ pub fn print_table<R: Print>(rt: &R, figures: &[Figures]) -> io::Result<()> {
     Ok(())
 }
 
-/// Prints a workload's line.
+/// Prints the line of the workload `it`.
 fn print_figures<R: Print>(rt: &R, it: &Figures) -> io::Result<()> {
     let Figures {
         name,
@@ -134,7 +134,7 @@ pub fn csv(alloc: Global, figures: &[Figures]) -> Result<String, AllocError> {
     Ok(text)
 }
 
-/// A workload's values, of which its name is in quotation marks since it may have commas.
+/// The values of the workload `it`. Its name is in quotation marks, since it may have commas.
 fn values_of(alloc: Global, it: &Figures) -> Result<String, AllocError> {
     format!(in alloc;
         "\"{}\",{},{},{},{},{},{},{},{},{}\n",
@@ -151,7 +151,7 @@ fn values_of(alloc: Global, it: &Figures) -> Result<String, AllocError> {
     )
 }
 
-/// The figures as a picture in SVG: three bars for each workload, the longest of which is as wide as that of any
+/// The picture of `figures` in SVG: three bars for each workload, the longest of which is as wide as that of any
 /// other workload.
 pub fn svg(alloc: Global, figures: &[Figures]) -> Result<String, AllocError> {
     let mut text = heading_of(alloc, figures.len())?;
@@ -165,7 +165,7 @@ pub fn svg(alloc: Global, figures: &[Figures]) -> Result<String, AllocError> {
     Ok(text)
 }
 
-/// The head of a picture of so many workloads, and what it says above them. The ground is white, also where the
+/// The head of a picture of `workloads` workloads, and what it says above them. The ground is white, also where the
 /// page is dark.
 fn heading_of(alloc: Global, workloads: usize) -> Result<String, AllocError> {
     let height = workloads
@@ -177,7 +177,7 @@ fn heading_of(alloc: Global, workloads: usize) -> Result<String, AllocError> {
     )
 }
 
-/// A workload's part of the picture, from this height on.
+/// The part of the picture for the workload `it`, from the height `top` on.
 fn group_of(alloc: Global, it: &Figures, top: usize) -> Result<String, AllocError> {
     let mut text = format!(in alloc; "<text x=\"8\" y=\"{top}\">{}</text>\n", it.name)?;
     let longest = it.longest();
@@ -195,7 +195,8 @@ fn group_of(alloc: Global, it: &Figures, top: usize) -> Result<String, AllocErro
     Ok(text)
 }
 
-/// A bar with what it is of and how long that took.
+/// A bar at the height `at`, `tenths` long where the longest is `longest`, with `what` it is of and how long that
+/// took.
 fn bar_of(
     alloc: Global,
     what: &str,

@@ -24,7 +24,7 @@ pub struct Words {
     sessions: Vec<CachePadded<SessionWords>>,
 }
 
-/// Takes a lock, as far as it is free.
+/// Takes the lock whose word is `word`, as far as it is free.
 fn take(word: &AtomicU64) {
     let shown = word.load(Ordering::SeqCst);
     let _ = word.compare_exchange(
@@ -48,7 +48,7 @@ impl SessionWords {
         }
     }
 
-    /// Loads the highest-numbered slot, and sets it.
+    /// Loads the highest-numbered slot, and sets it to `number`.
     fn set_slot(&self, number: u64) {
         self.slots[15].load(Ordering::SeqCst);
         self.slots[15].store(number, Ordering::SeqCst);
@@ -64,7 +64,7 @@ impl SessionWords {
 }
 
 impl Words {
-    /// With words for so many sessions.
+    /// A floor with words for `sessions` sessions. Refused only where memory, by `alloc`, ran out.
     pub fn new(alloc: Global, sessions: u32) -> Result<Self, AllocError> {
         let mut words = Words {
             counter: CachePadded::new(AtomicU64::new(0)),
@@ -78,7 +78,7 @@ impl Words {
         Ok(words)
     }
 
-    /// A weak mode taken by a slot.
+    /// Makes the steps of a weak mode that is taken by a slot, whose word is `number` then.
     #[inline(never)]
     fn take_by_slot(&self, number: u64) {
         take(&self.own.fast);
@@ -87,7 +87,7 @@ impl Words {
         put(&self.own.fast);
     }
 
-    /// It is given back.
+    /// Makes the steps of a weak mode that is given back out of its slot.
     #[inline(never)]
     fn give_by_slot(&self) {
         take(&self.own.fast);
@@ -116,7 +116,7 @@ impl Words {
         put(&self.partition);
     }
 
-    /// It is given back.
+    /// Makes the steps of a strong mode that is given back.
     #[inline(never)]
     fn give_strong(&self) {
         take(&self.partition);
@@ -141,7 +141,7 @@ impl Words {
         put(&self.partition);
     }
 
-    /// So many modes in the table, each taken and given back.
+    /// Makes the steps of `steps` modes in the table, each taken and given back.
     pub fn table_pairs(&self, steps: u64) {
         for _ in 0..steps {
             self.pass_partition();
@@ -149,21 +149,21 @@ impl Words {
         }
     }
 
-    /// So many attempts on an object that are refused.
+    /// Makes the steps of `steps` attempts on an object that are refused.
     pub fn refused_objects(&self, steps: u64) {
         for _ in 0..steps {
             self.pass_partition();
         }
     }
 
-    /// So many attempts on a relation that are refused.
+    /// Makes the steps of `steps` attempts on a relation that are refused.
     pub fn refused_relations(&self, steps: u64) {
         for _ in 0..steps {
             self.find_counted_and_pass();
         }
     }
 
-    /// So many weak modes, each taken and given back.
+    /// Makes the steps of `steps` weak modes, each taken and given back.
     pub fn weak_pairs(&self, steps: u64) {
         for step in 0..steps {
             self.take_by_slot(step);
@@ -171,14 +171,14 @@ impl Words {
         }
     }
 
-    /// So many tries that are refused.
+    /// Makes the steps of `steps` tries that are refused.
     pub fn refusals(&self, steps: u64) {
         for _ in 0..steps {
             self.find_counted();
         }
     }
 
-    /// So many strong modes, each taken and given back.
+    /// Makes the steps of `steps` strong modes, each taken and given back.
     pub fn strong_pairs(&self, steps: u64) {
         for _ in 0..steps {
             self.take_strong();

@@ -88,7 +88,7 @@ pub enum KeyList {
 }
 
 impl KeyList {
-    /// The keys of the list.
+    /// The keys of the list, of `size` in `database`.
     pub fn keys(self, alloc: Global, database: u32, size: Size) -> Result<Vec<Key>, AllocError> {
         let relations = Kind::Relations(Mode::AccessShare);
         let objects = Kind::Objects(Mode::AccessShare);
@@ -139,7 +139,7 @@ fn key(kind: Kind, database: u32, number: u32) -> Key {
     }
 }
 
-/// Keys from a number on, so many, each once, not in the order of their numbers.
+/// `count` keys of `kind` in `database`, from the number `from` on, each once, not in the order of their numbers.
 pub fn list_keys(
     alloc: Global,
     kind: Kind,
@@ -155,7 +155,7 @@ pub fn list_keys(
     Ok(made)
 }
 
-/// Objects of one partition in AccessShareLock, so many at most, by numbers from this one on.
+/// Up to `count` objects of the partition `partition` in AccessShareLock, by numbers from `from` on.
 pub fn keys_of_partition(
     alloc: Global,
     database: u32,

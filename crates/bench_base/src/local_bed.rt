@@ -45,7 +45,7 @@ pub struct Bed {
     owner: Owner,
 }
 
-/// A table that holds the keys.
+/// A table that holds `keys` for `owner`.
 pub fn table_with(alloc: Global, keys: &[Key], owner: Owner) -> Result<LocalTable> {
     let mut table = LocalTable::new(alloc, 65536)?;
     let done = acquire_all(&mut table, keys, owner);
@@ -53,7 +53,7 @@ pub fn table_with(alloc: Global, keys: &[Key], owner: Owner) -> Result<LocalTabl
     Ok(table)
 }
 
-/// A map that holds the keys.
+/// A map that holds `keys`.
 fn map_with(alloc: Global, keys: &[Key]) -> Result<KeyMap, AllocError> {
     let mut map = HashMap::new(alloc);
     for (tag, mode) in keys {
@@ -63,7 +63,7 @@ fn map_with(alloc: Global, keys: &[Key]) -> Result<KeyMap, AllocError> {
 }
 
 impl Bed {
-    /// With as many keys held as the size says.
+    /// A bed with as many keys held as `size` says.
     pub fn new(alloc: Global, database: u32, owner: Owner, size: Size) -> Result<Self> {
         let held = KeyList::Held.keys(alloc, database, size)?;
         let table = table_with(alloc, held.as_slice(), owner)?;
@@ -75,7 +75,7 @@ impl Bed {
         })
     }
 
-    /// A round of the row, and what it counts.
+    /// Runs a round of the row `line`, and answers what it counts.
     pub fn run(&mut self, line: &Line<Work>) -> Result<u64> {
         let (owner, laps) = (self.owner, line.laps);
         let keys = line.keys.as_slice();

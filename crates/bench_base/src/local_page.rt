@@ -150,7 +150,7 @@ pub fn print<R: CpuClock + AllocGlobal + Print>(
     Ok(())
 }
 
-/// Prints the rows for so many entries.
+/// Prints the rows for `held` entries.
 fn print_size<R: CpuClock + AllocGlobal + Print>(
     rt: &R,
     database: u32,
@@ -175,7 +175,7 @@ fn print_size<R: CpuClock + AllocGlobal + Print>(
     print_rows(rt, lines.as_slice(), commit, size.held)
 }
 
-/// Times every row, each once in a round.
+/// Times all of `lines`, each once in a round.
 fn time_rows<R: CpuClock>(rt: &R, bed: &mut Bed, lines: &mut [Line<Work>]) -> Result<()> {
     for round in 0..ROUNDS {
         time_round(rt, bed, lines, round)?;
@@ -183,7 +183,7 @@ fn time_rows<R: CpuClock>(rt: &R, bed: &mut Bed, lines: &mut [Line<Work>]) -> Re
     Ok(())
 }
 
-/// Times every row once, in the round with this number.
+/// Times all of `lines` once, in the round numbered `round`.
 fn time_round<R: CpuClock>(
     rt: &R,
     bed: &mut Bed,
@@ -197,7 +197,7 @@ fn time_round<R: CpuClock>(
     Ok(())
 }
 
-/// The nanoseconds of a round of the row.
+/// The nanoseconds of a round of the row `line`.
 fn time_row<R: CpuClock>(rt: &R, bed: &mut Bed, line: &Line<Work>) -> Result<u64> {
     let from = cpu_nanos(rt)?;
     bed.run(line)?;
@@ -205,7 +205,7 @@ fn time_row<R: CpuClock>(rt: &R, bed: &mut Bed, line: &Line<Work>) -> Result<u64
     Ok(to.saturating_sub(from))
 }
 
-/// Tables that hold the keys.
+/// `count` tables that hold `keys`.
 fn filled(alloc: Global, keys: &[Key], count: u32) -> Result<Vec<LocalTable>> {
     let mut tables = Vec::new(alloc);
     for _ in 0..count {
@@ -214,7 +214,7 @@ fn filled(alloc: Global, keys: &[Key], count: u32) -> Result<Vec<LocalTable>> {
     Ok(tables)
 }
 
-/// Commits in each table, and gives how many entries that took away.
+/// Commits in each of `tables`, and answers how many entries that took away.
 fn commit_all(tables: &mut [LocalTable]) -> u64 {
     let mut ended = 0u64;
     for table in tables.iter_mut() {
@@ -223,7 +223,7 @@ fn commit_all(tables: &mut [LocalTable]) -> u64 {
     ended
 }
 
-/// Times a commit, for each entry that it takes away.
+/// Times a commit of tables that hold `held`, for each entry that it takes away.
 fn time_commit<R: CpuClock + AllocGlobal>(rt: &R, held: &[Key]) -> Result<Spread> {
     let count = laps_of(held, COMMITTED);
     let mut times = Times::new();
@@ -237,7 +237,7 @@ fn time_commit<R: CpuClock + AllocGlobal>(rt: &R, held: &[Key]) -> Result<Spread
     Ok(times.spread())
 }
 
-/// Prints what each row and a commit take, and how much that is of what the map takes.
+/// Prints what each of `lines` and a commit take, and how much that is of what the map takes.
 fn print_rows<R: Print>(rt: &R, lines: &[Line<Work>], commit: Spread, held: u32) -> Result<()> {
     println!(rt; "{held} held")?;
     print_times(rt, WIDTH, lines)?;
@@ -257,7 +257,7 @@ fn print_rows<R: Print>(rt: &R, lines: &[Line<Work>], commit: Spread, held: u32)
     Ok(())
 }
 
-/// Makes every row's steps once, and two commits, and tells what they leave.
+/// Makes the steps of all `lines` once, and two commits, and prints what they leave.
 fn check_rows<R: AllocGlobal + Print>(rt: &R, bed: &mut Bed, lines: &[Line<Work>]) -> Result<()> {
     let before = bed.entries();
     for line in lines {
@@ -269,7 +269,7 @@ fn check_rows<R: AllocGlobal + Print>(rt: &R, bed: &mut Bed, lines: &[Line<Work>
     Ok(())
 }
 
-/// Tells what a row's steps counted, and how many entries there were before and after.
+/// Prints what the steps of `line` counted, and how many entries there were before and after.
 fn print_checked<R: Print>(
     rt: &R,
     line: &Line<Work>,
@@ -284,7 +284,7 @@ fn print_checked<R: Print>(
     )
 }
 
-/// Commits in two tables that hold the keys, and gives how many entries that took away.
+/// Commits in two tables that hold `held`, and answers how many entries that took away.
 fn two_commits(alloc: Global, held: &[Key]) -> Result<u64> {
     let mut tables = filled(alloc, held, 2)?;
     Ok(commit_all(tables.as_mut_slice()))

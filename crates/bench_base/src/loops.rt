@@ -8,7 +8,7 @@ use anyhow::Result;
 use local_locks::{End, LocalTable};
 use modes_core::Owner;
 
-/// A call that does nothing for each key.
+/// Makes a call that does nothing for each of `keys`, `laps` times.
 #[inline(never)]
 pub fn passes(keys: &[Key], owner: Owner, laps: u32) -> u64 {
     let mut passed = 0u64;
@@ -20,7 +20,7 @@ pub fn passes(keys: &[Key], owner: Owner, laps: u32) -> u64 {
     passed
 }
 
-/// Two such calls for each key.
+/// Makes two calls that do nothing for each of `keys`, `laps` times.
 #[inline(never)]
 pub fn double_passes(keys: &[Key], owner: Owner, laps: u32) -> u64 {
     let mut passed = 0u64;
@@ -33,7 +33,7 @@ pub fn double_passes(keys: &[Key], owner: Owner, laps: u32) -> u64 {
     passed
 }
 
-/// Acquires each and releases it at once, and tells whether all was done.
+/// Acquires each of `keys` and releases it at once, `laps` times, and answers whether all was done.
 #[inline(never)]
 pub fn pairs(table: &mut LocalTable, keys: &[Key], owner: Owner, laps: u32) -> bool {
     for _ in 0..laps {
@@ -46,7 +46,7 @@ pub fn pairs(table: &mut LocalTable, keys: &[Key], owner: Owner, laps: u32) -> b
     true
 }
 
-/// Acquires each, and tells whether all was done.
+/// Acquires each of `keys` for `owner`, and answers whether all was done.
 pub fn acquire_all(table: &mut LocalTable, keys: &[Key], owner: Owner) -> bool {
     for (tag, mode) in keys {
         if !acquire(table, tag, *mode, owner) {
@@ -56,7 +56,8 @@ pub fn acquire_all(table: &mut LocalTable, keys: &[Key], owner: Owner) -> bool {
     true
 }
 
-/// Acquires all and then releases them in the order of making, and tells whether all was done.
+/// Acquires all `keys` and then releases them in the order of making, `laps` times, and answers whether all was
+/// done.
 #[inline(never)]
 pub fn in_order(table: &mut LocalTable, keys: &[Key], owner: Owner, laps: u32) -> bool {
     for _ in 0..laps {
@@ -72,7 +73,7 @@ pub fn in_order(table: &mut LocalTable, keys: &[Key], owner: Owner, laps: u32) -
     true
 }
 
-/// Acquires all and then releases the last one first, and tells whether all was done.
+/// Acquires all `keys` and then releases the last one first, `laps` times, and answers whether all was done.
 #[inline(never)]
 pub fn in_opposite_order(table: &mut LocalTable, keys: &[Key], owner: Owner, laps: u32) -> bool {
     for _ in 0..laps {
@@ -88,7 +89,7 @@ pub fn in_opposite_order(table: &mut LocalTable, keys: &[Key], owner: Owner, lap
     true
 }
 
-/// Releases what is not held, and counts the refusals.
+/// Releases `keys`, which are not held, `laps` times, and counts the refusals.
 #[inline(never)]
 pub fn refusals(table: &mut LocalTable, keys: &[Key], owner: Owner, laps: u32) -> u64 {
     let mut refused = 0u64;
@@ -100,7 +101,7 @@ pub fn refusals(table: &mut LocalTable, keys: &[Key], owner: Owner, laps: u32) -
     refused
 }
 
-/// Goes through an end, and gives how many entries it took away.
+/// Goes through `end`, and answers how many entries it took away.
 #[inline(never)]
 pub fn end_all(table: &mut LocalTable, end: End) -> u32
     requires { end ≢ End.Inner }
@@ -113,7 +114,7 @@ pub fn end_all(table: &mut LocalTable, end: End) -> u32
     u32::MAX
 }
 
-/// Looks each up in the map.
+/// Looks each of `keys` up in `map`, `laps` times.
 #[inline(never)]
 pub fn look_up_all(map: &KeyMap, keys: &[Key], laps: u32) -> u64 {
     let mut found = 0u64;
@@ -125,7 +126,7 @@ pub fn look_up_all(map: &KeyMap, keys: &[Key], laps: u32) -> u64 {
     found
 }
 
-/// Inserts each into the map and removes it at once.
+/// Inserts each of `keys` into `map` and removes it at once, `laps` times.
 #[inline(never)]
 pub fn map_pairs(map: &mut KeyMap, keys: &[Key], laps: u32) -> Result<()> {
     for _ in 0..laps {

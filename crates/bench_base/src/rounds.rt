@@ -38,7 +38,7 @@ impl Times {
         }
     }
 
-    /// Notes what the round with this number took, in nanoseconds for so many steps.
+    /// Notes that the round numbered `round` took `nanos` nanoseconds for `steps` steps.
     pub fn note(&mut self, round: usize, nanos: u64, steps: u64) {
         if let Some(tenths) = self.tenths.get_mut(round) {
             *tenths = nanos.saturating_mul(10).checked_div(steps).unwrap_or(0);
@@ -65,7 +65,7 @@ pub struct Spread {
 }
 
 impl Spread {
-    /// The times with those of the empty loop taken off.
+    /// The times with those of the empty loop, `empty`, taken off.
     pub fn above(self, empty: Spread) -> Spread {
         Spread {
             median: self.median.saturating_sub(empty.median),
@@ -75,7 +75,7 @@ impl Spread {
     }
 }
 
-/// How many hundredths of the whole a part is.
+/// How many hundredths of `whole` the number `part` is.
 fn hundredths(part: u64, whole: u64) -> u64 {
     part.saturating_mul(100).checked_div(whole).unwrap_or(0)
 }
@@ -100,17 +100,17 @@ impl fmt::Display for Spread {
     }
 }
 
-/// Prints what is timed on a page, and how.
+/// Prints `what` is timed on a page, and how it is `measured`.
 pub fn print_header<R: Print>(rt: &R, what: &str, measured: &str) -> io::Result<()> {
     println!(rt; "{what}: nanoseconds {measured}, median of {ROUNDS} rounds (smallest to largest)")
 }
 
-/// Prints a time, after what took it in so many columns.
+/// Prints `time`, after `what` took it in `width` columns.
 pub fn print_time<R: Print>(rt: &R, width: usize, what: &str, time: Spread) -> io::Result<()> {
     println!(rt; "        {what:<width$} {time}")
 }
 
-/// Prints what part one time is of another, by the medians and by the smallest.
+/// Prints how much of the time `whole` the time `part` is, by the medians and by the smallest.
 pub fn print_ratio<R: Print>(rt: &R, what: &str, part: Spread, whole: Spread) -> io::Result<()> {
     let median = hundredths(part.median, whole.median);
     let least = hundredths(part.least, whole.least);

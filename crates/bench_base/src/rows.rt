@@ -40,7 +40,8 @@ pub struct Line<W> {
 }
 
 impl<W: Copy> Line<W> {
-    /// The row with its keys, for rounds of as many steps as it says, or of fewer where nothing is timed.
+    /// The line of `row` with its keys, for rounds of as many steps as it says, or of fewer where `check` says that
+    /// nothing is timed.
     fn new(
         alloc: Global,
         row: &Row<W>,
@@ -72,20 +73,20 @@ impl<W: Copy> Line<W> {
             .saturating_mul(u64::from(self.laps))
     }
 
-    /// Notes what the round with this number took.
+    /// Notes that the round numbered `round` took `nanos` nanoseconds.
     pub fn note(&mut self, round: usize, nanos: u64) {
         let steps = self.steps();
         self.times.note(round, nanos, steps);
     }
 }
 
-/// How often the keys are gone through for so many steps.
+/// How often `keys` are gone through for `steps` steps.
 pub fn laps_of(keys: &[Key], steps: u32) -> u32 {
     let count = u32::try_from(keys.len()).unwrap_or(u32::MAX);
     steps.checked_div(count).unwrap_or(0).max(1)
 }
 
-/// The rows with their keys.
+/// The lines of `rows` with their keys.
 pub fn lines<W: Copy>(
     alloc: Global,
     rows: &[Row<W>],
@@ -100,7 +101,7 @@ pub fn lines<W: Copy>(
     Ok(lines)
 }
 
-/// The time of the row of this name.
+/// The times of the line of `lines` called `name`.
 fn spread_of<W>(lines: &[Line<W>], name: &str) -> Spread {
     for line in lines {
         if line.name == name {
@@ -110,7 +111,7 @@ fn spread_of<W>(lines: &[Line<W>], name: &str) -> Spread {
     Spread::default()
 }
 
-/// The time of the row of this name, with that of its empty row taken off.
+/// The times of the line of `lines` called `name`, with those of its empty line taken off.
 pub fn time_of<W>(lines: &[Line<W>], name: &str) -> Spread {
     for line in lines {
         if line.name == name {
@@ -124,7 +125,7 @@ pub fn time_of<W>(lines: &[Line<W>], name: &str) -> Spread {
     Spread::default()
 }
 
-/// Prints what each row takes, after its name in so many columns.
+/// Prints what each of `lines` takes, after its name in `width` columns.
 pub fn print_times<W, R: Print>(rt: &R, width: usize, lines: &[Line<W>]) -> io::Result<()> {
     for line in lines {
         print_time(rt, width, line.name, time_of(lines, line.name))?;
@@ -132,7 +133,7 @@ pub fn print_times<W, R: Print>(rt: &R, width: usize, lines: &[Line<W>]) -> io::
     Ok(())
 }
 
-/// Prints how much each row takes of that beside which it is put.
+/// Prints how much each of `lines` takes of the one beside which it is put.
 pub fn print_ratios<W, R: Print>(rt: &R, lines: &[Line<W>]) -> io::Result<()> {
     for line in lines {
         if let Some(whole) = line.beside {

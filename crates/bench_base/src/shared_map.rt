@@ -38,7 +38,7 @@ fn is_held<R: Wait>(rt: &R, map: &SharedMap, tag: Tag, mode: Mode) -> bool {
     map.lock(rt).contains_key(&(tag, mode))
 }
 
-/// Counts each once more, and once less at once.
+/// Counts each of `keys` once more in `map`, and once less at once, `laps` times.
 pub fn map_pairs<R: Wait>(
     rt: &R,
     map: &SharedMap,
@@ -54,7 +54,7 @@ pub fn map_pairs<R: Wait>(
     Ok(())
 }
 
-/// Counts each once more.
+/// Counts each of `keys` once more in `map`.
 pub fn map_all<R: Wait>(rt: &R, map: &SharedMap, keys: &[Key]) -> Result<(), AllocError> {
     for (tag, mode) in keys {
         count(rt, map, *tag, *mode)?;
@@ -62,7 +62,7 @@ pub fn map_all<R: Wait>(rt: &R, map: &SharedMap, keys: &[Key]) -> Result<(), All
     Ok(())
 }
 
-/// Looks each up, and gives how many are held.
+/// Looks each of `keys` up in `map`, `laps` times, and answers how many are held.
 pub fn count_held<R: Wait>(rt: &R, map: &SharedMap, keys: &[Key], laps: u32) -> u64 {
     let mut held = 0u64;
     for _ in 0..laps {
@@ -73,7 +73,7 @@ pub fn count_held<R: Wait>(rt: &R, map: &SharedMap, keys: &[Key], laps: u32) -> 
     held
 }
 
-/// Counts all once more and once less, over and over; gives the nanoseconds of the latter alone.
+/// Counts all `keys` once more and once less, `laps` times, and answers the nanoseconds of the latter alone.
 pub fn map_and_uncount<R: Wait + CpuClock>(
     rt: &R,
     map: &SharedMap,

@@ -8,7 +8,7 @@ use lock_world::{Event, Step, Word};
 use modes_core::{Mode, SessionId, Tag};
 use std::alloc::Global;
 
-/// Runs 2,000 rounds of 64 sessions, and looks at what they lead to.
+/// Whether 2,000 rounds of 64 sessions lead to what they are to lead to.
 pub fn is_right(alloc: Global) -> Result<bool> {
     let mut events = Vec::new(alloc);
     for number in 0..64u8 {
@@ -26,7 +26,7 @@ pub fn is_right(alloc: Global) -> Result<bool> {
     Ok(holds_are_right(&plain) && words_are_right(&plain))
 }
 
-/// Adds the events of a round. The answer is whether there are such sessions.
+/// Adds the events of round `round` to `events`, and answers whether there are such sessions.
 fn add_round(events: &mut Vec<Event>, round: u32) -> Result<bool> {
     let number = (round % 64) as u8;
     let Some(session) = SessionId::new(number) else {
@@ -63,7 +63,7 @@ fn put(partition: u8, done: Move) -> Step {
     }
 }
 
-/// What is done in a round of this kind.
+/// The move on `tag` of a round of the kind `kind`.
 fn done_in(kind: u32, tag: Tag) -> Move {
     match kind {
         0 => Move::Grant {
@@ -81,9 +81,9 @@ fn done_in(kind: u32, tag: Tag) -> Move {
     }
 }
 
-/// Whether there are 64 holds at least, in order. Session k meets relation k modulo 4 alone, in all three kinds of
-/// rounds, over and over; the last round of each decides whether its `RowShareLock` is there, and no one else's holds
-/// are in the way.
+/// Whether `plain` has 64 holds at least, in order. Session k meets relation k modulo 4 alone, in all three kinds of
+/// rounds, over and over; the last round of each decides whether its `RowShareLock` is there, and no one else's
+/// holds are in the way.
 fn holds_are_right(plain: &Plain) -> bool {
     let holds = plain.holds();
     for place in 1..holds.len() {
@@ -94,7 +94,7 @@ fn holds_are_right(plain: &Plain) -> bool {
     holds.len() >= 64
 }
 
-/// Whether all partitions are free, and those show that they were asked to cancel who were.
+/// Whether all partitions of `plain` are free, and those show that they were asked to cancel who were.
 fn words_are_right(plain: &Plain) -> bool {
     for partition in 0..16u8 {
         if plain.word(Word::Partition(partition)) != 0x2000_0000 {

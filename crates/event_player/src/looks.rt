@@ -7,7 +7,7 @@ use lock_world::Word;
 use lw_word::LwWaiter;
 use modes_core::SessionId;
 
-/// Whether what the words say is so, or `None` where they say nothing.
+/// Whether what `words` say of `plain` is so, or `None` where they say nothing.
 pub fn look(plain: &Plain, words: &mut Words) -> Option<bool> {
     match words.next()? {
         "word" => {
@@ -32,7 +32,7 @@ pub fn look(plain: &Plain, words: &mut Words) -> Option<bool> {
     }
 }
 
-/// Whether the words of one kind from the first number to the last one all show this.
+/// Whether the words of one kind, from a first number to a last one, all show what `words` say.
 fn words_show(plain: &Plain, words: &mut Words) -> Option<bool> {
     let kind = words.next()?;
     let first = small_number(words)?;
@@ -56,7 +56,7 @@ fn numbered_word(kind: &str, number: u8) -> Option<Word> {
     }
 }
 
-/// Whether the strong lock counters from the first index to the last one all show this.
+/// Whether the strong lock counters, from a first index to a last one, all show what `words` say.
 fn counters_show(plain: &Plain, words: &mut Words) -> Option<bool> {
     let first = index(words)?;
     let last = index(words)?;
@@ -69,7 +69,7 @@ fn counters_show(plain: &Plain, words: &mut Words) -> Option<bool> {
     Some(true)
 }
 
-/// How many of the holds are in the lock table.
+/// How many of the holds of `plain` are in the lock table.
 fn holds_in_table(plain: &Plain) -> u64 {
     plain
         .holds()
@@ -108,7 +108,7 @@ fn wait_is(plain: &Plain, words: &mut Words) -> Option<bool> {
     }
 }
 
-/// Whether this is the mask of the modes that the session held when it joined.
+/// Whether the mask of the modes that a session held when it joined a queue is the one that `words` say.
 fn wait_held_is(plain: &Plain, words: &mut Words) -> Option<bool> {
     let place = usize::from(small_number(words)?);
     let mask = index(words)?;

@@ -34,7 +34,7 @@ enum Played {
     Unread,
 }
 
-/// Plays the script, and prints the names of its tests, and the lines that are wrong or cannot be read. The answer is
+/// Plays `script`, and prints the names of its tests, and the lines that are wrong or cannot be read. The answer is
 /// whether there are none.
 pub fn play_script(rt: &(impl AllocGlobal + Print), script: &str) -> Result<bool> {
     let alloc = rt.alloc();
@@ -86,7 +86,7 @@ fn play_line(alloc: Global, test: &mut Test, line: &str) -> Result<Played> {
     }
 }
 
-/// Sets how many groups of slots each session has.
+/// Sets how many groups of slots each session of `test` has, by `text`.
 fn set_groups(test: &mut Test, text: &str) -> Result<Played> {
     match small_number(&mut text.split_whitespace()) {
         Some(groups) => {
@@ -97,7 +97,7 @@ fn set_groups(test: &mut Test, text: &str) -> Result<Played> {
     }
 }
 
-/// Adds the events that the text names.
+/// Adds the events that `text` names to `events`.
 fn add_events(events: &mut Vec<Event>, text: &str) -> Result<Played> {
     for part in text.split(';') {
         if part.trim().is_empty() {
@@ -111,7 +111,7 @@ fn add_events(events: &mut Vec<Event>, text: &str) -> Result<Played> {
     Ok(Played::Well)
 }
 
-/// Adds the event that the words name, or the events of a walk. The answer is whether there are such.
+/// Adds the event that `words` name to `events`, or those of a walk, and answers whether there are such.
 fn add_event(events: &mut Vec<Event>, words: &mut Words) -> Result<bool> {
     let (Some(session), Some(verb)) = (session(words), words.next()) else {
         return Ok(false);
@@ -126,13 +126,14 @@ fn add_event(events: &mut Vec<Event>, words: &mut Words) -> Result<bool> {
     Ok(true)
 }
 
-/// Adds this event.
+/// Adds the event of `session` and `step` to `events`.
 pub fn add(events: &mut Vec<Event>, session: SessionId, step: Step) -> Result<()> {
     events.push(Event { session, step })?;
     Ok(())
 }
 
-/// Adds the events by which a session goes past others: it takes the lock of each one's slots, and puts it passing.
+/// Adds to `events` those by which the session `whose` goes past others: it takes the lock of each one's slots, and
+/// puts it passing.
 fn add_walk(events: &mut Vec<Event>, whose: SessionId, words: &mut Words) -> Result<bool> {
     let Some((first, last, tag, mode)) = parse_walk(words) else {
         return Ok(false);
@@ -148,7 +149,7 @@ fn add_walk(events: &mut Vec<Event>, whose: SessionId, words: &mut Words) -> Res
     Ok(true)
 }
 
-/// The first and the last of those that a walk goes past, and the strong lock that it is for.
+/// The first and the last session that a walk goes past, and the strong lock that it is for, by `words`.
 fn parse_walk(words: &mut Words) -> Option<(u8, u8, Tag, Mode)> {
     let first = small_number(words)?;
     let last = small_number(words)?;
@@ -157,7 +158,7 @@ fn parse_walk(words: &mut Words) -> Option<(u8, u8, Tag, Mode)> {
     Some((first, last, tag, mode))
 }
 
-/// Runs the events, and looks at what the text names.
+/// Runs `events` with `groups` groups of slots, and looks at what `text` names.
 fn see(alloc: Global, groups: u8, events: &[Event], text: &str) -> Result<Played> {
     if !(1..=8).contains(&groups) {
         return Ok(Played::Unread);

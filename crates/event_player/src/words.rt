@@ -25,12 +25,12 @@ pub fn session(words: &mut Words) -> Option<SessionId> {
     SessionId::new(small_number(words)?)
 }
 
-/// A database.
+/// A database, by the next of `words`.
 pub fn database(words: &mut Words) -> Option<u32> {
     words.next()?.parse::<u32>().ok()
 }
 
-/// What a word shows: numbers, and names of bits, joined by `+`.
+/// What a word shows, by the next of `words`: numbers, and names of bits, joined by `+`.
 pub fn shown(words: &mut Words) -> Option<u64> {
     let mut sum = 0u64;
     for part in words.next()?.split('+') {
@@ -53,7 +53,7 @@ fn part_of_shown(part: &str) -> Option<u64> {
     }
 }
 
-/// `yes` or `no`.
+/// Whether the next of `words` is `yes`; `None` where it is neither that nor `no`.
 pub fn answer(words: &mut Words) -> Option<bool> {
     match words.next()? {
         "yes" => Some(true),
@@ -66,7 +66,8 @@ pub fn mode(words: &mut Words) -> Option<Mode> {
     Mode::from_name(words.next()?)
 }
 
-/// A tag: `DB/REL` is a relation, `DB/CLASS/OBJ/SUB` an object and `adv/DB/K1/K2/SUB` what an advisory lock is on.
+/// A tag, by the next of `words`: `DB/REL` is a relation, `DB/CLASS/OBJ/SUB` an object and `adv/DB/K1/K2/SUB` what
+/// an advisory lock is on.
 pub fn tag(words: &mut Words) -> Option<Tag> {
     let word = words.next()?;
     if let Some(numbers) = word.strip_prefix("adv/") {
@@ -83,7 +84,7 @@ pub fn tag(words: &mut Words) -> Option<Tag> {
     Some(Tag::object(database, class, object, sub_object))
 }
 
-/// What an advisory lock is on, by its four numbers.
+/// What an advisory lock is on, by its four `numbers`.
 fn advisory_tag(numbers: &str) -> Option<Tag> {
     let mut numbers = numbers.split('/');
     let database = numbers.next()?.parse::<u32>().ok()?;
@@ -93,7 +94,7 @@ fn advisory_tag(numbers: &str) -> Option<Tag> {
     Some(Tag::advisory(database, key1, key2, sub))
 }
 
-/// A word of the shared table.
+/// A word of the shared table, by the next of `words`.
 pub fn word(words: &mut Words) -> Option<Word> {
     match words.next()? {
         "partition" => Some(Word::Partition(small_number(words)?)),
@@ -110,7 +111,7 @@ pub fn word(words: &mut Words) -> Option<Word> {
     }
 }
 
-/// A move of a partition's content.
+/// A move of a partition's content, by the next of `words`.
 pub fn done(words: &mut Words) -> Option<Move> {
     match words.next()? {
         "keep" => Some(Move::Keep),

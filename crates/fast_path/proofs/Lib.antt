@@ -15,3 +15,4 @@ mod Reading
 pub mod SlotRows
 pub mod Times
 pub mod LoadsAt
+pub mod Quiet

@@ -4,3 +4,4 @@ pub mod Releases
 pub mod Transfers
 pub mod Turns
 pub mod Rows
+pub mod Quiet

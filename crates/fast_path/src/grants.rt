@@ -1,24 +1,27 @@
 //! Grants by the fast path (`FastPathGrantRelationLock` in lock.c).
 
-ghost use Rattle.std.specs.Prelude.{◌≡◌, ◌<◌, ◌≤◌, Some, Err};
+ghost use Rattle.std.specs.Prelude.{◌≡◌, ◌<◌, ◌≤◌, ◌∷◌, ℕ, List, Some, Err};
 ghost use Rattle.modes_core.specs.declared.refusals.Refusal.TheVariants.{SlotsFull};
 ghost use Rattle.lock_world.specs.SlotHolds.{most_groups};
 ghost use Rattle.shared_rule.specs.Boards.{nothing_due};
+ghost use Rattle.shared_rule.specs.Quiet.{Quiet, TakesSlots};
+ghost use Rattle.fast_path.specs.Quiet.{quiet_granting};
 ghost use Rattle.fast_path.specs.Slots.{group_of_tag, IsReady, MayTry};
 ghost use Rattle.fast_path.specs.Grants.{HasRoom, Grants, TriesGrant, GrantsHeld, HasOwnSlots};
 
-use crate::slot_words::{SLOTS, SightingForGrant, look_from_top};
+use crate::slot_words::{SLOTS, SightingForGrant, look_for_grant};
 use crate::use_counts::{UseCounts, group_of};
 use lock_table::PartTable;
 use modes_core::{Mode, Refusal, Tag};
 use shared_rule::Board;
 use std::sync::Wait;
 
-/// Grants a mode that the session hasn't, on a relation of its database, in one of its slots
+/// Grants `mode`, which the session hasn't, on `tag`, a relation of its database, in one of its slots
 /// (`FastPathGrantRelationLock` in lock.c, and the look at `FastPathStrongRelationLocks` before it in
-/// `LockAcquireExtended`). It waits until the lock of its own slots is free. Refused with `SlotsFull` where the use
-/// count of the relation's group is sixteen, which costs no step, and with `StrongCounted` where a strong lock is
-/// counted at the object's counter.
+/// `LockAcquireExtended`). The call waits until the lock of its own slots is free. Refused with `SlotsFull` where
+/// the use count of the relation's group is sixteen, which costs no step, and with `StrongCounted` where a strong
+/// lock is counted at the object's counter.
+#[inline(always)]
 pub fn grant<T: PartTable, B: Board<T>, R: Wait>(
     rt: &R,
     board: &mut B,
@@ -35,6 +38,8 @@ pub fn grant<T: PartTable, B: Board<T>, R: Wait>(
     ensures ready { IsReady (B.seat board.old).groups (B.view board.new) uses.new }
     ensures seat { B.seat board.new ≡ B.seat board.old }
     ensures stack { B.stack board.new ≡ B.stack board.old }
+    ensures quiet { B.quiet board.new ≡
+        quiet_granting (B.seat board.old).number tag.now mode result (B.quiet board.old) }
 {
     let group = group_of(tag.relation_number(), board.groups());
     if uses.of(group) == SLOTS {
@@ -45,8 +50,8 @@ pub fn grant<T: PartTable, B: Board<T>, R: Wait>(
     grant_with_slots(board, uses, group, tag, mode)
 }
 
-/// The same without waiting: one attempt to take the lock of its own slots, and `Busy` where that fails
-/// (`LWLockConditionalAcquire` instead of `LWLockAcquire`).
+/// Grants `mode` on `tag` as `grant` does, without waiting: one attempt to take the lock of its own slots, and
+/// `Busy` where that fails (`LWLockConditionalAcquire` instead of `LWLockAcquire`).
 pub fn try_grant<T: PartTable, B: Board<T>>(
     board: &mut B,
     uses: &mut UseCounts,
@@ -62,6 +67,8 @@ pub fn try_grant<T: PartTable, B: Board<T>>(
     ensures ready { IsReady (B.seat board.old).groups (B.view board.new) uses.new }
     ensures seat { B.seat board.new ≡ B.seat board.old }
     ensures stack { B.stack board.new ≡ B.stack board.old }
+    ensures quiet { B.quiet board.new ≡
+        quiet_granting (B.seat board.old).number tag.now mode result (B.quiet board.old) }
 {
     let group = group_of(tag.relation_number(), board.groups());
     if uses.of(group) == SLOTS {
@@ -73,7 +80,8 @@ pub fn try_grant<T: PartTable, B: Board<T>>(
     }
 }
 
-/// Grants it with the lock of its own slots in hand, and puts that lock.
+/// Finishes the grant of `mode` on `tag` with the lock of its own slots in hand, and puts that lock.
+#[inline(always)]
 fn grant_with_slots<T: PartTable, B: Board<T>>(
     board: &mut B,
     uses: &mut UseCounts,
@@ -92,6 +100,8 @@ fn grant_with_slots<T: PartTable, B: Board<T>>(
     ensures ready { IsReady (B.seat board.old).groups (B.view board.new) uses.new }
     ensures seat { B.seat board.new ≡ B.seat board.old }
     ensures stack { B.stack board.new ≡ B.stack board.old }
+    ensures quiet { (number : ℕ) (before : List Quiet) → B.quiet board.old ≡ TakesSlots number ∷ before
+        → B.quiet board.new ≡ quiet_granting number tag.now mode result before }
 {
     let own = board.number();
     if board.load_strong(tag.strong_index()) != 0 {
@@ -102,7 +112,7 @@ fn grant_with_slots<T: PartTable, B: Board<T>>(
     let SightingForGrant {
         of_relation,
         highest_unused,
-    } = look_from_top(board, own, group, tag.relation_number(), use_count);
+    } = look_for_grant(board, own, group, tag.relation_number(), use_count);
     if let Some(slot) = of_relation {
         board.set_slot(slot.place, slot.word, tag, mode);
         board.put_fast(own);

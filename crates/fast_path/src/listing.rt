@@ -1,10 +1,12 @@
 //! What all sessions' slots show (the first part of `GetLockStatusData` in lock.c).
 
-ghost use Rattle.std.specs.Prelude.{◌≡◌, ◌<◌, ◌≤◌, ◌++◌, OnOk};
+ghost use Rattle.std.specs.Prelude.{◌≡◌, ◌<◌, ◌≤◌, ◌++◌, ◌∷◌, OnOk};
 ghost use Rattle.lock_world.specs.SlotHolds.{slot_count};
 ghost use Rattle.shared_rule.specs.Boards.{nothing_due};
 ghost use Rattle.fast_path.specs.Slots.{word_of};
 ghost use Rattle.fast_path.specs.Turns.{IsUnlocked};
+ghost use Rattle.shared_rule.specs.Quiet.{SharesSlots};
+ghost use Rattle.fast_path.specs.Quiet.{QuietOfListing};
 ghost use Rattle.fast_path.specs.Rows.{ListsSlots, ListsSession, BeginsWith};
 ghost use Rattle.fast_path.specs.Rows.{mode_row, rows_of_slot, rows_below, database_in};
 
@@ -15,9 +17,9 @@ use modes_core::{Mode, SessionId, Tag};
 use shared_rule::Board;
 use std::sync::Wait;
 
-/// Appends a row for each mode that a slot of any session shows: by session, by slot, by mode. The lock of each
-/// session's slots is shared while they are read, one session after another, so that other readers don't wait, and
-/// the rows are not of one moment. Only the list takes memory; where that is missing it has what it had.
+/// Appends to `rows` a row for each mode that a slot of any session shows: by session, by slot, by mode. The lock of
+/// each session's slots is shared while they are read, one session after another, so that other readers don't wait,
+/// and the rows are not of one moment. Only the list takes memory; where that is missing it has what it had.
 pub fn slot_rows<T: PartTable, B: Board<T>, R: Wait>(
     rt: &R,
     board: &mut B,
@@ -29,6 +31,7 @@ pub fn slot_rows<T: PartTable, B: Board<T>, R: Wait>(
     ensures listed { ListsSlots (B.seat board.old).groups (B.seat board.old).number (B.seat board.old).limit
         (B.view board.old) rows.old.items result rows.new.items (B.view board.new) }
     ensures stack { B.stack board.new ≡ B.stack board.old }
+    ensures quiet { QuietOfListing (B.seat board.old).limit result (B.quiet board.old) (B.quiet board.new) }
     ensures seat { B.seat board.new ≡ B.seat board.old }
 {
     let before = rows.len();
@@ -45,7 +48,7 @@ pub fn slot_rows<T: PartTable, B: Board<T>, R: Wait>(
     Ok(())
 }
 
-/// Appends the rows of one session.
+/// Appends to `rows` those of the slots of `owner`.
 fn session_rows<T: PartTable, B: Board<T>, R: Wait>(
     rt: &R,
     board: &mut B,
@@ -59,6 +62,7 @@ fn session_rows<T: PartTable, B: Board<T>, R: Wait>(
         rows.old.items result rows.new.items (B.view board.new) }
     ensures behind { BeginsWith rows.old.items rows.new.items }
     ensures stack { B.stack board.new ≡ B.stack board.old }
+    ensures quiet { B.quiet board.new ≡ SharesSlots owner ∷ B.quiet board.old }
     ensures seat { B.seat board.new ≡ B.seat board.old }
 {
     let count = SLOTS * board.groups();
@@ -69,14 +73,14 @@ fn session_rows<T: PartTable, B: Board<T>, R: Wait>(
     append_session(owner, database_in(shown), &words, count, rows)
 }
 
-/// The database that a session's word shows.
+/// The database that a session's database word shows as `shown`.
 fn database_in(shown: u64) -> u32
     ensures { result ≡ database_in shown }
 {
     (shown & 0xFFFF_FFFF) as u32
 }
 
-/// Appends the rows of the first so many of a session's slots, with these words.
+/// Appends to `rows` those of the first `count` slots of `session`, whose words are `words`.
 fn append_session(
     session: SessionId,
     database: u32,
@@ -95,7 +99,7 @@ fn append_session(
     Ok(())
 }
 
-/// Appends the rows of a slot, by mode.
+/// Appends to `rows` those of the slot of `session` at `place`, by mode.
 fn append_slot(
     session: SessionId,
     database: u32,
@@ -106,12 +110,15 @@ fn append_slot(
     ensures listed { OnOk result (rows.new.items ≡ rows.old.items ++ rows_of_slot session database place word) }
     ensures behind { BeginsWith rows.old.items rows.new.items }
 {
+    if !word.in_use() {
+        return Ok(());
+    }
     append_mode(session, database, place, word, Mode::AccessShare, rows)?;
     append_mode(session, database, place, word, Mode::RowShare, rows)?;
     append_mode(session, database, place, word, Mode::RowExclusive, rows)
 }
 
-/// Appends the row of a mode, if the slot shows it.
+/// Appends to `rows` that of `mode`, if the slot with `word` shows it.
 fn append_mode(
     session: SessionId,
     database: u32,

@@ -4,7 +4,8 @@ ghost use Rattle.std.specs.Prelude.{◌≡◌, false, true};
 ghost use Rattle.modes_core.specs.Tag.{is_eligible_for};
 ghost use Rattle.lock_world.specs.SlotHolds.{slot_holds};
 ghost use Rattle.shared_rule.specs.Boards.{nothing_due};
-ghost use Rattle.fast_path.specs.Slots.{IsReady};
+ghost use Rattle.fast_path.specs.Slots.{IsReady, count_in, group_of_tag};
+ghost use Rattle.fast_path.specs.Quiet.{quiet_ungranting};
 ghost use Rattle.fast_path.specs.Releases.{IsUnused, Ungrants};
 
 use crate::slot_words::{Sighting, look_through};
@@ -14,10 +15,11 @@ use modes_core::{Mode, Tag};
 use shared_rule::Board;
 use std::sync::Wait;
 
-/// Releases a mode on a relation of the session's database, where one of its slots has it, and says whether one did
-/// (`FastPathUnGrantRelationLock` in lock.c). It isn't tried where the use count of the relation's group is 0;
-/// where it is tried the use count is afterwards the number of that group's slots in use. Where no slot has it, it
-/// is in the lock table.
+/// Releases `mode` on `tag`, a relation of the session's database, where one of its slots has it, and answers
+/// whether one did (`FastPathUnGrantRelationLock` in lock.c). No slot is looked at where the use count of the
+/// relation's group is 0; otherwise the use count is afterwards the number of that group's slots in use. Where no
+/// slot has the mode, it is in the lock table.
+#[inline(always)]
 pub fn ungrant<T: PartTable, B: Board<T>, R: Wait>(
     rt: &R,
     board: &mut B,
@@ -36,6 +38,8 @@ pub fn ungrant<T: PartTable, B: Board<T>, R: Wait>(
     ensures ready { IsReady (B.seat board.old).groups (B.view board.new) uses.new }
     ensures seat { B.seat board.new ≡ B.seat board.old }
     ensures stack { B.stack board.new ≡ B.stack board.old }
+    ensures quiet { B.quiet board.new ≡ quiet_ungranting (B.seat board.old).number
+        (count_in uses.old (group_of_tag (B.seat board.old).groups tag.now)) (B.quiet board.old) }
 {
     let relation = tag.relation_number();
     let group = group_of(relation, board.groups());

@@ -15,7 +15,7 @@ use shared_rule::Board;
 /// `FP_LOCK_SLOTS_PER_GROUP`).
 pub const SLOTS: u8 = 16;
 
-/// Loads the words of the first so many of a session's slots, whose lock is shared.
+/// Loads the words of the first `count` slots of `owner`, whose lock is shared.
 pub(crate) fn load_slots<T: PartTable, B: Board<T>>(
     board: &mut B,
     owner: SessionId,
@@ -29,6 +29,7 @@ pub(crate) fn load_slots<T: PartTable, B: Board<T>>(
     ensures words { AreWords count result (slots_here ((B.view board.old).fast.shared_slots owner)).word }
     ensures seat { B.seat board.new ≡ B.seat board.old }
     ensures stack { B.stack board.new ≡ B.stack board.old }
+    ensures quiet { B.quiet board.new ≡ B.quiet board.old }
 {
     let mut words = [SlotWord::from_number(0); 128];
     for place in 0..count {
@@ -53,8 +54,8 @@ pub(crate) struct Sighting {
     pub(crate) used_count: u8,
 }
 
-/// Loads the words of a group's slots of a session, the lock of whose slots is in hand, one after another, and keeps of
-/// them only what a release or a transfer of a lock on the relation asks for.
+/// Loads the words of the slots of `owner` in `group`, the lock of whose slots is in hand, one after another, and
+/// keeps of them only what a release or a transfer of a lock on `relation` asks for.
 #[inline(always)]
 pub(crate) fn look_through<T: PartTable, B: Board<T>>(
     board: &mut B,
@@ -71,6 +72,7 @@ pub(crate) fn look_through<T: PartTable, B: Board<T>>(
     ensures sighted { Sights group (slots_here ((B.view board.old).fast.slots owner)).word relation result }
     ensures seat { B.seat board.new ≡ B.seat board.old }
     ensures stack { B.stack board.new ≡ B.stack board.old }
+    ensures quiet { B.quiet board.new ≡ B.quiet board.old }
 {
     let mut of_relation = None;
     let mut used_count = 0;
@@ -99,12 +101,10 @@ pub(crate) struct SightingForGrant {
     pub(crate) highest_unused: Option<SeenSlot>,
 }
 
-/// Loads the words of a group's slots of a session, the lock of whose slots is in hand, from the highest-numbered one
-/// down, as far as a grant asks for: as far as the slot in use for the relation (where the loop of
-/// `FastPathGrantRelationLock` in lock.c stops too), or as one not in use above which as many are in use as the group's
-/// use count says, since no other one is in use then.
+/// What a grant on `relation` looks for in the slots of `owner` in `group`, by `look_from_top`. Where a session has
+/// one group of slots this is a walk of its own, in which the compiler knows where each slot stands.
 #[inline(always)]
-pub(crate) fn look_from_top<T: PartTable, B: Board<T>>(
+pub(crate) fn look_for_grant<T: PartTable, B: Board<T>>(
     board: &mut B,
     owner: SessionId,
     group: u8,
@@ -121,6 +121,37 @@ pub(crate) fn look_from_top<T: PartTable, B: Board<T>>(
     ensures sighted { SightsForGrant group (slots_here ((B.view board.old).fast.slots owner)).word relation result }
     ensures seat { B.seat board.new ≡ B.seat board.old }
     ensures stack { B.stack board.new ≡ B.stack board.old }
+    ensures quiet { B.quiet board.new ≡ B.quiet board.old }
+{
+    if group == 0 {
+        return look_from_top(board, owner, 0, relation, use_count);
+    }
+    look_from_top(board, owner, group, relation, use_count)
+}
+
+/// Loads the words of the slots of `owner` in `group`, the lock of whose slots is in hand, from the highest-numbered
+/// one down, as far as a grant asks for: as far as the slot in use for `relation` (where the loop of
+/// `FastPathGrantRelationLock` in lock.c stops too), or as one not in use above which as many are in use as
+/// `use_count` says, since no other one is in use then.
+#[inline(always)]
+fn look_from_top<T: PartTable, B: Board<T>>(
+    board: &mut B,
+    owner: SessionId,
+    group: u8,
+    relation: u32,
+    use_count: u8,
+) -> SightingForGrant
+    requires few { group < most_groups }
+    requires there { group < (B.seat board.old).groups }
+    requires in_hand { (slots : SlotsInHand) × ((B.view board.old).fast.slots owner ≡ Some slots) }
+    requires enough { used_in group (slots_here ((B.view board.old).fast.slots owner)).word ≤ use_count }
+    ensures loaded { (seen : ℕ) × (seen ≤ group_size) × (B.view board.new ≡
+        account_loading (B.view board.old) owner (place_from_top group)
+        (slots_here ((B.view board.old).fast.slots owner)).word seen) }
+    ensures sighted { SightsForGrant group (slots_here ((B.view board.old).fast.slots owner)).word relation result }
+    ensures seat { B.seat board.new ≡ B.seat board.old }
+    ensures stack { B.stack board.new ≡ B.stack board.old }
+    ensures quiet { B.quiet board.new ≡ B.quiet board.old }
 {
     let mut highest_unused = None;
     let mut used_count = 0;

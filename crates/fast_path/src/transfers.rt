@@ -1,6 +1,6 @@
 //! The transfer of fast-path locks that stand in a strong lock's way (`FastPathTransferRelationLocks` in lock.c).
 
-ghost use Rattle.std.specs.Prelude.{◌≡◌, ◌<◌, ◌≤◌, ◌*◌, false, true, None, length};
+ghost use Rattle.std.specs.Prelude.{◌≡◌, ◌<◌, ◌≤◌, ◌*◌, ◌∷◌, false, true, None, length};
 ghost use Rattle.modes_core.specs.Tag.{is_strong_on};
 ghost use Rattle.lock_world.specs.SlotHolds.{group_size};
 ghost use Rattle.lock_world.specs.Account.{Account};
@@ -9,6 +9,8 @@ ghost use Rattle.lock_world.specs.Happens.Counters.{most_counted};
 ghost use Rattle.shared_rule.specs.Boards.{nothing_due};
 ghost use Rattle.fast_path.specs.Turns.{IsUnlocked, BeginsTurn, HasSlots, HasSlotsAndPart, MovesOrNot, AdoptsOrNot};
 ghost use Rattle.fast_path.specs.Transfers.{TransfersOrNot, PassesOrNot};
+ghost use Rattle.shared_rule.specs.Quiet.{TakesSlots};
+ghost use Rattle.fast_path.specs.Quiet.{QuietOfTransfer};
 
 use crate::slot_words::{Sighting, look_through};
 use crate::use_counts::group_of;
@@ -18,10 +20,10 @@ use modes_core::{Mode, SessionId, Tag};
 use shared_rule::Board;
 use std::sync::Wait;
 
-/// Counts a strong lock, and goes past every session there can be, issued or not and its own too, once its locks on
-/// the object are out of its slots and in the lock table (`BeginStrongLockAcquire` and
+/// Counts a strong lock, `mode` on `tag`, and goes past every session there can be, issued or not and its own too,
+/// once its locks on the object are out of its slots and in the lock table (`BeginStrongLockAcquire` and
 /// `FastPathTransferRelationLocks` in lock.c). Where memory for the lock table is missing it is counted no more;
-/// what was moved until then stays moved. Its cost is two atomic steps and a load for each session, and sixteen
+/// what was moved until then stays moved. The cost is two atomic steps and a load for each session, and sixteen
 /// loads more, of the slots of the relation's group, for each of the object's database.
 pub fn transfer<T: PartTable, B: Board<T>, R: Wait>(
     rt: &R,
@@ -40,6 +42,7 @@ pub fn transfer<T: PartTable, B: Board<T>, R: Wait>(
     ensures transferred { TransfersOrNot (B.seat board.old).groups (B.seat board.old).limit (B.view board.old) tag.now
         mode result (B.view board.new) }
     ensures stack { B.stack board.new ≡ B.stack board.old }
+    ensures quiet { QuietOfTransfer (B.seat board.old).limit tag.now mode result (B.quiet board.old) (B.quiet board.new) }
     ensures seat { B.seat board.new ≡ B.seat board.old }
 {
     board.add_strong(tag, mode);
@@ -56,8 +59,8 @@ pub fn transfer<T: PartTable, B: Board<T>, R: Wait>(
     Ok(())
 }
 
-/// Goes past one session (a turn of the loop of `FastPathTransferRelationLocks`). Sessions of other databases, and
-/// those not issued, are gone past without a look at their slots.
+/// Goes past `owner` (a turn of the loop of `FastPathTransferRelationLocks` in lock.c) for `mode` on `tag`. Sessions
+/// of other databases, and those not issued, are gone past without a look at their slots.
 fn pass<T: PartTable, B: Board<T>, R: Wait>(
     rt: &R,
     board: &mut B,
@@ -72,6 +75,7 @@ fn pass<T: PartTable, B: Board<T>, R: Wait>(
     requires next { is_at owner (B.view board.old).fast.counted tag.now mode ≡ true }
     ensures passed { PassesOrNot (B.seat board.old).groups (B.view board.old) owner tag.now mode result (B.view board.new) }
     ensures stack { B.stack board.new ≡ B.stack board.old }
+    ensures quiet { B.quiet board.new ≡ TakesSlots owner ∷ B.quiet board.old }
     ensures seat { B.seat board.new ≡ B.seat board.old }
 {
     board.take_fast(rt, owner);
@@ -82,8 +86,8 @@ fn pass<T: PartTable, B: Board<T>, R: Wait>(
     pass_in_database(rt, board, owner, tag, mode)
 }
 
-/// Goes past a session of the tag's database, the lock of whose slots is in hand, once its modes on the object are out
-/// of its slot. It is a function of its own, so that going past other sessions takes no stack for it.
+/// Goes past `owner`, a session of the tag's database the lock of whose slots is in hand, once its modes on `tag`
+/// are out of its slot. A function of its own, so that going past other sessions takes no stack for it.
 #[inline(never)]
 fn pass_in_database<T: PartTable, B: Board<T>, R: Wait>(
     rt: &R,
@@ -100,6 +104,7 @@ fn pass_in_database<T: PartTable, B: Board<T>, R: Wait>(
     ensures passed { (before : Account) → BeginsTurn (B.seat board.old).groups before owner tag.now (B.view board.old)
         → PassesOrNot (B.seat board.old).groups before owner tag.now mode result (B.view board.new) }
     ensures stack { B.stack board.new ≡ B.stack board.old }
+    ensures quiet { B.quiet board.new ≡ B.quiet board.old }
     ensures seat { B.seat board.new ≡ B.seat board.old }
 {
     let relation = tag.relation_number();
@@ -121,8 +126,8 @@ fn pass_in_database<T: PartTable, B: Board<T>, R: Wait>(
     }
 }
 
-/// Moves the modes of a slot, one after another in rising order, into the object's partition (the inner loop of
-/// `FastPathTransferRelationLocks`).
+/// Moves the modes of the slot of `owner` at `place`, one after another in rising order, into the partition of `tag`
+/// (the inner loop of `FastPathTransferRelationLocks` in lock.c).
 fn adopt<T: PartTable, B: Board<T>, R: Wait>(
     rt: &R,
     board: &mut B,
@@ -140,6 +145,7 @@ fn adopt<T: PartTable, B: Board<T>, R: Wait>(
     requires nothing_due { B.stack board.old ≡ nothing_due }
     ensures adopted { AdoptsOrNot (B.view board.old) owner word tag.now result (B.view board.new) }
     ensures stack { B.stack board.new ≡ B.stack board.old }
+    ensures quiet { B.quiet board.new ≡ B.quiet board.old }
     ensures seat { B.seat board.new ≡ B.seat board.old }
 {
     let part = tag.partition();
@@ -149,7 +155,8 @@ fn adopt<T: PartTable, B: Board<T>, R: Wait>(
     moved
 }
 
-/// Moves them with the partition in hand, one per step.
+/// Moves the modes of the slot of `owner` at `place` with the partition in hand, whose content is `content`, one per
+/// step.
 fn move_modes<T: PartTable, B: Board<T>>(
     board: &mut B,
     content: &mut T,
@@ -169,6 +176,7 @@ fn move_modes<T: PartTable, B: Board<T>>(
         (T.content content.new) (B.view board.new) }
     ensures none_begun { T.begun content.new ≡ None }
     ensures stack { B.stack board.new ≡ B.stack board.old }
+    ensures quiet { B.quiet board.new ≡ B.quiet board.old }
     ensures seat { B.seat board.new ≡ B.seat board.old }
 {
     let mut left = word;

@@ -12,14 +12,14 @@ pub struct UseCounts {
 }
 
 impl UseCounts {
-    /// Those of a session that has no slot in use.
+    /// The use counts of a session that has no slot in use.
     pub fn new() -> Self
         ensures none { (group : ℕ) → count_in result group ≡ 0 }
     {
         UseCounts { counts: [0; 8] }
     }
 
-    /// The count of one group.
+    /// The use count of `group`.
     pub(crate) fn of(&self, group: u8) -> u8
         requires exists { group < most_groups }
         ensures { result ≡ count_in self.now group }
@@ -27,7 +27,7 @@ impl UseCounts {
         self.counts[usize::from(group)]
     }
 
-    /// Another count for one group.
+    /// Sets the use count of `group` to `count`.
     pub(crate) fn set(&mut self, group: u8, count: u8)
         requires exists { group < most_groups }
         ensures { count_in self.new ≡ counting self.old group count }
@@ -36,7 +36,7 @@ impl UseCounts {
     }
 }
 
-/// The group of a relation, of so many (`FAST_PATH_REL_GROUP` in lock.c of version 18, which multiplies the number
+/// The group of `relation`, of `groups` (`FAST_PATH_REL_GROUP` in lock.c of version 18, which multiplies the number
 /// first).
 pub(crate) fn group_of(relation: u32, groups: u8) -> u8
     requires some { 0 < groups }

@@ -34,7 +34,7 @@ pub fn new_part(alloc: Global) -> Result<PlainPart, NoMemory>
     }
 }
 
-/// Stops where the session holds the object in this mode already, or waits for it.
+/// Ends the test where `session` holds `tag` in `mode` already, or waits for it.
 pub fn may_ask<P: PartTable>(
     rt: &impl Abort,
     part: &mut P,
@@ -55,7 +55,7 @@ pub fn may_ask<P: PartTable>(
     }
 }
 
-/// Stops where the session doesn't hold the object in this mode.
+/// Ends the test where `session` doesn't hold `tag` in `mode`.
 pub fn may_release<P: PartTable>(
     rt: &impl Abort,
     part: &P,
@@ -70,7 +70,7 @@ pub fn may_release<P: PartTable>(
     }
 }
 
-/// Whether a wakeup granted these, in this order.
+/// Whether `woken` has those who are `expected`, in this order.
 pub fn are_woken(woken: &Woken, expected: &[(u8, Mode)]) -> bool {
     if woken.len() != expected.len() {
         return false;

@@ -19,7 +19,7 @@ const MODES: [(u8, &str, u16); 8] = [
     (8, "AccessExclusiveLock", 0x1FE),
 ];
 
-/// The number, name and conflicts of the mode with this number.
+/// The number, name and conflicts of the mode whose number is `number`.
 fn described(number: u8) -> Option<(u8, &'static str, u16)> {
     let mode = Mode::from_number(number)?;
     Some((mode.number(), mode.name(), conflicts(mode).mask()))
@@ -35,7 +35,7 @@ fn modes_have_their_numbers_names_and_conflicts(rt: HostRuntime) {
     }
 }
 
-/// The number of the mode with this name, and whether the mode prints so.
+/// The number of the mode called `name`, and whether the mode prints so.
 fn named(alloc: Global, name: &str) -> Result<Option<(u8, bool)>, AllocError> {
     let Some(mode) = Mode::from_name(name) else {
         return Ok(None);
@@ -124,12 +124,12 @@ const SHARED_RELATION: Tag = Tag::Relation {
     relation: 1262,
 };
 
-/// The hash of a tag, its partition, and its strong lock counter.
+/// The hash of `tag`, its partition, and its strong lock counter.
 fn indexes(tag: Tag) -> (u32, u8, u16) {
     (tag.hash(), tag.partition(), tag.strong_index())
 }
 
-/// Whether the tag prints so.
+/// Whether `tag` prints as `text`.
 fn prints(alloc: Global, tag: Tag, text: &str) -> Result<bool, AllocError> {
     let printed = tag.to_string(alloc)?;
     Ok(printed.as_str() == text)
@@ -217,7 +217,7 @@ fn the_fast_path_has_its_modes(rt: HostRuntime) {
     }
 }
 
-/// What a tag's method, database and relation are.
+/// The lock method, database and relation of `tag`.
 fn parts(tag: Tag) -> (LockMethod, u32, u32) {
     (tag.method(), tag.database(), tag.relation_number())
 }
@@ -238,7 +238,7 @@ fn sessions_have_numbers(rt: HostRuntime) -> Result<(), Fail> {
     Ok(())
 }
 
-/// Each refusal, with the last session where it names one.
+/// Each refusal, with `session` where it names one.
 fn refusals(session: SessionId) -> [(Refusal, u8, &'static str); 16] {
     let conflict = |how| Refusal::Conflict {
         session,
@@ -277,7 +277,7 @@ fn refusals(session: SessionId) -> [(Refusal, u8, &'static str); 16] {
     ]
 }
 
-/// The number of a refusal, and whether it prints so.
+/// The number of `refusal`, and whether it prints as `text`.
 fn printed(alloc: Global, refusal: Refusal, text: &str) -> Result<(u8, bool), AllocError> {
     let printed = refusal.to_string(alloc)?;
     Ok((refusal.number(), printed.as_str() == text))

@@ -104,7 +104,7 @@ const A_WAITER_THAT_LEAVES_LETS_OTHERS_GO: [Step; 5] = [
     Step::Leaves(2, true, &[]),
 ];
 
-/// What a request of the session is answered, which may be made.
+/// What a request of `session` for `mode`, which may be made, is answered.
 fn asked_once<P: PartTable>(
     rt: &impl Abort,
     part: &mut P,
@@ -119,7 +119,8 @@ fn asked_once<P: PartTable>(
     decide(part, session, &OBJECT, mode, kind)
 }
 
-/// What it is answered at the second attempt where there was no memory: all is as before then.
+/// What a request of `session` for `mode` is answered, at the second attempt where there was no memory: all is as
+/// before then.
 fn asked<P: PartTable>(
     rt: &impl Abort,
     part: &mut P,
@@ -136,7 +137,7 @@ fn asked<P: PartTable>(
     }
 }
 
-/// The answer that is meant.
+/// The answer that `told` means.
 fn meant(rt: &impl Abort, told: Told) -> Result<Decision, Refusal> {
     match told {
         Granted => Ok(Decision::Granted),
@@ -157,7 +158,7 @@ fn meant(rt: &impl Abort, told: Told) -> Result<Decision, Refusal> {
     }
 }
 
-/// Whether a release wakes these, in this order.
+/// Whether a release of `mode` by `session` wakes those who are `expected`, in this order.
 fn wakes<P: PartTable>(
     rt: &impl Abort,
     part: &mut P,
@@ -174,7 +175,7 @@ fn wakes<P: PartTable>(
     are_woken(&part.wake(&OBJECT), expected)
 }
 
-/// Makes the step, and whether it leads to what it says.
+/// Makes `step`, and answers whether it leads to what it says.
 fn make<P: PartTable>(rt: &impl Abort, part: &mut P, step: Step) -> bool
     requires { P.begun part.old ≡ None }
     ensures { P.begun part.new ≡ None }
@@ -194,7 +195,7 @@ fn make<P: PartTable>(rt: &impl Abort, part: &mut P, step: Step) -> bool
     }
 }
 
-/// All steps, in order.
+/// Plays all `steps`, in order.
 fn play<P: PartTable>(rt: &impl Abort, part: &mut P, steps: &[Step])
     requires { P.begun part.old ≡ None }
     ensures { P.begun part.new ≡ None }
@@ -205,7 +206,7 @@ fn play<P: PartTable>(rt: &impl Abort, part: &mut P, steps: &[Step])
     }
 }
 
-/// The steps, on a part of their own.
+/// Plays `steps` on a part of their own.
 fn run(rt: &impl Abort, alloc: Global, steps: &[Step]) -> Result<(), Fail> {
     let mut part = new_part(alloc)?;
     play(rt, &mut part, steps);

@@ -118,7 +118,7 @@ const A_REQUEST_IS_TOLD_WHERE_IT_STANDS: [Step; 10] = [
     Step::Asks(1, ANOTHER_OBJECT, Exclusive, Told::Deadlock(0)),
 ];
 
-/// Begins a request that may be made.
+/// Begins the request of `session` for `tag` in `mode`, which may be made.
 fn begins_once<P: PartTable>(
     rt: &impl Abort,
     part: &mut P,
@@ -136,7 +136,8 @@ fn begins_once<P: PartTable>(
     part.begin(session, tag, mode)
 }
 
-/// Begins it at the second attempt where there was no memory: all is as before then.
+/// Begins the request of `session` for `tag` in `mode`, at the second attempt where there was no memory: all is as
+/// before then.
 fn begins<P: PartTable>(
     rt: &impl Abort,
     part: &mut P,
@@ -156,7 +157,7 @@ fn begins<P: PartTable>(
     }
 }
 
-/// The session comes to hold the object.
+/// Has `session` hold `tag` in `mode`.
 fn holds<P: PartTable>(
     rt: &impl Abort,
     part: &mut P,
@@ -172,7 +173,7 @@ fn holds<P: PartTable>(
     Ok(())
 }
 
-/// The session comes to wait on the object, at this place of its queue.
+/// Has `session` wait for `tag` in `mode`, at `place` of its queue.
 fn waits<P: PartTable>(
     rt: &impl Abort,
     part: &mut P,
@@ -193,7 +194,7 @@ fn waits<P: PartTable>(
     Ok(())
 }
 
-/// A hold of the session is taken out.
+/// Takes the hold of `session` on `tag` in `mode` out.
 fn releases<P: PartTable>(rt: &impl Abort, part: &mut P, session: SessionId, tag: &Tag, mode: Mode)
     ensures begun { P.begun part.new ≡ P.begun part.old }
 {
@@ -201,7 +202,7 @@ fn releases<P: PartTable>(rt: &impl Abort, part: &mut P, session: SessionId, tag
     part.ungrant(session, tag, mode);
 }
 
-/// Whether the object's queue has the waits of these, from the front.
+/// Whether the queue of `tag` has the waits of the sessions `numbers`, from the front.
 fn queue_is<P: PartTable>(part: &P, tag: &Tag, numbers: &[u8]) -> bool {
     for place in 0..numbers.len() {
         let Some(waiter) = part.waiter(tag, place) else {
@@ -214,7 +215,8 @@ fn queue_is<P: PartTable>(part: &P, tag: &Tag, numbers: &[u8]) -> bool {
     part.waiter(tag, numbers.len()).is_none()
 }
 
-/// Whether the first in the object's queue waits for this mode, and held it in the modes of this mask as it joined.
+/// Whether the first in the queue of `tag` waits for `mode`, and held it in the modes of the mask `held` as it
+/// joined.
 fn first_is<P: PartTable>(part: &P, tag: &Tag, mode: Mode, held: u16) -> bool {
     match part.waiter(tag, 0) {
         Some(first) => first.mode == mode && first.held.mask() == held,
@@ -222,7 +224,7 @@ fn first_is<P: PartTable>(part: &P, tag: &Tag, mode: Mode, held: u16) -> bool {
     }
 }
 
-/// The answer that is meant.
+/// The answer that `told` means.
 fn meant(rt: &impl Abort, told: Told) -> Answer {
     match told {
         Told::Granted => Answer::Granted,
@@ -231,7 +233,7 @@ fn meant(rt: &impl Abort, told: Told) -> Answer {
     }
 }
 
-/// Does what the step says, or looks at what it says, and whether it is as it says.
+/// Does what `step` says, or looks at what it says, and answers whether it is as it says.
 fn make<P: PartTable>(rt: &impl Abort, part: &mut P, step: Step) -> Result<bool, NoMemory>
     requires none_begun { P.begun part.old ≡ None }
     ensures none_begun { P.begun part.new ≡ None }
@@ -265,7 +267,7 @@ fn make<P: PartTable>(rt: &impl Abort, part: &mut P, step: Step) -> Result<bool,
     }
 }
 
-/// All steps, in order.
+/// Plays all `steps`, in order.
 fn play<P: PartTable>(rt: &impl Abort, part: &mut P, steps: &[Step]) -> Result<(), NoMemory>
     requires none_begun { P.begun part.old ≡ None }
     ensures none_begun { P.begun part.new ≡ None }
@@ -277,7 +279,7 @@ fn play<P: PartTable>(rt: &impl Abort, part: &mut P, steps: &[Step]) -> Result<(
     Ok(())
 }
 
-/// A part after the steps.
+/// A part after `steps`.
 fn part_after(rt: &impl Abort, alloc: Global, steps: &[Step]) -> Result<PlainPart, NoMemory>
     ensures { IfOk result (λ part. part.begun ≡ None) }
 {
@@ -328,7 +330,7 @@ fn a_request_is_told_where_it_stands(rt: HostRuntime) -> Result<(), Fail> {
     Ok(())
 }
 
-/// So many sessions come to wait for what nobody holds, each behind those with lower numbers, and a wakeup.
+/// Has `many` sessions wait for what nobody holds, each behind those with lower numbers, and wakes the queue.
 fn many_woken<P: PartTable>(rt: &impl Abort, part: &mut P, many: u8) -> Result<Woken, NoMemory>
     requires none_begun { P.begun part.old ≡ None }
 {
@@ -339,7 +341,7 @@ fn many_woken<P: PartTable>(rt: &impl Abort, part: &mut P, many: u8) -> Result<W
     Ok(part.wake(&OBJECT))
 }
 
-/// Whether each stands at the place of its number, granted ShareLock.
+/// Whether each in `woken` stands at the place of its number, granted ShareLock.
 fn are_in_order(woken: &Woken) -> bool {
     for place in 0..woken.len() {
         let (session, mode) = woken[place];
@@ -366,7 +368,7 @@ const HOLDERS_WHO_WAIT: [Step; 4] = [
     Step::Waits(1, OBJECT, AccessShare, 0),
 ];
 
-/// The rows of a part, at the second attempt where there was no memory: no row is there then.
+/// The rows of `part`, at the second attempt where there was no memory: no row is there then.
 fn rows_of<P: PartTable>(
     rt: &impl Abort,
     alloc: Global,
@@ -380,7 +382,8 @@ fn rows_of<P: PartTable>(
     Ok(rows)
 }
 
-/// Whether the rows are these sessions', in this order, on the one object, in these modes, granted or awaited.
+/// Whether `rows` are those of the `expected` sessions, in this order, on the one object, in these modes, granted or
+/// awaited.
 fn are_rows(rows: &[TableRow], expected: &[(u8, Mode, bool)]) -> bool {
     if rows.len() != expected.len() {
         return false;
@@ -424,12 +427,12 @@ const THE_OTHER_GOES: [Step; 5] = [
     Step::Queue(OBJECT, &[]),
 ];
 
-/// Whether both parts have the same lists.
+/// Whether `part` and `other` have the same lists.
 fn are_alike(part: &PlainPart, other: &PlainPart) -> bool {
     part.holds() == other.holds() && part.waits() == other.waits()
 }
 
-/// A copy, at first like the part, after the steps.
+/// A copy, at first like `part`, after `steps`.
 fn copy_after(rt: &impl Abort, part: &PlainPart, steps: &[Step]) -> Result<PlainPart, Fail>
     requires { part.now.begun ≡ None }
 {
@@ -439,7 +442,7 @@ fn copy_after(rt: &impl Abort, part: &PlainPart, steps: &[Step]) -> Result<Plain
     Ok(copy)
 }
 
-/// Whether sessions 0 and 1 hold anything.
+/// Whether sessions 0 and 1 hold anything in `part`.
 fn holders(rt: &impl Abort, part: &PlainPart) -> (bool, bool) {
     let (a, b) = (session(rt, 0), session(rt, 1));
     (part.has_hold_of(a), part.has_hold_of(b))
@@ -455,7 +458,7 @@ fn a_copy_is_a_part_of_its_own(rt: HostRuntime) -> Result<(), Fail> {
     Ok(())
 }
 
-/// Whether the part has nothing in it.
+/// Whether `part` has nothing in it.
 fn is_empty(part: &PlainPart) -> bool {
     part.holds().is_empty() && part.waits().is_empty()
 }

@@ -10,7 +10,7 @@ use lw_word::{LwMode, LwWaiter, LwWord, SlotWord, WaitList};
 use modes_core::{Mode, SessionId};
 use std::process::Abort;
 
-/// The word with this number.
+/// The word whose number is `number`.
 fn word(rt: &impl Abort, number: u64) -> LwWord
     ensures { word_of result ≡ number }
 {
@@ -38,7 +38,7 @@ const BITS: [Bits; 14] = [
     (0x71FF_FFFF, 0xFF_FFFF, true, [true, true, true], false),
 ];
 
-/// What the word with this number says.
+/// What the word whose number is `number` says.
 fn bits(number: u64) -> Option<Bits> {
     let word = LwWord::from_number(number)?;
     let flags = [
@@ -86,7 +86,7 @@ const RELEASES: [(u64, LwMode, u64); 3] = [
     (0x4100_0000, Exclusive, 0x4000_0000),
 ];
 
-/// The word that comes of an attempt, and whether the lock is free for it.
+/// The word that comes of an attempt in `mode` at the word `number`, and whether the lock is free for it.
 fn attempted(rt: &impl Abort, number: u64, mode: LwMode) -> (Option<u64>, bool) {
     let word = word(rt, number);
     assert!(rt; word.shared() < 0xFF_FFFF);
@@ -97,7 +97,7 @@ fn attempted(rt: &impl Abort, number: u64, mode: LwMode) -> (Option<u64>, bool) 
     (after, word.is_free_for(mode))
 }
 
-/// The word that comes of a release.
+/// The word that comes of a release in `mode` of the word `number`.
 fn released(rt: &impl Abort, number: u64, mode: LwMode) -> u64 {
     let word = word(rt, number);
     match mode {
@@ -146,12 +146,12 @@ const UNLOCKS: [(bool, bool, u64, u64, u64); 4] = [
     (false, false, 0, 0xFFFF_FFFF_8FFF_FFFF, 0x0100_0000),
 ];
 
-/// The word that comes of locking a wait list.
+/// The word that comes of locking the wait list of the word `number`.
 fn locked(rt: &impl Abort, number: u64) -> Option<u64> {
     Some(word(rt, number).lock_list()?.number())
 }
 
-/// What is set and what is kept for these flags, and the word that comes of them.
+/// What is set and what is kept for the flags `waiters` and `release_ok`, and the word that comes of them.
 fn unlocked(rt: &impl Abort, number: u64, waiters: bool, release_ok: bool) -> (u64, u64, u64) {
     (
         LwWord::flag_bits(waiters, release_ok),
@@ -160,7 +160,7 @@ fn unlocked(rt: &impl Abort, number: u64, waiters: bool, release_ok: bool) -> (u
     )
 }
 
-/// The words that come of setting has-waiters, and of setting release-ok.
+/// The words that come of setting has-waiters, and of setting release-ok, in the word `number`.
 fn flagged(rt: &impl Abort, number: u64) -> (u64, u64) {
     let word = word(rt, number);
     (
@@ -225,14 +225,14 @@ const WAKEUPS: [WaitsAndWakeup; 3] = [
     (&[], &[], &[], true),
 ];
 
-/// The session joins the list, in which it doesn't stand.
+/// Has the session numbered `number` join `list`, in which it doesn't stand.
 fn join(rt: &impl Abort, list: &mut WaitList, number: u8, mode: LwMode) {
     let session = session(rt, number);
     assert!(rt; !list.has(session));
     list.join(session, mode);
 }
 
-/// Whether these wait, in this order and in these modes.
+/// Whether `waiters` are the `expected` ones, in this order and in these modes.
 fn are_waiting(waiters: &[LwWaiter], expected: &[(u8, LwMode)]) -> bool {
     if waiters.len() != expected.len() {
         return false;
@@ -278,7 +278,7 @@ fn all_sessions(rt: &impl Abort) -> WaitList {
     list
 }
 
-/// Whether the session was in the list, and whether it is there once it left.
+/// Whether `session` was in `list`, and whether it is there once it left.
 fn left(list: &mut WaitList, session: SessionId) -> (bool, bool) {
     (list.leave(session), list.has(session))
 }
@@ -317,7 +317,7 @@ const SHOWS: [(Mode, bool); 5] = [
     (Mode::AccessExclusive, false),
 ];
 
-/// The word of a slot that is empty, or the relation's, with a mode set that a slot may show.
+/// The word `number` of a slot that is empty, or that of `relation`, with `mode` set, one that a slot may show.
 fn with(rt: &impl Abort, number: u64, relation: u32, mode: Mode) -> u64 {
     let slot = SlotWord::from_number(number);
     assert!(rt; mode.number() <= 3);
@@ -325,19 +325,19 @@ fn with(rt: &impl Abort, number: u64, relation: u32, mode: Mode) -> u64 {
     slot.with(relation, mode).number()
 }
 
-/// The word with such a mode cleared.
+/// The word `number` of a slot with `mode` cleared.
 fn without(rt: &impl Abort, number: u64, mode: Mode) -> u64 {
     assert!(rt; mode.number() <= 3);
     SlotWord::from_number(number).without(mode).number()
 }
 
-/// Whether a slot is in use, and its relation.
+/// Whether the slot with the word `number` is in use, and its relation.
 fn used_by(number: u64) -> (bool, u32) {
     let slot = SlotWord::from_number(number);
     (slot.in_use(), slot.relation())
 }
 
-/// Whether a slot shows the mode, the mode of relation 16384, and the mode of relation 16385.
+/// Whether the slot with the word `number` shows `mode`, the mode of relation 16384, and the mode of relation 16385.
 fn shows(number: u64, mode: Mode) -> [bool; 3] {
     let slot = SlotWord::from_number(number);
     [

@@ -11,6 +11,7 @@ use Rattle.local_locks.specs.Slots.{Slots, slot_at, opened, IsTable}
 -- How levels are kept: beside each slot stands a list of what the transaction had of the entry when each inner level began,
 -- the first one first, up to the last level that has counted the entry. A later one began with what the entry has now.
 
+-- The lists beside all slots.
 abbrev pub Rows : Type 0
 Rows = List (List ℕ)
 

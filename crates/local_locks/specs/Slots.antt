@@ -24,6 +24,7 @@ Slots = List (Option Entry)
 abbrev pub entry_in : Entry → Option Entry
 entry_in slot = if count_in_all slot == 0 then None else Some slot
 
+-- what is in each of these slots
 abbrev pub opened : List Entry → Slots
 opened slots = map entry_in slots
 
@@ -150,6 +151,7 @@ came_to end place = record { end = end; place = place }
 abbrev pub back_to : ℕ → Progress → Progress
 back_to place progress = record progress { place = min progress.place place }
 
+-- an end that has not begun
 abbrev pub at_start : Progress
 at_start = came_to Commit 0
 

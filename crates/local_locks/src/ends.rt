@@ -30,7 +30,7 @@ impl End {
         self as u8
     }
 
-    /// The entry with the counts that outlive the end.
+    /// The counts of `entry` that outlive the end.
     pub(crate) fn counts_left(self, entry: Entry) -> Entry
         ensures { result ≡ after_end self entry }
     {
@@ -66,7 +66,7 @@ impl Progress {
         }
     }
 
-    /// The end has come to a slot.
+    /// Notes that `end` has come to the slot at `place`.
     #[inline(always)]
     pub(crate) fn come_to(&mut self, end: End, place: usize)
         ensures { self.new ≡ came_to end place }
@@ -75,7 +75,7 @@ impl Progress {
         self.place = place;
     }
 
-    /// Where the end begins.
+    /// The slot at which `end` goes on: the first one unless it has begun.
     pub(crate) fn reached(self, end: End) -> usize
         ensures { result ≡ reached end self }
     {
@@ -86,7 +86,7 @@ impl Progress {
         }
     }
 
-    /// No end is past this slot, whose entry changes.
+    /// Notes that no end is past the slot at `place`, whose entry changes.
     #[inline(always)]
     pub(crate) fn go_back_to(&mut self, place: usize)
         ensures { self.new ≡ back_to place self.old }

@@ -23,7 +23,7 @@ impl<'a> Model for Entries<'a> {
 impl<'a> Entries<'a> {
     ghost use Rattle.local_locks.specs.Slots.{opened, present};
 
-    /// The entries of these slots.
+    /// The entries of `slots`.
     pub(crate) fn of(slots: &'a [Entry]) -> Self
         ensures { result ≡ present (opened slots.now) }
     {

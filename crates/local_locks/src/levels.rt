@@ -47,7 +47,7 @@ impl OuterCounts {
         }
     }
 
-    /// What the transaction had when a level began, where it has so many now.
+    /// What the transaction had when `level` began, where it has `now`.
     pub(crate) fn at(&self, level: u8, now: u16) -> u16
         ensures { result ≡ had_in self.now level now }
     {
@@ -58,7 +58,7 @@ impl OuterCounts {
         }
     }
 
-    /// Keeps what the transaction has now for each of so many inner levels that has not counted the entry yet.
+    /// Keeps `now`, what the transaction has, for each of `depth` inner levels that has not counted the entry yet.
     pub(crate) fn fill(&mut self, depth: u8, now: u16)
         requires fits { depth ≤ 15 }
         requires within { length self.old ≤ depth }
@@ -71,7 +71,7 @@ impl OuterCounts {
         self.len = depth;
     }
 
-    /// Forgets all but so many inner levels.
+    /// Forgets all but `depth` inner levels.
     pub(crate) fn cut(&mut self, depth: u8)
         ensures { self.new ≡ take depth self.old }
     {
@@ -79,8 +79,9 @@ impl OuterCounts {
     }
 }
 
-/// How often an owner can give an entry back, where so many inner levels have begun: for the transaction, what the
-/// innermost level has. In a transaction with one level the lists are not read.
+/// How often `owner` can give `entry` back, where `depth` inner levels have begun: for the transaction, what the
+/// innermost level has. `outer` has the lists of levels, that of the entry at `place`. In a transaction with one
+/// level they are not read.
 #[inline(always)]
 pub(crate) fn own_count(
     entry: &Entry,
@@ -99,8 +100,8 @@ pub(crate) fn own_count(
     now.saturating_sub(outer[place].at(depth - 1, now))
 }
 
-/// Keeps what the transaction has of an entry for each of so many inner levels that has not counted it yet, before the
-/// innermost one counts it.
+/// Keeps `now`, what the transaction has of the entry at `place`, for each of `depth` inner levels that has not
+/// counted it yet, before the innermost one counts it.
 #[inline(always)]
 pub(crate) fn keep(
     outer: &mut Vec<OuterCounts>,
@@ -125,7 +126,8 @@ pub(crate) fn keep(
     }
 }
 
-/// The same in a level that is not the first: a call of its own, so that an acquire in the first one stays short.
+/// Does the work of `keep` in a level that is not the first: a call of its own, so that an acquire in the first
+/// level stays short. No list of `outer` before `touched` has anything.
 #[cold]
 #[inline(never)]
 fn keep_inner(outer: &mut Vec<OuterCounts>, touched: &mut usize, depth: u8, place: usize, now: u16)
@@ -146,7 +148,7 @@ fn keep_inner(outer: &mut Vec<OuterCounts>, touched: &mut usize, depth: u8, plac
     }
 }
 
-/// Forgets all inner levels in the lists from one place up to another, where so many have begun.
+/// Forgets all inner levels in the lists of `outer` from `from` up to `to`, where `depth` of them have begun.
 #[inline(always)]
 pub(crate) fn forget(outer: &mut Vec<OuterCounts>, depth: u8, from: usize, to: usize)
     requires exists { to ≤ length outer.old.items }
@@ -161,7 +163,7 @@ pub(crate) fn forget(outer: &mut Vec<OuterCounts>, depth: u8, from: usize, to: u
     }
 }
 
-/// Forgets all but so many inner levels in the lists from one place up to another.
+/// Forgets all but `depth` inner levels in the lists of `outer` from `from` up to `to`.
 #[cold]
 #[inline(never)]
 pub(crate) fn cut_all(outer: &mut Vec<OuterCounts>, from: usize, to: usize, depth: u8)
@@ -176,7 +178,7 @@ pub(crate) fn cut_all(outer: &mut Vec<OuterCounts>, from: usize, to: usize, dept
     }
 }
 
-/// Moves the list of an entry that moves down, and leaves an empty one.
+/// Moves the list at `place` of `outer` down to `to` with its entry, and leaves an empty one.
 pub(crate) fn move_row(outer: &mut Vec<OuterCounts>, place: usize, to: usize)
     requires exists { place < length outer.old.items }
     requires down { to ≤ place }
@@ -189,7 +191,7 @@ pub(crate) fn move_row(outer: &mut Vec<OuterCounts>, place: usize, to: usize)
     outer[to] = row;
 }
 
-/// How often one level has an entry.
+/// How often `level` has `entry`, whose list of levels is `row`.
 pub(crate) fn level_count(entry: &Entry, row: &OuterCounts, level: u8) -> u16
     requires { 1 ≤ level }
     ensures { result ≡ level_count_in row.now level entry.now }
@@ -202,7 +204,7 @@ pub(crate) fn level_count(entry: &Entry, row: &OuterCounts, level: u8) -> u16
     up_to.saturating_sub(row.at(level - 2, now))
 }
 
-/// Makes so many lists, if there are fewer.
+/// Makes `outer` as long as `number`, if it is shorter.
 pub(crate) fn lengthen(outer: &mut Vec<OuterCounts>, number: usize) -> Result<(), AllocError>
     ensures ok { OnOk result (number ≤ length outer.new.items) }
     ensures longer { length outer.old.items ≤ length outer.new.items }
@@ -214,8 +216,8 @@ pub(crate) fn lengthen(outer: &mut Vec<OuterCounts>, number: usize) -> Result<()
     Ok(())
 }
 
-/// Keeps where an entry is looked for first. In an inner level there is no such place, so that what is usual in the
-/// first one asks for no level.
+/// Keeps `place` as `hint`, where an entry is looked for first. In an inner level (`depth` above 0) there is no such
+/// place, so that what is usual in the first level asks for no level.
 #[inline(always)]
 pub(crate) fn set_hint(hint: &mut usize, depth: u8, place: usize)
     ensures first { depth ≡ 0 → hint.new ≡ place }
@@ -226,7 +228,7 @@ pub(crate) fn set_hint(hint: &mut usize, depth: u8, place: usize)
     }
 }
 
-/// Up to which count an acquire is counted at once, where so many inner levels have begun.
+/// Up to which count an acquire is counted at once, where `depth` inner levels have begun.
 pub(crate) fn most_at_once(depth: u8) -> u16
     ensures { ((depth ≡ 0) × (result ≡ max_count)) ⊎ ((depth ≢ 0) × (result ≡ 0)) }
 {

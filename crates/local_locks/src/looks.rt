@@ -21,8 +21,8 @@ pub(crate) enum Glance {
     Unknown,
 }
 
-/// A database and a number in it as one number, the first in the lower half, as the two stand in a tag: so they are
-/// read and compared at once.
+/// `database`, and `number` in it, as one number, the first in the lower half, as the two stand in a tag: so they
+/// are read and compared at once.
 #[inline(always)]
 pub(crate) fn pair_bits(database: u32, number: u32) -> u64
     ensures { result ≡ pair_bits database number }
@@ -30,7 +30,7 @@ pub(crate) fn pair_bits(database: u32, number: u32) -> u64
     (u64::from(number) << 32) + u64::from(database)
 }
 
-/// Whether two databases, and the numbers in them, are the same.
+/// Whether `database` is `other_database`, and `number` is `other_number`.
 #[inline(always)]
 pub(crate) fn is_same_pair(
     database: u32,
@@ -43,7 +43,7 @@ pub(crate) fn is_same_pair(
     pair_bits(database, number) == pair_bits(other_database, other_number)
 }
 
-/// An object in 64 bits.
+/// The object of `tag` in 64 bits.
 #[inline(always)]
 fn object_bits(tag: &Tag) -> u64
     ensures { result ≡ object_bits tag.now }
@@ -73,8 +73,8 @@ fn object_bits(tag: &Tag) -> u64
     }
 }
 
-/// The hash of an object in 64 bits and a mode: the upper half of a product, on the highest bits of which all of
-/// them tell.
+/// The hash of an object in 64 bits, `object`, and of `mode`: the upper half of a product, on the highest bits of
+/// which all of them tell.
 #[inline(always)]
 pub(crate) fn hash_of(object: u64, mode: Mode) -> u32
     ensures { result ≡ hash_of object mode }
@@ -83,7 +83,7 @@ pub(crate) fn hash_of(object: u64, mode: Mode) -> u32
     (key.wrapping_mul(MULTIPLIER) >> 32) as u32
 }
 
-/// The hash of an object and mode. It takes one multiplication for a relation, and two for another object.
+/// The hash of `tag` and `mode`. A relation takes one multiplication, another object two.
 #[inline(always)]
 pub(crate) fn key_hash(tag: &Tag, mode: Mode) -> u32
     ensures { result ≡ key_hash tag.now mode }
@@ -91,8 +91,8 @@ pub(crate) fn key_hash(tag: &Tag, mode: Mode) -> u32
     hash_of(object_bits(tag), mode)
 }
 
-/// What the first place of a look tells of an object and mode: that it isn't held, or the place of its slot, which
-/// may be empty.
+/// What the first place of a look tells of `tag` and `mode`: that it isn't held, or the place of its slot in
+/// `slots`, which may be empty.
 #[inline(always)]
 pub(crate) fn glance_at(slots: &[Entry], index: &PlaceIndex, tag: &Tag, mode: Mode) -> Glance
     requires { IsIndexed (opened slots.now) index.now }
@@ -110,7 +110,7 @@ pub(crate) fn glance_at(slots: &[Entry], index: &PlaceIndex, tag: &Tag, mode: Mo
     }
 }
 
-/// The place of the entry of an object and mode, looked for through the index.
+/// The place in `slots` of the entry of `tag` and `mode`, looked for through `index`.
 #[inline(always)]
 pub(crate) fn look_up(slots: &[Entry], index: &PlaceIndex, tag: &Tag, mode: Mode) -> Option<usize>
     requires { IsIndexed (opened slots.now) index.now }
@@ -124,7 +124,7 @@ pub(crate) fn look_up(slots: &[Entry], index: &PlaceIndex, tag: &Tag, mode: Mode
     }
 }
 
-/// The same of a relation, which most objects are.
+/// The place in `slots` of the entry of `relation` in `database` and `mode`: most objects are relations.
 #[inline(always)]
 fn look_up_relation(
     slots: &[Entry],
@@ -150,7 +150,8 @@ fn look_up_relation(
     }
 }
 
-/// The same of any object: a call of its own, so that a look for a relation stays short.
+/// The place in `slots` of the entry of any `tag` and `mode`: a call of its own, so that a look for a relation stays
+/// short.
 #[inline(never)]
 fn look_up_object(slots: &[Entry], index: &PlaceIndex, tag: &Tag, mode: Mode) -> Option<usize>
     requires { IsIndexed (opened slots.now) index.now }
@@ -167,7 +168,7 @@ fn look_up_object(slots: &[Entry], index: &PlaceIndex, tag: &Tag, mode: Mode) ->
     }
 }
 
-/// The same, looked for first at a place where it may well be.
+/// The place in `slots` of the entry of `tag` and `mode`, looked for at `first` before the index is asked.
 #[inline(always)]
 pub(crate) fn look(
     slots: &[Entry],
@@ -185,7 +186,8 @@ pub(crate) fn look(
     look_elsewhere(slots, index, tag, mode)
 }
 
-/// The same, where it isn't at that place: a call of its own, so that a look that finds it there stays short.
+/// The place in `slots` of the entry of `tag` and `mode` where the first look didn't find it: a call of its own, so
+/// that a look that does stays short.
 #[inline(never)]
 fn look_elsewhere(slots: &[Entry], index: &PlaceIndex, tag: &Tag, mode: Mode) -> Option<usize>
     requires { IsIndexed (opened slots.now) index.now }

@@ -21,7 +21,7 @@ impl Entry {
     ghost use Rattle.modes_core.specs.declared.tags.Tag.TheVariants.{Relation};
     ghost use Rattle.local_locks.specs.declared.ends.End.TheVariants.{Commit, Close};
 
-    /// The entry of a first acquire.
+    /// The entry of a first acquire of `tag` in `mode` for `owner`.
     pub(crate) fn new(tag: Tag, mode: Mode, owner: Owner) -> Self
         ensures { result ≡ new_entry tag mode owner }
     {
@@ -34,7 +34,7 @@ impl Entry {
         }
     }
 
-    /// How often an owner has it.
+    /// How often `owner` has the entry.
     #[inline(always)]
     pub fn count(&self, owner: Owner) -> u16
         ensures { result ≡ count_for owner self.now }
@@ -61,7 +61,7 @@ impl Entry {
         self.transaction != 0 || self.session != 0
     }
 
-    /// Whether it is of this object and mode and has a count.
+    /// Whether the entry is of `tag` and `mode` and has a count.
     #[inline(always)]
     pub(crate) fn is_held_as(&self, tag: &Tag, mode: Mode) -> bool
         ensures { result ≡ is_held_as tag.now mode self.now }
@@ -69,7 +69,7 @@ impl Entry {
         self.is_of(tag, mode) && self.is_held()
     }
 
-    /// Whether it is of this object and mode.
+    /// Whether the entry is of `tag` and `mode`.
     #[inline(always)]
     pub(crate) fn is_of(&self, tag: &Tag, mode: Mode) -> bool
         ensures { result ≡ is_of tag.now mode self.now }
@@ -82,7 +82,7 @@ impl Entry {
         }
     }
 
-    /// Whether it is of this relation and mode. A relation is compared as one number.
+    /// Whether the entry is of `relation` in `database` and of `mode`. A relation is compared as one number.
     #[inline(always)]
     pub(crate) fn is_of_relation(&self, database: u32, relation: u32, mode: Mode) -> bool
         ensures { result ≡ is_of (Relation database relation) mode self.now }
@@ -99,7 +99,7 @@ impl Entry {
         }
     }
 
-    /// Whether an owner has it, and less often than so many times.
+    /// Whether `owner` has the entry, and less often than `most` times.
     #[inline(always)]
     pub(crate) fn can_raise(&self, owner: Owner, most: u16) -> bool
         ensures { IsTrue result ↔ ((0 < count_for owner self.now) × (count_for owner self.now < most)) }
@@ -108,7 +108,7 @@ impl Entry {
         count > 0 && count < most
     }
 
-    /// Whether an owner has it more than once.
+    /// Whether `owner` has the entry more than once.
     #[inline(always)]
     pub(crate) fn can_lower(&self, owner: Owner) -> bool
         ensures { IsTrue result ↔ (1 < count_for owner self.now) }
@@ -119,7 +119,7 @@ impl Entry {
         }
     }
 
-    /// Whether an owner has it once, and nobody else has it.
+    /// Whether `owner` has the entry once, and nobody else has it.
     #[inline(always)]
     pub(crate) fn is_only(&self, owner: Owner) -> bool
         ensures { IsTrue result ↔ ((count_for owner self.now ≡ 1) × (count_in_all self.now ≡ 1)) }
@@ -130,7 +130,7 @@ impl Entry {
         }
     }
 
-    /// Raises the count of this owner.
+    /// Raises the count of `owner`.
     #[inline(always)]
     pub(crate) fn raise(&mut self, owner: Owner)
         requires { count_for owner self.old < max_count }
@@ -142,7 +142,7 @@ impl Entry {
         }
     }
 
-    /// Lowers the count of this owner.
+    /// Lowers the count of `owner`.
     #[inline(always)]
     pub(crate) fn lower(&mut self, owner: Owner)
         requires { 0 < count_for owner self.old }
@@ -154,7 +154,7 @@ impl Entry {
         }
     }
 
-    /// The same without the transaction's count.
+    /// The entry without the transaction's count.
     pub(crate) fn without_transaction(self) -> Entry
         ensures { result ≡ after_end Commit self }
     {
@@ -164,7 +164,7 @@ impl Entry {
         }
     }
 
-    /// The same where the transaction has so many.
+    /// The entry with `transaction` as the transaction's count.
     pub(crate) fn with_transaction(self, transaction: u16) -> Entry
         ensures { result ≡ record self { transaction = transaction } }
     {
@@ -174,7 +174,7 @@ impl Entry {
         }
     }
 
-    /// The same with no count.
+    /// The entry with no count.
     pub(crate) fn without_counts(self) -> Entry
         ensures { result ≡ after_end Close self }
     {

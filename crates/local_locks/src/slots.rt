@@ -11,7 +11,7 @@ use crate::{End, Entry};
 use modes_core::Owner;
 use place_index::PlaceIndex;
 
-/// Raises the count of an owner in the entry at a place.
+/// Raises the count of `owner` in the entry at `place` of `slots`.
 #[inline(always)]
 pub(crate) fn raise(slots: &mut Vec<Entry>, place: usize, owner: Owner)
     requires within { place < length slots.old.items }
@@ -25,7 +25,7 @@ pub(crate) fn raise(slots: &mut Vec<Entry>, place: usize, owner: Owner)
     slots[place].raise(owner);
 }
 
-/// Lowers the count of an owner in the entry at a place, which keeps a count.
+/// Lowers the count of `owner` in the entry at `place` of `slots`, which keeps a count.
 #[inline(always)]
 pub(crate) fn lower(slots: &mut Vec<Entry>, place: usize, owner: Owner)
     requires within { place < length slots.old.items }
@@ -40,8 +40,8 @@ pub(crate) fn lower(slots: &mut Vec<Entry>, place: usize, owner: Owner)
     slots[place].lower(owner);
 }
 
-/// Raises the count of an owner in the entry at a place where it has one and less than so many, and says whether it
-/// did. Each owner has code of its own, so that none is chosen twice.
+/// Raises the count of `owner` in the entry at `place` of `slots` where that is above 0 and below `most`, and
+/// answers whether it did. Each owner has code of its own, so that none is chosen twice.
 #[inline(always)]
 pub(crate) fn raise_held(slots: &mut Vec<Entry>, place: usize, owner: Owner, most: u16) -> bool
     requires { place < length slots.old.items }
@@ -60,7 +60,7 @@ pub(crate) fn raise_held(slots: &mut Vec<Entry>, place: usize, owner: Owner, mos
     }
 }
 
-/// The same, where the owner is known.
+/// Does the work of `raise_held` for an `owner` that the caller knows as it is compiled.
 #[inline(always)]
 fn raise_if_held(slots: &mut Vec<Entry>, place: usize, owner: Owner, most: u16) -> bool
     requires { place < length slots.old.items }
@@ -80,8 +80,8 @@ fn raise_if_held(slots: &mut Vec<Entry>, place: usize, owner: Owner, most: u16) 
     true
 }
 
-/// Lowers the count of an owner in the entry at a place where it has more than one, and says whether it did. Each
-/// owner has code of its own here, too.
+/// Lowers the count of `owner` in the entry at `place` of `slots` where that is above 1, and answers whether it did.
+/// Each owner has code of its own here, too.
 #[inline(always)]
 pub(crate) fn lower_held(slots: &mut Vec<Entry>, place: usize, owner: Owner) -> bool
     requires { place < length slots.old.items }
@@ -99,7 +99,7 @@ pub(crate) fn lower_held(slots: &mut Vec<Entry>, place: usize, owner: Owner) -> 
     }
 }
 
-/// The same, where the owner is known.
+/// Does the work of `lower_held` for an `owner` that the caller knows as it is compiled.
 #[inline(always)]
 fn lower_if_held(slots: &mut Vec<Entry>, place: usize, owner: Owner) -> bool
     requires { place < length slots.old.items }
@@ -118,7 +118,7 @@ fn lower_if_held(slots: &mut Vec<Entry>, place: usize, owner: Owner) -> bool
     true
 }
 
-/// Makes a last slot with this entry, for which there is room, and notes its place under the hash.
+/// Makes a last slot of `slots` with `entry`, for which there is room, and notes its place in `index` under `hash`.
 #[inline(always)]
 pub(crate) fn push_entry(slots: &mut Vec<Entry>, index: &mut PlaceIndex, hash: u32, entry: Entry)
     requires indexed { IsIndexed (opened slots.old.items) index.old }
@@ -139,8 +139,8 @@ pub(crate) fn push_entry(slots: &mut Vec<Entry>, index: &mut PlaceIndex, hash: u
     index.insert_last(hash, place as u32);
 }
 
-/// How many slots stay where the entry at a place goes and so many notes are left: none with the only entry, and
-/// else all but the last one where that was its slot.
+/// How many of `slots` slots stay where the entry at `place` goes and `notes` notes are left: none with the only
+/// entry, otherwise all but the last one where that was its slot.
 #[inline(always)]
 fn slots_left(slots: usize, notes: usize, place: usize) -> usize
     requires { place < slots }
@@ -155,8 +155,8 @@ fn slots_left(slots: usize, notes: usize, place: usize) -> usize
     slots
 }
 
-/// Takes the entry out of its slot and its place out of the index, and the slot away if it is the last one; with
-/// the only entry all slots go. The hash is that of its object and mode.
+/// Takes the entry at `place` out of its slot and its place out of `index`, and the slot away if it is the last one;
+/// with the only entry all slots go. `hash` is that of the entry's object and mode.
 #[inline(never)]
 pub(crate) fn take_out(slots: &mut Vec<Entry>, index: &mut PlaceIndex, place: usize, hash: u32)
     requires indexed { IsIndexed (opened slots.old.items) index.old }
@@ -176,8 +176,9 @@ pub(crate) fn take_out(slots: &mut Vec<Entry>, index: &mut PlaceIndex, place: us
     slots.truncate(used);
 }
 
-/// The same of the last slot, with neither a loop nor a call: that slot alone goes, and empty ones before it stay
-/// until the entries are moved together, or until the last one goes by `take_out`.
+/// Takes the entry of the last slot, at `place`, out of `slots` and `index`, with neither a loop nor a call: that
+/// slot alone goes, and empty ones before it stay until the entries are moved together, or until the last one goes
+/// by `take_out`.
 #[inline(always)]
 pub(crate) fn take_last(slots: &mut Vec<Entry>, index: &mut PlaceIndex, place: usize)
     requires indexed { IsIndexed (opened slots.old.items) index.old }
@@ -196,9 +197,10 @@ pub(crate) fn take_last(slots: &mut Vec<Entry>, index: &mut PlaceIndex, place: u
     index.remove_last(place as u32);
 }
 
-/// Takes an entry that an end takes away out of its slot. Its place stays in the index where others have stayed, or
-/// where half of the slots are still to be gone through and the index is not much larger than what it has: then
-/// `tidy` takes them out at once, in time in proportion to the slots that the end goes through.
+/// Takes the entry at `place`, which an end takes away, out of its slot, where there are `len` entries. Its place
+/// stays in `index` where others have stayed, or where half of the slots are still to be gone through and the index
+/// is not much larger than what it has: then `tidy` takes them out at once, in time in proportion to the slots that
+/// the end goes through.
 #[inline(always)]
 pub(crate) fn take_ended(slots: &mut Vec<Entry>, index: &mut PlaceIndex, len: usize, place: usize)
     requires indexed { IsIndexed (opened slots.old.items) index.old }
@@ -221,8 +223,8 @@ pub(crate) fn take_ended(slots: &mut Vec<Entry>, index: &mut PlaceIndex, len: us
     take_out(slots, index, place, hash);
 }
 
-/// Goes on with an end from a place on: leaves each entry the counts that outlive it, up to the first
-/// entry that has none, and gives the place of that one, or the number of slots.
+/// Goes on with `end` from the slot at `from`: leaves each entry the counts that outlive it, up to the first entry
+/// that has none, and gives the place of that one, or the number of slots.
 pub(crate) fn settle(slots: &mut [Entry], end: End, from: usize) -> usize
     requires within { from ≤ length slots.old }
     requires past { IsPast end (opened slots.old) from }
@@ -248,9 +250,9 @@ pub(crate) fn settle(slots: &mut [Entry], end: End, from: usize) -> usize
     slots.len()
 }
 
-/// Goes on with the end of the innermost of so many inner levels from a place on: takes from each entry what this
-/// level has, up to the first entry that has nothing else, and gives the place of that one, or the number of slots.
-/// An end of that level has nothing to do before it any more.
+/// Goes on with the end of the innermost of `depth` inner levels from the slot at `from`: takes from each entry what
+/// this level has, up to the first entry that has nothing else, and gives the place of that one, or the number of
+/// slots. An end of that level has nothing to do before it any more.
 pub(crate) fn settle_inner(
     slots: &mut Vec<Entry>,
     outer: &mut Vec<OuterCounts>,
@@ -283,7 +285,7 @@ pub(crate) fn settle_inner(
     slots.len()
 }
 
-/// Moves an entry down over empty slots.
+/// Moves `entry` from the slot at `place` down to the one at `to`, over empty slots.
 fn move_down(slots: &mut Vec<Entry>, place: usize, to: usize, entry: Entry)
     requires there { slot_at (opened slots.old.items) place ≡ Some entry }
     requires down { to ≤ place }
@@ -303,7 +305,7 @@ fn move_down(slots: &mut Vec<Entry>, place: usize, to: usize, entry: Entry)
     slots[to] = entry;
 }
 
-/// Moves the entries together, so that no slot is empty, and each one's list with it.
+/// Moves the entries of `slots` together, so that no slot is empty, and each one's list of `outer` with it.
 fn gather(slots: &mut Vec<Entry>, outer: &mut Vec<OuterCounts>)
     requires few { length slots.old.items ≤ no_place }
     requires lists { length slots.old.items ≤ length outer.old.items }
@@ -328,7 +330,7 @@ fn gather(slots: &mut Vec<Entry>, outer: &mut Vec<OuterCounts>)
     slots.truncate(kept);
 }
 
-/// Notes the place of each entry in an index that has no note.
+/// Notes the place of each entry of `slots` in `index`, which has no note.
 fn note_all(slots: &[Entry], index: &mut PlaceIndex)
     requires full { IsFull slots.now }
     requires once { IsOnce (opened slots.now) }
@@ -343,7 +345,7 @@ fn note_all(slots: &[Entry], index: &mut PlaceIndex)
     }
 }
 
-/// Moves the entries together, so that no slot is empty, and notes their new places alone.
+/// Moves the entries of `slots` together, so that no slot is empty, and notes their new places alone in `index`.
 #[cold]
 #[inline(never)]
 pub(crate) fn compact(slots: &mut Vec<Entry>, index: &mut PlaceIndex, outer: &mut Vec<OuterCounts>)

@@ -76,7 +76,8 @@ impl Model for LocalTable {
 }
 
 impl LocalTable {
-    /// An empty table with room for its first entries.
+    /// An empty table with room for its first entries, which takes `max_local` entries at most and grows by `alloc`.
+    /// Refused only where memory ran out.
     pub fn new(alloc: Global, max_local: u32) -> Result<Self, Refusal>
         requires from { 1 ≤ max_local }
         requires to { max_local ≤ 65536 }
@@ -111,7 +112,7 @@ impl LocalTable {
         })
     }
 
-    /// How often both owners together have the object in the mode.
+    /// How often both owners together have `tag` in `mode`.
     pub fn total(&self, tag: Tag, mode: Mode) -> u32
         ensures total { result ≡ total_of self.now.entries tag mode }
         ensures well_owned { IsWellOwned self.now }
@@ -122,7 +123,7 @@ impl LocalTable {
         }
     }
 
-    /// How often the owner has the object in the mode and can give it back: the session, or the innermost level of the
+    /// How often `owner` has `tag` in `mode` and can give it back: the session, or the innermost level of the
     /// transaction.
     pub fn owner_count(&self, tag: Tag, mode: Mode, owner: Owner) -> u16
         ensures count { result ≡ own_count_of self.now tag mode owner }
@@ -142,8 +143,9 @@ impl LocalTable {
         Entries::of(&self.slots)
     }
 
-    /// Counts an object and mode that is held already once more for this owner, in one look, and answers whether it is
-    /// (`LockAcquireExtended` in lock.c where it finds a local lock with `nLocks` above 0).
+    /// Counts `tag` and `mode`, if it is held already, once more for `owner`, in one look, and answers whether it is
+    /// held (`LockAcquireExtended` in lock.c where it finds a local lock with `nLocks` above 0). Refused where that
+    /// owner's count is full; nothing has changed then.
     #[inline(always)]
     pub fn add_held(&mut self, tag: &Tag, mode: Mode, owner: Owner) -> Result<bool, Refusal>
         ensures held { (result ≡ Ok true) ↔ ((has_entry self.old.entries tag.now mode ≡ true)
@@ -166,9 +168,10 @@ impl LocalTable {
         }
     }
 
-    /// `add_held` as far as the first place of the index goes, which mostly shows whether the object is held in the
-    /// mode, and where: `AtOnce::Unknown` says nothing, and `add_held` goes on from there. With neither a loop nor
-    /// a call in it, it is short enough to stand in the code of each caller.
+    /// Does the work of `add_held` for `tag`, `mode` and `owner` as far as the first place of the index goes, which
+    /// mostly shows whether the object is held in the mode, and where: `AtOnce::Unknown` says nothing, and
+    /// `add_held` goes on from there. With neither a loop nor a call in it, it is short enough to stand in the code
+    /// of each caller.
     #[inline(always)]
     pub fn add_at_once(&mut self, tag: &Tag, mode: Mode, owner: Owner) -> AtOnce
         ensures held { result ≡ AtOnce.AlreadyHeld → (has_entry self.old.entries tag.now mode ≡ true)
@@ -197,7 +200,8 @@ impl LocalTable {
         }
     }
 
-    /// `add_held` by a whole look. To the compiler it is cold, so that what goes on without it runs straight on.
+    /// Does the work of `add_held` for `tag`, `mode` and `owner` by a whole look. To the compiler it is cold, so
+    /// that what goes on without it runs straight on.
     #[cold]
     #[inline(never)]
     fn add_looked_up(&mut self, tag: &Tag, mode: Mode, owner: Owner) -> Result<bool, Refusal>
@@ -228,7 +232,8 @@ impl LocalTable {
         Ok(true)
     }
 
-    /// Makes room for one more acquire of the object and mode by this owner, which `add` then enters.
+    /// Makes room for one more acquire of `tag` in `mode` by `owner`, which `add` then enters. Refused where the
+    /// count or the table is full, or memory ran out; the entries are as before then.
     pub fn reserve(&mut self, tag: Tag, mode: Mode, owner: Owner) -> Result<(), Refusal>
         ensures ok { OnOk result (IsReserved self.new tag mode owner) }
 
@@ -381,7 +386,7 @@ impl LocalTable {
         }
     }
 
-    /// Enters an acquire for which room was reserved (`GrantLockLocal` in lock.c).
+    /// Enters the acquire of `tag` in `mode` by `owner`, for which room was reserved (`GrantLockLocal` in lock.c).
     pub fn add(&mut self, tag: Tag, mode: Mode, owner: Owner) -> Acquired
         requires { IsReserved self.old tag mode owner }
         ensures answer { result ≡ acquired_as self.old.entries tag mode }
@@ -401,7 +406,7 @@ impl LocalTable {
         }
     }
 
-    /// Enters the first acquire of an object and mode, for which room was reserved, with no look for it
+    /// Enters the first acquire of `tag` in `mode` by `owner`, for which room was reserved, with no look for it
     /// (`GrantLockLocal` in lock.c after `LockAcquireExtended` made the entry).
     #[inline(always)]
     pub fn add_new(&mut self, tag: &Tag, mode: Mode, owner: Owner)
@@ -423,7 +428,8 @@ impl LocalTable {
         }
     }
 
-    /// The same of any object: a call of its own, so that of a relation no more than its two numbers are copied.
+    /// Does the work of `add_new` for any `tag`, `mode` and `owner`: a call of its own, so that of a relation no
+    /// more than its two numbers are copied.
     #[inline(never)]
     fn add_new_object(&mut self, tag: &Tag, mode: Mode, owner: Owner)
         requires new { has_entry self.old.entries tag.now mode ≡ false }
@@ -438,7 +444,7 @@ impl LocalTable {
         self.enter(*tag, key_hash(tag, mode), mode, owner);
     }
 
-    /// `add_new` where the hash of the object and mode is known.
+    /// Does the work of `add_new` for `tag`, `mode` and `owner` where `hash`, that of the object and mode, is known.
     #[inline(always)]
     fn enter(&mut self, tag: Tag, hash: u32, mode: Mode, owner: Owner)
         requires hashed { hash ≡ key_hash tag mode }
@@ -460,8 +466,8 @@ impl LocalTable {
         keep(&mut self.outer, &mut self.touched, self.depth, place, 0);
     }
 
-    /// Takes one count of this owner back (`LockRelease` in lock.c, where it touches the local lock
-    /// alone).
+    /// Takes one count of `owner` on `tag` in `mode` back (`LockRelease` in lock.c, where it touches the local lock
+    /// alone). Refused where that owner has none; nothing has changed then.
     pub fn drop_one(&mut self, tag: Tag, mode: Mode, owner: Owner) -> Result<Unlocked, Refusal>
         ensures not_held { IsErrOf result Refusal.NotHeld ↔ (own_count_of self.old tag mode owner ≡ 0) }
         ensures no_other { IsOkUnless result Refusal.NotHeld }
@@ -477,7 +483,7 @@ impl LocalTable {
         self.drop_held(&tag, mode, owner)
     }
 
-    /// The same of an object that is lent, as `add_held` takes it.
+    /// Takes one count of `owner` on `tag` in `mode` back, as `drop_one` does, and answers whether a count is left.
     #[inline(always)]
     pub fn drop_held(&mut self, tag: &Tag, mode: Mode, owner: Owner) -> Result<Unlocked, Refusal>
         ensures not_held { IsErrOf result Refusal.NotHeld ↔ (own_count_of self.old tag.now mode owner ≡ 0) }
@@ -497,9 +503,9 @@ impl LocalTable {
         }
     }
 
-    /// `drop_held` as far as one slot goes, where what is released mostly is: `None` says nothing, and `drop_held`
-    /// goes on from there. With neither a loop nor a call in it, it is short enough to stand in the code of each
-    /// caller.
+    /// Does the work of `drop_held` for `tag`, `mode` and `owner` as far as one slot goes, where what is released
+    /// mostly is: `None` says nothing, and `drop_held` goes on from there. With neither a loop nor a call in it, it
+    /// is short enough to stand in the code of each caller.
     #[inline(always)]
     pub fn drop_at_once(&mut self, tag: &Tag, mode: Mode, owner: Owner) -> Option<Unlocked>
         ensures held { IsSome result → 0 < own_count_of self.old tag.now mode owner }
@@ -531,7 +537,8 @@ impl LocalTable {
         Some(Unlocked::Released)
     }
 
-    /// The same, of whatever entry and count: cold to the compiler, as `add_looked_up` is.
+    /// Does the work of `drop_held` for `tag`, `mode` and `owner`, of any entry and count: cold to the compiler, as
+    /// `add_looked_up` is.
     #[cold]
     #[inline(never)]
     fn drop_elsewhere(&mut self, tag: &Tag, mode: Mode, owner: Owner) -> Result<Unlocked, Refusal>
@@ -568,7 +575,7 @@ impl LocalTable {
         }
     }
 
-    /// Goes on with an end: gives the next object and mode, in the order of making, that the end takes away, or
+    /// Goes on with `end`: gives the next object and mode, in the order of making, that the end takes away, or
     /// `None` once there is no other (the loop of `LockReleaseAll` in lock.c). The step that gives `None` ends the
     /// innermost level, or all of them.
     #[inline(always)]
@@ -599,7 +606,7 @@ impl LocalTable {
         }
     }
 
-    /// Goes on with the end of the transaction or of the session.
+    /// Goes on with `end`, of the transaction or of the session.
     #[inline(always)]
     fn end_transaction(&mut self, end: End) -> Option<(Tag, Mode)>
         requires whole { end ≢ End.Inner }
@@ -690,7 +697,7 @@ impl LocalTable {
         self.depth + 1
     }
 
-    /// How often one level has the object in the mode.
+    /// How often `level` has `tag` in `mode`.
     pub fn level_count(&self, tag: Tag, mode: Mode, level: u8) -> u16
         requires from { 1 ≤ level }
         requires to { level ≤ level_of self.now }

@@ -30,7 +30,7 @@ pub struct Bank {
     balances: [AtomicU64; MANY],
 }
 
-/// The lock tag of an account.
+/// The lock tag of the account at `place`.
 pub fn account(place: usize) -> Tag
     requires { place < 8 }
 {
@@ -54,8 +54,8 @@ impl Bank {
         sum
     }
 
-    /// Moves an amount, or what there is of it, from one account to another one. The caller has both locked, and the
-    /// table for writing.
+    /// Moves `amount`, or what there is of it, from the account `from` to the account `to`. The caller has both
+    /// locked, and the table for writing.
     pub fn pay(&self, from: usize, to: usize, amount: u64)
         requires from { from < 8 }
         requires to { to < 8 }

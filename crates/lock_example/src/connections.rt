@@ -14,7 +14,7 @@ pub struct Connection<B: Board<Part>> {
 }
 
 impl<B: Board<Part>> Connection<B> {
-    /// A connection that has this session.
+    /// A connection that has `session`.
     pub fn over(session: OwnSession<Part, B>) -> Self
         ensures { result.session ≡ session }
     {
@@ -53,7 +53,8 @@ impl<B: Board<Part>> Connection<B> {
     }
 }
 
-/// A statement that reads the accounts, or is refused at once, and counts itself.
+/// A statement that reads the accounts on behalf of `session`, or is refused at once, and counts itself in
+/// `statements`.
 fn read<B: Board<Part>, R: Wait>(
     rt: &R,
     session: &mut OwnSession<Part, B>,

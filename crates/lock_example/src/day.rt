@@ -25,7 +25,7 @@ const TELLERS: u32 = 4;
 /// How many have a session: the tellers, the watchdog, and the migration.
 const STAFF: u32 = TELLERS + 2;
 
-/// A day of the bank, with a lock manager of its own.
+/// Plays a day of the bank, with a lock manager of its own.
 pub fn live_through<R: Threads + Wait + Clock + Sync>(
     rt: &R,
     alloc: Global,
@@ -45,7 +45,8 @@ pub fn live_through<R: Threads + Wait + Clock + Sync>(
     Ok(report)
 }
 
-/// The board of the shared table is named here alone: all that this calls is over any board.
+/// Plays the day at `desk`. The board of the shared table is named here alone: all that this calls is over any
+/// board.
 fn at_the_desk<R: Threads + Wait + Clock + Sync>(
     rt: &R,
     alloc: Global,
@@ -61,7 +62,7 @@ fn at_the_desk<R: Threads + Wait + Clock + Sync>(
     })
 }
 
-/// What goes on at a desk, with a pool that has no session yet.
+/// Plays the day at `desk` with `pool`, which has no session yet.
 fn with_pool<B: Board<Part> + Send, D: Desk<OwnSession<Part, B>>, R: Threads + Wait + Clock + Sync>(
     rt: &R,
     alloc: Global,
@@ -89,7 +90,7 @@ fn with_pool<B: Board<Part> + Send, D: Desk<OwnSession<Part, B>>, R: Threads + W
     })
 }
 
-/// So many sessions from the pool, which are behind those that the list has, also where not all were had.
+/// Takes `number` sessions from `pool`. They come behind those that `staff` has, also where not all could be had.
 fn hire<B: Board<Part>, D: Desk<OwnSession<Part, B>>, R: Wait>(
     rt: &R,
     desk: &mut D,
@@ -114,7 +115,7 @@ fn hire<B: Board<Part>, D: Desk<OwnSession<Part, B>>, R: Wait>(
     Ok(())
 }
 
-/// The threads of the bank do their work, and give their sessions back.
+/// Has the threads of `bank` do their work with sessions of `pool`, which they give back.
 fn work<B: Board<Part> + Send, D: Desk<OwnSession<Part, B>>, R: Threads + Wait + Clock + Sync>(
     rt: &R,
     alloc: Global,
@@ -134,7 +135,7 @@ fn work<B: Board<Part> + Send, D: Desk<OwnSession<Part, B>>, R: Threads + Wait +
     hired
 }
 
-/// The staff does its work, whoever of it was hired. One session is the migration's, and goes back to the pool.
+/// Has `staff` do its work, however many of it were hired. One session is the migration's, and goes back to `pool`.
 fn work_if_any<
     B: Board<Part> + Send,
     D: Desk<OwnSession<Part, B>>,
@@ -154,8 +155,8 @@ fn work_if_any<
     }
 }
 
-/// The tellers make transfers, the last one of the staff watches them, and the migration alters the table beside
-/// them. Its session comes back. All are of the manager that the desk has.
+/// Has the tellers of `staff` make transfers and its last one watch them, while the migration alters the table with
+/// `session`, which comes back. All are of the manager that the desk has.
 fn work_beside<
     B: Board<Part> + Send,
     D: Desk<OwnSession<Part, B>>,
@@ -180,7 +181,7 @@ fn work_beside<
     migrated
 }
 
-/// The staff and the migration, in threads of their own.
+/// Runs `staff` and `migration` in threads of their own.
 fn side_by_side<B: Board<Part> + Send, R: Threads + Wait + Clock + Sync>(
     rt: &R,
     bank: &Bank,
@@ -201,7 +202,7 @@ fn side_by_side<B: Board<Part> + Send, R: Threads + Wait + Clock + Sync>(
     migrated
 }
 
-/// What the staff does, a list of sessions.
+/// Runs all of `staff`, a list of sessions.
 fn staff_works<B: Board<Part> + Send, R: Threads + Wait + Clock + Sync>(
     rt: &R,
     bank: &Bank,
@@ -213,7 +214,7 @@ fn staff_works<B: Board<Part> + Send, R: Threads + Wait + Clock + Sync>(
     each_works(rt, bank, watch, staff.as_mut_slice());
 }
 
-/// The tellers and the watchdog, each in a thread of its own, to which its session is lent.
+/// Runs the tellers and the watchdog, each in a thread of its own, to which its session of `staff` is lent.
 fn each_works<B: Board<Part> + Send, R: Threads + Wait + Clock + Sync>(
     rt: &R,
     bank: &Bank,
@@ -231,7 +232,7 @@ fn each_works<B: Board<Part> + Send, R: Threads + Wait + Clock + Sync>(
     );
 }
 
-/// The part of the watchdog, or of a teller.
+/// Plays the part of the watchdog where `is_watchdog`, otherwise of a teller, with `session`.
 fn play_part<B: Board<Part>, R: Wait + Clock>(
     rt: &R,
     bank: &Bank,
@@ -248,8 +249,9 @@ fn play_part<B: Board<Part>, R: Wait + Clock>(
     }
 }
 
-/// The migration's part. A request that may be given up takes its session by value, and no closure has one: so it
-/// is lent as an `Option`, out of which the thread takes it, and comes back as what the thread answers.
+/// Plays the part of the migration. A request that may be given up takes its session by value, and no closure has
+/// one: so `migration` is lent as an `Option`, out of which the thread takes it, and comes back as what the thread
+/// answers.
 fn migrate_lent<B: Board<Part>, R: Wait + Clock>(
     rt: &R,
     bank: &Bank,
@@ -265,7 +267,7 @@ fn migrate_lent<B: Board<Part>, R: Wait + Clock>(
     }
 }
 
-/// The thread took it.
+/// Shows that the thread took what was lent: `taken` is empty.
 fn nobody<S>(taken: Option<S>)
     requires { taken ≡ None }
 {
@@ -275,7 +277,7 @@ fn nobody<S>(taken: Option<S>)
     }
 }
 
-/// More connections come than there are sessions, one after another: what the one too many is told, and which
+/// Has more connections come than there are sessions, one after another: what the one too many is told, and which
 /// session it has once another connection has ended.
 fn rush<B: Board<Part>, D: Desk<OwnSession<Part, B>>, R: Wait>(
     rt: &R,
@@ -300,7 +302,7 @@ fn rush<B: Board<Part>, D: Desk<OwnSession<Part, B>>, R: Wait>(
     Ok((refused, handed_on?))
 }
 
-/// A connection that comes, reads and goes, and the number of the session that it had.
+/// Has a connection come to `pool`, read and go, and answers the number of the session that it had.
 fn connect<B: Board<Part>, D: Desk<OwnSession<Part, B>>, R: Wait>(
     rt: &R,
     desk: &mut D,

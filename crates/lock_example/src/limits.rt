@@ -13,8 +13,8 @@ use std::time::{Clock, Duration};
 /// How many milliseconds a wait sleeps between two looks.
 const PAUSE: u64 = 1;
 
-/// Takes a mode for the transaction, and looks at its wait so often at most, each time after a pause. Then it gives
-/// up, and the answer is `Cancelled`.
+/// Takes `mode` on `tag` for the transaction of `session`, and looks at its wait `looks` times at most, each time
+/// after a pause. Then it gives up, and the answer is `Cancelled`.
 pub fn take_in_time<B: Board<Part>, R: Wait + Clock>(
     rt: &R,
     session: OwnSession<Part, B>,
@@ -32,7 +32,7 @@ pub fn take_in_time<B: Board<Part>, R: Wait + Clock>(
     }
 }
 
-/// Looks at a wait so often at most, and then cancels it.
+/// Looks at `waiting` up to `looks` times, and then cancels it.
 fn wait_in_time<B: Board<Part>, R: Wait + Clock>(
     rt: &R,
     waiting: OwnWaiting<Part, B>,

@@ -21,7 +21,8 @@ const PAUSE: u64 = 5;
 /// By session numbers.
 const NUMBERS: usize = MOST_SESSIONS as usize;
 
-/// Looks again and again at who waits, and logs each wait once, until it is over. The session is the monitor's own.
+/// Looks again and again at who waits, and logs each wait once, until `is_over`. `monitor` is a session of the
+/// monitor's own.
 pub fn keep_logging<B: Board<Part>, R: Wait + Clock + Print>(
     rt: &R,
     monitor: &mut OwnSession<Part, B>,
@@ -40,7 +41,7 @@ pub fn keep_logging<B: Board<Part>, R: Wait + Clock + Print>(
     Ok(())
 }
 
-/// Logs those who wait and did not at the look before.
+/// Logs those who wait and are not among `logged`, those who waited at the look before.
 fn log_waits<B: Board<Part>, R: Wait + Print>(
     rt: &R,
     monitor: &mut OwnSession<Part, B>,
@@ -61,8 +62,8 @@ fn log_waits<B: Board<Part>, R: Wait + Print>(
     Ok(())
 }
 
-/// Logs a wait: those in its way, and the queue that it stands in. Nobody is in its way where it has ended since
-/// the listing.
+/// Logs the wait of `row`: those in its way, and the queue that it stands in. Nobody is in its way where it has
+/// ended since the listing.
 fn log_wait<B: Board<Part>, R: Wait + Print>(
     rt: &R,
     monitor: &mut OwnSession<Part, B>,
@@ -78,7 +79,7 @@ fn log_wait<B: Board<Part>, R: Wait + Print>(
     Ok(())
 }
 
-/// Prints the line.
+/// Prints the line of the wait of `row`, with those in its way, `blockers`, and its `queue`.
 fn print_wait<R: Print>(
     rt: &R,
     row: &TableRow,
@@ -121,7 +122,7 @@ pub fn show<R: Threads + Wait + Clock + Print + Sync>(rt: &R, alloc: Global) -> 
     logged
 }
 
-/// A session reads the accounts, and another one watches those who come behind it.
+/// Has a session of `desk` read the accounts, and another one watch those who come behind it.
 fn read_and_watch<
     B: Board<Part> + Send,
     D: Desk<OwnSession<Part, B>>,
@@ -138,7 +139,7 @@ fn read_and_watch<
     watched
 }
 
-/// Opens the session that watches.
+/// Opens the session of `desk` that watches.
 fn watch<
     B: Board<Part> + Send,
     D: Desk<OwnSession<Part, B>>,
@@ -153,8 +154,8 @@ fn watch<
     logged
 }
 
-/// The first of these comes, asks for the accounts and waits, and the others come behind it. Once all wait, the
-/// monitor looks.
+/// Has a session come for each of `modes`, ask for the accounts and wait, one behind the other. Once all wait,
+/// `monitor` looks.
 fn come<
     B: Board<Part> + Send,
     D: Desk<OwnSession<Part, B>>,
@@ -186,7 +187,7 @@ fn come<
     }
 }
 
-/// The session of a wait that is given up.
+/// Gives the wait `waiting` up, and answers its session.
 fn leave<B: Board<Part>, R: Wait>(rt: &R, waiting: OwnWaiting<Part, B>) -> OwnSession<Part, B>
     ensures seat { B.seat result.board ≡ B.seat waiting.board }
 {
@@ -194,7 +195,7 @@ fn leave<B: Board<Part>, R: Wait>(rt: &R, waiting: OwnWaiting<Part, B>) -> OwnSe
     session
 }
 
-/// The monitor is in a thread of its own while the server goes on in this one.
+/// Runs `monitor` in a thread of its own while the server goes on in this one.
 fn log_beside<B: Board<Part> + Send, R: Threads + Wait + Clock + Print + Sync>(
     rt: &R,
     monitor: &mut OwnSession<Part, B>,
@@ -210,7 +211,7 @@ fn log_beside<B: Board<Part> + Send, R: Threads + Wait + Clock + Print + Sync>(
     logged
 }
 
-/// The server goes on until the monitor is to end: here for some of its looks.
+/// Goes on as the server does until the monitor is to end: here for some of its looks. Then `is_over` is set.
 fn go_on<R: Wait + Clock>(rt: &R, is_over: &AtomicBool) {
     thread::sleep(rt, Duration::from_millis(4 * PAUSE));
     is_over.store(true, Ordering::SeqCst);

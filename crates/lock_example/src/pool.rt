@@ -16,7 +16,8 @@ pub struct Pool<B: Board<Part>> {
 }
 
 impl<B: Board<Part>> Pool<B> {
-    /// A pool of a database that has no session yet, and room for all that there may be.
+    /// A pool for `database` that has no session yet, and room for all that there may be. Refused only where memory,
+    /// by `alloc`, ran out.
     pub fn new(alloc: Global, database: u32) -> Result<Self, Refusal>
         ensures { IfOk result (λ pool. pool.idle.items ≡ []) }
     {
@@ -26,9 +27,9 @@ impl<B: Board<Part>> Pool<B> {
         }
     }
 
-    /// A session for a connection: an idle one, or a new one. Where all 64 are given out, and none is idle, it is
-    /// refused with `NoMoreSessions`. The connection is then turned away, or it waits until another one ends: a
-    /// closed session's number never comes back, so it helps nobody to close one.
+    /// A session of `desk` for a connection: an idle one, or a new one. Where all 64 are given out, and none is
+    /// idle, it is refused with `NoMoreSessions`. The connection is then turned away, or it waits until another one
+    /// ends: a closed session's number never comes back, so it helps nobody to close one.
     pub fn take<D: Desk<OwnSession<Part, B>>>(
         &mut self,
         desk: &mut D,
@@ -45,8 +46,8 @@ impl<B: Board<Part>> Pool<B> {
         }
     }
 
-    /// Takes the session of a connection back that has ended. What it still holds is released, also what the
-    /// session itself owns. It is kept for the next connection, or closed where there is no memory to keep it.
+    /// Takes back `session`, whose connection has ended. What it still holds is released, also what the session
+    /// itself owns. The session is kept for the next connection, or closed where there is no memory to keep it.
     pub fn give_back<D: Desk<OwnSession<Part, B>>, R: Wait>(
         &mut self,
         rt: &R,
@@ -66,7 +67,7 @@ impl<B: Board<Part>> Pool<B> {
         }
     }
 
-    /// Takes those of a list back.
+    /// Takes all of `sessions` back, as `give_back` does one.
     pub fn give_all_back<D: Desk<OwnSession<Part, B>>, R: Wait>(
         &mut self,
         rt: &R,
@@ -85,7 +86,7 @@ impl<B: Board<Part>> Pool<B> {
         sessions.destroy_empty();
     }
 
-    /// Closes the idle sessions: the server ends, and no connection has one.
+    /// Closes the idle sessions at `desk`: the server ends, and no connection has one.
     pub fn close<D: Desk<OwnSession<Part, B>>, R: Wait>(self, rt: &R, desk: &mut D)
         requires seats { SeatsAre B.seat D.seat }
         requires idle { AreOf B.seat (D.manager desk.old) self.idle.items }

@@ -21,7 +21,7 @@ pub struct Report {
     pub live: u32,
 }
 
-/// Lives through a day, and prints how it went.
+/// Plays a day of the bank, and prints how it went.
 pub fn show<R: Threads + Wait + Clock + Sync + Print>(rt: &R, alloc: Global) -> anyhow::Result<()> {
     let report = live_through(rt, alloc)?;
     print_report(rt, &report)?;

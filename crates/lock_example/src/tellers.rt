@@ -34,7 +34,8 @@ struct Transfer {
 }
 
 impl Transfer {
-    /// The one of a round. The two accounts differ, and those of two rounds may be the same the other way round.
+    /// The transfer of `round`. Its two accounts differ, and those of two rounds may be the same ones the other way
+    /// round.
     fn of(round: u32) -> Transfer {
         let from = (round % 8) as usize;
         let step = 1 + (round / 8 % 7) as usize;
@@ -46,7 +47,7 @@ impl Transfer {
     }
 }
 
-/// Makes one transfer after another.
+/// Makes one transfer after another with `session`.
 pub fn serve<B: Board<Part>, R: Wait>(
     rt: &R,
     bank: &Bank,
@@ -62,7 +63,7 @@ pub fn serve<B: Board<Part>, R: Wait>(
     watch.leave();
 }
 
-/// Makes a transfer, which is tried again where it was refused a lock.
+/// Makes `transfer`, which is tried again where it was refused a lock.
 fn transfer_at_last<B: Board<Part>, R: Wait>(
     rt: &R,
     bank: &Bank,
@@ -80,7 +81,8 @@ fn transfer_at_last<B: Board<Part>, R: Wait>(
     }
 }
 
-/// One transaction: it commits where all locks were had, and else it aborts, and nothing was paid.
+/// Makes `transfer` in one transaction of `session`, and answers whether it was made: it commits where all locks
+/// were had, otherwise it aborts, and nothing was paid.
 fn has_transferred<B: Board<Part>, R: Wait>(
     rt: &R,
     bank: &Bank,
@@ -98,8 +100,8 @@ fn has_transferred<B: Board<Part>, R: Wait>(
     locked.is_ok()
 }
 
-/// Takes the locks of a transfer: the table for writing, and both accounts. Two tellers may wait for one another,
-/// each at the account that the other one has. So each wait shows to the watchdog.
+/// Takes the locks of `transfer`: the table for writing, and both accounts. Two tellers may wait for one another,
+/// each at the account that the other one has. So each wait shows to the watchdog, by `watch`.
 fn lock_for<B: Board<Part>, R: Wait>(
     rt: &R,
     watch: &Watch,
@@ -113,7 +115,7 @@ fn lock_for<B: Board<Part>, R: Wait>(
     take(rt, watch, session, account(transfer.to), Mode::Exclusive)
 }
 
-/// Takes a mode for the transaction, and waits where something is in the way.
+/// Takes `mode` on `tag` for the transaction of `session`, and waits where something is in the way.
 fn take<B: Board<Part>, R: Wait>(
     rt: &R,
     watch: &Watch,
@@ -133,7 +135,7 @@ fn take<B: Board<Part>, R: Wait>(
     }
 }
 
-/// Ends the session's transaction.
+/// Ends the transaction of `session`: it commits where `is_good`, otherwise it aborts.
 fn end<B: Board<Part>, R: Wait>(rt: &R, session: &mut OwnSession<Part, B>, is_good: bool)
     ensures seat { KeepsSeat B.seat session.old session.new }
 {
@@ -144,8 +146,8 @@ fn end<B: Board<Part>, R: Wait>(rt: &R, session: &mut OwnSession<Part, B>, is_go
     }
 }
 
-/// Alters the table so often. Whoever wants to read or write meanwhile waits behind it, so it doesn't insist: where
-/// the table isn't had in time it lets the others go on, and tries again.
+/// Alters the table a few times with `session`. Others that want to read or write meanwhile wait behind it, so it
+/// doesn't insist: where the table isn't had in time it lets them go on, and tries again.
 pub fn migrate<B: Board<Part>, R: Wait + Clock>(
     rt: &R,
     bank: &Bank,
@@ -168,7 +170,7 @@ pub fn migrate<B: Board<Part>, R: Wait + Clock>(
     session
 }
 
-/// Alters the table where it is had in time.
+/// Alters the table with `session`, where it is had in time.
 fn try_to_alter<B: Board<Part>, R: Wait + Clock>(
     rt: &R,
     bank: &Bank,

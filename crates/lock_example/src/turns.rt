@@ -39,7 +39,7 @@ pub fn show<R: Threads + Wait + Sync + Print>(rt: &R, alloc: Global) -> anyhow::
     Ok(())
 }
 
-/// Prints what the two threads were answered.
+/// Prints what the two threads of `story` were answered.
 fn print_story<R: Print>(rt: &R, story: Story) -> io::Result<()> {
     let Story {
         read,
@@ -108,23 +108,23 @@ fn tell<R: Threads + Wait + Sync>(rt: &R, alloc: Global) -> Result<Story, Refusa
     })
 }
 
-/// Asks for a table on behalf of the session's transaction. The session stays one of the same manager, as its close
-/// wants.
+/// Asks for `table` in `mode` on behalf of the transaction of `session`. The session stays one of the same manager,
+/// as its close wants.
 fn ask<R: Wait>(rt: &R, session: &mut Session<'_>, table: Tag, mode: Mode) -> Answer
     ensures same_manager { session.new.board.table.now.table_id ≡ session.old.board.table.now.table_id }
 {
     session.try_lock(rt, table, mode, Owner::Transaction)
 }
 
-/// Ends the session's transaction.
+/// Ends the transaction of `session`.
 fn commit<R: Wait>(rt: &R, session: &mut Session<'_>)
     ensures same_manager { session.new.board.table.now.table_id ≡ session.old.board.table.now.table_id }
 {
     session.commit(rt);
 }
 
-/// Ends the session's transaction, and asks for a table on behalf of the next one. Where somebody is in the way it
-/// waits.
+/// Ends the transaction of `session`, and asks for `table` in `mode` on behalf of the next one. Where somebody is in
+/// the way it waits.
 fn commit_and_wait<R: Wait>(rt: &R, session: &mut Session<'_>, table: Tag, mode: Mode) -> Answer
     ensures same_manager { session.new.board.table.now.table_id ≡ session.old.board.table.now.table_id }
 {
@@ -132,7 +132,7 @@ fn commit_and_wait<R: Wait>(rt: &R, session: &mut Session<'_>, table: Tag, mode:
     session.acquire(rt, table, mode, Owner::Transaction)
 }
 
-/// Prints what a request was answered. A refusal says who stands in the way.
+/// Prints what `request` was answered. A refusal says who is in the way.
 fn print_answer<R: Print>(rt: &R, request: &str, answer: Answer) -> io::Result<()> {
     match answer {
         Ok(Acquired::Granted) => println!(rt; "{request}: granted"),

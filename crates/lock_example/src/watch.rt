@@ -26,7 +26,7 @@ pub struct Watch {
 }
 
 impl Watch {
-    /// Nobody waits, and so many threads work.
+    /// A watch in which nobody waits, and `working` threads work.
     pub fn of(working: u64) -> Watch {
         Watch {
             waits: std::array::from_fn(|_| AtomicU64::new(0)),
@@ -34,7 +34,7 @@ impl Watch {
         }
     }
 
-    /// The session begins a wait, or ends it.
+    /// Notes that `session` begins a wait, or ends it.
     pub fn turn(&self, session: SessionId) {
         self.waits[usize::from(session.number())].fetch_add(1, Ordering::SeqCst);
     }
@@ -49,8 +49,8 @@ impl Watch {
         self.working.load(Ordering::SeqCst) == 0
     }
 
-    /// Whether the session with this number was in a wait at the last look too. What is seen now stands for the
-    /// next look.
+    /// Whether the session numbered `place` was in the wait in which it is at the last look too, by `seen`, which
+    /// has what is seen now for the next look.
     fn waits_too_long(&self, place: usize, seen: &mut [u64; NUMBERS]) -> bool
         requires { place < 64 }
     {
@@ -61,7 +61,7 @@ impl Watch {
     }
 }
 
-/// Looks again and again at who waits, until no thread works any more.
+/// Looks again and again at who waits, with `session`, until no thread of `watch` works any more.
 pub fn keep_watch<B: Board<Part>, R: Wait + Clock>(
     rt: &R,
     watch: &Watch,
@@ -79,7 +79,7 @@ pub fn keep_watch<B: Board<Part>, R: Wait + Clock>(
     }
 }
 
-/// Asks those to cancel who have waited too long.
+/// Asks those to cancel who have waited since the look before, by `seen`.
 fn look<B: Board<Part>>(watch: &Watch, session: &mut OwnSession<Part, B>, seen: &mut [u64; NUMBERS])
     ensures seat { KeepsSeat B.seat session.old session.new }
 {
@@ -90,7 +90,7 @@ fn look<B: Board<Part>>(watch: &Watch, session: &mut OwnSession<Part, B>, seen: 
     }
 }
 
-/// Asks the session with this number to cancel its wait. `Asked::Waiting` says that it waited as it was asked, and
+/// Asks the session numbered `number` to cancel its wait. `Asked::Waiting` says that it waited as it was asked, and
 /// no more: where it is granted before it has cancelled, it has the lock.
 fn ask<B: Board<Part>>(session: &mut OwnSession<Part, B>, number: u8)
     ensures seat { KeepsSeat B.seat session.old session.new }

@@ -7,3 +7,4 @@ pub mod Listings
 pub mod Audits
 pub mod Sessions
 pub mod Managers
+pub mod Quiet

@@ -11,3 +11,4 @@ pub mod WaitingSessions
 pub mod Crews
 pub mod Audits
 pub mod Queues
+pub mod Quiet

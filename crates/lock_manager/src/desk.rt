@@ -43,8 +43,8 @@ pub trait Desk<S> {
 
     ghost entries: { S → List Entry };
 
-    /// Opens a session of this database, which holds nothing. It is refused where all numbers are given out, and
-    /// then where memory runs out.
+    /// Opens a session of `database`, which holds nothing. Refused where all numbers are given out, and then where
+    /// memory runs out.
     fn open(&mut self, database: u32) -> Result<S, Refusal>
         ensures manager { manager self.new ≡ manager self.old }
         ensures own { IfOk result (λ session. (seat session).table ≡ (manager self.old).table) }
@@ -62,8 +62,8 @@ pub trait Desk<S> {
     fn live(&self) -> u32
         ensures { result ≡ live self.now };
 
-    /// Two sessions meet (`Session::meet`): no hold of the one conflicts with a hold of the other. Both keep what
-    /// they have, and make no step. The other comes back.
+    /// Has `session` and `other` meet (`Session::meet`): no hold of the one conflicts with a hold of the other. Both
+    /// keep what they have, and make no step. The other one comes back.
     fn meet(&self, session: &mut S, other: S) -> S
         requires same_manager { (seat other).table ≡ (seat session.old).table }
         ensures told { DontConflict (entries session.old) (entries other) }
@@ -74,9 +74,9 @@ pub trait Desk<S> {
         ensures same_entries { entries session.new ≡ entries session.old }
         ensures its_entries { entries result ≡ entries other };
 
-    /// Counts what stands in the manager, all of whose open sessions are lent (`Manager::audit`): slots and table
-    /// have as many holds as the sessions have local entries, and the counters count the strong ones. It is refused
-    /// where memory runs out.
+    /// Counts what stands in the manager, all of whose open `sessions` are lent (`Manager::audit`): slots and table
+    /// have as many holds as the sessions have local entries, and the counters count the strong ones. Refused where
+    /// memory runs out.
     fn audit<R: Wait>(&mut self, rt: &R, sessions: &mut Vec<S>) -> Result<Audit, Refusal>
         requires own { All (λ session. (seat session).table ≡ (manager self.old).table) sessions.old.items }
         requires all { length sessions.old.items ≡ live self.old }
@@ -89,7 +89,7 @@ pub trait Desk<S> {
         ensures own { All (λ session. (seat session).table ≡ (manager self.old).table) sessions.new.items }
         ensures as_many { length sessions.new.items ≡ length sessions.old.items };
 
-    /// Closes one of its sessions.
+    /// Closes `session`, one of the desk's own.
     fn close<R: Wait>(&mut self, rt: &R, session: S)
         requires own { (seat session).table ≡ (manager self.old).table }
         ensures manager { manager self.new ≡ manager self.old }
@@ -108,7 +108,7 @@ pub struct ManagerDesk<'a> {
 }
 
 impl<'a> ManagerDesk<'a> {
-    /// The desk of this manager.
+    /// The desk of `manager`, with its `opener`.
     pub fn new(manager: &'a Manager, opener: Opener) -> Self
         requires own { IsOpenerOf opener manager.now }
         ensures manager { result.manager.now ≡ manager.now }

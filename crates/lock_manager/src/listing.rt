@@ -2,6 +2,7 @@
 
 ghost use Rattle.std.specs.Prelude.{◌≡◌, ◌≤◌, ℕ, [], None, IsOkUnless};
 ghost use Rattle.shared_rule.specs.Lawful.{IsAboveHand};
+ghost use Rattle.fast_path.specs.Quiet.{QuietOfListing};
 ghost use Rattle.lock_manager.specs.Rest.{IsAtRest};
 ghost use Rattle.lock_manager.specs.Listings.{Lists, ListsTable, ListsFrom};
 
@@ -19,10 +20,11 @@ pub struct Listing {
     pub table: Vec<TableRow>,
 }
 
-/// All that is held and awaited (`GetLockStatusData` in lock.c): first what the slots show, read session by session
-/// with the lock of each one's slots shared, and then the lock table at one moment, at which the session has all
-/// partitions in hand. So a hold that is moved from a slot to the table meanwhile may be listed in both, and none
-/// that stands all the while is missed. Only the lists of the answer take memory.
+/// All that is held and awaited (`GetLockStatusData` in lock.c), as the session on `board` sees it: first what the
+/// slots show, read session by session with the lock of each one's slots shared, and then the lock table at one
+/// moment, at which the session has all partitions in hand. So a hold that is moved from a slot to the table
+/// meanwhile may be listed in both, and none that stands all the while is missed. Only the lists of the answer take
+/// memory.
 pub fn list<T: PartTable, B: Board<T>, R: Wait>(
     rt: &R,
     board: &mut B,
@@ -34,6 +36,7 @@ pub fn list<T: PartTable, B: Board<T>, R: Wait>(
     ensures listed { Lists (B.seat board.old).groups (B.seat board.old).limit (B.seat board.old).number
         (B.view board.old) result
         (B.view board.new) }
+    ensures quiet { QuietOfListing (B.seat board.old).limit result (B.quiet board.old) (B.quiet board.new) }
     ensures no_memory { IsOkUnless result Refusal.NoMemory }
     ensures rest { IsAtRest (B.seat board.old).groups (B.seat board.old).limit own.now.database own.now.uses
         (B.view board.new) (B.stack board.new) own.now.locals.entries }
@@ -54,7 +57,7 @@ pub fn list<T: PartTable, B: Board<T>, R: Wait>(
     }
 }
 
-/// The rows of the lock table at one moment, at which the session has all partitions in hand.
+/// Appends to `rows` those of the lock table at one moment, at which the session has all partitions in hand.
 fn list_table<T: PartTable, B: Board<T>, R: Wait>(
     rt: &R,
     board: &mut B,
@@ -64,6 +67,7 @@ fn list_table<T: PartTable, B: Board<T>, R: Wait>(
     requires none_owed { (B.stack board.old).owed ≡ [] }
     requires empty { rows.old.items ≡ [] }
     ensures listed { ListsTable (B.seat board.old).number (B.view board.old) result rows.new.items (B.view board.new) }
+    ensures quiet { B.quiet board.new ≡ B.quiet board.old }
     ensures account { B.view board.new ≡ record (B.view board.old) { trace = (B.view board.new).trace } }
     ensures stack { B.stack board.new ≡ B.stack board.old }
     ensures seat { B.seat board.new ≡ B.seat board.old }
@@ -75,7 +79,8 @@ fn list_table<T: PartTable, B: Board<T>, R: Wait>(
     Ok(())
 }
 
-/// Appends the rows of the partitions from this one on, which are all taken before the first of them is put back.
+/// Appends to `rows` those of the partitions from `part` on, which are all taken before the first of them is put
+/// back.
 fn list_from<T: PartTable, B: Board<T>, R: Wait>(
     rt: &R,
     board: &mut B,
@@ -87,6 +92,7 @@ fn list_from<T: PartTable, B: Board<T>, R: Wait>(
     requires none_owed { (B.stack board.old).owed ≡ [] }
     ensures listed { ListsFrom (B.seat board.old).number part (B.view board.old) rows.old.items result
         (B.view board.new) rows.new.items }
+    ensures quiet { B.quiet board.new ≡ B.quiet board.old }
     ensures stack { B.stack board.new ≡ B.stack board.old }
     ensures seat { B.seat board.new ≡ B.seat board.old }
 {

@@ -1,8 +1,11 @@
 //! The manager, which has the shared table, and the opener, who gives sessions out and takes them back.
 
-ghost use Rattle.std.specs.Prelude.{◌≡◌, ◌<◌, ◌+◌, ◌-◌, ◌↔◌, ◌⊎◌, [], ◌∷◌, length, true, false, IfOk, IfErr, IsErrOf, IsOkUnless, OnOk, OnErr};
+ghost use Rattle.std.specs.Prelude.{◌≡◌, ◌<◌, ◌+◌, ◌-◌, ◌↔◌, ◌⊎◌, List, [], ◌∷◌, length, true, false, IfOk, IfErr, IsErrOf, IsOkUnless, OnOk, OnErr};
 ghost use Rattle.shared_rule.specs.Seats.{MayCloseBy};
 ghost use Rattle.shared_rule.specs.Boards.{nothing_due};
+ghost use Rattle.shared_rule.specs.declared.history.History.{History};
+ghost use Rattle.shared_rule.specs.Quiet.{quiet_told};
+ghost use Rattle.lock_manager.specs.Keeper.{PartView};
 ghost use Rattle.lock_manager.specs.Managers.{IsNew, IsOpenerOf, IsOpened, TakesBack, is_in_range};
 
 use crate::config::Config;
@@ -81,8 +84,9 @@ impl Model for Opener {
 }
 
 impl Manager {
-    /// A manager with no session yet, and its opener (`InitLocks` in lock.c with `InitProcGlobal` in proc.c). It is
-    /// refused where a number of the configuration is out of its range, and then where memory runs out.
+    /// A manager as `config` says, with no session yet, and its opener (`InitLocks` in lock.c with `InitProcGlobal`
+    /// in proc.c). Refused where a number of the configuration is out of its range, and then where memory, by
+    /// `alloc`, runs out.
     pub fn new(alloc: Global, config: Config) -> Result<(Manager, Opener), Refusal>
         ensures ok { IfOk result (λ made. IsNew made.0 made.1 config) }
         ensures bad_config { IsErrOf result Refusal.BadConfig ↔ (is_in_range config ≡ false) }
@@ -118,8 +122,8 @@ impl Manager {
         Ok((manager, opener))
     }
 
-    /// Ends the manager, all of whose sessions are closed. Nothing is held then, by what each of them had to show
-    /// as it was closed: the three numbers are 0, and nobody counts again.
+    /// Ends the manager, all of whose sessions are closed, with its `opener`. Nothing is held then, by what each of
+    /// them had to show as it was closed: the three numbers are 0, and nobody counts again.
     pub fn finish(self, opener: Opener) -> Final
         requires own { IsOpenerOf opener self }
         requires none_live { opener.live ≡ 0 }
@@ -142,9 +146,9 @@ impl Opener {
         u32::from(self.live)
     }
 
-    /// A new session of this database, with room for its first local entries (`InitProcess` in proc.c, with
-    /// `databaseId` stored as `InitPostgres` in postinit.c does). Numbers are given in rising order and never
-    /// again. It is refused where all are given out, and then where memory runs out; the opener is then as before.
+    /// A new session of `manager` for `database`, with room for its first local entries (`InitProcess` in proc.c,
+    /// with `databaseId` stored as `InitPostgres` in postinit.c does). Numbers are given in rising order and never
+    /// again. Refused where all are given out, and then where memory runs out; the opener is then as before.
     pub fn session<'a>(
         &mut self,
         manager: &'a Manager,
@@ -153,6 +157,8 @@ impl Opener {
         requires own { IsOpenerOf self.old manager.now }
         ensures ok { let B = ⟦<SeatBoard<'a, Part> as Board<Part>>⟧ in
             IfOk result (λ session. IsOpened B.seat B.view B.stack self.old manager.now database session) }
+        ensures quiet { let B = ⟦<SeatBoard<'a, Part> as Board<Part>>⟧ in
+            IfOk result (λ session. B.quiet session.board ≡ []) }
         ensures counted { OnOk result (self.new ≡
             record (self.old) { issued = self.old.issued + 1; live = self.old.live + 1 }) }
         ensures no_more { IsErrOf result Refusal.NoMoreSessions ↔ (self.old.issued ≡ self.old.limit) }
@@ -178,6 +184,9 @@ impl Opener {
         requires lawful { MayCloseBy (⟦<SeatBoard<'a, Part> as Board<Part>>⟧.view board) }
         ensures closed { let B = ⟦<SeatBoard<'a, Part> as Board<Part>>⟧ in
             TakesBack (B.seat board.entry).number (B.view board.entry).trace self.old self.new }
+        ensures quiet { let B = ⟦<SeatBoard<'a, Part> as Board<Part>>⟧ in
+            (history : History PartView) (others : List (History PartView)) → self.new.closed ≡ history ∷ others →
+            quiet_told history.marks ≡ B.quiet board.entry }
     {
         self.numbers.close(board);
         self.live = self.live.saturating_sub(1);

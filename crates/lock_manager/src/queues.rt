@@ -15,7 +15,7 @@ use wait_queue::{Blocker, blockers_of, queue_of};
 /// A row of an object's queue: who waits, for which mode, and the modes of the object that it held when it joined.
 pub type QueueRow = Waiter;
 
-/// The waits on an object at one moment, in the order of its queue.
+/// The waits on `tag` at one moment, in the order of its queue.
 fn queue<T: PartTable, B: Board<T>, R: Wait>(
     rt: &R,
     board: &mut B,
@@ -26,6 +26,7 @@ fn queue<T: PartTable, B: Board<T>, R: Wait>(
         (B.view board.old) (B.stack board.old) own.now.locals.entries }
     ensures looked { LooksAt (λ taken. IfOk result (λ rows. IsQueue tag rows.items taken))
         (B.view board.old).trace tag (B.view board.new).trace }
+    ensures quiet { B.quiet board.new ≡ B.quiet board.old }
     ensures no_memory { IsOkUnless result Refusal.NoMemory }
     ensures rest { IsAtRest (B.seat board.old).groups (B.seat board.old).limit own.now.database own.now.uses
         (B.view board.new) (B.stack board.new) own.now.locals.entries }
@@ -41,7 +42,7 @@ fn queue<T: PartTable, B: Board<T>, R: Wait>(
     }
 }
 
-/// Those in the way of a session's wait on an object at one moment.
+/// Those in the way of the wait of `session` on `tag` at one moment.
 fn blockers<T: PartTable, B: Board<T>, R: Wait>(
     rt: &R,
     board: &mut B,
@@ -53,6 +54,7 @@ fn blockers<T: PartTable, B: Board<T>, R: Wait>(
         (B.view board.old) (B.stack board.old) own.now.locals.entries }
     ensures looked { LooksAt (λ taken. IfOk result (λ found. AreBlockers tag session found.items taken))
         (B.view board.old).trace tag (B.view board.new).trace }
+    ensures quiet { B.quiet board.new ≡ B.quiet board.old }
     ensures no_memory { IsOkUnless result Refusal.NoMemory }
     ensures rest { IsAtRest (B.seat board.old).groups (B.seat board.old).limit own.now.database own.now.uses
         (B.view board.new) (B.stack board.new) own.now.locals.entries }
@@ -69,13 +71,14 @@ fn blockers<T: PartTable, B: Board<T>, R: Wait>(
 }
 
 impl<T: PartTable, B: Board<T>> OwnSession<T, B> {
-    /// The object's waits, in the order of its queue, with the modes that each held when it joined: by one episode
-    /// in the object's partition, which changes nothing. Only the list of the answer takes memory; where that runs
-    /// out it is refused.
+    /// The waits on `tag`, in the order of its queue, with the modes that each held when it joined: by one episode
+    /// in the object's partition, which changes nothing. Only the list of the answer takes memory; refused where
+    /// that runs out.
     pub fn queue<R: Wait>(&mut self, rt: &R, tag: Tag) -> Result<Vec<QueueRow>, Refusal>
         // What it is answered.
         ensures looked { LooksAt (λ taken. IfOk result (λ rows. IsQueue tag rows.items taken))
             (B.view self.old.board).trace tag (B.view self.new.board).trace }
+        ensures quiet { B.quiet self.new.board ≡ B.quiet self.old.board }
         ensures no_memory { IsOkUnless result Refusal.NoMemory }
 
         // What stands after it.
@@ -86,12 +89,12 @@ impl<T: PartTable, B: Board<T>> OwnSession<T, B> {
         queue(rt, &mut self.board, &self.own, tag)
     }
 
-    /// Those who stand in the way of a session that waits on the object (`GetBlockerStatusData` in lock.c, for
-    /// `pg_blocking_pids`): by session and mode those who hold a mode that conflicts with the awaited one, and
-    /// then, in the order of the queue, those before it who await one. Nobody where the session doesn't wait there.
-    /// It is one episode in the object's partition, which changes nothing. A hold in a fast-path slot is in
+    /// Those in the way of `session`, which waits on `tag` (`GetBlockerStatusData` in lock.c, for
+    /// `pg_blocking_pids`): by session and mode those who hold a mode that conflicts with the awaited one, and then,
+    /// in the order of the queue, those before it who await one. Nobody where the session doesn't wait there. The
+    /// answer is of one episode in the object's partition, which changes nothing. A hold in a fast-path slot is in
     /// nobody's way: it is moved to the table before a mode that conflicts with it can wait. Only the list of the
-    /// answer takes memory; where that runs out it is refused.
+    /// answer takes memory; refused where that runs out.
     pub fn blockers<R: Wait>(
         &mut self,
         rt: &R,
@@ -101,6 +104,7 @@ impl<T: PartTable, B: Board<T>> OwnSession<T, B> {
         // What it is answered.
         ensures looked { LooksAt (λ taken. IfOk result (λ found. AreBlockers tag session found.items taken))
             (B.view self.old.board).trace tag (B.view self.new.board).trace }
+        ensures quiet { B.quiet self.new.board ≡ B.quiet self.old.board }
         ensures no_memory { IsOkUnless result Refusal.NoMemory }
 
         // What stands after it.

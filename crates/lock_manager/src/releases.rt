@@ -14,6 +14,7 @@ ghost use Rattle.lock_manager.specs.Rest.{IsIdle, IsUseCount, IsAtRest};
 ghost use Rattle.lock_manager.specs.Sessions.{KeepsOwn};
 ghost use Rattle.lock_manager.specs.Releases.{Tells, MayWake, WakesAndPuts, ReleasesInPart, ReleasesHold, Releases, ReleasesAll};
 ghost use Rattle.lock_manager.specs.Releases.{account_released};
+ghost use Rattle.lock_manager.specs.Quiet.{QuietOfReleases, quiet_releasing};
 
 use crate::sessions::Own;
 use fast_path::{UseCounts, ungrant};
@@ -24,7 +25,7 @@ use shared_rule::Board;
 use std::sync::Wait;
 use wait_queue::take_hold_out;
 
-/// Releases all that the end of a transaction, of its innermost level or of the session takes away, in the order of
+/// Releases all that `end`, of a transaction, of its innermost level or of the session, takes away, in the order of
 /// making (`LockReleaseAll` in lock.c, and `LockReleaseCurrentOwner` there).
 pub fn end_all<T: PartTable, B: Board<T>, R: Wait>(rt: &R, board: &mut B, own: &mut Own, end: End)
     requires rest { IsAtRest (B.seat board.old).groups (B.seat board.old).limit own.old.database own.old.uses
@@ -35,6 +36,9 @@ pub fn end_all<T: PartTable, B: Board<T>, R: Wait>(rt: &R, board: &mut B, own: &
         (B.view board.new) (B.stack board.new) own.new.locals.entries }
     ensures steps { ReleasesAll (B.seat board.old).groups (B.seat board.old).number (B.view board.old) own.old.uses
         (ended_by end (found_by end own.old.locals)) (B.view board.new) own.new.uses }
+    ensures quiet { QuietOfReleases (B.seat board.old).groups (B.seat board.old).number (B.view board.old) own.old.uses
+        (ended_by end (found_by end own.old.locals)) (B.view board.new) own.new.uses
+        (B.quiet board.old) (B.quiet board.new) }
     ensures none_ended { ended_by end (found_by end own.old.locals) ≡ [] → board.new ≡ board.old }
     ensures entries { own.new.locals.entries ≡ left_by end (found_by end own.old.locals) }
     ensures levels { own.new.locals.outer ≡ outer_after end own.old.locals.outer }
@@ -45,7 +49,8 @@ pub fn end_all<T: PartTable, B: Board<T>, R: Wait>(rt: &R, board: &mut B, own: &
     }
 }
 
-/// Releases a hold: in the slot that has it, or else from the table (`LockRelease` in lock.c, past the local lock).
+/// Releases the hold on `tag` in `mode`: in the slot that has it, or else from the table (`LockRelease` in lock.c,
+/// past the local lock).
 pub fn release_hold<T: PartTable, B: Board<T>, R: Wait>(
     rt: &R,
     board: &mut B,
@@ -62,6 +67,8 @@ pub fn release_hold<T: PartTable, B: Board<T>, R: Wait>(
         is_counted (B.view board.old).fast.counted tag.now mode ≡ true }
     ensures steps { Releases (B.seat board.old).groups (B.seat board.old).number (B.view board.old) uses.old
         tag.now mode (B.view board.new) uses.new }
+    ensures quiet { B.quiet board.new ≡ quiet_releasing (B.seat board.old).groups (B.seat board.old).number
+        (B.view board.old) uses.old tag.now mode (B.quiet board.old) }
     ensures account { B.view board.new ≡ account_released (B.view board.old) tag.now mode
         (B.view board.new).fast.remembered (B.view board.new).trace }
     ensures use_count { IsUseCount (B.seat board.old).groups (B.view board.new) uses.new }
@@ -77,7 +84,8 @@ pub fn release_hold<T: PartTable, B: Board<T>, R: Wait>(
     }
 }
 
-/// Releases a hold that stands in the table, tells those whom that lets go, and takes the count of a strong lock back.
+/// Releases the hold on `tag` in `mode`, which stands in the table, tells those whom that lets go, and takes the
+/// count of a strong lock back.
 fn release_in_table<T: PartTable, B: Board<T>, R: Wait>(
     rt: &R,
     board: &mut B,
@@ -91,6 +99,7 @@ fn release_in_table<T: PartTable, B: Board<T>, R: Wait>(
     requires counted { is_strong_on tag.now mode ≡ true →
         is_counted (B.view board.old).fast.counted tag.now mode ≡ true }
     ensures released { ReleasesHold (B.seat board.old).number (B.view board.old) tag.now mode (B.view board.new) }
+    ensures quiet { B.quiet board.new ≡ B.quiet board.old }
     ensures stack { B.stack board.new ≡ B.stack board.old }
     ensures seat { B.seat board.new ≡ B.seat board.old }
 {
@@ -100,14 +109,15 @@ fn release_in_table<T: PartTable, B: Board<T>, R: Wait>(
     }
 }
 
-/// Takes the hold out of the object's partition, and grants those who may go then (`UnGrantLock` and `CleanUpLock` in
-/// lock.c).
+/// Takes the hold on `tag` in `mode` out of the object's partition, and grants those who may go then (`UnGrantLock`
+/// and `CleanUpLock` in lock.c).
 fn release_in_part<T: PartTable, B: Board<T>, R: Wait>(rt: &R, board: &mut B, tag: &Tag, mode: Mode)
     requires idle { IsIdle (B.view board.old) (B.stack board.old) }
     requires held { (B.view board.old).own tag.now mode ≡ true }
     requires in_no_slot { slot_holds (B.view board.old).fast.database (B.view board.old).fast.remembered tag.now mode
         ≡ false }
     ensures released { ReleasesInPart (B.seat board.old).number (B.view board.old) tag.now mode (B.view board.new) }
+    ensures quiet { B.quiet board.new ≡ B.quiet board.old }
     ensures stack { B.stack board.new ≡ B.stack board.old }
     ensures seat { B.seat board.new ≡ B.seat board.old }
 {
@@ -122,9 +132,9 @@ fn release_in_part<T: PartTable, B: Board<T>, R: Wait>(rt: &R, board: &mut B, ta
     }
 }
 
-/// Ends a move by a wakeup of the object's queue: tells those who may go, if any, and puts the partition
-/// (`ProcLockWakeup` in proc.c). A function of its own, since the list of those woken is large and mostly not
-/// needed.
+/// Ends the move `done` by a wakeup of the queue of `tag`: tells those who may go, if any, and puts the partition
+/// `part` with `content` (`ProcLockWakeup` in proc.c). A function of its own, since the list of those woken is large
+/// and mostly not needed.
 #[cold]
 #[inline(never)]
 fn wake_and_put<T: PartTable, B: Board<T>>(
@@ -142,6 +152,7 @@ fn wake_and_put<T: PartTable, B: Board<T>>(
     requires wait_is_over { WaitIsOver (B.view board.old).awaited part done.now }
     requires lawful { MayWake (B.seat board.old) (B.view board.old) part done.now tag.now (T.content content) }
     ensures account { WakesAndPuts (B.view board.old) part done.now tag.now (T.content content) (B.view board.new) }
+    ensures quiet { B.quiet board.new ≡ B.quiet board.old }
     ensures stack { B.stack board.new ≡ stack_putting (B.stack board.old) }
     ensures seat { B.seat board.new ≡ B.seat board.old }
 {
@@ -153,8 +164,9 @@ fn wake_and_put<T: PartTable, B: Board<T>>(
     }
 }
 
-/// Marks the wait of each session that the move granted, puts the partition, and wakes them (`ProcLockWakeup` in
-/// proc.c). The first mark makes the move, where it doesn't stand recorded already.
+/// Marks the wait of each session that the move `done` granted, those in `woken`, puts the partition `part` with
+/// `content`, and wakes them (`ProcLockWakeup` in proc.c). The first mark makes the move, where it doesn't stand
+/// recorded already.
 pub fn put_with_woken<T: PartTable, B: Board<T>>(
     board: &mut B,
     part: u8,
@@ -171,6 +183,7 @@ pub fn put_with_woken<T: PartTable, B: Board<T>>(
     requires lawful { Tells (B.seat board.old) (B.view board.old) part done.now woken.now.items (T.content content) }
     ensures account { B.view board.new ≡
         account_putting (B.view board.old) part (taken_of ((B.view board.old).hand part)) (T.content content) done.now }
+    ensures quiet { B.quiet board.new ≡ B.quiet board.old }
     ensures stack { B.stack board.new ≡ stack_putting (B.stack board.old) }
     ensures seat { B.seat board.new ≡ B.seat board.old }
 {

@@ -11,6 +11,7 @@ ghost use Rattle.wait_queue.specs.Decide.{IsAfterRoom};
 ghost use Rattle.lock_manager.specs.Requests.{DecidesInPart, HadRoom, Requests, IsRequested};
 ghost use Rattle.lock_manager.specs.Acquires.{AnswersByOwned, HasEntryRoom, IsOwnAnswer, IsOwnAnswerBySlot, IsRefusedForMemory, entries_begun, Begins, AcquiresBySlot};
 ghost use Rattle.lock_manager.specs.Waiting.{IsWaiting};
+ghost use Rattle.lock_manager.specs.Quiet.{QuietOfAcquire, QuietOfAcquireBySlot, QuietOfRequest, QuietOfStrong};
 
 use crate::sessions::Own;
 use fast_path::{UseCounts, grant, transfer, try_grant};
@@ -32,10 +33,10 @@ pub enum Begun {
     Queued,
 }
 
-/// Acquires a mode on an object for an owner, or begins to wait for it where the request may wait (`LockAcquire` in
-/// lock.c, up to `WaitOnLock`). What the session has already is counted once more, with no step on shared state; a
-/// new mode is granted in a slot, or decided in the object's partition. While the session waits room is reserved
-/// for the entry.
+/// Acquires `mode` on `tag` for `owner`, or begins to wait for it where `kind` says that the request may wait
+/// (`LockAcquire` in lock.c, up to `WaitOnLock`). What the session has already is counted once more, with no step on
+/// shared state; a new mode is granted in a slot, or decided in the object's partition. While the session waits room
+/// is reserved for the entry.
 #[inline(always)]
 pub fn acquire<T: PartTable, B: Board<T>, R: Wait>(
     rt: &R,
@@ -54,6 +55,8 @@ pub fn acquire<T: PartTable, B: Board<T>, R: Wait>(
     ensures at_once { kind ≡ Kind.Conditional → result ≢ Ok Begun.Queued }
     ensures steps { Begins kind (B.seat board.old) own.old.locals (B.view board.old) own.old.uses tag mode result
         (B.view board.new) own.new.uses }
+    ensures quiet { QuietOfAcquire (B.seat board.old) (B.view board.old) own.old.uses tag mode
+        (B.quiet board.old) (B.quiet board.new) }
     ensures room_first { IfErr result (IsAfterRoom (HadRoom T.prepared (B.seat board.old).number tag mode)) }
     ensures entry_room_first { IfErr result (HasEntryRoom own.new.locals) }
     ensures untouched { IsOwnAnswer Begun.AlreadyHeld result → board.new ≡ board.old }
@@ -86,9 +89,9 @@ pub fn acquire<T: PartTable, B: Board<T>, R: Wait>(
     }
 }
 
-/// Acquires a mode on an object for an owner by the fast path alone, waiting for nobody (`FastPathGrantRelationLock`
-/// in lock.c, with its own slots' lock taken conditionally). What the session has already is counted once more, with
-/// no step on shared state.
+/// Acquires `mode` on `tag` for `owner` by the fast path alone, waiting for nobody (`FastPathGrantRelationLock` in
+/// lock.c, with its own slots' lock taken conditionally). What the session has already is counted once more, with no
+/// step on shared state.
 pub fn acquire_by_slot<T: PartTable, B: Board<T>>(
     board: &mut B,
     own: &mut Own,
@@ -104,6 +107,8 @@ pub fn acquire_by_slot<T: PartTable, B: Board<T>>(
         × (is_eligible_for own.old.database tag mode ≡ false)) }
     ensures steps { AcquiresBySlot (B.seat board.old).groups (B.seat board.old).number own.old.locals
         (B.view board.old) own.old.uses tag mode result (B.view board.new) own.new.uses }
+    ensures quiet { QuietOfAcquireBySlot (B.seat board.old).number tag mode
+        (B.quiet board.old) (B.quiet board.new) }
     ensures entry_room_first { IfErr result (HasEntryRoom own.new.locals) }
     ensures untouched { IsOwnAnswerBySlot result → board.new ≡ board.old }
     ensures entries { OnOk result (own.new.locals.entries ≡ with_one_more own.old.locals.entries tag mode owner) }
@@ -129,9 +134,9 @@ pub fn acquire_by_slot<T: PartTable, B: Board<T>>(
     }
 }
 
-/// Answers a request for a mode that the session hasn't (`LockAcquireExtended` in lock.c): a strong one once it has
-/// moved what stands in its way, another one in one of the session's slots, where it may go by these, and otherwise
-/// in the object's partition.
+/// Answers a request for `mode` on `tag`, which the session hasn't (`LockAcquireExtended` in lock.c): a strong one
+/// once it has moved what is in its way, another one in one of the session's slots, where it may go by these, and
+/// otherwise in the object's partition.
 pub fn request<T: PartTable, B: Board<T>, R: Wait>(
     rt: &R,
     board: &mut B,
@@ -150,6 +155,8 @@ pub fn request<T: PartTable, B: Board<T>, R: Wait>(
     requires countable { length (B.view board.old).fast.counted < most_counted }
     ensures steps { Requests kind (B.seat board.old) (B.view board.old) uses.old tag.now mode result
         (B.view board.new) uses.new }
+    ensures quiet { QuietOfRequest (B.seat board.old) (B.view board.old) uses.old tag.now mode
+        (B.quiet board.old) (B.quiet board.new) }
     ensures room_first { IfErr result (IsAfterRoom (HadRoom T.prepared (B.seat board.old).number tag.now mode)) }
     ensures account { IsRequested (B.seat board.old).limit (B.view board.old) tag.now mode result (B.view board.new) }
     ensures use_count { IsUseCount (B.seat board.old).groups (B.view board.new) uses.new }
@@ -168,9 +175,11 @@ pub fn request<T: PartTable, B: Board<T>, R: Wait>(
     }
 }
 
-/// Answers a request for a strong mode: it is counted, and what stands in its way in fast-path slots is moved to the
-/// table, before it is decided there. Its count goes back where it is refused (`BeginStrongLockAcquire`,
-/// `FastPathTransferRelationLocks` and `AbortStrongLockAcquire` in lock.c).
+/// Answers a request for the strong `mode` on `tag`: it is counted, and what is in its way in fast-path slots is
+/// moved to the table, before it is decided there. The count goes back where it is refused
+/// (`BeginStrongLockAcquire`, `FastPathTransferRelationLocks` and `AbortStrongLockAcquire` in lock.c).
+#[cold]
+#[inline(never)]
 fn request_strong<T: PartTable, B: Board<T>, R: Wait>(
     rt: &R,
     board: &mut B,
@@ -186,6 +195,7 @@ fn request_strong<T: PartTable, B: Board<T>, R: Wait>(
     requires countable { length (B.view board.old).fast.counted < most_counted }
     ensures steps { (uses : UseCounts) →
         Requests kind (B.seat board.old) (B.view board.old) uses tag.now mode result (B.view board.new) uses }
+    ensures quiet { QuietOfStrong (B.seat board.old).limit tag.now mode (B.quiet board.old) (B.quiet board.new) }
     ensures room_first { IfErr result (IsAfterRoom (HadRoom T.prepared (B.seat board.old).number tag.now mode)) }
     ensures account { IsRequested (B.seat board.old).limit (B.view board.old) tag.now mode result (B.view board.new) }
     ensures use_count { (uses : UseCounts) → IsUseCount (B.seat board.old).groups (B.view board.old) uses
@@ -205,8 +215,9 @@ fn request_strong<T: PartTable, B: Board<T>, R: Wait>(
     }
 }
 
-/// Decides it there, and where it has to wait stores so in its own wait word (`LockCheckConflicts` with `GrantLock` in
-/// lock.c, and `ProcSleep` in proc.c).
+/// Decides a request for `mode` on `tag` in the object's partition, and where it has to wait stores so in its own
+/// wait word (`LockCheckConflicts` with `GrantLock` in lock.c, and `ProcSleep` in proc.c).
+#[inline(never)]
 fn decide_in_part<T: PartTable, B: Board<T>, R: Wait>(
     rt: &R,
     board: &mut B,
@@ -220,6 +231,7 @@ fn decide_in_part<T: PartTable, B: Board<T>, R: Wait>(
         is_done (B.seat board.old).limit (B.view board.old).fast.counted tag.now mode ≡ true }
     ensures decided { DecidesInPart kind (B.seat board.old).number (B.view board.old) tag.now mode result
         (B.view board.new) }
+    ensures quiet { B.quiet board.new ≡ B.quiet board.old }
     ensures room_first { IfErr result (IsAfterRoom (HadRoom T.prepared (B.seat board.old).number tag.now mode)) }
     ensures stack { B.stack board.new ≡ B.stack board.old }
     ensures seat { B.seat board.new ≡ B.seat board.old }

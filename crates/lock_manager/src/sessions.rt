@@ -1,6 +1,6 @@
 //! Sessions: the calls that a server's thread makes.
 
-ghost use Rattle.std.specs.Prelude.{ℕ, ◌≡◌, ◌≢◌, ◌<◌, ◌≤◌, ◌-◌, ◌↔◌, [], ◌∷◌, ◌++◌, true, false};
+ghost use Rattle.std.specs.Prelude.{ℕ, ◌≡◌, ◌≢◌, ◌<◌, ◌≤◌, ◌-◌, ◌↔◌, List, [], ◌∷◌, ◌++◌, true, false};
 ghost use Rattle.std.specs.Prelude.{IsErrOf, IsOkUnless, IfOk, IfErr, OnOk, OnErr};
 ghost use Rattle.modes_core.specs.ModeSet.{set_has};
 ghost use Rattle.modes_core.specs.Tag.{is_eligible_for};
@@ -8,10 +8,17 @@ ghost use Rattle.local_locks.specs.Owned.{max_level, level_of, of_transaction, o
 ghost use Rattle.lock_world.specs.declared.events.Word.TheVariants.{Strong};
 ghost use Rattle.lock_world.specs.AccountSteps.{account_storing};
 ghost use Rattle.lock_world.specs.World.{Loaded};
+ghost use Rattle.lock_world.specs.Account.{Account};
+ghost use Rattle.shared_rule.specs.declared.history.History.{History};
+ghost use Rattle.shared_rule.specs.Quiet.{quiet_told};
+ghost use Rattle.fast_path.specs.declared.use_counts.UseCounts.{UseCounts};
+ghost use Rattle.lock_manager.specs.Keeper.{PartView};
 ghost use Rattle.shared_rule.specs.History.{blank_account};
 ghost use Rattle.shared_rule.specs.Boards.{nothing_due};
 ghost use Rattle.fast_path.specs.Slots.{count_in};
+ghost use Rattle.fast_path.specs.Quiet.{QuietOfListing};
 ghost use Rattle.lock_manager.specs.Sessions.{IsSame, IsUnchanged, DontConflict};
+ghost use Rattle.lock_manager.specs.Quiet.{QuietOfAcquire, QuietOfAcquireBySlot, QuietOfReleases, quiet_releasing};
 ghost use Rattle.lock_manager.specs.Listings.{Lists};
 ghost use Rattle.lock_manager.specs.Managers.{HasClosed};
 ghost use Rattle.wait_queue.specs.Decide.{IsAfterRoom};
@@ -153,7 +160,7 @@ impl<T: PartTable, B: Board<T>> OwnSession<T, B> {
         self.own.database
     }
 
-    /// The modes that it has the object in (`holdMask` of `PROCLOCK` in lock.h).
+    /// The modes in which the session has `tag` (`holdMask` of `PROCLOCK` in lock.h).
     pub fn held(&self, tag: Tag) -> ModeSet
         ensures { set_has result ≡ has_entry self.now.owned.entries tag }
     {
@@ -168,20 +175,20 @@ impl<T: PartTable, B: Board<T>> OwnSession<T, B> {
         held
     }
 
-    /// How often the owner has the object in the mode and can give it back (`LOCALLOCKOWNER` in lock.h): the
-    /// session, or the innermost level of its transaction.
+    /// How often `owner` has `tag` in `mode` and can give it back (`LOCALLOCKOWNER` in lock.h): the session, or the
+    /// innermost level of its transaction.
     pub fn owner_count(&self, tag: Tag, mode: Mode, owner: Owner) -> u16
         ensures { result ≡ own_count_of self.now.owned tag mode owner }
     {
         self.own.locals.owner_count(tag, mode, owner)
     }
 
-    /// Takes a mode on an object for an owner, or refuses at once where it clashes (`LockAcquire` in lock.c with
+    /// Takes `tag` in `mode` for `owner`, or refuses at once where it clashes (`LockAcquire` in lock.c with
     /// `dontWait`). What the session has already is counted once more, with no step on shared state. A weak mode on
     /// a relation of the session's database is granted in one of its fast-path slots, unless all of the relation's
-    /// group are in use or a strong lock is counted. It is refused, in this order, where the owner's count is full,
-    /// the local table is full, memory runs out, or the request conflicts with a hold or wait of another session.
-    /// After a refusal the session holds what it held.
+    /// group are in use or a strong lock is counted. Refused, in this order, where the owner's count is full, the
+    /// local table is full, memory runs out, or the request conflicts with a hold or wait of another session. After
+    /// a refusal the session holds what it held.
     #[inline(always)]
     pub fn try_lock<R: Wait>(
         &mut self,
@@ -196,6 +203,8 @@ impl<T: PartTable, B: Board<T>> OwnSession<T, B> {
         ensures entry_room_first { IfErr result (HasEntryRoom self.new.owned) }
         ensures steps { Acquires (B.seat self.old.board) self.old.owned (B.view self.old.board) self.old.uses tag mode
             result (B.view self.new.board) self.new.uses }
+        ensures quiet { QuietOfAcquire (B.seat self.old.board) (B.view self.old.board) self.old.uses tag mode
+            (B.quiet self.old.board) (B.quiet self.new.board) }
         ensures untouched { IsOwnAnswer Acquired.AlreadyHeld result → self.new.board ≡ self.old.board }
         ensures no_memory { IfErr result (λ refusal. refusal ≡ Refusal.NoMemory → IsRefusedForMemory B.view
             Kind.Conditional (B.seat self.old.board) self.old.owned self.old.uses tag mode self.old.board self.new.board
@@ -224,12 +233,12 @@ impl<T: PartTable, B: Board<T>> OwnSession<T, B> {
         }
     }
 
-    /// Takes a mode on an object for an owner in one of the session's fast-path slots, or refuses, and waits for
-    /// nobody (`FastPathGrantRelationLock` in lock.c, where the lock of its own slots is free). What the session
-    /// has already is counted once more, wherever it stands, unless the owner's count is full. It is refused, in
-    /// this order, where the mode on the object may not go by a slot, the local table is full, memory runs out, all
-    /// sixteen slots of the relation's group are in use, somebody has the lock of its own slots, or a strong lock
-    /// is counted. After a refusal the session holds what it held.
+    /// Takes `tag` in `mode` for `owner` in one of the session's fast-path slots, or refuses, and waits for nobody
+    /// (`FastPathGrantRelationLock` in lock.c, where the lock of its own slots is free). What the session has
+    /// already is counted once more, wherever it stands, unless the owner's count is full. Refused, in this order,
+    /// where the mode on the object may not go by a slot, the local table is full, memory runs out, all sixteen
+    /// slots of the relation's group are in use, somebody has the lock of its own slots, or a strong lock is
+    /// counted. After a refusal the session holds what it held.
     pub fn try_fast(&mut self, tag: Tag, mode: Mode, owner: Owner) -> Result<Acquired, Refusal>
         // What it is answered.
         ensures answers { AnswersByOwned self.old.owned tag mode owner Acquired.AlreadyHeld
@@ -239,6 +248,8 @@ impl<T: PartTable, B: Board<T>> OwnSession<T, B> {
             × (is_eligible_for self.old.database tag mode ≡ false)) }
         ensures steps { AcquiresBySlot (B.seat self.old.board).groups (B.seat self.old.board).number
             self.old.owned (B.view self.old.board) self.old.uses tag mode result (B.view self.new.board) self.new.uses }
+        ensures quiet { QuietOfAcquireBySlot (B.seat self.old.board).number tag mode
+            (B.quiet self.old.board) (B.quiet self.new.board) }
         ensures untouched { IsOwnAnswerBySlot result → self.new.board ≡ self.old.board }
 
         // What stands after it.
@@ -251,8 +262,8 @@ impl<T: PartTable, B: Board<T>> OwnSession<T, B> {
         acquire_by_slot(&mut self.board, &mut self.own, tag, mode, owner)
     }
 
-    /// Gives one count of an owner back, and with the last one the hold (`LockRelease` in lock.c). Refused where
-    /// the owner has no count; nothing has changed then.
+    /// Gives one count of `owner` on `tag` in `mode` back, and with the last one the hold (`LockRelease` in lock.c).
+    /// Refused where the owner has no count; nothing has changed then.
     #[inline(always)]
     pub fn unlock<R: Wait>(
         &mut self,
@@ -270,6 +281,9 @@ impl<T: PartTable, B: Board<T>> OwnSession<T, B> {
             × (0 < total_of self.new.owned.entries tag mode)) }
         ensures released { result ≡ Ok Unlocked.Released →
             Releases (B.seat self.old.board).groups (B.seat self.old.board).number (B.view self.old.board) self.old.uses tag mode (B.view self.new.board) self.new.uses }
+        ensures quiet { result ≡ Ok Unlocked.Released → B.quiet self.new.board ≡
+            quiet_releasing (B.seat self.old.board).groups (B.seat self.old.board).number (B.view self.old.board)
+            self.old.uses tag mode (B.quiet self.old.board) }
         ensures untouched { result ≢ Ok Unlocked.Released → self.new.board ≡ self.old.board }
         ensures same_uses { result ≢ Ok Unlocked.Released → self.new.uses ≡ self.old.uses }
 
@@ -297,6 +311,9 @@ impl<T: PartTable, B: Board<T>> OwnSession<T, B> {
         ensures none_ended { ended_by End.Commit self.old.owned.entries ≡ [] → self.new.board ≡ self.old.board }
         ensures released { ReleasesAll (B.seat self.old.board).groups (B.seat self.old.board).number
             (B.view self.old.board) self.old.uses (ended_by End.Commit self.old.owned.entries) (B.view self.new.board) self.new.uses }
+        ensures quiet { QuietOfReleases (B.seat self.old.board).groups (B.seat self.old.board).number (B.view self.old.board)
+            self.old.uses (ended_by End.Commit self.old.owned.entries) (B.view self.new.board) self.new.uses
+            (B.quiet self.old.board) (B.quiet self.new.board) }
         ensures first_level { self.new.owned.outer ≡ [] }
         ensures same { IsSame B.seat B.view B.stack self.old self.new }
     {
@@ -311,6 +328,9 @@ impl<T: PartTable, B: Board<T>> OwnSession<T, B> {
         ensures none_ended { ended_by End.Abort self.old.owned.entries ≡ [] → self.new.board ≡ self.old.board }
         ensures released { ReleasesAll (B.seat self.old.board).groups (B.seat self.old.board).number
             (B.view self.old.board) self.old.uses (ended_by End.Abort self.old.owned.entries) (B.view self.new.board) self.new.uses }
+        ensures quiet { QuietOfReleases (B.seat self.old.board).groups (B.seat self.old.board).number (B.view self.old.board)
+            self.old.uses (ended_by End.Abort self.old.owned.entries) (B.view self.new.board) self.new.uses
+            (B.quiet self.old.board) (B.quiet self.new.board) }
         ensures first_level { self.new.owned.outer ≡ [] }
         ensures same { IsSame B.seat B.view B.stack self.old self.new }
     {
@@ -364,6 +384,9 @@ impl<T: PartTable, B: Board<T>> OwnSession<T, B> {
             (self.new.owned.entries ≡ left_by End.Inner (without_innermost self.old.owned)) }
         ensures released { OnOk result (ReleasesAll (B.seat self.old.board).groups (B.seat self.old.board).number
             (B.view self.old.board) self.old.uses (ended_by End.Inner (without_innermost self.old.owned)) (B.view self.new.board) self.new.uses) }
+        ensures quiet { OnOk result (QuietOfReleases (B.seat self.old.board).groups (B.seat self.old.board).number (B.view self.old.board)
+            self.old.uses (ended_by End.Inner (without_innermost self.old.owned)) (B.view self.new.board) self.new.uses
+            (B.quiet self.old.board) (B.quiet self.new.board)) }
         ensures levels { OnOk result (self.new.owned.outer ≡ outer_after End.Inner self.old.owned.outer) }
         ensures refused { OnErr result (self.new.owned ≡ self.old.owned) }
         ensures untouched { OnErr result (self.new.board ≡ self.old.board) }
@@ -387,7 +410,7 @@ impl<T: PartTable, B: Board<T>> OwnSession<T, B> {
         self.own.locals.level()
     }
 
-    /// How often one level of the transaction has the object in the mode.
+    /// How often `level` of the transaction has `tag` in `mode`.
     pub fn level_count(&self, tag: Tag, mode: Mode, level: u8) -> u16
         requires from { 1 ≤ level }
         requires to { level ≤ level_of self.now.owned }
@@ -403,6 +426,8 @@ impl<T: PartTable, B: Board<T>> OwnSession<T, B> {
     pub fn list<R: Wait>(&mut self, rt: &R) -> Result<Listing, Refusal>
         ensures listed { Lists (B.seat self.old.board).groups (B.seat self.old.board).limit
             (B.seat self.old.board).number (B.view self.old.board) result (B.view self.new.board) }
+        ensures quiet { QuietOfListing (B.seat self.old.board).limit result
+            (B.quiet self.old.board) (B.quiet self.new.board) }
         ensures no_memory { IsOkUnless result Refusal.NoMemory }
         ensures owned { self.new.owned ≡ self.old.owned }
         ensures uses { self.new.uses ≡ self.old.uses }
@@ -411,12 +436,13 @@ impl<T: PartTable, B: Board<T>> OwnSession<T, B> {
         list(rt, &mut self.board, &self.own)
     }
 
-    /// What the strong lock counter with this index shows, by one load: how many strong locks are counted there
+    /// What the strong lock counter at `index` shows, by one load: how many strong locks are counted there
     /// (`FastPathStrongRelationLocks` in lock.c).
     pub fn strong_count(&mut self, index: u16) -> u64
         requires exists { index < 1024 }
         ensures loaded { (B.view self.new.board).trace
             ≡ (B.view self.old.board).trace ++ Loaded (Strong index) result ∷ [] }
+        ensures quiet { B.quiet self.new.board ≡ B.quiet self.old.board }
         ensures owned { self.new.owned ≡ self.old.owned }
         ensures uses { self.new.uses ≡ self.old.uses }
         ensures same { IsSame B.seat B.view B.stack self.old self.new }
@@ -426,8 +452,8 @@ impl<T: PartTable, B: Board<T>> OwnSession<T, B> {
 }
 
 impl<'a> OwnSession<Part, SeatBoard<'a, Part>> {
-    /// Meets another session of the same manager, which comes back: no hold of the one conflicts with a hold of the
-    /// other on an object. Both are as before.
+    /// Meets `other`, a session of the same manager, which comes back: no hold of the one conflicts with a hold of
+    /// the other on an object. Both are as before.
     pub fn meet(&mut self, other: Session<'a>) -> Session<'a>
         requires same_manager { let B = ⟦<SeatBoard<'a, Part> as Board<Part>>⟧ in
             (B.seat other.board).table ≡ (B.seat self.old.board).table }
@@ -436,6 +462,8 @@ impl<'a> OwnSession<Part, SeatBoard<'a, Part>> {
             IsUnchanged B.seat B.view B.stack self.old self.new }
         ensures its_unchanged { let B = ⟦<SeatBoard<'a, Part> as Board<Part>>⟧ in
             IsUnchanged B.seat B.view B.stack other.entry result }
+        ensures quiet { let B = ⟦<SeatBoard<'a, Part> as Board<Part>>⟧ in
+            (B.quiet self.new.board ≡ B.quiet self.old.board) × (B.quiet result.board ≡ B.quiet other.entry.board) }
     {
         let OwnSession { board, own, parts } = other;
         let board = self.board.meet(board);
@@ -443,11 +471,16 @@ impl<'a> OwnSession<Part, SeatBoard<'a, Part>> {
     }
 
     /// Ends the session: all that it holds is released, in the order of making, and its number is that of a closed
-    /// session from then on, which is not given out again (`ProcKill` in proc.c). Its trace goes to the opener.
+    /// session from then on, which is not given out again (`ProcKill` in proc.c). Its trace goes to `opener`.
     pub fn close<R: Wait>(self, rt: &R, opener: &mut Opener)
         requires own_opener { (⟦<SeatBoard<'a, Part> as Board<Part>>⟧.seat self.board).table ≡ opener.old.table }
         ensures closed { let B = ⟦<SeatBoard<'a, Part> as Board<Part>>⟧ in
             HasClosed B.seat B.view B.stack self.entry opener.old opener.new }
+        ensures quiet { let B = ⟦<SeatBoard<'a, Part> as Board<Part>>⟧ in
+            (history : History PartView) (others : List (History PartView)) → opener.new.closed ≡ history ∷ others →
+            (last : Account) × (left : UseCounts) × QuietOfReleases (B.seat self.entry.board).groups
+            (B.seat self.entry.board).number (B.view self.entry.board) self.entry.uses
+            (ended_by End.Close self.entry.owned.entries) last left (B.quiet self.entry.board) (quiet_told history.marks) }
     {
         let OwnSession {
             mut board,

@@ -9,6 +9,7 @@ ghost use Rattle.lock_manager.specs.Acquires.{AnswersByOwned, IsOwnAnswer, IsRef
 ghost use Rattle.lock_manager.specs.Waiting.{IsWaiting, HasLooked, Asks, LooksForWaiters};
 ghost use Rattle.lock_manager.specs.Waiting.{IsInWait, polled_as, Polls, Cancels, Waits, account_cancelled};
 ghost use Rattle.lock_manager.specs.WaitingSessions.{Locks};
+ghost use Rattle.lock_manager.specs.Quiet.{QuietOfAcquire};
 
 use crate::releases::put_with_woken;
 use crate::requests::{Begun, acquire};
@@ -41,10 +42,11 @@ pub enum Looked {
     CancelAsked,
 }
 
-/// Asks a session to cancel its wait, and wakes it where it waits (`pg_cancel_backend` in signalfuncs.c).
+/// Asks `other` to cancel its wait, and wakes it where it waits (`pg_cancel_backend` in signalfuncs.c).
 pub fn ask_cancel<T: PartTable, B: Board<T>>(board: &mut B, other: SessionId) -> Asked
     requires none_owed { (B.stack board.old).owed ≡ [] }
     ensures asked { Asks (B.view board.old) other result (B.view board.new) }
+    ensures quiet { B.quiet board.new ≡ B.quiet board.old }
     ensures oneself { other ≡ (B.seat board.old).number → (B.view board.old).awaited ≡ None
         → result ≡ Asked.NotWaiting }
     ensures stack { B.stack board.new ≡ B.stack board.old }
@@ -58,8 +60,8 @@ pub fn ask_cancel<T: PartTable, B: Board<T>>(board: &mut B, other: SessionId) ->
     Asked::Waiting
 }
 
-/// Whether somebody awaits the object in a mode that conflicts with this one, which the session has (`LockHasWaiters`
-/// in lock.c).
+/// Whether somebody awaits `tag` in a mode that conflicts with `mode`, which the session has (`LockHasWaiters` in
+/// lock.c).
 pub fn has_waiters<T: PartTable, B: Board<T>, R: Wait>(
     rt: &R,
     board: &mut B,
@@ -74,6 +76,7 @@ pub fn has_waiters<T: PartTable, B: Board<T>, R: Wait>(
     ensures untouched { OnErr result (board.new ≡ board.old) }
     ensures looked { IfOk result (λ is_awaited.
         LooksForWaiters (B.view board.old).trace tag mode is_awaited (B.view board.new).trace) }
+    ensures quiet { B.quiet board.new ≡ B.quiet board.old }
     ensures rest { IsAtRest (B.seat board.old).groups (B.seat board.old).limit own.now.database own.now.uses
         (B.view board.new) (B.stack board.new) own.now.locals.entries }
     ensures seat { B.seat board.new ≡ B.seat board.old }
@@ -88,8 +91,9 @@ pub fn has_waiters<T: PartTable, B: Board<T>, R: Wait>(
     Ok(is_awaited)
 }
 
-/// Looks at the session's wait once. Where it was granted the wait ends, and what it awaited is entered among what the
-/// session has (`ProcSleep` in proc.c where it reads `waitStatus`, and `GrantLockLocal` in lock.c).
+/// Looks once at the session's wait for `mode` on `tag`. Where it was granted the wait ends, and what it awaited is
+/// entered among what the session has for `owner` (`ProcSleep` in proc.c where it reads `waitStatus`, and
+/// `GrantLockLocal` in lock.c).
 pub fn poll<T: PartTable, B: Board<T>>(
     board: &mut B,
     own: &mut Own,
@@ -101,6 +105,7 @@ pub fn poll<T: PartTable, B: Board<T>>(
         (B.view board.old) (B.stack board.old) own.old.locals.entries tag mode }
     requires reserved { IsReserved own.old.locals tag mode owner }
     ensures polled { Polls (B.seat board.old).number (B.view board.old).trace result (B.view board.new).trace }
+    ensures quiet { B.quiet board.new ≡ B.quiet board.old }
     ensures rest { result ≡ Looked.Granted →
         IsAtRest (B.seat board.old).groups (B.seat board.old).limit own.old.database own.old.uses
         (B.view board.new) (B.stack board.new) own.new.locals.entries }
@@ -121,7 +126,7 @@ pub fn poll<T: PartTable, B: Board<T>>(
     take_up(board, own, tag, mode, owner, shown)
 }
 
-/// Takes up what its own wait word showed: ends the wait where that was granted.
+/// Takes up `shown`, what its own wait word showed: ends the wait for `mode` on `tag` where that was granted.
 fn take_up<T: PartTable, B: Board<T>>(
     board: &mut B,
     own: &mut Own,
@@ -134,6 +139,7 @@ fn take_up<T: PartTable, B: Board<T>>(
         (B.view board.old) (B.stack board.old) own.old.locals.entries tag mode shown }
     requires reserved { IsReserved own.old.locals tag mode owner }
     ensures answer { result ≡ polled_as shown }
+    ensures quiet { B.quiet board.new ≡ B.quiet board.old }
     ensures no_step { (B.view board.new).trace ≡ (B.view board.old).trace }
     ensures rest { result ≡ Looked.Granted →
         IsAtRest (B.seat board.old).groups (B.seat board.old).limit own.old.database own.old.uses
@@ -162,9 +168,10 @@ fn take_up<T: PartTable, B: Board<T>>(
     Looked::Still
 }
 
-/// Ends the session's wait: it is taken out of the queue, where it still stands there, and those are granted who may
-/// go then; where it had been granted the session has the mode (`LockErrorCleanup` in proc.c). The count of a strong
-/// mode goes back with the wait (`AbortStrongLockAcquire` in lock.c). It says whether it had been granted.
+/// Ends the session's wait for `mode` on `tag`: it is taken out of the queue, where it still stands there, and those
+/// are granted who may go then; where it had been granted the session has the mode (`LockErrorCleanup` in proc.c).
+/// The count of a strong mode goes back with the wait (`AbortStrongLockAcquire` in lock.c). The answer is whether it
+/// had been granted.
 pub fn cancel<T: PartTable, B: Board<T>, R: Wait>(
     rt: &R,
     board: &mut B,
@@ -178,6 +185,7 @@ pub fn cancel<T: PartTable, B: Board<T>, R: Wait>(
     requires reserved { IsReserved own.old.locals tag mode owner }
     ensures steps { Cancels (B.seat board.old).number (B.view board.old).trace tag mode result
         (B.view board.new).trace }
+    ensures quiet { B.quiet board.new ≡ B.quiet board.old }
     ensures rest { IsAtRest (B.seat board.old).groups (B.seat board.old).limit own.old.database own.old.uses
         (B.view board.new) (B.stack board.new) own.new.locals.entries }
     ensures entries { result ≡ true →
@@ -201,9 +209,9 @@ pub fn cancel<T: PartTable, B: Board<T>, R: Wait>(
     false
 }
 
-/// Waits until the wait is granted, or another session asks to cancel it (`ProcSleep` in proc.c, with
-/// `LockErrorCleanup` where it is interrupted). It looks at its own wait word before each sleep. Where it was asked
-/// to cancel, and the grant was first, the session has the mode.
+/// Waits until the wait for `mode` on `tag` is granted, or another session asks to cancel it (`ProcSleep` in proc.c,
+/// with `LockErrorCleanup` where it is interrupted). The session looks at its own wait word before each sleep. Where
+/// it was asked to cancel, and the grant was first, the session has the mode.
 pub fn wait<T: PartTable, B: Board<T>, R: Wait>(
     rt: &R,
     board: &mut B,
@@ -217,6 +225,7 @@ pub fn wait<T: PartTable, B: Board<T>, R: Wait>(
     requires reserved { IsReserved own.old.locals tag mode owner }
     ensures cancelled { IsOkUnless result Refusal.Cancelled }
     ensures steps { Waits (B.seat board.old).number (B.view board.old).trace tag mode result (B.view board.new).trace }
+    ensures quiet { B.quiet board.new ≡ B.quiet board.old }
     ensures rest { IsAtRest (B.seat board.old).groups (B.seat board.old).limit own.old.database own.old.uses
         (B.view board.new) (B.stack board.new) own.new.locals.entries }
     ensures entries { OnOk result (own.new.locals.entries ≡ with_one_more own.old.locals.entries tag mode owner) }
@@ -244,7 +253,7 @@ pub fn wait<T: PartTable, B: Board<T>, R: Wait>(
     unreachable!()
 }
 
-/// Acquires a mode on an object for an owner, and waits for it where it must (`LockAcquire` in lock.c without
+/// Acquires `mode` on `tag` for `owner`, and waits for it where it must (`LockAcquire` in lock.c without
 /// `dontWait`): `acquire`, and `wait` where that queued the request.
 pub fn lock<T: PartTable, B: Board<T>, R: Wait>(
     rt: &R,
@@ -261,6 +270,8 @@ pub fn lock<T: PartTable, B: Board<T>, R: Wait>(
     ensures answers { AnswersByOwned own.old.locals tag mode owner Acquired.AlreadyHeld true result }
     ensures steps { Locks (B.seat board.old) own.old.locals (B.view board.old) own.old.uses tag mode result
         (B.view board.new) own.new.uses }
+    ensures quiet { QuietOfAcquire (B.seat board.old) (B.view board.old) own.old.uses tag mode
+        (B.quiet board.old) (B.quiet board.new) }
     ensures untouched { IsOwnAnswer Acquired.AlreadyHeld result → board.new ≡ board.old }
     ensures no_memory { IfErr result (λ refusal. refusal ≡ Refusal.NoMemory → IsRefusedForMemory B.view Kind.Waiting
         (B.seat board.old) own.old.locals own.old.uses tag mode board.old board.new own.new.uses) }
@@ -282,8 +293,8 @@ pub fn lock<T: PartTable, B: Board<T>, R: Wait>(
     }
 }
 
-/// Takes the wait out of the queue in the object's partition, or finds there that it was granted
-/// (`RemoveFromWaitQueue` in lock.c), and says which: whether it was granted.
+/// Takes the wait for `mode` on `tag` out of the queue in the object's partition, or finds there that it was granted
+/// (`RemoveFromWaitQueue` in lock.c). The answer is whether it was granted.
 fn leave_in_part<T: PartTable, B: Board<T>, R: Wait>(
     rt: &R,
     board: &mut B,
@@ -293,6 +304,7 @@ fn leave_in_part<T: PartTable, B: Board<T>, R: Wait>(
     requires waiting { IsInWait (B.view board.old) (B.stack board.old) tag.now mode }
     ensures steps { Cancels (B.seat board.old).number (B.view board.old).trace tag.now mode result
         (B.view board.new).trace }
+    ensures quiet { B.quiet board.new ≡ B.quiet board.old }
     ensures account { B.view board.new ≡
         account_cancelled (B.view board.old) tag.now mode result (B.view board.new).trace }
     ensures stack { B.stack board.new ≡ B.stack board.old }

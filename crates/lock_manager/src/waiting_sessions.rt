@@ -7,6 +7,7 @@ ghost use Rattle.lock_manager.specs.Sessions.{IsSame};
 ghost use Rattle.wait_queue.specs.Decide.{IsAfterRoom};
 ghost use Rattle.lock_manager.specs.Requests.{HadRoom};
 ghost use Rattle.lock_manager.specs.Acquires.{AnswersByOwned, HasEntryRoom, IsOwnAnswer, IsRefusedForMemory, entries_begun, Begins};
+ghost use Rattle.lock_manager.specs.Quiet.{QuietOfAcquire};
 ghost use Rattle.lock_manager.specs.Waiting.{Asks, LooksForWaiters, Polls, Cancels, Waits};
 ghost use Rattle.lock_manager.specs.WaitingSessions.{answer_started, board_started, uses_started, owned_started};
 ghost use Rattle.lock_manager.specs.WaitingSessions.{UnlessQueued, IfQueued};
@@ -162,12 +163,12 @@ impl<S> Cancelled<S> {
 }
 
 impl<T: PartTable, B: Board<T>> OwnSession<T, B> {
-    /// Takes a mode on an object for an owner, or begins to wait for it (`LockAcquire` in lock.c without `dontWait`, up
-    /// to where `ProcSleep` in proc.c has joined the queue). What the session has already is counted once more, with no
-    /// step on shared state. It is refused, in this order, where the owner's count is full, the local table is full,
+    /// Takes `tag` in `mode` for `owner`, or begins to wait for it (`LockAcquire` in lock.c without `dontWait`, up
+    /// to where `ProcSleep` in proc.c has joined the queue). What the session has already is counted once more, with
+    /// no step on shared state. Refused, in this order, where the owner's count is full, the local table is full,
     /// memory runs out, or the wait would close a simple deadlock. After a refusal the session holds what it held.
-    /// There is no timeout: a time limit is this call, then `poll`, and an `ask_cancel` of another session or `cancel`
-    /// when it is over.
+    /// There is no timeout: a time limit is this call, then `poll`, and an `ask_cancel` of another session or
+    /// `cancel` when it is over.
     pub fn start<R: Wait>(
         self,
         rt: &R,
@@ -182,6 +183,8 @@ impl<T: PartTable, B: Board<T>> OwnSession<T, B> {
         ensures entry_room_first { IfErr (answer_started result) (HasEntryRoom (owned_started result)) }
         ensures steps { Begins Kind.Waiting (B.seat self.board) self.owned (B.view self.board) self.uses tag mode
             (answer_started result) (B.view (board_started result)) (uses_started result) }
+        ensures quiet { QuietOfAcquire (B.seat self.board) (B.view self.board) self.uses tag mode
+            (B.quiet self.board) (B.quiet (board_started result)) }
         ensures untouched { IsOwnAnswer begun.AlreadyHeld (answer_started result) → board_started result ≡ self.board }
         ensures no_memory { IfErr (answer_started result) (λ refusal. refusal ≡ Refusal.NoMemory → IsRefusedForMemory B.view
             Kind.Waiting (B.seat self.board) self.owned self.uses tag mode self.board (board_started result)
@@ -217,14 +220,16 @@ impl<T: PartTable, B: Board<T>> OwnSession<T, B> {
         }
     }
 
-    /// Takes a mode on an object for an owner, and waits for it where it must (`LockAcquire` in lock.c without
-    /// `dontWait`): `start`, and `wait` where that queued the request. It is refused where these are: the wait is over
+    /// Takes `tag` in `mode` for `owner`, and waits for it where it must (`LockAcquire` in lock.c without
+    /// `dontWait`): `start`, and `wait` where that queued the request. Refused where these are: the wait is over
     /// then, and the session holds what it held.
     pub fn lock<R: Wait>(self, rt: &R, tag: Tag, mode: Mode, owner: Owner) -> Locked<Self>
         // What it is answered.
         ensures answers { AnswersByOwned self.owned tag mode owner Acquired.AlreadyHeld true (answer_locked result) }
         ensures steps { Locks (B.seat self.board) self.owned (B.view self.board) self.uses tag mode
             (answer_locked result) (B.view (session_locked result).board) (session_locked result).uses }
+        ensures quiet { QuietOfAcquire (B.seat self.board) (B.view self.board) self.uses tag mode
+            (B.quiet self.board) (B.quiet (session_locked result).board) }
         ensures untouched { IsOwnAnswer Acquired.AlreadyHeld (answer_locked result) →
             (session_locked result).board ≡ self.board }
         ensures no_memory { IfErr (answer_locked result) (λ refusal. refusal ≡ Refusal.NoMemory → IsRefusedForMemory B.view
@@ -250,8 +255,9 @@ impl<T: PartTable, B: Board<T>> OwnSession<T, B> {
         }
     }
 
-    /// `lock` on a session that is lent, so that `?` works at its answer (`LockAcquire` in lock.c without
-    /// `dontWait`). The session waits where it must, and can make no other call meanwhile.
+    /// Takes `tag` in `mode` for `owner` as `lock` does, on a session that is lent, so that `?` works at its answer
+    /// (`LockAcquire` in lock.c without `dontWait`). The session waits where it must, and can make no other call
+    /// meanwhile.
     pub fn acquire<R: Wait>(
         &mut self,
         rt: &R,
@@ -263,6 +269,8 @@ impl<T: PartTable, B: Board<T>> OwnSession<T, B> {
         ensures answers { AnswersByOwned self.old.owned tag mode owner Acquired.AlreadyHeld true result }
         ensures steps { Locks (B.seat self.old.board) self.old.owned (B.view self.old.board) self.old.uses tag mode
             result (B.view self.new.board) self.new.uses }
+        ensures quiet { QuietOfAcquire (B.seat self.old.board) (B.view self.old.board) self.old.uses tag mode
+            (B.quiet self.old.board) (B.quiet self.new.board) }
         ensures untouched { IsOwnAnswer Acquired.AlreadyHeld result → self.new.board ≡ self.old.board }
         ensures no_memory { IfErr result (λ refusal. refusal ≡ Refusal.NoMemory → IsRefusedForMemory B.view Kind.Waiting
             (B.seat self.old.board) self.old.owned self.old.uses tag mode self.old.board self.new.board self.new.uses) }
@@ -277,14 +285,15 @@ impl<T: PartTable, B: Board<T>> OwnSession<T, B> {
         waiting::lock(rt, &mut self.board, &mut self.own, tag, mode, owner)
     }
 
-    /// Whether somebody awaits the object in a mode that conflicts with this one (`LockHasWaiters` in lock.c). It is
-    /// refused where the session hasn't the mode; nothing has changed then.
+    /// Whether somebody awaits `tag` in a mode that conflicts with `mode` (`LockHasWaiters` in lock.c). Refused
+    /// where the session hasn't the mode; nothing has changed then.
     pub fn has_waiters<R: Wait>(&mut self, rt: &R, tag: Tag, mode: Mode) -> Result<bool, Refusal>
         // What it is answered.
         ensures not_held { IsErrOf result Refusal.NotHeld ↔ (has_entry self.old.owned.entries tag mode ≡ false) }
         ensures no_other { IsOkUnless result Refusal.NotHeld }
         ensures looked { IfOk result (λ is_awaited. LooksForWaiters (B.view self.old.board).trace tag mode is_awaited
             (B.view self.new.board).trace) }
+        ensures quiet { B.quiet self.new.board ≡ B.quiet self.old.board }
 
         // What stands after it.
         ensures untouched { OnErr result (self.new.board ≡ self.old.board) }
@@ -295,11 +304,12 @@ impl<T: PartTable, B: Board<T>> OwnSession<T, B> {
         waiting::has_waiters(rt, &mut self.board, &self.own, tag, mode)
     }
 
-    /// Asks a session to cancel its wait, and wakes it where it waits (`pg_cancel_backend` in signalfuncs.c). Where it
-    /// doesn't wait nothing is left of that; a session that asks itself doesn't wait. An asked session that is granted
-    /// first keeps the grant.
+    /// Asks `other` to cancel its wait, and wakes it where it waits (`pg_cancel_backend` in signalfuncs.c). Where it
+    /// doesn't wait nothing is left of that; a session that asks itself doesn't wait. An asked session that is
+    /// granted first keeps the grant.
     pub fn ask_cancel(&mut self, other: SessionId) -> Asked
         ensures asked { Asks (B.view self.old.board) other result (B.view self.new.board) }
+        ensures quiet { B.quiet self.new.board ≡ B.quiet self.old.board }
         ensures oneself { other ≡ (B.seat self.old.board).number → result ≡ Asked.NotWaiting }
         ensures owned { self.new.owned ≡ self.old.owned }
         ensures uses { self.new.uses ≡ self.old.uses }
@@ -323,6 +333,7 @@ impl<T: PartTable, B: Board<T>> OwnWaiting<T, B> {
         // What it is answered.
         ensures polled { Polls (B.seat self.board).number (B.view self.board).trace (answer_polled result)
             (B.view (board_polled result)).trace }
+        ensures quiet { B.quiet (board_polled result) ≡ B.quiet self.board }
 
         // What stands after it.
         ensures entries { IfGranted result (λ session. session.owned.entries
@@ -365,6 +376,7 @@ impl<T: PartTable, B: Board<T>> OwnWaiting<T, B> {
         // What it is answered.
         ensures steps { Cancels (B.seat self.board).number (B.view self.board).trace self.tag self.mode
             (was_granted result) (B.view (session_cancelled result).board).trace }
+        ensures quiet { B.quiet (session_cancelled result).board ≡ B.quiet self.board }
 
         // What stands after it.
         ensures entries { was_granted result ≡ true → (session_cancelled result).owned.entries
@@ -396,6 +408,7 @@ impl<T: PartTable, B: Board<T>> OwnWaiting<T, B> {
         ensures cancelled { IsOkUnless (answer_waited result) Refusal.Cancelled }
         ensures steps { Waits (B.seat self.board).number (B.view self.board).trace self.tag self.mode
             (answer_waited result) (B.view (session_waited result).board).trace }
+        ensures quiet { B.quiet (session_waited result).board ≡ B.quiet self.board }
 
         // What stands after it.
         ensures entries { OnOk (answer_waited result) ((session_waited result).owned.entries

@@ -30,9 +30,11 @@ use Rattle.lock_model.specs.Shows.{ListsHolds, waiters_of}
 abbrev pub holds_of : Plain → List Hold
 holds_of plain = plain.holds.items
 
+-- its waits
 abbrev pub listed_waits : Plain → List QueuedWait
 listed_waits plain = plain.waits.items
 
+-- those who wait for lightweight locks
 abbrev pub listed_sleepers : Plain → List Sleeper
 listed_sleepers plain = plain.lists.sleepers.items
 
@@ -40,6 +42,7 @@ listed_sleepers plain = plain.lists.sleepers.items
 abbrev pub groups_of : Plain → ℕ
 groups_of plain = plain.groups
 
+-- what a word shows
 abbrev pub word_of : Plain → Word → ℕ
 word_of plain (Partition p) = lock_state.word_of (slice_index_or plain.words.partitions p opening_state)
 word_of plain (Fast session) = lock_state.word_of (slice_index_or plain.words.fast session opening_state)
@@ -81,6 +84,7 @@ abbrev pub StandsAt : World → ℕ → Tag → Mode → Spot → Type 0
 StandsAt w session tag mode spot.Table = table_holds w session tag mode ≡ true
 StandsAt w session tag mode (spot.Slot place) = IsHeldIn (w.words.database session) (w.words.slot session) tag mode place
 
+-- A hold of the answer stands where it says.
 abbrev pub StandsThere : World → Hold → Type 0
 StandsThere w hold = StandsAt w hold.session hold.tag hold.mode hold.spot
 

@@ -67,6 +67,7 @@ pub record ShowsHand (shown : InHand) (hand : Hand) : Type 0 where
   pub recorded : shown.recorded ≡ hand.recorded
   pub unmarked : (session : ℕ) → is_unmarked_in shown.unmarked session ≡ hand.unmarked session
 
+-- Either both have no hand, or the machine's hand is the World's.
 abbrev pub ShowsHandIfAny : Option InHand → Option Hand → Type 0
 ShowsHandIfAny None None = Unit {0}
 ShowsHandIfAny (Some shown) (Some hand) = ShowsHand shown hand

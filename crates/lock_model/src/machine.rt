@@ -34,9 +34,9 @@ use state::Machine;
 pub use state::Sleeper;
 use std::alloc::Global;
 
-/// Runs the events of up to 64 sessions from the opening World, one after another. Each session has so many groups
-/// of fast-path slots, 1 to 8. An event that is not lawful where it comes is skipped. The World after them, and
-/// each one on the way, is safe.
+/// Runs the events `events` of up to 64 sessions from the opening World, one after another. Each session has
+/// `groups` groups of fast-path slots, 1 to 8. An event that is not lawful where it comes is skipped. The World
+/// after them, and each one on the way, is safe.
 pub fn run_events(alloc: Global, groups: u8, events: &[Event]) -> Result<Plain, NoMemory>
     requires some { 1 ≤ groups }
     requires few { groups ≤ most_groups }

@@ -17,3 +17,4 @@ pub mod Wakings
 pub mod Listings
 pub mod CountLaws
 pub mod Sessions
+mod Walks

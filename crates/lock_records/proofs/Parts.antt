@@ -1,4 +1,4 @@
-use Rattle.std.proofs.Common.{◌≡◌, ℕ, ◌<◌, ◌≤◌, true, false, not, List, [], Option, None, arith, refl, sym, ap, ◌∙◌, subst, inl, inr}
+use Rattle.std.proofs.Common.{◌≡◌, ℕ, ◌<◌, ◌≤◌, true, false, not, List, [], Option, Some, None, arith, refl, sym, ap, ◌∙◌, subst, inl, inr}
 use Rattle.std.proofs.lemmas.Bool.{cases_Bool, both_ways, false≢true, false_from_ne_true}
 use Rattle.modes_core.specs.declared.modes.Mode.{Mode}
 use Rattle.modes_core.specs.declared.tags.Tag.{Tag}
@@ -21,6 +21,8 @@ use Rattle.std.specs.Prelude.{option_map}
 use Rattle.lock_table.specs.Queue.{wait_in}
 use Rattle.lock_table.proofs.PutLemmas.{put_here, put_else}
 use Rattle.lock_records.proofs.Changes.{queues-put, queues-else}
+use Rattle.std.specs.Option.{ForSome}
+use Rattle.lock_table.proofs.Options.{ForSome-some}
 use Rattle.lock_records.specs.Tally.{counts_in}
 use Rattle.modes_core.specs.Tag.{tag_eq}
 use Rattle.modes_core.specs.Mode.{mode_eq}
@@ -135,3 +137,10 @@ noted-none index none = record {
   once = λ t k j one two. nothing-there [] k (k ≡ j) one.lock refl one.there;
   within = λ t k i. nothing-there [] k (k < index.places) i.lock refl i.there;
 }
+
+-- There is nothing to say where there is nothing, and one fact of what is there.
+pub nothing-said : {X : Type 0} (P : X → Type 0) (o : Option X) → o ≡ None → ForSome o P
+nothing-said P o none = λ x is. let no_way : ⊥ = cc in absurd no_way
+
+pub one-said : {X : Type 0} (P : X → Type 0) (o : Option X) (x : X) → o ≡ Some x → P x → ForSome o P
+one-said {X = X} P o x is fact = subst (λ (it : Option X). ForSome it P) (sym is) (ForSome-some P x fact)

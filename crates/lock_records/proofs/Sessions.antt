@@ -1,9 +1,9 @@
 use Rattle.std.proofs.Common.{◌≡◌, ◌≢◌, ℕ, ◌+◌, ◌<◌, ◌≤◌, Bool, true, false, ◌&&◌, ◌||◌, List, [], ◌∷◌, refl, sym, ap, ◌∙◌, inl, inr, arith}
-use Rattle.std.specs.Prelude.{◌==◌, count_by, slice_index, if◌then◌else◌}
+use Rattle.std.specs.Prelude.{◌==◌, count_by, if◌then◌else◌}
 use Rattle.std.proofs.lemmas.Bool.{cases_Bool, false_from_ne_true, and_parts, and_from, or_left, or_right, eq-eqb, eqb-true, cond-true, cond-false}
 use Rattle.modes_core.specs.declared.modes.Mode.{Mode}
 use Rattle.modes_core.specs.declared.tags.Tag.{Tag}
-use Rattle.modes_core.specs.Mode.{number_of, mode_eq}
+use Rattle.modes_core.specs.Mode.{mode_eq}
 use Rattle.lock_table.specs.Content.{Wait, Content}
 use Rattle.lock_table.specs.Queue.{waits_there, awaits_mode}
 use Rattle.lock_table.proofs.HoldLists.{count_by-cons}

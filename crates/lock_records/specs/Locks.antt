@@ -27,9 +27,17 @@ pub record IsLockAt (slots : List (Option LockRecord)) (tag : Tag) (place : ℕ)
   pub there : lock_at slots place ≡ Some lock
   pub on : lock.tag ≡ tag
 
+-- The record is the object's, wherever it stands.
+pub record IsLockOf (slots : List (Option LockRecord)) (tag : Tag) (lock : LockRecord) : Type 0 where
+  pub place : ℕ
+  pub there : lock_at slots place ≡ Some lock
+  pub on : lock.tag ≡ tag
+
+-- Some record is the object's.
 abbrev pub HasLock : List (Option LockRecord) → Tag → Type 0
 HasLock slots tag = (place : ℕ) × IsLockAt slots tag place
 
+-- No record is the object's.
 abbrev pub HasNoLock : List (Option LockRecord) → Tag → Type 0
 HasNoLock slots tag = (place : ℕ) → IsLockAt slots tag place → ⊥
 
@@ -72,6 +80,7 @@ pub record IsRelocked (old new : List (Option LockRecord)) (tag : Tag) (place : 
 abbrev pub IsIdle : LockRecord → Type 0
 IsIdle lock = (lock.holders.count ≡ 0) × ((mode : Mode) → counts_in lock.awaited mode ≡ 0)
 
+-- The record counts a holder record or a wait.
 abbrev pub IsCounting : LockRecord → Type 0
 IsCounting lock = (0 < lock.holders.count) ⊎ ((mode : Mode) × (0 < counts_in lock.awaited mode))
 

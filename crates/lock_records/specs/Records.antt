@@ -9,14 +9,15 @@ use Rattle.lock_records.specs.Objects.{AreObjects, HasRoom}
 use Rattle.lock_records.specs.View.{RecordView}
 use Rattle.lock_records.specs.declared.records.Records.TheInside.{Inside}
 
+-- What contracts see of a part with records.
 abbrev pub view_of : Inside → RecordView
 view_of part = record {
   locks = part.locks.slots;
   next_lock = part.locks.vacant_key;
   holders = part.holders.slots;
   queues = part.queues.slots;
-  begun = part.begun;
-  prepared = part.prepared;
+  begun = part.begun.request;
+  prepared = part.prepared.request;
   capacity = record {
     locks = part.locks.capacity;
     holders = part.holders.capacity;
@@ -26,13 +27,14 @@ view_of part = record {
 }
 
 -- The records of each object are right, the index finds the lock records, and there is room for the hold that each wait becomes; a begun
--- request is new, and has room.
+-- request is new, and has room. An object that is noted as absent has no record, and the begun request is on it.
 pub record AreRecords (part : Inside) : Type 0 where
   pub objects : AreObjects part.locks.slots part.holders.slots part.queues.slots
   pub noted : AreNoted part.locks.slots part.index
   pub room : slab_len part.holders + waiting_in part.queues.slots ≤ part.holders.capacity
-  pub begun_new : ForSome part.begun (λ request. holds_in part.holders.slots request.session request.tag request.mode ≡ false)
-  pub begun_not_awaited : ForSome part.begun
+  pub begun_new : ForSome part.begun.request (λ request. holds_in part.holders.slots request.session request.tag request.mode ≡ false)
+  pub begun_not_awaited : ForSome part.begun.request
       (λ request. awaits_mode (queue_on part.queues.slots request.tag) request.session request.mode ≡ false)
-  pub begun_room : ForSome part.begun (λ request. HasRoom part.locks part.holders part.queues part.index)
-  pub begun_absent : part.absent ≡ true → ForSome part.begun (λ request. HasNoLock part.locks.slots request.tag)
+  pub begun_room : ForSome part.begun.request (λ request. HasRoom part.locks part.holders part.queues part.index)
+  pub absent : part.absent ≡ true → HasNoLock part.locks.slots part.absent_tag
+  pub begun_absent : part.absent ≡ true → ForSome part.begun.request (λ request. request.tag ≡ part.absent_tag)

@@ -12,6 +12,7 @@ counts_in by_mode mode = slice_index by_mode (number_of mode)
 abbrev pub one_more : (Mode → ℕ) → Mode → Mode → ℕ
 one_more counts mode = put mode_eq counts mode (counts mode + 1)
 
+-- counts by mode, with one less of a mode
 abbrev pub one_less : (Mode → ℕ) → Mode → Mode → ℕ
 one_less counts mode = put mode_eq counts mode (counts mode - 1)
 

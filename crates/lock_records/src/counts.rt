@@ -21,7 +21,7 @@ pub struct Counts {
     pub wait_mask: ModeSet,
 }
 
-/// The counts that a lock record keeps.
+/// The counts that `lock` keeps.
 pub(crate) fn counts_of(lock: &LockRecord) -> Counts
     ensures granted { (mode : Mode) → slice_index result.granted (number_of mode) ≡ counts_in lock.now.granted mode }
     ensures requested { (mode : Mode) → slice_index result.requested (number_of mode)

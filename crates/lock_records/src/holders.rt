@@ -27,7 +27,7 @@ pub struct Holders {
     pub count: u8,
 }
 
-/// Where the session's record of the object stands.
+/// Where the record of `session` on `tag` stands in `slots`, in the chain `holders`.
 #[inline(always)]
 pub(crate) fn find_holder(
     slots: &Slab<HolderRecord>,
@@ -50,7 +50,7 @@ pub(crate) fn find_holder(
     None
 }
 
-/// Adds a mode that the session doesn't hold to its record of the object, which is made where there is none.
+/// Adds `mode`, which `session` doesn't hold, to its record of `tag`, which is made where there is none.
 #[inline(always)]
 pub(crate) fn raise_holder(
     slots: &mut Slab<HolderRecord>,
@@ -77,7 +77,7 @@ pub(crate) fn raise_holder(
     }
 }
 
-/// Makes a session's first record of the object, at the head of the chain.
+/// Makes the first record of `session` on `tag`, at the head of the chain, with `mode`.
 #[inline(always)]
 fn put_holder(
     slots: &mut Slab<HolderRecord>,
@@ -106,7 +106,7 @@ fn put_holder(
     holders.count += 1;
 }
 
-/// Takes a mode out of the session's record of the object, and the record with the last one.
+/// Takes `mode` out of the record of `session` on `tag`, and the record with the last mode.
 #[inline(always)]
 pub(crate) fn lower_holder(
     slots: &mut Slab<HolderRecord>,
@@ -134,8 +134,8 @@ pub(crate) fn lower_holder(
     }
 }
 
-/// Takes the session's record of the object out, which stands at this place: the head of the chain goes, and what
-/// it says goes into the gap.
+/// Takes the record of `session` on `tag`, at `place`, out of the chain: the head of the chain goes, and what it
+/// says goes into the gap.
 #[inline(always)]
 fn take_holder(
     slots: &mut Slab<HolderRecord>,
@@ -164,7 +164,7 @@ fn take_holder(
     gap.modes = head.modes;
 }
 
-/// The session with the lowest number, other than this one, that holds the object in one of these modes, with all
+/// The session with the lowest number, other than `session`, that holds `tag` in one of the modes of `set`, with all
 /// the modes that it holds.
 pub(crate) fn lowest_holder(
     slots: &Slab<HolderRecord>,
@@ -187,7 +187,7 @@ pub(crate) fn lowest_holder(
     lowest
 }
 
-/// The lowest session so far, with this record considered.
+/// The lowest session so far, `lowest`, with the record `holder` considered.
 #[inline(always)]
 fn considered(
     lowest: Option<(SessionId, ModeSet)>,
@@ -211,7 +211,7 @@ fn considered(
     Some((holder.session, holder.modes))
 }
 
-/// The lowest mode that is in both sets.
+/// The lowest mode that is in `modes` and in `set`.
 #[inline(never)]
 pub(crate) fn lowest_mode(modes: ModeSet, set: ModeSet) -> Mode
     requires { (mode : _) × (set_has modes mode ≡ true) × (set_has set mode ≡ true) }

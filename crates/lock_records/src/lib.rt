@@ -8,6 +8,7 @@ mod listing;
 mod locks;
 mod objects;
 mod part;
+mod pending;
 mod records;
 mod sets;
 mod tally;

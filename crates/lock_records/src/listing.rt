@@ -9,7 +9,7 @@ use lock_table::{NoMemory, TableRow, Waiter};
 use modes_core::{Mode, Tag};
 use slab::Slab;
 
-/// Appends a row for each mode of a holder record.
+/// Appends to `rows` a row for each mode of `holder`.
 fn push_modes(holder: &HolderRecord, rows: &mut Vec<TableRow>) -> Result<(), NoMemory>
     ensures ok { OnOk result (AppendsRows rows.old.items rows.new.items (shown_by (Some holder.now))) }
     ensures err { OnErr result (HasMoreRows rows.old.items rows.new.items) }
@@ -32,7 +32,7 @@ fn push_modes(holder: &HolderRecord, rows: &mut Vec<TableRow>) -> Result<(), NoM
     Ok(())
 }
 
-/// Appends a row for each hold that the holder records show.
+/// Appends to `rows` a row for each hold that `holders` show.
 pub(crate) fn push_holds(
     holders: &Slab<HolderRecord>,
     rows: &mut Vec<TableRow>,
@@ -51,7 +51,7 @@ pub(crate) fn push_holds(
     Ok(())
 }
 
-/// Appends a row for each of these waits on the object.
+/// Appends to `rows` a row for each of `waiters`, waits on `tag`.
 pub(crate) fn push_waits(
     tag: &Tag,
     waiters: &[Waiter],

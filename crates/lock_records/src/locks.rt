@@ -1,10 +1,10 @@
-ghost use Rattle.std.specs.Prelude.{◌≡◌, ◌<◌, ◌≤◌, false, true, IfSome, IfNone, Some};
+ghost use Rattle.std.specs.Prelude.{◌≡◌, ◌<◌, ◌≤◌, false, true, IfSome, IfNone, Some, None};
 ghost use Rattle.modes_core.specs.declared.modes.Mode.{Mode};
 ghost use Rattle.modes_core.specs.Conflict.{conflict};
 ghost use Rattle.modes_core.specs.Tag.{tag_eq};
 ghost use Rattle.slab.specs.Slab.{slab_len, HasRoomFor};
 ghost use Rattle.lock_records.specs.Tally.{counts_in};
-ghost use Rattle.lock_records.specs.Locks.{lock_at, is_on, key_of, IsLockAt, HasNoLock, AreNoted, HasSameLocks, HasMadeLock, IsNewLock, IsIdle, IsCounting, IsDropped};
+ghost use Rattle.lock_records.specs.Locks.{lock_at, is_on, key_of, IsLockAt, HasNoLock, IsLockOf, AreNoted, HasSameLocks, HasMadeLock, IsNewLock, IsIdle, IsCounting, IsDropped};
 
 use crate::holders::Holders;
 use crate::tally::Tally;
@@ -25,7 +25,7 @@ pub struct LockRecord {
 }
 
 impl LockRecord {
-    /// A record of an object that nobody holds or awaits.
+    /// A record of `tag`, which nobody holds or awaits.
     fn new(tag: Tag) -> Self
         ensures { IsNewLock result tag }
     {
@@ -40,7 +40,7 @@ impl LockRecord {
 }
 
 impl LockRecord {
-    /// Whether a mode in conflict with this one is held or awaited, by whomever.
+    /// Whether a mode in conflict with `mode` is held or awaited, by any session.
     #[inline(always)]
     pub(crate) fn may_conflict(&self, mode: Mode) -> bool
         ensures granted { result ≡ false →
@@ -52,7 +52,7 @@ impl LockRecord {
         self.awaited.meets(conflicting) || self.granted.meets(conflicting)
     }
 
-    /// Whether a mode in conflict with this one is awaited.
+    /// Whether a mode in conflict with `mode` is awaited.
     #[inline(always)]
     pub(crate) fn is_awaited(&self, mode: Mode) -> bool
         ensures some { result ≡ true →
@@ -73,8 +73,8 @@ impl LockRecord {
     }
 }
 
-/// What the index has an object under. The lowest bits of a tag's hash are those of its partition, and the index
-/// tells chains by the highest: the multiplication mixes them.
+/// The key under which the index has `tag`. The lowest bits of a tag's hash are those of its partition, and the
+/// index tells chains by the highest: the multiplication mixes them.
 #[inline(always)]
 fn key_of(tag: &Tag) -> u32
     ensures { result ≡ key_of tag.now }
@@ -82,16 +82,16 @@ fn key_of(tag: &Tag) -> u32
     tag.hash().wrapping_mul(2_654_435_761)
 }
 
-/// Whether both tags are the same one. They are compared where they stand: a copy is stored field by field, and the
-/// comparison waits for that.
+/// Whether `tag` is `other`. They are compared where they stand: a copy is stored field by field, and the comparison
+/// waits for that.
 #[inline(always)]
-fn is_same_tag(tag: &Tag, other: &Tag) -> bool
+pub(crate) fn is_same_tag(tag: &Tag, other: &Tag) -> bool
     ensures { result ≡ tag_eq tag.now other.now }
 {
     *tag == *other
 }
 
-/// Whether the place has a record of the object.
+/// Whether `locks` has a record of `tag` at `place`.
 #[inline(always)]
 fn is_lock_on(locks: &Slab<LockRecord>, place: usize, tag: &Tag) -> bool
     ensures { result ≡ is_on tag.now (lock_at locks.now.slots place) }
@@ -102,7 +102,7 @@ fn is_lock_on(locks: &Slab<LockRecord>, place: usize, tag: &Tag) -> bool
     }
 }
 
-/// Where the object's record stands. The place where a record was found last is looked at first.
+/// Where the record of `tag` stands in `locks`. `hint`, the place where a record was found last, is looked at first.
 #[inline(always)]
 pub(crate) fn find_lock(
     locks: &Slab<LockRecord>,
@@ -120,8 +120,8 @@ pub(crate) fn find_lock(
     find_lock_by_index(locks, index, tag)
 }
 
-/// The same for a call that mostly follows one on the same object: another way than by the hint is a function of its
-/// own, so that this one stays short.
+/// Where the record of `tag` stands in `locks`, for a call that mostly follows one on the same object: another way
+/// than by `hint` is a function of its own, so that this one stays short.
 #[inline(always)]
 pub(crate) fn find_hinted_lock(
     locks: &Slab<LockRecord>,
@@ -139,7 +139,40 @@ pub(crate) fn find_hinted_lock(
     Some(hint)
 }
 
-/// The way through the index as a function of its own.
+/// Keeps `tag` in `kept`, where no record of it was found.
+#[inline(always)]
+pub(crate) fn keep_absent(kept: &mut Tag, found: Option<usize>, tag: &Tag)
+    ensures { found ≡ None → kept.new ≡ tag.now }
+{
+    if found.is_none() {
+        *kept = *tag;
+    }
+}
+
+/// The record of `tag`, for a call that mostly follows one on the same object, whose place is `hint`.
+#[inline(always)]
+pub(crate) fn hinted_lock<'a>(
+    locks: &'a Slab<LockRecord>,
+    index: &PlaceIndex,
+    hint: usize,
+    tag: &Tag,
+) -> Option<&'a LockRecord>
+    requires { AreNoted locks.now.slots index.now }
+    ensures found { IfSome result (λ lock. IsLockOf locks.now.slots tag.now lock.now) }
+    ensures absent { IfNone result (HasNoLock locks.now.slots tag.now) }
+{
+    if let Some(lock) = locks.get(hint) {
+        if is_same_tag(tag, &lock.tag) {
+            return Some(lock);
+        }
+    }
+    match find_lock_cold(locks, index, tag) {
+        Some(place) => Some(&locks[place]),
+        None => None,
+    }
+}
+
+/// Where the record of `tag` stands in `locks`, by the index: a function of its own, called seldom.
 #[cold]
 #[inline(never)]
 fn find_lock_cold(locks: &Slab<LockRecord>, index: &PlaceIndex, tag: &Tag) -> Option<usize>
@@ -150,7 +183,7 @@ fn find_lock_cold(locks: &Slab<LockRecord>, index: &PlaceIndex, tag: &Tag) -> Op
     find_lock_by_index(locks, index, tag)
 }
 
-/// Where the object's record stands, looked for through the index alone.
+/// Where the record of `tag` stands in `locks`, looked for through `index` alone.
 #[inline(always)]
 fn find_lock_by_index(locks: &Slab<LockRecord>, index: &PlaceIndex, tag: &Tag) -> Option<usize>
     requires { AreNoted locks.now.slots index.now }
@@ -166,7 +199,8 @@ fn find_lock_by_index(locks: &Slab<LockRecord>, index: &PlaceIndex, tag: &Tag) -
     }
 }
 
-/// Where the object's record stands, which is made where there is none. The caller may know that there is none.
+/// Where the record of `tag` stands in `locks`, which is made where there is none. `absent` says that the caller
+/// knows that there is none.
 #[inline(always)]
 pub(crate) fn find_or_make_lock(
     locks: &mut Slab<LockRecord>,
@@ -191,7 +225,7 @@ pub(crate) fn find_or_make_lock(
     }
 }
 
-/// Makes a record of an object that has none.
+/// Makes a record of `tag`, which has none.
 #[inline(always)]
 fn make_lock(locks: &mut Slab<LockRecord>, index: &mut PlaceIndex, tag: &Tag) -> usize
     requires noted { AreNoted locks.old.slots index.old }
@@ -207,7 +241,7 @@ fn make_lock(locks: &mut Slab<LockRecord>, index: &mut PlaceIndex, tag: &Tag) ->
     place
 }
 
-/// Takes the object's record out where nobody holds or awaits the object any more.
+/// Takes the record of `tag`, at `place`, out where nobody holds or awaits the object any more.
 #[inline(always)]
 pub(crate) fn drop_empty(
     locks: &mut Slab<LockRecord>,
@@ -227,7 +261,7 @@ pub(crate) fn drop_empty(
     }
 }
 
-/// Takes the object's record out.
+/// Takes the record of `tag`, at `place`, out.
 fn drop_lock(locks: &mut Slab<LockRecord>, index: &mut PlaceIndex, tag: &Tag, place: usize)
     requires noted { AreNoted locks.old.slots index.old }
     requires there { IsLockAt locks.old.slots tag.now place }

@@ -20,8 +20,8 @@ use modes_core::{Mode, SessionId, Tag, conflicts};
 use place_index::PlaceIndex;
 use slab::Slab;
 
-/// Makes room for a request: in the index for one lock record more, for that record, for the hold that it and each wait
-/// becomes, and for a queue record more. No record changes.
+/// Makes room for a request: in `index` for one lock record more, in `locks` for that record, in `holders` for the
+/// hold that it and each wait becomes, and in `queues` for a queue record more. No record changes.
 #[inline(always)]
 pub(crate) fn make_room(
     locks: &mut Slab<LockRecord>,
@@ -56,7 +56,7 @@ pub(crate) fn make_room(
     queues.reserve()
 }
 
-/// Adds a hold that is not there.
+/// Adds the hold of `session` on `tag` in `mode`, which is not there, to the lock record at `place`.
 #[inline(always)]
 pub(crate) fn add_hold(
     locks: &mut Slab<LockRecord>,
@@ -86,7 +86,7 @@ pub(crate) fn add_hold(
     lock.granted.raise(mode);
 }
 
-/// Takes a hold out.
+/// Takes the hold of `session` on `tag` in `mode` out, by the lock record at `place`.
 #[inline(always)]
 pub(crate) fn remove_hold(
     locks: &mut Slab<LockRecord>,
@@ -115,23 +115,20 @@ pub(crate) fn remove_hold(
     lock.granted.lower(mode);
 }
 
-/// The lowest-numbered other session that holds the object in a mode in conflict with the mode, with its lowest
-/// such mode. Where nobody holds one, the mask says so.
+/// The lowest-numbered session other than `session` that holds `tag`, the object of `lock`, in a mode in conflict
+/// with `mode`, with its lowest such mode. Where nobody holds one, the mask says so.
 #[inline(always)]
 pub(crate) fn holder_in_the_way(
-    locks: &Slab<LockRecord>,
+    lock: &LockRecord,
     holders: &Slab<HolderRecord>,
-    place: usize,
     tag: &Tag,
     session: SessionId,
     mode: Mode,
 ) -> Option<(SessionId, Mode)>
-    requires there { IsLockAt locks.now.slots tag.now place }
-    requires held { (i : IsLockAt locks.now.slots tag.now place) → IsHeldLock holders.now.slots tag.now i.lock }
+    requires held { IsHeldLock holders.now.slots tag.now lock.now }
     requires are { AreHolders holders.now.slots tag.now }
     ensures { HolderInTheWay (holds_in holders.now.slots) session tag.now mode result }
 {
-    let lock = &locks[place];
     let conflicting = conflicts(mode);
     if !lock.granted.meets(conflicting) {
         return None;
@@ -142,7 +139,7 @@ pub(crate) fn holder_in_the_way(
     }
 }
 
-/// Where the queue record of an object is, which its lock record notes; there is none where nobody awaits it.
+/// Where the queue record of `tag` is in `queues`, which `lock` notes; there is none where nobody awaits the object.
 #[inline(always)]
 pub(crate) fn queue_place(lock: &LockRecord, queues: &WaitQueues, tag: &Tag) -> Option<usize>
     requires { (mode : Mode) → counts_in lock.now.awaited mode ≡ awaited_of (queue_on queues.now.slots tag.now) mode }
@@ -155,7 +152,8 @@ pub(crate) fn queue_place(lock: &LockRecord, queues: &WaitQueues, tag: &Tag) -> 
     queues.find(lock.queue, tag)
 }
 
-/// Counts one more wait for the mode, and notes where the object's queue record is.
+/// Counts one more wait for `mode` in the lock record of `tag` at `place`, and notes that the object's queue record
+/// is at `queue`.
 pub(crate) fn raise_awaited(
     locks: &mut Slab<LockRecord>,
     place: usize,
@@ -176,7 +174,7 @@ pub(crate) fn raise_awaited(
     lock.awaited.raise(mode);
 }
 
-/// Counts a wait less for the mode.
+/// Counts a wait less for `mode` in the lock record of `tag` at `place`.
 pub(crate) fn lower_awaited(locks: &mut Slab<LockRecord>, place: usize, tag: &Tag, mode: Mode)
     requires there { IsLockAt locks.old.slots tag.now place }
     requires some { (i : IsLockAt locks.old.slots tag.now place) → 0 < counts_in i.lock.awaited mode }

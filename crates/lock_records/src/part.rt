@@ -30,7 +30,7 @@ impl RecordPart {
     ghost use Rattle.lock_records.specs.View.{content_of};
     ghost use Rattle.lock_records.specs.Counts.{AreCountsOf, IsUntouched};
 
-    /// A part with nothing in it, which grows by this allocator. After `NoMemory` there is nothing.
+    /// A part with nothing in it, which grows by `alloc`. After `NoMemory` there is nothing.
     pub fn new(alloc: Global) -> Result<Self, NoMemory>
         ensures content { IfOk result (λ part. content_of part ≡ empty_content) }
         ensures begun { IfOk result (λ part. part.begun ≡ None) }
@@ -39,7 +39,7 @@ impl RecordPart {
         Ok(RecordPart { records })
     }
 
-    /// The counts of an object, or that nobody holds or awaits it. No record is kept of such an object: there is
+    /// The counts of `tag`, or that nobody holds or awaits it. No record is kept of such an object: there is
     /// something to count wherever there are counts.
     pub fn counts(&self, tag: &Tag) -> Option<Counts>
         ensures found { IfSome result (AreCountsOf (content_of self.now) tag.now) }

@@ -3,10 +3,13 @@ ghost use Rattle.std.specs.Prelude.{◌≡◌, ◌<◌, ◌≤◌, false, true, 
 use crate::counts::{Counts, counts_of};
 use crate::holders::{HolderRecord, find_holder};
 use crate::listing::push_holds;
-use crate::locks::{LockRecord, drop_empty, find_hinted_lock, find_lock, find_or_make_lock};
+use crate::locks::{
+    LockRecord, drop_empty, find_lock, find_or_make_lock, hinted_lock, is_same_tag, keep_absent,
+};
 use crate::objects::{
     add_hold, holder_in_the_way, lower_awaited, make_room, queue_place, raise_awaited, remove_hold,
 };
+use crate::pending::Pending;
 use crate::wait_queues::{WaitQueues, queue_up};
 use lock_table::{NoMemory, PartTable, Request, TableRow, Waiter, Woken, is_against, sort_rows};
 use modes_core::{Mode, ModeSet, SessionId, Tag};
@@ -23,13 +26,17 @@ pub struct Records {
     holders: Slab<HolderRecord>,
     queues: WaitQueues,
     index: PlaceIndex,
-    begun: Option<Request>,
-    /// The request that room was made for last. Contracts alone read it.
-    prepared: Option<Request>,
+    /// The request that is begun.
+    begun: Pending,
+    /// The request that room was made for last.
+    prepared: Pending,
     /// Where a lock record was found last: the call that follows mostly wants the same one.
     hint: usize,
-    /// Whether the object of the begun request has no lock record. Nobody makes one before it is granted or joins.
+    /// Whether the object of the request that was begun last has no lock record. Nobody makes one before the request is
+    /// granted or joins.
     absent: bool,
+    /// Which object that is.
+    absent_tag: Tag,
 }
 
 impl Model for Records {
@@ -50,7 +57,7 @@ impl Records {
     ghost use Rattle.lock_records.specs.View.{content_of};
     ghost use Rattle.lock_records.specs.Counts.{AreCountsOf, IsUntouched};
 
-    /// A part with nothing in it, which grows by this allocator.
+    /// A part with nothing in it, which grows by `alloc`.
     pub fn new(alloc: Global) -> Result<Self, NoMemory>
         ensures content { IfOk result (λ part. content_of part ≡ empty_content) }
         ensures begun { IfOk result (λ part. part.begun ≡ None) }
@@ -61,14 +68,15 @@ impl Records {
             holders: Slab::new(alloc),
             queues: WaitQueues::new(alloc),
             index,
-            begun: None,
-            prepared: None,
+            begun: Pending::nothing(),
+            prepared: Pending::nothing(),
             hint: 0,
             absent: false,
+            absent_tag: Tag::relation(0, 0),
         })
     }
 
-    /// The counts of an object, or that nobody holds or awaits it. No record is kept of such an object: there is
+    /// The counts of `tag`, or that nobody holds or awaits it. No record is kept of such an object: there is
     /// something to count wherever there are counts.
     pub fn counts(&self, tag: &Tag) -> Option<Counts>
         ensures found { IfSome result (AreCountsOf (content_of self.now) tag.now) }
@@ -95,7 +103,7 @@ impl Records {
     ghost use Rattle.lock_table.specs.Queue.{awaits_mode, remove_wait, conflicts_with_some};
     ghost use Rattle.lock_records.specs.View.{content_of};
 
-    /// Whether the mode is free to go for the session, behind waits for these modes.
+    /// Whether `mode` on `tag` is free to go for `session`, behind waits for the modes `ahead`.
     fn is_free(&self, session: SessionId, tag: &Tag, mode: Mode, ahead: ModeSet) -> bool
         ensures free { result ≡ true →
             (conflicts_with_some mode (set_has ahead) ≡ false)
@@ -109,7 +117,7 @@ impl Records {
         self.conflict_of(session, tag, mode).is_none()
     }
 
-    /// Whether the object is known to have no lock record, since the request that is begun is on it and found none.
+    /// Whether `tag` is known to have no lock record, since the last `begin` was on it and found none.
     #[inline(always)]
     fn is_absent(&self, tag: &Tag) -> bool
         ensures held { result ≡ true →
@@ -119,13 +127,10 @@ impl Records {
         if !self.absent {
             return false;
         }
-        match self.begun {
-            Some(request) => tag.is_same(request.tag),
-            None => false,
-        }
+        is_same_tag(tag, &self.absent_tag)
     }
 
-    /// Where the object's queue record is, if somebody awaits it.
+    /// Where the queue record of `tag` is, if somebody awaits it.
     fn queue_of(&self, tag: &Tag) -> Option<usize>
         ensures found { IfSome result (IsQueueAt self.now.queues tag.now) }
         ensures absent { IfNone result ((content_of self.now).waits tag.now ≡ []) }
@@ -136,7 +141,7 @@ impl Records {
         }
     }
 
-    /// The wait at this place of the object's queue, counted from the front.
+    /// The wait at `place` of the queue of `tag`, counted from the front.
     fn waiter_of(&self, tag: &Tag, place: usize) -> Option<Waiter>
         ensures wait { option_map shown_wait result ≡ slice_get ((content_of self.now).waits tag.now) place }
         ensures countable { length ((content_of self.now).waits tag.now) ≤ usize.MAX }
@@ -147,7 +152,7 @@ impl Records {
         }
     }
 
-    /// Makes the session's wait a hold.
+    /// Makes the wait of `session` for `tag` in `mode` a hold.
     fn grant_wait(&mut self, session: SessionId, tag: &Tag, mode: Mode)
         requires { awaits_mode ((content_of self.old).waits tag.now) session mode ≡ true }
         ensures content { content_of self.new
@@ -173,7 +178,7 @@ impl Records {
         );
     }
 
-    /// Appends the content's rows, in no order. After a refusal some may be there.
+    /// Appends the content's rows to `rows`, in no order. After a refusal some may be there.
     fn push_rows(&self, rows: &mut Vec<TableRow>) -> Result<(), NoMemory>
         ensures ok { OnOk result (AppendsRows rows.old.items rows.new.items
             (λ row. if has_row (content_of self.now) row then 1 else 0)) }
@@ -216,29 +221,30 @@ impl PartTable for Records {
             &mut self.index,
         )?;
         let found = find_lock(&self.locks, &self.index, self.hint, tag);
+        keep_absent(&mut self.absent_tag, found, tag);
         self.absent = found.is_none();
         self.hint = found.unwrap_or(self.hint);
-        let tag = *tag;
-        self.begun = Some(Request { session, tag, mode });
-        self.prepared = self.begun;
+        let request = Request {
+            session,
+            tag: *tag,
+            mode,
+        };
+        self.begun = Pending::of(&request);
+        self.prepared = Pending::of(&request);
         Ok(())
     }
 
     #[inline(always)]
     fn withdraw(&mut self, _session: SessionId, _tag: &Tag, _mode: Mode) {
-        self.begun = None;
+        self.begun = Pending::nothing();
     }
 
     #[inline(always)]
     fn grant(&mut self, session: SessionId, tag: &Tag, mode: Mode) {
-        self.begun = None;
-        let place = find_or_make_lock(
-            &mut self.locks,
-            &mut self.index,
-            self.hint,
-            self.absent,
-            tag,
-        );
+        self.begun = Pending::nothing();
+        let absent = self.absent;
+        self.absent = false;
+        let place = find_or_make_lock(&mut self.locks, &mut self.index, self.hint, absent, tag);
         self.hint = place;
         add_hold(
             &mut self.locks,
@@ -286,8 +292,8 @@ impl PartTable for Records {
         if self.is_absent(tag) {
             return false;
         }
-        match find_hinted_lock(&self.locks, &self.index, self.hint, tag) {
-            Some(place) => self.locks[place].may_conflict(mode),
+        match hinted_lock(&self.locks, &self.index, self.hint, tag) {
+            Some(lock) => lock.may_conflict(mode),
             None => false,
         }
     }
@@ -297,8 +303,8 @@ impl PartTable for Records {
         if self.is_absent(tag) {
             return None;
         }
-        match find_hinted_lock(&self.locks, &self.index, self.hint, tag) {
-            Some(place) => holder_in_the_way(&self.locks, &self.holders, place, tag, session, mode),
+        match hinted_lock(&self.locks, &self.index, self.hint, tag) {
+            Some(lock) => holder_in_the_way(lock, &self.holders, tag, session, mode),
             None => None,
         }
     }
@@ -317,14 +323,10 @@ impl PartTable for Records {
         let held = self.held(session, tag);
         let queue = self.queue_of(tag);
         let _most = self.holders.capacity();
-        self.begun = None;
-        let at = find_or_make_lock(
-            &mut self.locks,
-            &mut self.index,
-            self.hint,
-            self.absent,
-            tag,
-        );
+        self.begun = Pending::nothing();
+        let absent = self.absent;
+        self.absent = false;
+        let at = find_or_make_lock(&mut self.locks, &mut self.index, self.hint, absent, tag);
         self.hint = at;
         let waiter = Waiter {
             session,

@@ -3,7 +3,7 @@ ghost use Rattle.modes_core.specs.ModeSet.{set_has};
 
 use modes_core::{Mode, ModeSet, conflicts};
 
-/// Whether a mode is in the set. The strongest mode conflicts with each.
+/// Whether a mode is in `modes`. The strongest mode conflicts with each.
 #[inline(always)]
 pub(crate) fn has_some(modes: ModeSet) -> bool
     ensures some { result ≡ true → (mode : _) × (set_has modes mode ≡ true) }

@@ -40,7 +40,7 @@ impl Tally {
         }
     }
 
-    /// How many there are of the mode.
+    /// How many there are of `mode`.
     pub fn count(&self, mode: Mode) -> u8
         ensures { result ≡ counts_in self.now mode }
     {
@@ -71,7 +71,7 @@ impl Tally {
         self.mask
     }
 
-    /// Whether there is one of these modes.
+    /// Whether there is one of `modes`.
     #[inline(always)]
     pub fn meets(&self, modes: ModeSet) -> bool
         ensures some { result ≡ true → (mode : _) × (set_has modes mode ≡ true) × (0 < counts_in self.now mode) }
@@ -89,7 +89,7 @@ impl Tally {
         !has_some(self.mask)
     }
 
-    /// One more of the mode.
+    /// Counts one more of `mode`.
     #[inline(always)]
     pub fn raise(&mut self, mode: Mode)
         requires { counts_in self.old mode < 255 }
@@ -101,7 +101,7 @@ impl Tally {
         self.mask = self.mask.with(mode);
     }
 
-    /// One less of the mode.
+    /// Counts one less of `mode`.
     #[inline(always)]
     pub fn lower(&mut self, mode: Mode)
         requires { 0 < counts_in self.old mode }

@@ -79,7 +79,7 @@ impl WaitQueues {
         self.waiting
     }
 
-    /// Whether the object's record is at the place.
+    /// Whether the record of `tag` is at `place`.
     #[inline(always)]
     fn is_at(&self, place: usize, tag: &Tag) -> bool
         ensures { result ≡ is_queue_of tag.now (queue_at self.now.slots place) }
@@ -90,8 +90,8 @@ impl WaitQueues {
         }
     }
 
-    /// Where the object's record is. The place that its lock record notes is looked at, and the others only where
-    /// it isn't there.
+    /// Where the record of `tag` is. The place that its lock record notes, `noted`, is looked at, and the others
+    /// only where it isn't there.
     pub(crate) fn find(&self, noted: usize, tag: &Tag) -> Option<usize>
         ensures found { IfSome result (IsQueueAt self.now.slots tag.now) }
         ensures absent { IfNone result (queue_on self.now.slots tag.now ≡ []) }
@@ -107,7 +107,7 @@ impl WaitQueues {
         None
     }
 
-    /// The waits of the object whose record is at the place, the first one first.
+    /// The waits on `tag`, whose record is at `at`, the first one first.
     pub(crate) fn waiters(&self, at: usize, tag: &Tag) -> &[Waiter]
         requires { IsQueueAt self.now.slots tag.now at }
         ensures waits { map shown_wait result.now ≡ queue_on self.now.slots tag.now }
@@ -116,7 +116,7 @@ impl WaitQueues {
         self.slots[at].waiters.as_slice()
     }
 
-    /// For which mode the session waits there, if it does.
+    /// The mode that `session` awaits on `tag`, whose record is at `at`, if it does.
     pub(crate) fn awaited_mode(&self, at: usize, tag: &Tag, session: SessionId) -> Option<Mode>
         requires { IsQueueAt self.now.slots tag.now at }
         ensures { result ≡ option_map (λ wait. wait.mode) (wait_in (queue_on self.now.slots tag.now) session) }
@@ -138,7 +138,7 @@ impl WaitQueues {
         self.waiting += 1;
     }
 
-    /// Makes the record of an object that nobody awaits, with this wait in its queue, and says where it is.
+    /// Makes the record of `tag`, which nobody awaits, with `waiter` in its queue, and answers where it is.
     #[inline(never)]
     pub(crate) fn start(&mut self, tag: &Tag, waiter: Waiter) -> usize
         requires none { queue_on self.old.slots tag.now ≡ [] }
@@ -155,8 +155,8 @@ impl WaitQueues {
             .insert_reserved(QueueRecord { tag: *tag, waiters })
     }
 
-    /// Takes the session's wait out of the object's queue, whose record is at the place, and the record with its
-    /// last wait.
+    /// Takes the wait of `session` out of the queue of `tag`, whose record is at `at`, and the record with its last
+    /// wait.
     pub(crate) fn leave(&mut self, at: usize, tag: &Tag, session: SessionId)
         requires there { IsQueueAt self.old.slots tag.now at }
         requires waits { waits_there (queue_on self.old.slots tag.now) session ≡ true }
@@ -174,7 +174,7 @@ impl WaitQueues {
         }
     }
 
-    /// Appends a row for each wait. After a refusal some may be there.
+    /// Appends to `rows` a row for each wait. After a refusal some may be there.
     pub(crate) fn push_rows(&self, rows: &mut Vec<TableRow>) -> Result<(), NoMemory>
         ensures ok { OnOk result (AppendsRows rows.old.items rows.new.items
             (awaited_below self.now.slots (length self.now.slots))) }
@@ -218,7 +218,7 @@ pub(crate) fn queue_up(
     }
 }
 
-/// For which mode the session waits in a queue, if it does.
+/// The mode for which `session` waits in the queue `waiters`, if it does.
 fn mode_of(waiters: &[Waiter], session: SessionId) -> Option<Mode>
     ensures { result ≡ option_map (λ waiter. waiter.mode) (find (λ waiter. waiter.session == session) waiters.now) }
 {
@@ -228,7 +228,7 @@ fn mode_of(waiters: &[Waiter], session: SessionId) -> Option<Mode>
         .map(|waiter| waiter.mode)
 }
 
-/// Where the session's wait stands in a queue.
+/// Where the wait of `session` stands in the queue `waiters`.
 fn place_of(waiters: &[Waiter], session: SessionId) -> usize
     requires { list_any (λ waiter. waiter.session == session) waiters.now ≡ true }
     ensures within { result < length waiters.now }

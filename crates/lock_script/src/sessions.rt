@@ -1,5 +1,5 @@
 //! The open sessions of a script, by their names: those that wait, and those that don't.
-ghost use Rattle.std.specs.Prelude.{◌≡◌, ℕ, ◌<◌, ◌≤◌, [], ◌∷◌, length, remove, slice_index_or, IfOk, IfSome, IfNone, MatchOption};
+ghost use Rattle.std.specs.Prelude.{◌≡◌, ℕ, ◌<◌, ◌≤◌, [], ◌∷◌, length, insert, remove, slice_index_or, IfOk, IfSome, IfNone, MatchOption};
 ghost use Rattle.std.specs.Borrow.{sem};
 ghost use Rattle.std.specs.List.{HoldsAt};
 ghost use Rattle.lock_script.specs.Names.{IsByName, IsCalled, IsFree, NotAfter, PutsIn};
@@ -89,6 +89,16 @@ impl<S> ByName<S> {
         ensures { PutsIn self.old (record { name = name; session = session }) self.new }
     {
         let place = self.place_of(&name);
+        self.put_at(place, name, session);
+    }
+
+    /// Puts a session in at this place, where its name keeps the order, as at the place that it was taken from.
+    pub fn put_at(&mut self, place: usize, name: Name, session: S)
+        requires room { length self.old < 64 }
+        requires within { place ≤ length self.old }
+        requires in_order { IsByName (insert self.old place (record { name = name; session = session })) }
+        ensures { self.new ≡ insert self.old place (record { name = name; session = session }) }
+    {
         // There is room, so it takes no memory and is not refused.
         match self.sessions.insert(place, Named { name, session }) {
             Ok(()) => {}
@@ -99,6 +109,7 @@ impl<S> ByName<S> {
     /// How many have a name that does not come after this one.
     fn place_of(&self, name: &Name) -> usize
         ensures within { result ≤ length self.now }
+        ensures in_order { IsByName self.now }
         ensures before { (k : ℕ) (d : Named S) → k < result →
             NotAfter (slice_index_or self.now k d).name.bytes name.now.bytes }
         ensures after { (k : ℕ) (d : Named S) → result ≤ k → k < length self.now →
@@ -117,6 +128,7 @@ impl<S> ByName<S> {
         requires { place < length self.old }
         ensures taken { HoldsAt (λ one. result ≡ one) self.old place }
         ensures left { self.new ≡ remove self.old place }
+        ensures in_order { IsByName self.old }
     {
         self.sessions.remove(place)
     }

@@ -36,6 +36,7 @@ lower_holder_of (Some lowest) session mode =
 abbrev pub first_waiter : List Wait → Mode → Option Wait
 first_waiter waits mode = find (λ w. conflict mode w.mode) waits
 
+-- What a request clashes with, once the first waiter that awaits a conflicting mode is known, if there is one.
 abbrev pub ClashAfterWaiters : Option Wait → Content → ℕ → Tag → Mode → Option Clash → Type 0
 ClashAfterWaiters (Some w) content session tag mode found = found ≡ Some (record { session = w.session; mode = w.mode; how = Awaited })
 ClashAfterWaiters None content session tag mode None = NoConflictingHolder content.holds session tag mode

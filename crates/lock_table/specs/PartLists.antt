@@ -4,6 +4,7 @@ use Rattle.lock_table.specs.declared.part_lists.PartLists.TheInside.{Inside}
 use Rattle.lock_table.specs.PartView.{PartView}
 use Rattle.lock_table.specs.PartWaits.{EachOnce, OneWaitEach, times_in}
 
+-- What contracts see of a part with lists.
 abbrev pub view_of : Inside → PartView
 view_of part = record { holds = part.holds.items; waits = part.waits.items; begun = part.begun; prepared = part.prepared }
 

@@ -54,6 +54,7 @@ AnswerByPlace content session tag mode answer =
     × IsFirstAgainst (content.holds session tag) (content.waits tag) ahead waiter behind
     × AnswerAtWaiter content.holds session tag mode ahead waiter answer)
 
+-- The answer to a request that may wait, once it is known what it clashes with.
 abbrev pub WaitingAnswerAt : Option Clash → Content → ℕ → Tag → Mode → Answer → Type 0
 WaitingAnswerAt None content session tag mode answer = answer ≡ Granted
 WaitingAnswerAt (Some clash) content session tag mode answer = AnswerByPlace content session tag mode answer

@@ -12,7 +12,7 @@ use modes_core::{How, Mode, SessionId, Tag};
 pub use place::answer_by_place;
 pub use walk::{first_against, is_against};
 
-/// What stands in the way of a request: another session, with its mode.
+/// What is in the way of a request: another session, with its mode.
 #[derive(Clone, Copy)]
 pub struct Clash {
     /// The other session.
@@ -23,8 +23,8 @@ pub struct Clash {
     pub how: How,
 }
 
-/// What a request for the mode clashes with, if anything: the first waiter that awaits a conflicting
-/// mode, else the lowest-numbered session that holds one (`LockCheckConflicts` in lock.c, after the
+/// What a request of `session` for `tag` in `mode` clashes with in `part`, if anything: the first waiter that awaits
+/// a conflicting mode, else the lowest-numbered session that holds one (`LockCheckConflicts` in lock.c, after the
 /// look at `waitMask`).
 #[inline(always)]
 pub fn clash_with<P: PartTable>(
@@ -65,8 +65,8 @@ pub enum Answer {
     SimpleDeadlock(SessionId),
 }
 
-/// The answer to a request for the mode that may wait: granted where it clashes with nothing, and else
-/// by its place in the queue (`LockAcquireExtended` in lock.c, with `ProcSleep` in proc.c).
+/// The answer to a request of `session` for `tag` in `mode` that may wait: granted where it clashes with nothing in
+/// `part`, otherwise by its place in the queue (`LockAcquireExtended` in lock.c, with `ProcSleep` in proc.c).
 pub fn waiting_answer<P: PartTable>(part: &P, session: SessionId, tag: &Tag, mode: Mode) -> Answer
     ensures { WaitingAnswer (P.content part.now) session tag.now mode result }
 {

@@ -26,14 +26,14 @@ impl Move {
     ghost use Rattle.std.specs.Prelude.{◌≡◌};
     ghost use Rattle.lock_table.specs.MoveTests.{move_eq, is_leave};
 
-    /// Whether both are the same move.
+    /// Whether this move is `other`.
     pub fn is_same(self, other: Self) -> bool
         ensures { result ≡ move_eq self other }
     {
         self == other
     }
 
-    /// Whether it is a leave.
+    /// Whether this move is a leave.
     pub fn is_leave(self) -> bool
         ensures { result ≡ is_leave self }
     {

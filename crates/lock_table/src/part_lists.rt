@@ -44,7 +44,7 @@ impl PartLists {
     ghost use Rattle.lock_table.specs.PartWaits.{EachOnce};
     ghost use Rattle.std.specs.Prelude.{◌≡◌, [], None};
 
-    /// Lists with nothing in them, which grow by this allocator.
+    /// Lists with nothing in them, which grow by `alloc`.
     pub fn new(alloc: Global) -> Self
         ensures { result ≡ record { holds = []; waits = []; begun = None; prepared = None } }
     {
@@ -72,7 +72,7 @@ impl PartLists {
     }
 }
 
-/// The same lists once more, in memory of their own, with room for what these have room for.
+/// A copy of the lists in memory of its own, with room for what they have room for.
 impl Clone for PartLists {
     ghost is_clone = { λ lists theirs. theirs ≡ lists };
 
@@ -203,7 +203,8 @@ impl PartTable for PartLists {
     }
 }
 
-/// Where the session's hold stands in the list. The latest stand at the end, so the look begins there.
+/// Where the hold of `session` on `tag` in `mode` stands in `holds`. The latest stand at the end, so the look begins
+/// there.
 fn index_of_hold(holds: &[Request], session: SessionId, tag: &Tag, mode: Mode) -> usize
     requires { list_any (λ hold. is_request_of hold session tag.now mode) holds.now ≡ true }
     ensures within { result < length holds.now }

@@ -25,8 +25,8 @@ pub trait PartTable {
 
     ghost prepared: { Self → Option Request };
 
-    /// Makes room and records for one request (`SetupLockInTable` in lock.c). After a refusal the part
-    /// is as before.
+    /// Makes room and records for the request of `session` for `tag` in `mode` (`SetupLockInTable` in lock.c). After
+    /// `NoMemory` the part is as before.
     fn begin(&mut self, session: SessionId, tag: &Tag, mode: Mode) -> Result<(), NoMemory>
         requires new { (content self.old).holds session tag.now mode ≡ false }
         requires not_awaited { awaits_mode ((content self.old).waits tag.now) session mode ≡ false }
@@ -37,51 +37,51 @@ pub trait PartTable {
             (prepared self.new ≡ Some (record { session = session; tag = tag.now; mode = mode })) }
         ensures err { OnErr result (begun self.new ≡ None) };
 
-    /// Gives the begun request up (`CleanUpLock` in lock.c).
+    /// Gives the begun request of `session` for `tag` in `mode` up (`CleanUpLock` in lock.c).
     fn withdraw(&mut self, session: SessionId, tag: &Tag, mode: Mode)
         requires begun { begun self.old ≡ Some (record { session = session; tag = tag.now; mode = mode }) }
         ensures content { content self.new ≡ content self.old }
         ensures prepared { prepared self.new ≡ prepared self.old }
         ensures ended { begun self.new ≡ None };
 
-    /// Makes the begun request a hold (`GrantLock` in lock.c).
+    /// Makes the begun request of `session` for `tag` in `mode` a hold (`GrantLock` in lock.c).
     fn grant(&mut self, session: SessionId, tag: &Tag, mode: Mode)
         requires begun { begun self.old ≡ Some (record { session = session; tag = tag.now; mode = mode }) }
         ensures content { content self.new ≡ add_hold (content self.old) session tag.now mode }
         ensures ended { begun self.new ≡ None };
 
-    /// Takes a hold out, and says whether somebody awaits the object in a mode in conflict with this one
-    /// (`UnGrantLock` in lock.c, whose answer is whether a wakeup is needed).
+    /// Takes the hold of `session` on `tag` in `mode` out, and answers whether somebody awaits the object in a mode
+    /// in conflict with `mode` (`UnGrantLock` in lock.c, whose answer is whether a wakeup is needed).
     fn ungrant(&mut self, session: SessionId, tag: &Tag, mode: Mode) -> bool
         requires held { (content self.old).holds session tag.now mode ≡ true }
         ensures awaited { result ≡ some_awaits_conflict ((content self.old).waits tag.now) mode }
         ensures content { content self.new ≡ remove_hold (content self.old) session tag.now mode }
         ensures begun { begun self.new ≡ begun self.old };
 
-    /// The modes that the session holds the object in (`holdMask` of `PROCLOCK` in lock.h).
+    /// The modes in which `session` holds `tag` (`holdMask` of `PROCLOCK` in lock.h).
     fn held(&self, session: SessionId, tag: &Tag) -> ModeSet
         ensures { set_has result ≡ (content self.now).holds session tag.now };
 
-    /// Whether a hold or a wait of the object may be in conflict with the mode (the looks at `grantMask` and
-    /// `waitMask` in lock.c). `false` says that none is, not even one of the session that asks; `true` says
-    /// nothing, and a keeper with no masks always answers it.
+    /// Whether a hold or a wait on `tag` may be in conflict with `mode` (the looks at `grantMask` and `waitMask` in
+    /// lock.c). `false` says that none is, not even one of the session that asks; `true` says nothing, and a keeper
+    /// with no masks always answers it.
     fn may_conflict(&self, tag: &Tag, mode: Mode) -> bool
         ensures awaited { result ≡ false → some_awaits_conflict ((content self.now).waits tag.now) mode ≡ false }
         ensures held { result ≡ false → (session : ℕ) →
             NoConflictingHolder (content self.now).holds session tag.now mode };
 
-    /// The lowest-numbered other session that holds the object in a conflicting mode, with its lowest
-    /// such mode (`LockCheckConflicts` in lock.c).
+    /// The lowest-numbered session other than `session` that holds `tag` in a mode in conflict with `mode`, with its
+    /// lowest such mode (`LockCheckConflicts` in lock.c).
     fn conflict_of(&self, session: SessionId, tag: &Tag, mode: Mode) -> Option<(SessionId, Mode)>
         ensures { HolderInTheWay (content self.now).holds session tag.now mode result };
 
-    /// The wait at this place of the object's queue, counted from the front.
+    /// The wait at `place` of the queue of `tag`, counted from the front, or `None` behind the last one.
     fn waiter(&self, tag: &Tag, place: usize) -> Option<Waiter>
         ensures wait { option_map shown_wait result ≡ slice_get ((content self.now).waits tag.now) place }
         ensures countable { length ((content self.now).waits tag.now) ≤ usize.MAX };
 
-    /// Makes the begun request a wait before the one at this place, with the modes that the session holds
-    /// now (`JoinWaitQueue`, in version 16 a part of `ProcSleep` in proc.c).
+    /// Makes the begun request of `session` for `tag` in `mode` a wait before the one at `place` of the queue, with
+    /// the modes that the session holds now (`JoinWaitQueue`, in version 16 a part of `ProcSleep` in proc.c).
     fn join(&mut self, session: SessionId, tag: &Tag, mode: Mode, place: usize)
         requires begun { begun self.old ≡ Some (record { session = session; tag = tag.now; mode = mode }) }
         requires no_wait { waits_there ((content self.old).waits tag.now) session ≡ false }
@@ -89,23 +89,23 @@ pub trait PartTable {
         ensures content { content self.new ≡ add_wait (content self.old) session tag.now mode place }
         ensures ended { begun self.new ≡ None };
 
-    /// Takes the session's wait out of the object's queue (`RemoveFromWaitQueue` in lock.c), and says for
+    /// Takes the wait of `session` out of the queue of `tag` (`RemoveFromWaitQueue` in lock.c), and answers for
     /// which mode it was.
     fn leave(&mut self, session: SessionId, tag: &Tag) -> Option<Mode>
         ensures mode { result ≡ option_map (λ wait. wait.mode) (wait_in ((content self.old).waits tag.now) session) }
         ensures content { content self.new ≡ remove_wait (content self.old) session tag.now }
         ensures begun { begun self.new ≡ begun self.old };
 
-    /// Grants each wait of the object's queue that is free to go, and says whose they are
-    /// (`ProcLockWakeup` in proc.c).
+    /// Grants each wait of the queue of `tag` that is free to go, and answers whose they are (`ProcLockWakeup` in
+    /// proc.c).
     fn wake(&mut self, tag: &Tag) -> Woken
         ensures woken { (granted : List Wait)
             × Wakes (content self.old) tag.now granted (content self.new)
             × (result.items ≡ map whose_and_mode granted) }
         ensures begun { begun self.new ≡ begun self.old };
 
-    /// Appends the content's rows in the listing's order (`GetLockStatusData` in lock.c). After a
-    /// refusal the list is as before.
+    /// Appends the content's rows to `rows`, in the listing's order (`GetLockStatusData` in lock.c). After
+    /// `NoMemory` the list is as before.
     fn rows(&self, rows: &mut Vec<TableRow>) -> Result<(), NoMemory>
         ensures ok { OnOk result (AppendsListing (content self.now) rows.old.items rows.new.items) }
         ensures err { OnErr result (rows.new.items ≡ rows.old.items) };

@@ -28,7 +28,7 @@ pub struct PartWait {
 }
 
 impl PartWait {
-    /// The request that it is for, which becomes a hold.
+    /// The request that the wait is for, which becomes a hold.
     pub fn request(&self) -> Request
         ensures { result ≡ request_of self.now }
     {
@@ -39,7 +39,7 @@ impl PartWait {
         }
     }
 
-    /// What a wakeup tells of it. There are at most 64 sessions.
+    /// What a wakeup tells of the wait: its session and mode. There are at most 64 sessions.
     pub fn whose(&self) -> (SessionId, Mode)
         ensures value { result ≡ whose_and_mode (shown_wait self.now.waiter) }
         ensures within { self.now.waiter.session < 64 }
@@ -49,7 +49,7 @@ impl PartWait {
         (self.waiter.session, self.waiter.mode)
     }
 
-    /// Its row of a listing.
+    /// The row of the wait in a listing.
     pub fn row(&self) -> TableRow
         ensures { result ≡ awaited_row_of self.now }
     {
@@ -62,7 +62,7 @@ impl PartWait {
         }
     }
 
-    /// Whether this is the session's wait on the object.
+    /// Whether this is the wait of `session` on `tag`.
     pub fn is_on(&self, session: SessionId, tag: &Tag) -> bool
         ensures { result ≡ is_request_on (request_of self.now) session tag.now }
     {
@@ -72,7 +72,7 @@ impl PartWait {
         tag.is_same(self.tag)
     }
 
-    /// Whether it waits on the object for one of these modes.
+    /// Whether this is a wait on `tag` for one of `modes`.
     pub fn awaits_one(&self, tag: &Tag, modes: ModeSet) -> bool
         ensures { result ≡ awaits_one_of self.now tag.now (set_has modes) }
     {
@@ -83,7 +83,7 @@ impl PartWait {
     }
 }
 
-/// The wait at this place of the object's queue, counted from the front.
+/// The wait at `place` of the queue of `tag`, counted from the front, in the list `waits` of a partition's waits.
 pub fn waiter_at(waits: &[PartWait], tag: &Tag, place: usize) -> Option<Waiter>
     ensures { option_map shown_wait result ≡ slice_get (queues_in waits.now tag.now) place }
 {
@@ -100,7 +100,7 @@ pub fn waiter_at(waits: &[PartWait], tag: &Tag, place: usize) -> Option<Waiter>
     None
 }
 
-/// For which mode the session waits on the object, if it does.
+/// The mode that `session` awaits on `tag`, if it waits there, by the list `waits`.
 pub fn awaited_mode(waits: &[PartWait], session: SessionId, tag: &Tag) -> Option<Mode>
     ensures { result ≡ option_map (λ wait. wait.waiter.mode)
         (find (λ wait. is_request_on (request_of wait) session tag.now) waits.now) }
@@ -111,7 +111,7 @@ pub fn awaited_mode(waits: &[PartWait], session: SessionId, tag: &Tag) -> Option
         .map(|wait| wait.waiter.mode)
 }
 
-/// Takes the session's wait on the object out.
+/// Takes the wait of `session` on `tag` out of `waits`.
 pub fn take_wait_out(waits: &mut Vec<PartWait>, session: SessionId, tag: &Tag)
     ensures items { waits.new.items
         ≡ filter (λ wait. not (is_request_on (request_of wait) session tag.now)) waits.old.items }
@@ -121,7 +121,7 @@ pub fn take_wait_out(waits: &mut Vec<PartWait>, session: SessionId, tag: &Tag)
     waits.retain(|wait| !wait.is_on(session, tag));
 }
 
-/// The index in the list before which a new wait stands at this place of the object's queue.
+/// The index in `waits` before which a new wait is at `place` of the queue of `tag`.
 pub fn index_of_place(waits: &[PartWait], tag: &Tag, place: usize) -> usize
     requires { place ≤ length (queues_in waits.now tag.now) }
     ensures within { result ≤ length waits.now }
@@ -140,7 +140,7 @@ pub fn index_of_place(waits: &[PartWait], tag: &Tag, place: usize) -> usize
     waits.len()
 }
 
-/// Whether another session holds the object in one of these modes.
+/// Whether a session other than `session` holds `tag` in one of `modes`, by the list `holds`.
 fn is_held_by_another(holds: &[Request], session: SessionId, tag: &Tag, modes: ModeSet) -> bool
     ensures { result ≡ list_any (λ hold. is_in_the_way_of hold session tag.now (set_has modes)) holds.now }
 {
@@ -150,7 +150,7 @@ fn is_held_by_another(holds: &[Request], session: SessionId, tag: &Tag, modes: M
         .any(|hold| hold.is_in_the_way(session, &tag, modes))
 }
 
-/// Whether the object is awaited in one of these modes.
+/// Whether `tag` is awaited in one of `modes`, by the list `waits`.
 pub(crate) fn is_awaited(waits: &[PartWait], tag: &Tag, modes: ModeSet) -> bool
     ensures { result ≡ list_any (λ wait. awaits_one_of wait tag.now (set_has modes)) waits.now }
 {
@@ -158,7 +158,7 @@ pub(crate) fn is_awaited(waits: &[PartWait], tag: &Tag, modes: ModeSet) -> bool
     waits.iter().any(|wait| wait.awaits_one(&tag, modes))
 }
 
-/// Whether the wait is on the object and free to go, beside these holds and behind these waits.
+/// Whether `wait` is on `tag` and free to go, beside `holds` and behind the waits `ahead`.
 fn goes(holds: &[Request], ahead: &[PartWait], wait: PartWait, tag: &Tag) -> bool
     ensures { result ≡ goes_now holds.now ahead.now wait tag.now }
 {
@@ -172,8 +172,8 @@ fn goes(holds: &[Request], ahead: &[PartWait], wait: PartWait, tag: &Tag) -> boo
     !is_awaited(ahead, tag, conflicting)
 }
 
-/// Makes holds of the object's waits that are free to go, from the front, each beside those granted before
-/// it and behind those left before it. The two lists together keep their length.
+/// Makes holds of the waits on `tag` that are free to go, from the front, each beside those granted before it and
+/// behind those left before it. `holds` and `waits` together keep their length.
 pub fn wake_queue(holds: &mut Vec<Request>, waits: &mut Vec<PartWait>, tag: &Tag) -> Woken
     requires one_wait_each { OneWaitEach waits.old.items }
     requires room { vec_len holds.old + vec_len waits.old ≤ vec_capacity holds.old }

@@ -36,7 +36,7 @@ impl PlainPart {
     ghost use Rattle.std.specs.List.{list_any};
     ghost use Rattle.lock_table.specs.Content.{empty_content};
 
-    /// A part with nothing in it, which grows by this allocator. After `NoMemory` there is nothing.
+    /// A part with nothing in it, which grows by `alloc`. After `NoMemory` there is nothing.
     pub fn new(alloc: Global) -> Result<Self, NoMemory>
         ensures content { IfOk result (λ part. content_of part ≡ empty_content) }
         ensures begun { IfOk result (λ part. part.begun ≡ None) }
@@ -45,21 +45,21 @@ impl PlainPart {
         Ok(PlainPart { lists })
     }
 
-    /// Whether the session holds anything.
+    /// Whether `session` holds anything.
     pub fn has_hold_of(&self, session: SessionId) -> bool
         ensures { result ≡ list_any (λ hold. hold.session == session) self.now.holds }
     {
         self.holds().iter().any(|hold| hold.session == session)
     }
 
-    /// Whether the session waits in the object's queue.
+    /// Whether `session` waits in the queue of `tag`.
     pub fn has_wait_of(&self, session: SessionId, tag: &Tag) -> bool
         ensures { result ≡ waits_there ((content_of self.now).waits tag.now) session }
     {
         awaited_mode(self.waits(), session, tag).is_some()
     }
 
-    /// Its holds. Each request is held or awaited once at most.
+    /// The holds of the part. Each request is held or awaited once at most.
     pub fn holds(&self) -> &[Request]
         ensures value { result.now ≡ self.now.holds }
         ensures each_once { EachOnce self.now.holds self.now.waits }
@@ -67,7 +67,7 @@ impl PlainPart {
         self.lists.holds()
     }
 
-    /// The waits of all its objects, those of one object in the order of its queue.
+    /// The waits on all objects of the part, those on one object in the order of its queue.
     pub fn waits(&self) -> &[PartWait]
         ensures { result.now ≡ self.now.waits }
     {
@@ -75,7 +75,7 @@ impl PlainPart {
     }
 }
 
-/// The same part once more, in memory of its own, with room for what the part has room for.
+/// A copy of the part in memory of its own, with room for what the part has room for.
 impl Clone for PlainPart {
     ghost use Rattle.std.specs.Prelude.{◌≡◌};
 

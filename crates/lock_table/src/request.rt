@@ -16,7 +16,7 @@ pub struct Request {
 }
 
 impl Request {
-    /// Whether this is the session's request for the mode on the object.
+    /// Whether this is the request of `session` for `tag` in `mode`.
     pub fn is_of(&self, session: SessionId, tag: &Tag, mode: Mode) -> bool
         ensures { result ≡ is_request_of self.now session tag.now mode }
     {
@@ -29,7 +29,7 @@ impl Request {
         tag.is_same(self.tag)
     }
 
-    /// Whether this is a request of the session on the object.
+    /// Whether this is a request of `session` on `tag`.
     pub fn is_on(&self, session: SessionId, tag: &Tag) -> bool
         ensures { result ≡ is_request_on self.now session tag.now }
     {
@@ -39,7 +39,7 @@ impl Request {
         tag.is_same(self.tag)
     }
 
-    /// Whether this is another session's request on the object for one of these modes.
+    /// Whether this is a request on `tag` for one of `modes` of a session other than `session`.
     pub fn is_in_the_way(&self, session: SessionId, tag: &Tag, modes: ModeSet) -> bool
         ensures { result ≡ is_in_the_way_of self.now session tag.now (set_has modes) }
     {

@@ -48,7 +48,7 @@ impl SlotRow {
     }
 }
 
-/// Brings rows into the listing's order, in place.
+/// Brings `rows` into the listing's order, in place.
 pub fn sort_rows(rows: &mut [TableRow])
     ensures in_order { IsSorted row_cmp rows.new }
     ensures same_rows { IsPermutation rows.old rows.new }

@@ -33,7 +33,7 @@ kept p (y ∷ xs) (suc i) x at pass =
     ]
 
 -- Where some element passes, it stands at a place.
-placed : {X : Type 0} (p : X → Bool) (xs : List X) → list_any p xs ≡ true → (i : ℕ) × (x : X) × (slice_get xs i ≡ Some x) × (p x ≡ true)
+pub placed : {X : Type 0} (p : X → Bool) (xs : List X) → list_any p xs ≡ true → (i : ℕ) × (x : X) × (slice_get xs i ≡ Some x) × (p x ≡ true)
 placed p [] any = absurd (false≢true any)
 placed p (x ∷ xs) any =
     elim (cases_Bool (p x)) [

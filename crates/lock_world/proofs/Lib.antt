@@ -24,3 +24,4 @@ pub mod Unmissed
 pub mod Remembered
 pub mod OwnStand
 pub mod Tallies
+pub mod Wakes

@@ -11,10 +11,10 @@ use Rattle.lock_world.specs.WaitLists.{partition_lock, fast_lock, lock_word, Sho
 -- Words of lightweight locks by the locks' numbers, and what they show of wait lists.
 
 module _ (partition fast : ℕ → ℕ) where
-  even-word : (lock : ℕ) → lock % 2 ≡ 0 → lock_word partition fast lock ≡ partition (lock / 2)
+  pub even-word : (lock : ℕ) → lock % 2 ≡ 0 → lock_word partition fast lock ≡ partition (lock / 2)
   even-word lock even = cond-true (lock % 2 == 0) (partition (lock / 2)) (fast (lock / 2)) (eq-eqb (lock % 2) 0 even)
 
-  odd-word : (lock : ℕ) → lock % 2 ≢ 0 → lock_word partition fast lock ≡ fast (lock / 2)
+  pub odd-word : (lock : ℕ) → lock % 2 ≢ 0 → lock_word partition fast lock ≡ fast (lock / 2)
   odd-word lock odd = cond-false (lock % 2 == 0) (partition (lock / 2)) (fast (lock / 2)) (ne_eqb (lock % 2) 0 odd)
 
   -- The word of a partition's lock, and of a fast-path lock.

@@ -1,4 +1,4 @@
-use Rattle.std.proofs.Common.{◌≡◌, ◌≢◌, ℕ, zero, suc, true, false, ◌||◌, List, [], ◌∷◌, ◌++◌, Some, refl, sym, ap, ◌∙◌, subst}
+use Rattle.std.proofs.Common.{◌≡◌, ◌≢◌, ℕ, zero, suc, false, List, ◌∷◌, Some, sym, ap, ◌∙◌, subst}
 use Rattle.std.specs.Prelude.{slice_get}
 use Rattle.std.proofs.lemmas.Bool.{or_right}
 use Rattle.modes_core.specs.declared.modes.Mode.{Mode}
@@ -11,7 +11,7 @@ use Rattle.lock_table.specs.Content.{Content}
 use Rattle.lock_table.specs.Clash.{ClashIs}
 use Rattle.lock_table.specs.Queue.{waits_there, awaits_mode}
 use Rattle.lock_world.specs.declared.events.Event.{Event}
-use Rattle.lock_world.specs.World.{World, TraceEntry, Took, opening}
+use Rattle.lock_world.specs.World.{World, Took, opening}
 use Rattle.lock_world.specs.Happens.{RunsThrough, last_of}
 use Rattle.lock_world.specs.SafeWorld.{SafeWorld, slots_of, tabled}
 use Rattle.lock_world.specs.Headline.{IsThereAs, StandsOrAwaits, NamesWhatIs, RefusalsSawWhatTheyName}

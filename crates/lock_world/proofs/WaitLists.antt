@@ -11,7 +11,7 @@ use Rattle.lock_world.proofs.Counters.Lists.{any-filter, count-cons, count-push}
 -- Each step on a wait list leaves the sleepers in order.
 
 -- Who stands behind a list that somebody joined: who stood there, or the one who joined.
-stands-joined : (k : ℕ) (xs : List LwWaiter) (x : LwWaiter) → stands_in k (xs ++ x ∷ []) ≡ true → (stands_in k xs ≡ true) ⊎ (k ≡ x.session)
+pub stands-joined : (k : ℕ) (xs : List LwWaiter) (x : LwWaiter) → stands_in k (xs ++ x ∷ []) ≡ true → (stands_in k xs ≡ true) ⊎ (k ≡ x.session)
 stands-joined k [] x there = elim (cases_Bool (is_of k x)) [
   | inl its ↦ inr (eqb-true k x.session its)
   | inr other ↦ absurd (both_ways false refl (sym (ap (λ b. b || false) other) ∙ there))
@@ -25,7 +25,7 @@ stands-joined k (y ∷ xs) x there = elim (or_cases (is_of k y) (stands_in k (xs
 ]
 
 -- Who is left behind a list without somebody: who stood there, and not that one.
-stands-left : (k s : ℕ) (xs : List LwWaiter) → stands_in k (without s xs) ≡ true → (stands_in k xs ≡ true) × (k ≢ s)
+pub stands-left : (k s : ℕ) (xs : List LwWaiter) → stands_in k (without s xs) ≡ true → (stands_in k xs ≡ true) × (k ≢ s)
 stands-left k s xs there = (any-filter (λ x. not (is_of s x)) (is_of k) xs there, λ same. none xs (ap (λ j. stands_in j (without s xs)) (sym same) ∙ there)) where
   none : (xs : List LwWaiter) → stands_in s (without s xs) ≡ true → ⊥
   none [] there = false≢true there

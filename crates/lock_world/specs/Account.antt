@@ -54,6 +54,7 @@ pub record ListAccount : Type 0 where
   -- whom it has taken off a list and not told yet
   pub off : ℕ → Bool
 
+-- All that one session knows.
 pub record Account : Type 0 where
   -- its own holds
   pub own : Tag → Mode → Bool
@@ -89,6 +90,7 @@ known_slots has database slot = if has then Some (record { word = slot; holds = 
 abbrev pub slots_in_hand : (ℕ → Bool) → (ℕ → ℕ) → (ℕ → ℕ → ℕ) → ℕ → Option SlotsInHand
 slots_in_hand has database slot owner = known_slots (has owner) (database owner) (slot owner)
 
+-- what a session knows of slots, databases and counted strong locks, in the World
 abbrev pub fast_account : World → ℕ → FastAccount
 fast_account w session = record {
   slots = slots_in_hand (w.sessions.holds_fast session) w.words.database w.words.slot;
@@ -104,6 +106,7 @@ abbrev pub list_in_hand : Option ℕ → (ℕ → List LwWaiter) → Option List
 list_in_hand None list = None
 list_in_hand (Some lock) list = Some (record { lock = lock; waiters = list lock })
 
+-- what a session knows of wait lists, in the World
 abbrev pub list_account : World → ℕ → ListAccount
 list_account w session = record {
   in_hand = list_in_hand (w.sessions.has_list session) w.words.list;

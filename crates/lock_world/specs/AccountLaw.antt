@@ -35,6 +35,7 @@ pub record MayPutBy (limit number : ℕ) (a : Account) (p : ℕ) (mine : InHand)
   pub may_move : MayMoveBy limit number a p mine done [] content
   pub by_putting : IsMadeByPutting done
 
+-- By its account it may put a partition with the move that stands recorded.
 pub record MayPutRecordedBy (a : Account) (p : ℕ) (mine : InHand) (done : Move) : Type 0 where
   pub in_hand : a.hand p ≡ Some mine
   pub recorded : mine.recorded ≡ Some done
@@ -48,6 +49,7 @@ pub record MayMarkFirstBy (limit number : ℕ) (a : Account) (p : ℕ) (mine : I
   pub may_move : MayMoveBy limit number a p mine done granted content
   pub among : waits_there granted other ≡ true
 
+-- By its account it may mark one more of those whom the recorded move granted.
 pub record MayMarkNextBy (a : Account) (p : ℕ) (mine : InHand) (done : Move) (other : ℕ) : Type 0 where
   pub in_hand : a.hand p ≡ Some mine
   pub recorded : mine.recorded ≡ Some done
@@ -58,11 +60,13 @@ pub record MayClearSeenBy (a : Account) (wait : OwnWait) : Type 0 where
   pub is_wait : a.awaited ≡ Some wait
   pub has_seen : a.seen ≡ true
 
+-- By its account it may clear its wait word, with the partition in hand and its wait no more in the queue.
 pub record MayClearInHandBy (number : ℕ) (a : Account) (wait : OwnWait) (mine : InHand) : Type 0 where
   pub is_wait : a.awaited ≡ Some wait
   pub in_hand : a.hand (partition_of wait.tag) ≡ Some mine
   pub gone : waits_there (mine.now.waits wait.tag) number ≡ false
 
+-- By its account it may take its wait out of the queue as it clears its wait word.
 pub record MayLeaveBy (limit number : ℕ) (a : Account) (wait : OwnWait) (mine : InHand) (granted : List Wait)
     (content : Content) : Type 0 where
   pub is_wait : a.awaited ≡ Some wait
@@ -76,6 +80,7 @@ pub record MayPutFastBy (a : Account) (owner : ℕ) (slots : SlotsInHand) : Type
 pub record MayShareFastBy (a : Account) (owner : ℕ) : Type 0 where
   pub not_shared : a.fast.shared_slots owner ≡ None
 
+-- By its account it may give back the lock of a session's slots, which it shares.
 pub record MayUnshareFastBy (a : Account) (owner : ℕ) (slots : SlotsInHand) : Type 0 where
   pub shared : a.fast.shared_slots owner ≡ Some slots
 
@@ -95,6 +100,7 @@ pub record MaySetSlotBy (groups number : ℕ) (a : Account) (mine : SlotsInHand)
   pub new : a.own tag mode ≡ false
   pub takes : IsSlotToGrant groups mine.word (relation_of tag) place
 
+-- By its account it may clear a mode in its slot.
 pub record MayClearSlotBy (number : ℕ) (a : Account) (mine : SlotsInHand) (place : ℕ) (tag : Tag) (mode : Mode) : Type 0 where
   pub in_hand : a.fast.slots number ≡ Some mine
   pub eligible : is_eligible_for a.fast.database tag mode ≡ true
@@ -119,6 +125,7 @@ pub record MayCountBy (a : Account) (tag : Tag) (mode : Mode) : Type 0 where
   pub new : is_counted a.fast.counted tag mode ≡ false
   pub few : length a.fast.counted < most_counted
 
+-- By its account it may take a count back.
 pub record MayUncountBy (a : Account) (tag : Tag) (mode : Mode) : Type 0 where
   pub is : is_counted a.fast.counted tag mode ≡ true
   pub not_own : a.own tag mode ≡ false
@@ -129,18 +136,22 @@ pub record MayUncountBy (a : Account) (tag : Tag) (mode : Mode) : Type 0 where
 pub record MayLockListBy (a : Account) : Type 0 where
   pub no_list : a.lists.in_hand ≡ None
 
+-- By its account it may join the wait list in hand.
 pub record MayJoinListBy (a : Account) (mine : ListInHand) : Type 0 where
   pub in_hand : a.lists.in_hand ≡ Some mine
   pub in_none : a.lists.stands ≡ None
 
+-- By its account it may leave the wait list in hand.
 pub record MayLeaveListBy (number : ℕ) (a : Account) (mine : ListInHand) : Type 0 where
   pub in_hand : a.lists.in_hand ≡ Some mine
   pub stands : stands_in number mine.waiters ≡ true
 
+-- By its account it may take another session off the wait list in hand.
 pub record MayTakeOffBy (number : ℕ) (a : Account) (mine : ListInHand) (other : ℕ) : Type 0 where
   pub another : other ≢ number
   pub in_hand : a.lists.in_hand ≡ Some mine
   pub stands : stands_in other mine.waiters ≡ true
 
+-- By its account it may tell a session that it took off.
 pub record MayTellBy (a : Account) (other : ℕ) : Type 0 where
   pub taken_off : a.lists.off other ≡ true

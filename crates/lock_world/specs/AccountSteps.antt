@@ -119,6 +119,7 @@ account_sharing_fast number a owner slots = record a {
   };
 }
 
+-- once it has given back a lock of slots that it shared
 abbrev pub account_unsharing_fast : Account → ℕ → Account
 account_unsharing_fast a owner = record a { fast = record (a.fast) { shared_slots = set_at a.fast.shared_slots owner None } }
 
@@ -136,6 +137,7 @@ account_passing number a owner tag mode = record a {
 abbrev pub account_counting : Account → Tag → Mode → Account
 account_counting a tag mode = record a { fast = record (a.fast) { counted = counting a.fast.counted tag mode } }
 
+-- once it counts a strong lock no more
 abbrev pub account_uncounting : Account → Tag → Mode → Account
 account_uncounting a tag mode = record a { fast = record (a.fast) { counted = uncounting a.fast.counted tag mode } }
 
@@ -163,6 +165,7 @@ account_setting number a mine place tag mode = record a {
   };
 }
 
+-- once it has cleared a mode in its slot
 abbrev pub account_unsetting : ℕ → Account → SlotsInHand → ℕ → Tag → Mode → Account
 account_unsetting number a mine place tag mode = record a {
   own = own_with a.own tag mode false;
@@ -194,6 +197,7 @@ account_transferring a owner place its mine tag mode = record a {
 abbrev pub account_locking_list : Account → ℕ → List LwWaiter → Account
 account_locking_list a lock waiters = record a { lists = record (a.lists) { in_hand = Some (record { lock = lock; waiters = waiters }) } }
 
+-- once it has unlocked the wait list in hand
 abbrev pub account_unlocking_list : Account → Account
 account_unlocking_list a = record a { lists = record (a.lists) { in_hand = None } }
 
@@ -203,6 +207,7 @@ account_joining_list a mine waiter = record a {
   lists = record (a.lists) { in_hand = Some (record mine { waiters = mine.waiters ++ waiter ∷ [] }); stands = Some mine.lock };
 }
 
+-- once it has left the wait list in hand
 abbrev pub account_leaving_list : Account → ListInHand → ℕ → Account
 account_leaving_list a mine number = record a {
   lists = record (a.lists) { in_hand = Some (record mine { waiters = without number mine.waiters }); stands = None };
@@ -214,6 +219,7 @@ account_taking_off a mine other = record a {
   lists = record (a.lists) { in_hand = Some (record mine { waiters = without other mine.waiters }); off = set_at a.lists.off other true };
 }
 
+-- once it has told a session that it took off
 abbrev pub account_telling : Account → ℕ → Account
 account_telling a other = record a { lists = record (a.lists) { off = set_at a.lists.off other false } }
 

@@ -28,6 +28,7 @@ use Rattle.lock_world.specs.Happens.Waits.{after_asking, MayLoadWait, after_load
 
 -- Lightweight locks: the words of partitions and of sessions' fast-path slots. With the latter no move is made.
 
+-- A word is taken exclusively, where that is lawful.
 abbrev pub HappensTaking : World → ℕ → Word → World → Type 0
 HappensTaking w session (Partition partition) v = HappensTakingPartition w session partition v
 HappensTaking w session (Fast owner) v = HappensTakingFast w session owner v
@@ -37,6 +38,7 @@ HappensTaking w session (Wait owner) v = ⊥
 HappensTaking w session (Strong index) v = ⊥
 HappensTaking w session (Sleep owner) v = ⊥
 
+-- A word is put, where that is lawful.
 abbrev pub HappensPutting : World → ℕ → Word → Move → World → Type 0
 HappensPutting w session (Partition partition) done v = HappensPuttingPartition w session partition done v
 HappensPutting w session (Fast owner) done v = (done ≡ Keep) × HappensPuttingFast w session owner v
@@ -46,6 +48,7 @@ HappensPutting w session (Wait owner) done v = ⊥
 HappensPutting w session (Strong index) done v = ⊥
 HappensPutting w session (Sleep owner) done v = ⊥
 
+-- A word is shared, where that is lawful.
 abbrev pub HappensSharing : World → ℕ → Word → World → Type 0
 HappensSharing w session (Partition partition) v = HappensSharingPartition w session partition v
 HappensSharing w session (Fast owner) v = HappensSharingFast w session owner v
@@ -55,6 +58,7 @@ HappensSharing w session (Wait owner) v = ⊥
 HappensSharing w session (Strong index) v = ⊥
 HappensSharing w session (Sleep owner) v = ⊥
 
+-- A shared word is given back, where that is lawful.
 abbrev pub HappensUnsharing : World → ℕ → Word → World → Type 0
 HappensUnsharing w session (Partition partition) v = HappensUnsharingPartition w session partition v
 HappensUnsharing w session (Fast owner) v = HappensUnsharingFast w session owner v
@@ -79,6 +83,7 @@ HappensLoading w session (Sleep owner) shown v = ⊥
 
 -- Wait lists of lightweight locks: locking one, unlocking it, and setting the flags of its word.
 
+-- The wait list of a lightweight lock is locked, where that is lawful.
 abbrev pub HappensLockingList : World → ℕ → Word → World → Type 0
 HappensLockingList w session (Partition partition) v =
     (partition < 16) × MayLockList w.numbers (w.words.partition partition) w.sessions.has_list session
@@ -92,6 +97,7 @@ HappensLockingList w session (Wait owner) v = ⊥
 HappensLockingList w session (Strong index) v = ⊥
 HappensLockingList w session (Sleep owner) v = ⊥
 
+-- The wait list of a lightweight lock is unlocked, where that is lawful.
 abbrev pub HappensUnlockingList : World → ℕ → Word → Bool → Bool → World → Type 0
 HappensUnlockingList w session (Partition partition) has_waiters release_ok v =
     HasList w session (partition_lock partition)
@@ -104,6 +110,7 @@ HappensUnlockingList w session (Wait owner) has_waiters release_ok v = ⊥
 HappensUnlockingList w session (Strong index) has_waiters release_ok v = ⊥
 HappensUnlockingList w session (Sleep owner) has_waiters release_ok v = ⊥
 
+-- Release-ok is set, where that is lawful.
 abbrev pub HappensSettingReleaseOk : World → ℕ → Word → ℕ → World → Type 0
 HappensSettingReleaseOk w session (Partition partition) shown v =
     (partition < 16) × MaySetReleaseOk w.numbers (w.words.partition partition) session shown
@@ -117,6 +124,7 @@ HappensSettingReleaseOk w session (Wait owner) shown v = ⊥
 HappensSettingReleaseOk w session (Strong index) shown v = ⊥
 HappensSettingReleaseOk w session (Sleep owner) shown v = ⊥
 
+-- Has-waiters is set, where that is lawful.
 abbrev pub HappensSettingHasWaiters : World → ℕ → Word → ℕ → World → Type 0
 HappensSettingHasWaiters w session (Partition partition) shown v =
     MaySetHasWaiters w (w.words.partition partition) session (partition_lock partition) shown

@@ -58,6 +58,8 @@ IsThereAs Held content session tag other its = (content.holds other tag its ≡ 
 IsThereAs Awaited content session tag other its =
     (awaits_mode (content.waits tag) other its ≡ true) × (waits_there (content.waits tag) session ≡ false → other ≢ session)
 
+-- In the content the session that a clash names holds the object in its mode, or awaits it so, in conflict with the
+-- mode asked for.
 pub record IsInTheWay (content : Content) (session : ℕ) (tag : Tag) (mode : Mode) (clash : Clash) : Type 0 where
   pub conflicting : conflict mode clash.mode ≡ true
   pub there : IsThereAs clash.how content session tag clash.session clash.mode

@@ -15,3 +15,4 @@ pub mod SafeWorld
 pub mod Headline
 pub mod Listing
 pub mod Closed
+pub mod Wakes

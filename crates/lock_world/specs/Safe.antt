@@ -47,6 +47,7 @@ stage_of word hand session None = InQueue
 stage_of word hand session (Some wait) =
     if wait_state word == 2 then WasGranted else stage_by_hand (hand (partition_of wait.tag)) session wait.tag
 
+-- the stage of each session's wait
 abbrev pub stages : World → ℕ → Stage
 stages w session = stage_of (w.words.wait session) w.contents.hand session (w.sessions.awaited session)
 
@@ -88,6 +89,7 @@ pub record ShowsHolders (limit word : ℕ) (holds shares : ℕ → Bool) : Type 
   pub within : (session : ℕ) → shares session ≡ true → session < limit
   pub never_both : (session other : ℕ) → holds session ≡ true → shares other ≡ false
 
+-- Each word shows who holds it and how many share it.
 abbrev pub WordsShowHolders : ℕ → (ℕ → ℕ) → (ℕ → ℕ → Bool) → (ℕ → ℕ → Bool) → Type 0
 WordsShowHolders limit word holds shares = (p : ℕ) → ShowsHolders limit (word p) (λ session. holds session p) (λ session. shares session p)
 
@@ -111,6 +113,7 @@ pub record SpentHaveNothing (live : ℕ → Bool) (own : Holds) (awaited : ℕ �
   pub no_wait : (session : ℕ) → live session ≡ false → awaited session ≡ None
   pub no_word : (session p : ℕ) → live session ≡ false → holds session p ≡ false
 
+-- What is promised of partitions, waits and lightweight words.
 pub record Promise (w : World) : Type 0 where
   pub no_conflict : NoConflictingHolds w.contents.now
   pub one_place : AreInOnePlace w.contents.now w.sessions.own w.sessions.awaited (stages w)
@@ -138,6 +141,7 @@ pub record NumbersAreInOrder (numbers : Numbers) : Type 0 where
 abbrev pub UnmarkedByItsMove : (ℕ → Option Hand) → Type 0
 UnmarkedByItsMove hand = (p : ℕ) → recorded_in (hand p) ≡ None → (session : ℕ) → is_unmarked (hand p) session ≡ false
 
+-- What carries the promise from one step to the next.
 pub record Carriers (w : World) : Type 0 where
   pub hands : HandsAreHolders w.contents.hand w.sessions.holds_partition
   pub numbers : NumbersAreInOrder w.numbers
@@ -192,6 +196,7 @@ EntryIsSound session taken (Episode partition content put_back) =
 EntryIsSound session taken (AskedToCancel other before) = Unit {0}
 EntryIsSound session taken (Loaded word shown) = Unit {0}
 
+-- Each episode of a trace put what one move makes of the content that it took, and that one was taken before.
 abbrev pub EpisodesAreMoves : ℕ → (ℕ → Option Content) → List TraceEntry → Type 0
 EpisodesAreMoves session taken [] = Unit {0}
 EpisodesAreMoves session taken (entry ∷ trace) = EntryIsSound session taken entry × EpisodesAreMoves session (taken_after taken entry) trace
@@ -206,6 +211,7 @@ abbrev pub IsMadeBy : ℕ → Option Move → Content → ℕ → Content → Ty
 IsMadeBy partition None taken session now = now ≡ taken
 IsMadeBy partition (Some done) taken session now = Makes partition taken session done now
 
+-- A content in hand is the content taken after one move at most.
 abbrev pub HandIsOneMove : ℕ → Option Hand → Content → Type 0
 HandIsOneMove partition None now = Unit {0}
 HandIsOneMove partition (Some hand) now = IsMadeBy partition hand.recorded hand.taken hand.holder now
@@ -228,6 +234,7 @@ pub record LocksAreShown (limit : ℕ) (live : ℕ → Bool) (fast : ℕ → ℕ
   pub no_shared_fast : (session owner : ℕ) → live session ≡ false → shares_fast session owner ≡ false
   pub no_shared_partition : (session p : ℕ) → live session ≡ false → shares_partition session p ≡ false
 
+-- What is safe of a World but for slots and counters.
 pub record SafeButSlots (w : World) : Type 0 where
   pub table : TableIsSafe w
   pub locks :

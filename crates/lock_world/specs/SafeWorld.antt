@@ -63,6 +63,7 @@ pub record ZeroIsAPermission (zero : ℕ → Option ℕ) (holds_fast : ℕ → �
 abbrev pub SlotsAreRemembered : (ℕ → ℕ → ℕ) → (ℕ → ℕ → ℕ) → Type 0
 SlotsAreRemembered slot remembered = (session : ℕ) → ShowsNoMore (slot session) (remembered session)
 
+-- What is safe of a World.
 pub record SafeWorld (w : World) : Type 0 where
   pub but_slots : SafeButSlots (tabled w)
   pub lists : ListsAreSafe w.words.partition w.words.fast (sleepers w) w.sessions.has_list w.numbers.live

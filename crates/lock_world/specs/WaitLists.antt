@@ -11,6 +11,7 @@ use Rattle.lock_table.specs.Put.{set_at}
 abbrev pub partition_lock : ℕ → ℕ
 partition_lock partition = 2 * partition
 
+-- the number of the lock of a session's slots
 abbrev pub fast_lock : ℕ → ℕ
 fast_lock owner = 2 * owner + 1
 

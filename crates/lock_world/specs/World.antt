@@ -99,6 +99,7 @@ pub record Numbers : Type 0 where
   -- the session that keeps this one apart, if any
   pub kept_by : ℕ → Option ℕ
 
+-- All that there is between two atomic steps.
 pub record World : Type 0 where
   pub words : Words
   pub contents : Contents

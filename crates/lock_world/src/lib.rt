@@ -4,5 +4,6 @@
 
 mod events;
 pub mod laws;
+pub mod wake_laws;
 
 pub use events::{Event, Step, Word};

@@ -35,6 +35,7 @@ shared_count word = word % 2 ^ 24
 abbrev pub taken_word : ℕ → ℕ
 taken_word word = word + 2 ^ 24
 
+-- the word once its one exclusive holder has put it
 abbrev pub put_word : ℕ → ℕ
 put_word word = word - 2 ^ 24
 
@@ -42,17 +43,21 @@ put_word word = word - 2 ^ 24
 abbrev pub shared_word : ℕ → ℕ
 shared_word word = word + 1
 
+-- the word with one sharer less
 abbrev pub unshared_word : ℕ → ℕ
 unshared_word word = word - 1
 
 -- The flags.
 
+-- some session has the wait list in hand
 abbrev pub IsListLocked : ℕ → Type 0
 IsListLocked word = word / 2 ^ 28 % 2 ≡ 1
 
+-- a release may wake waiters
 abbrev pub IsReleaseOk : ℕ → Type 0
 IsReleaseOk word = word / 2 ^ 29 % 2 ≡ 1
 
+-- somebody may stand in the wait list
 abbrev pub HasWaiters : ℕ → Type 0
 HasWaiters word = word / 2 ^ 30 % 2 ≡ 1
 
@@ -60,9 +65,11 @@ HasWaiters word = word / 2 ^ 30 % 2 ≡ 1
 abbrev pub list_locked_word : ℕ → ℕ
 list_locked_word word = bit_or word (2 ^ 28)
 
+-- the word with release-ok set
 abbrev pub release_ok_word : ℕ → ℕ
 release_ok_word word = bit_or word (2 ^ 29)
 
+-- the word with has-waiters set
 abbrev pub has_waiters_word : ℕ → ℕ
 has_waiters_word word = bit_or word (2 ^ 30)
 

@@ -70,6 +70,7 @@ abbrev pub taken_in : LwMode → LockState → LockState
 taken_in Exclusive state = record state { exclusive = true }
 taken_in Shared state = record state { shared = state.shared + 1 }
 
+-- What a word says once one who held the lock in the mode has released it.
 abbrev pub put_in : LwMode → LockState → LockState
 put_in Exclusive state = record state { exclusive = false }
 put_in Shared state = record state { shared = state.shared - 1 }

@@ -24,7 +24,7 @@ impl Model for SlotWord {
 impl SlotWord {
     const ALL_MODES: u64 = 7;
 
-    /// The word with this number.
+    /// The word whose number is `number`.
     pub fn from_number(number: u64) -> Self
         ensures { result ≡ number }
     {
@@ -52,7 +52,7 @@ impl SlotWord {
         (self.number & 0xFFFF_FFFF) as u32
     }
 
-    /// Whether the slot shows the mode, of whatever relation (`FAST_PATH_CHECK_LOCKMODE`). No slot shows a mode
+    /// Whether the slot shows `mode`, of any relation (`FAST_PATH_CHECK_LOCKMODE` in lock.c). No slot shows a mode
     /// from `ShareUpdateExclusiveLock` on.
     pub fn has(self, mode: Mode) -> bool
         ensures { result ≡ has_mode self mode }
@@ -60,15 +60,15 @@ impl SlotWord {
         (self.mode_bits() >> (mode.number() - 1)) & 1 == 1
     }
 
-    /// Whether the slot shows that its session holds this mode of the relation.
+    /// Whether the slot shows that its session holds `relation` in `mode`.
     pub fn shows(self, relation: u32, mode: Mode) -> bool
         ensures { result ≡ shows self relation mode }
     {
         self.has(mode) && self.relation() == relation
     }
 
-    /// The word with the mode of the relation set: in an empty slot, or in the one that the relation has
-    /// (`FAST_PATH_SET_LOCKMODE` in `FastPathGrantRelationLock`). What else was shown stays.
+    /// The word with `mode` set for `relation`: of an empty slot, or of the one that the relation has
+    /// (`FAST_PATH_SET_LOCKMODE` in `FastPathGrantRelationLock` of lock.c). What else was shown stays.
     pub fn with(self, relation: u32, mode: Mode) -> Self
         requires slot_mode { number_of mode ≤ 3 }
         requires its_slot { in_use self ≡ true → relation_in self ≡ relation }
@@ -79,8 +79,8 @@ impl SlotWord {
         Self::packed(relation, self.mode_bits() | Self::mode_bit(mode))
     }
 
-    /// The word with the mode cleared, whether it was set or not (`FAST_PATH_CLEAR_LOCKMODE` in
-    /// `FastPathUnGrantRelationLock`). What else was shown stays; the word of a slot that is empty then is 0.
+    /// The word with `mode` cleared, whether it was set or not (`FAST_PATH_CLEAR_LOCKMODE` in
+    /// `FastPathUnGrantRelationLock` of lock.c). What else was shown stays; the word of a slot that is empty then is 0.
     pub fn without(self, mode: Mode) -> Self
         requires { number_of mode ≤ 3 }
         ensures number { result ≡ word_without self mode }
@@ -104,7 +104,7 @@ impl SlotWord {
         (self.number >> 32) & Self::ALL_MODES
     }
 
-    /// The bit of a mode among them.
+    /// The bit of `mode` among the three mode bits.
     fn mode_bit(mode: Mode) -> u64
         requires { number_of mode ≤ 3 }
         ensures value { result ≡ mode_bit mode }
@@ -113,7 +113,7 @@ impl SlotWord {
         1 << (mode.number() - 1)
     }
 
-    /// The word of the relation with these mode bits.
+    /// The word of `relation` with the mode bits `modes`.
     fn packed(relation: u32, modes: u64) -> Self
         requires { modes < 2 ^ 3 }
         ensures { result ≡ slot_word relation modes }

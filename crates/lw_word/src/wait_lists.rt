@@ -76,7 +76,7 @@ impl WaitList {
         self.waiters.is_empty()
     }
 
-    /// Whether the session stands in the list.
+    /// Whether `session` stands in the list.
     pub fn has(&self, session: SessionId) -> bool
         ensures { result ≡ stands_in session self.now }
     {
@@ -86,7 +86,8 @@ impl WaitList {
             .any(|waiter| session.number() == waiter.session.number())
     }
 
-    /// The session joins at the end (`LWLockQueueSelf`).
+    /// Puts `session` at the end of the list, as one that wants to take the lock in `mode` (`LWLockQueueSelf` in
+    /// lwlock.c).
     pub fn join(&mut self, session: SessionId, mode: LwMode)
         requires { stands_in session self.old ≡ false }
         ensures { self.new ≡ self.old ++ record { session = session; mode = mode } ∷ [] }
@@ -96,7 +97,7 @@ impl WaitList {
         self.waiters.push(LwWaiter { session, mode });
     }
 
-    /// The session leaves, if it stands in the list, and whether it did (`LWLockDequeueSelf`).
+    /// Takes `session` out of the list, and answers whether it stood there (`LWLockDequeueSelf` in lwlock.c).
     pub fn leave(&mut self, session: SessionId) -> bool
         ensures found { result ≡ stands_in session self.old }
         ensures left { self.new ≡ without session self.old }
@@ -108,8 +109,8 @@ impl WaitList {
         found
     }
 
-    /// A wakeup (`LWLockWakeup`): where the first waiter wants to share the lock, all who do so are taken off,
-    /// else the first one alone; the others stay, in their order.
+    /// Takes off those whom a wakeup lets go (`LWLockWakeup` in lwlock.c): where the first waiter wants to share the
+    /// lock, all who do so, else the first one alone. The others stay, in their order.
     pub fn wake_split(&mut self) -> Wakeup
         ensures taken { result.taken.items ≡ taken_off self.old }
         ensures left { self.new ≡ left_waiting self.old }
@@ -138,7 +139,7 @@ impl WaitList {
     }
 }
 
-/// Those who want to share the lock, and the others, each in their order.
+/// Of `waiters`, those who want to share the lock, and the others, each in their order.
 fn parted(waiters: &[LwWaiter]) -> (TakenOff, TakenOff)
     requires { length waiters.now ≤ 64 }
     ensures sharers { result.0.items ≡ filter wants_to_share waiters.now }

@@ -2,7 +2,7 @@
 
 ghost use Rattle.std.specs.Prelude.{◌≡◌, ◌%◌, ◌/◌, ◌==◌};
 
-/// Bits 0 to 1 of a wait word: 0 where its session doesn't wait, 1 where it waits, 2 where its wait was granted
+/// Bits 0 to 1 of the wait word `word`: 0 where its session doesn't wait, 1 where it waits, 2 where its wait was granted
 /// (`waitStatus` in proc.h).
 pub fn wait_state(word: u64) -> u64
     ensures { result ≡ word % 4 }
@@ -10,7 +10,7 @@ pub fn wait_state(word: u64) -> u64
     word % 4
 }
 
-/// Whether bit 2 of a wait word is set: its session was asked to cancel its wait (`QueryCancelPending` in globals.c).
+/// Whether bit 2 of the wait word `word` is set: its session was asked to cancel its wait (`QueryCancelPending` in globals.c).
 pub fn is_asked(word: u64) -> bool
     ensures { result ≡ (word / 4 % 2 == 1) }
 {

@@ -90,7 +90,7 @@ impl LwWord {
         }
     }
 
-    /// The word with this number, or `None` where the number has a bit that no lightweight word has.
+    /// The word whose number is `number`, or `None` where that has a bit that no lightweight word has.
     pub fn from_number(number: u64) -> Option<Self>
         ensures valid { IsSome result ↔ IsLightweightWord number }
         ensures value { IfSome result (λ word. word_of word ≡ number) }
@@ -111,8 +111,8 @@ impl LwWord {
         self.number
     }
 
-    /// Whether the lock can be taken in this mode now: exclusively where nobody holds it, shared where nobody
-    /// holds it exclusively.
+    /// Whether the lock can be taken in `mode` now: exclusively where nobody holds it, shared where nobody holds it
+    /// exclusively.
     pub fn is_free_for(self, mode: LwMode) -> bool
         ensures { IsTrue result ↔ IsFreeFor mode self }
     {
@@ -122,7 +122,8 @@ impl LwWord {
         }
     }
 
-    /// The word after the lock was taken in this mode, or `None` where it can't be now (`LWLockAttemptLock`).
+    /// The word after the lock was taken in `mode`, or `None` where it can't be taken so now (`LWLockAttemptLock` in
+    /// lwlock.c).
     pub fn attempt(self, mode: LwMode) -> Option<Self>
         requires { HasRoomFor mode self }
         ensures answer { SomeIff result (IsFreeFor mode self) (taken_in mode self) }
@@ -137,7 +138,7 @@ impl LwWord {
         }
     }
 
-    /// The word after one who held the lock in this mode gave it up (`LWLockReleaseInternal`).
+    /// The word after a session that held the lock in `mode` released it (`LWLockReleaseInternal` in lwlock.c).
     pub fn release(self, mode: LwMode) -> Self
         requires { IsHeldIn mode self }
         ensures after { result ≡ put_in mode self }
@@ -148,10 +149,10 @@ impl LwWord {
         }
     }
 
-    /// Whether whoever made this word by a release has to wake waiters: nobody holds the lock, somebody may
-    /// wait, and release-ok is set (`check_waiters` in `LWLockReleaseInternal`). A release of the shared table has the
-    /// number that it found, and asks `must_wake_after` in its place, of shared_rule's wakeups.rt, which is proved to
-    /// answer the same.
+    /// Whether the session that made this word by a release has to wake waiters: nobody holds the lock, somebody may
+    /// wait, and release-ok is set (`check_waiters` in `LWLockReleaseInternal` of lwlock.c). A release of the shared
+    /// table has the number that it found, and asks `must_wake_after` of shared_rule's wakeups.rt, which is proved to
+    /// answer as this does.
     pub fn must_wake(self) -> bool
         ensures { result ≡ must_wake self }
     {
@@ -193,7 +194,7 @@ impl LwWord {
         self.number & Self::HAS_WAITERS != 0
     }
 
-    /// The word after its wait list was locked, or `None` where it is locked already (`LWLockWaitListLock`).
+    /// The word after its wait list was locked, or `None` where it is locked already (`LWLockWaitListLock` in lwlock.c).
     pub fn lock_list(self) -> Option<Self>
         ensures answer { SomeIff result (self.list_locked ≡ false) (record self { list_locked = true }) }
         ensures number { IfSome result (λ after. word_of after ≡ list_locked_word (word_of self)) }
@@ -207,9 +208,9 @@ impl LwWord {
         }
     }
 
-    /// The word after its wait list was unlocked, with the flags as told (`LWLockWaitListUnlock`, and the end
-    /// of `LWLockWakeup`). The flags to be set are set first, and then one fetch-and clears the others and
-    /// unlocks.
+    /// The word after its wait list was unlocked, with the flags `has_waiters` and `release_ok` (`LWLockWaitListUnlock`,
+    /// and the end of `LWLockWakeup`, in lwlock.c). The flags to be set are set first, and then one fetch-and clears the
+    /// others and unlocks.
     pub fn unlock_list(self, has_waiters: bool, release_ok: bool) -> Self
         ensures after { result
             ≡ record self { list_locked = false; has_waiters = has_waiters; release_ok = release_ok } }
@@ -221,7 +222,8 @@ impl LwWord {
         }
     }
 
-    /// The flags of these two that are set (to be set, before a wait list is unlocked).
+    /// The bits of the flags to be set before a wait list is unlocked: has-waiters where `has_waiters`, release-ok where
+    /// `release_ok`.
     pub fn flag_bits(has_waiters: bool, release_ok: bool) -> u64
         ensures { result ≡ flag_bits has_waiters release_ok }
     {
@@ -230,8 +232,8 @@ impl LwWord {
         waiters | release
     }
 
-    /// The operand of the fetch-and that unlocks a wait list: all bits but the list's own, and but the flags
-    /// that are not to stay.
+    /// The operand of the fetch-and that unlocks a wait list: all bits but the list's own, but has-waiters unless
+    /// `has_waiters`, and but release-ok unless `release_ok`.
     pub fn kept_bits(has_waiters: bool, release_ok: bool) -> u64
         ensures { result ≡ kept_bits has_waiters release_ok }
     {

@@ -74,7 +74,7 @@ enum Story<'a> {
     WokenAsAsked,
 }
 
-/// Tells a story, with sessions from a desk.
+/// Tells `story`, with sessions from `desk`.
 fn tell<
     B: Board<Part> + Send,
     D: Desk<OwnSession<Part, B>>,
@@ -104,7 +104,7 @@ fn tell<
     }
 }
 
-/// A manager and its opener, at the second attempt where there was no memory.
+/// Makes a manager of `config` and its opener, at the second attempt where there was no memory.
 fn make_at_last(alloc: Global, config: Config) -> Result<(Manager, Opener), Refusal>
     ensures new { IfOk result (λ made. IsNew made.0 made.1 config) }
 {
@@ -114,7 +114,7 @@ fn make_at_last(alloc: Global, config: Config) -> Result<(Manager, Opener), Refu
     }
 }
 
-/// Tells it at the desk of a manager.
+/// Tells `story` at `desk`, that of a manager.
 fn tell_at<R: Abort + Clock + Threads + Wait + Sync + Print>(
     rt: &R,
     alloc: Global,
@@ -127,7 +127,7 @@ fn tell_at<R: Abort + Clock + Threads + Wait + Sync + Print>(
     tell(rt, alloc, desk, story);
 }
 
-/// A story from the manager's beginning to its end.
+/// Tells `story` from the beginning to the end of a manager of `config`.
 fn run<R: Abort + Clock + Threads + Wait + Sync + Print>(
     rt: &R,
     alloc: Global,
@@ -142,7 +142,7 @@ fn run<R: Abort + Clock + Threads + Wait + Sync + Print>(
     Ok(())
 }
 
-/// Nothing stood at the end.
+/// Ends the test unless `stood` says that nothing stood at the end.
 fn expect_nothing<R: Abort>(rt: &R, stood: Final) {
     let nothing = Final {
         fast: 0,
@@ -171,7 +171,7 @@ static CONFIGURATIONS: [(u32, u32, u32, bool); 14] = [
     (64, 65_536, 8, true),
 ];
 
-/// A manager was refused if a number of its configuration is out of its range, and else made.
+/// Ends the test unless a manager of `config` was refused, by `refusal`, exactly where a number is out of its range.
 fn expect_made<R: Abort>(rt: &R, refusal: Option<Refusal>, config: Config, is_in_range: bool) {
     let expected = if is_in_range {
         None
@@ -206,7 +206,7 @@ fn a_manager_is_made_within_the_ranges_of_its_configuration_alone(
     Ok(())
 }
 
-/// A manager for two sessions with so many entries each.
+/// The configuration of a manager for two sessions with `max_local` entries each.
 fn two(max_local: u32) -> Config {
     Config {
         sessions: 2,

@@ -32,7 +32,7 @@ impl ModeSet {
         ModeSet { mask: 0 }
     }
 
-    /// The set with this mode in it.
+    /// The set with `mode` in it, beside what was there.
     pub fn with(self, mode: Mode) -> Self
         ensures { set_has result ≡ λ other. mode_eq other mode || set_has self other }
     {
@@ -41,7 +41,7 @@ impl ModeSet {
         }
     }
 
-    /// The set with this mode out of it.
+    /// The set without `mode`.
     pub fn without(self, mode: Mode) -> Self
         ensures { set_has result ≡ λ other. not (mode_eq other mode) && set_has self other }
     {
@@ -50,21 +50,21 @@ impl ModeSet {
         }
     }
 
-    /// Whether the mode is in the set.
+    /// Whether `mode` is in the set.
     pub fn has(self, mode: Mode) -> bool
         ensures { result ≡ set_has self mode }
     {
         self.mask & (1 << mode.number()) != 0
     }
 
-    /// Whether some mode is in both sets.
+    /// Whether some mode is in this set and in `other`.
     pub fn meets(self, other: Self) -> bool
         ensures { result ≡ list_any (λ mode. set_has self mode && set_has other mode) all_modes }
     {
         self.mask & other.mask != 0
     }
 
-    /// The mode with the lowest number that is in both sets, or `None` where there is none.
+    /// The mode with the lowest number that is in this set and in `other`, or `None` where no mode is in both.
     pub fn lowest_in_both(self, other: Self) -> Option<Mode>
         ensures in_both { IfSome result (λ mode. (set_has self mode ≡ true) × (set_has other mode ≡ true)) }
         ensures lowest { IfSome result (λ mode. (lower : _) → number_of lower < number_of mode →
@@ -94,7 +94,7 @@ pub fn slot_modes_conflict_with_counted_ones()
     ensures { (mode other : _) → number_of mode ≤ 3 → conflict mode other ≡ true → 5 ≤ number_of other }
 {}
 
-/// The modes that this mode conflicts with (`LockConflicts` in lock.c).
+/// The modes that conflict with `mode` (`LockConflicts` in lock.c).
 pub fn conflicts(mode: Mode) -> ModeSet
     ensures { set_has result ≡ conflict mode }
 {

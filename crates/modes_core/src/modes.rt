@@ -39,7 +39,7 @@ impl Mode {
         Mode::AccessExclusive,
     ];
 
-    /// Whether both modes are the same one: `==`, in the word that contracts use.
+    /// Whether this mode is `other`: `==`, in the word that contracts use.
     pub fn is_same(self, other: Self) -> bool
         ensures { result ≡ mode_eq self other }
     {
@@ -53,7 +53,7 @@ impl Mode {
         self as u8
     }
 
-    /// The mode with this number, or `None` where the number is not 1 to 8.
+    /// The mode whose number is `number`, or `None` where that is not 1 to 8.
     pub fn from_number(number: u8) -> Option<Mode>
         ensures found { IfSome result (λ mode. number_of mode ≡ number) }
         ensures unknown { IfNone result ((mode : _) → number_of mode ≢ number) }
@@ -87,7 +87,7 @@ impl Mode {
         }
     }
 
-    /// The mode with exactly this name, or `None`.
+    /// The mode whose name is `name`, letter by letter, or `None` where no mode is called so.
     pub fn from_name(name: &str) -> Option<Mode>
         ensures found { IfSome result (λ mode. name_of mode ≡ name.now) }
         ensures unknown { IfNone result ((mode : _) → name_of mode ≢ name.now) }

@@ -8,9 +8,9 @@ use thiserror::Error;
 /// What another session does with the mode that stands in the way.
 #[derive(Clone, Copy, Debug, PartialEq, Eq)]
 pub enum How {
-    /// It holds the mode.
+    /// The other session holds the mode.
     Held,
-    /// It waits for the mode, ahead in the queue.
+    /// The other session waits for the mode, ahead in the queue.
     Awaited,
 }
 
@@ -38,7 +38,7 @@ pub enum Refusal {
         session: SessionId,
         /// Its mode that stands in the way.
         mode: Mode,
-        /// Whether it holds that mode or waits for it.
+        /// Whether `session` holds that mode or waits for it.
         how: How,
     },
     /// A growth of the memory was refused.

@@ -25,7 +25,7 @@ impl Model for SessionId {
 }
 
 impl SessionId {
-    /// The session with this number, or `None` where the number is not below 64.
+    /// The session numbered `number`, or `None` where that is not below 64.
     pub fn new(number: u8) -> Option<Self>
         ensures valid { IsSome result ↔ (number < 64) }
         ensures value { IfSome result (λ id. id ≡ number) }

@@ -64,14 +64,15 @@ pub enum Tag {
 }
 
 impl Tag {
-    /// The tag of a relation (`SET_LOCKTAG_RELATION` in lock.h).
+    /// The tag of the relation numbered `relation` in `database` (`SET_LOCKTAG_RELATION` in lock.h).
     pub fn relation(database: u32, relation: u32) -> Self
         ensures { result ≡ Tag.Relation database relation }
     {
         Tag::Relation { database, relation }
     }
 
-    /// The tag of an object (`SET_LOCKTAG_OBJECT` in lock.h).
+    /// The tag of the object numbered `object` in the catalog `class` of `database` (`SET_LOCKTAG_OBJECT` in lock.h).
+    /// `sub_object` is the number of a part of it, 0 for the whole.
     pub fn object(database: u32, class: u32, object: u32, sub_object: u16) -> Self
         ensures { result ≡ Tag.Object sub_object database class object }
     {
@@ -83,8 +84,8 @@ impl Tag {
         }
     }
 
-    /// The tag of an advisory lock (`SET_LOCKTAG_ADVISORY` in lock.h): two numbers of the application's own in a
-    /// database, and a third one, by which PostgreSQL's functions tell one key of 64 bits (1) from two of 32 (2).
+    /// The tag of an advisory lock (`SET_LOCKTAG_ADVISORY` in lock.h): `key1` and `key2` are numbers of the
+    /// application's own in `database`. By `sub` PostgreSQL's functions tell one key of 64 bits (1) from two of 32 (2).
     pub fn advisory(database: u32, key1: u32, key2: u32, sub: u16) -> Self
         ensures { result ≡ Tag.Advisory sub database key1 key2 }
     {
@@ -140,8 +141,8 @@ impl Tag {
         }
     }
 
-    /// Whether both tags are the same one: `==`, in the word that contracts use. The numbers that differ most often
-    /// are compared first, without asking for the kind of both, so that a walk over tags stays short.
+    /// Whether this tag is `other`: `==`, in the word that contracts use. The numbers that differ most often are
+    /// compared first, without asking for the kind of both, so that a walk over tags stays short.
     #[inline(always)]
     pub fn is_same(self, other: Self) -> bool
         ensures { result ≡ tag_eq self other }
@@ -279,9 +280,8 @@ impl fmt::Display for Tag {
     }
 }
 
-/// Whether a session of this database may take the mode by the fast path (`EligibleForRelationFastPath`
-/// in lock.c): a relation of its own database, which is not 0, and a mode that conflicts with none
-/// of its kind, 1 to 3.
+/// Whether a session of `database` may take `mode` on `tag` by the fast path (`EligibleForRelationFastPath` in
+/// lock.c): the tag is a relation of that database, which is not 0, and the mode is 1 to 3, none of which conflict.
 pub fn is_eligible(database: u32, tag: Tag, mode: Mode) -> bool
     ensures { result ≡ is_eligible_for database tag mode }
 {
@@ -291,9 +291,8 @@ pub fn is_eligible(database: u32, tag: Tag, mode: Mode) -> bool
     }
 }
 
-/// Whether the mode on this object conflicts with locks that may be in fast-path slots
-/// (`ConflictsWithRelationFastPath` in lock.c): a relation of a database other than 0, and a mode of 5
-/// or more.
+/// Whether `mode` on `tag` conflicts with locks that may be in fast-path slots (`ConflictsWithRelationFastPath` in
+/// lock.c): the tag is a relation of a database other than 0, and the mode is 5 or more.
 pub fn is_strong(tag: Tag, mode: Mode) -> bool
     ensures { result ≡ is_strong_on tag mode }
 {

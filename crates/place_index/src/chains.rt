@@ -4,7 +4,7 @@ ghost use Rattle.place_index.specs.Chains.{end_of_chain, free_link, link_at, is_
 
 use crate::links::{END, Link};
 
-/// Where the chain of the hash begins, of so many starts: a multiplication parts the hashes among them in their
+/// Where the chain of `hash` begins, of `starts` starts: a multiplication parts the hashes among them in their
 /// order, so the highest bits of a hash tell.
 #[inline(always)]
 pub(crate) fn start_of(starts: usize, hash: u32) -> usize
@@ -15,7 +15,7 @@ pub(crate) fn start_of(starts: usize, hash: u32) -> usize
     ((u64::from(hash) * starts as u64) >> 32) as usize
 }
 
-/// The place under this hash that is the one looked for.
+/// The place noted under `hash` that is the one looked for, by the caller's word on each.
 #[inline(always)]
 pub(crate) fn find<F: Fn(u32) -> bool>(
     heads: &[u32],
@@ -40,7 +40,7 @@ pub(crate) fn find<F: Fn(u32) -> bool>(
     None
 }
 
-/// Notes a place that isn't noted under the hash.
+/// Notes `place`, which isn't noted, under `hash`.
 #[inline(always)]
 pub(crate) fn link_in(heads: &mut [u32], links: &mut [Link], hash: u32, place: u32)
     requires linked { IsLinked heads.old links.old }
@@ -60,7 +60,7 @@ pub(crate) fn link_in(heads: &mut [u32], links: &mut [Link], hash: u32, place: u
     link_behind(heads, links, head, hash, place);
 }
 
-/// The same where the place comes first in its chain.
+/// Notes `place` under `hash` where it comes first in its chain.
 #[inline(always)]
 pub(crate) fn link_first(heads: &mut [u32], links: &mut [Link], hash: u32, place: u32)
     requires linked { IsLinked heads.old links.old }
@@ -79,7 +79,7 @@ pub(crate) fn link_first(heads: &mut [u32], links: &mut [Link], hash: u32, place
     heads[start] = place;
 }
 
-/// The same where the place comes behind the head of its chain, which mostly it doesn't.
+/// Notes `place` under `hash` behind `head`, the first place of its chain. Mostly a chain has no second one.
 #[cold]
 #[inline(never)]
 fn link_behind(heads: &[u32], links: &mut [Link], head: u32, hash: u32, place: u32)
@@ -103,7 +103,7 @@ fn link_behind(heads: &[u32], links: &mut [Link], head: u32, hash: u32, place: u
     links[before as usize].set_next(place);
 }
 
-/// Takes away the note of the place under the hash.
+/// Takes away the note of `place` under `hash`.
 pub(crate) fn unlink(heads: &mut [u32], links: &mut [Link], hash: u32, place: u32)
     requires linked { IsLinked heads.old links.old }
     requires starts { HasStarts heads.old }
@@ -120,7 +120,7 @@ pub(crate) fn unlink(heads: &mut [u32], links: &mut [Link], hash: u32, place: u3
     }
 }
 
-/// The same where its chain has the place first.
+/// Takes away the note of `place` under `hash` where its chain has it first.
 #[inline(always)]
 pub(crate) fn unlink_first(heads: &mut [u32], links: &mut [Link], hash: u32, place: u32)
     requires linked { IsLinked heads.old links.old }
@@ -137,7 +137,7 @@ pub(crate) fn unlink_first(heads: &mut [u32], links: &mut [Link], hash: u32, pla
     links[place as usize] = Link::free();
 }
 
-/// The same where its chain has another place first.
+/// Takes away the note of `place` under `hash` where its chain has another place first.
 fn unlink_behind(heads: &[u32], links: &mut [Link], hash: u32, place: u32)
     requires linked { IsLinked heads.now links.old }
     requires starts { HasStarts heads.now }
@@ -159,7 +159,7 @@ fn unlink_behind(heads: &[u32], links: &mut [Link], hash: u32, place: u32)
     links[before as usize].set_next(behind);
 }
 
-/// Takes all notes away.
+/// Takes all notes away from the chains that `heads` and `links` are.
 pub(crate) fn free_all(heads: &mut [u32], links: &mut [Link])
     ensures heads { heads.new ≡ replicate (length heads.old) end_of_chain }
     ensures links { links.new ≡ replicate (length links.old) free_link }
@@ -168,7 +168,7 @@ pub(crate) fn free_all(heads: &mut [u32], links: &mut [Link])
     links.fill(Link::free());
 }
 
-/// Puts the places that are noted into chains of other starts, of which none has a place yet.
+/// Puts the places that `links` have as noted into the chains of `heads`, which have no place yet.
 pub(crate) fn link_all(heads: &mut [u32], links: &mut [Link])
     requires empty { heads.old ≡ replicate (length heads.old) end_of_chain }
     requires starts { HasStarts heads.old }

@@ -39,7 +39,7 @@ impl Model for PlaceIndex {
     ghost invariant = { λ t. IsSound t.heads.items t.links.items t.len };
 }
 
-/// How many starts an index has for so many places.
+/// How many starts an index has for `places` places.
 fn starts_for(places: usize) -> usize
     requires { places ≤ 1073741824 }
     ensures some { 0 < result }
@@ -49,7 +49,7 @@ fn starts_for(places: usize) -> usize
 }
 
 impl PlaceIndex {
-    /// An index with no note, and with room for its first places.
+    /// An index with no note, and with room for its first places. Refused only where memory, by `alloc`, ran out.
     pub fn new(alloc: Global) -> Result<Self, AllocError>
         ensures empty { IfOk result (λ index. (h p : ℕ) → times index h p ≡ 0) }
         ensures room { IfOk result (λ index. 0 < index.places) }
@@ -65,7 +65,8 @@ impl PlaceIndex {
         })
     }
 
-    /// A place noted under this hash that is the one looked for, as the caller says of each.
+    /// A place noted under `hash` of which `is_it` says that it is the one looked for, or `None`. The caller is
+    /// asked about places noted under that hash alone.
     #[inline(always)]
     pub fn find<F: Fn(u32) -> bool>(&self, hash: u32, is_it: F) -> Option<u32>
         requires { (p : ℕ) → 0 < times self.now hash p → F.pre is_it p }
@@ -75,8 +76,8 @@ impl PlaceIndex {
         find(self.heads.as_slice(), self.links.as_slice(), hash, is_it)
     }
 
-    /// The place that a `find` for this hash comes to first, which may be noted under another one, or that there is
-    /// none. A caller that goes on with `find` where it isn't the one looked for has no loop in its own code.
+    /// The place that a `find` for `hash` comes to first, which may be noted under another hash, or `None`. A caller
+    /// that goes on with `find` where it isn't the one looked for has no loop in its own code.
     #[inline(always)]
     pub fn first(&self, hash: u32) -> Option<u32>
         ensures { IsFirst self.now hash result }
@@ -90,7 +91,7 @@ impl PlaceIndex {
         }
     }
 
-    /// How many places there is room for: each below that can be noted.
+    /// How many places there is room for: each number below that can be noted.
     #[inline(always)]
     pub fn places(&self) -> usize
         ensures is { result ≡ self.now.places }
@@ -107,7 +108,7 @@ impl PlaceIndex {
         self.len
     }
 
-    /// Whether the place is noted.
+    /// Whether `place` is noted.
     pub fn has(&self, place: u32) -> bool
         ensures noted { result ≡ true → IsNoted self.now place }
         ensures free { result ≡ false → IsFree self.now place }
@@ -116,8 +117,8 @@ impl PlaceIndex {
         place < self.links.len() && self.links[place].is_noted()
     }
 
-    /// Makes room for the place. Beside `new`, nothing else takes memory. The error is that memory was refused, or
-    /// that the place is 2^30 or above.
+    /// Makes room for `place`. Beside `new`, nothing else takes memory. Refused where memory ran out, or where the
+    /// place is 2^30 or above; the notes are as before then.
     #[inline(always)]
     pub fn reserve(&mut self, place: u32) -> Result<(), AllocError>
         ensures ok { OnOk result (place < self.new.places) }
@@ -134,7 +135,7 @@ impl PlaceIndex {
         }
     }
 
-    /// Makes room for twice as many places, or for this one where that is more, and puts all notes into new chains.
+    /// Makes room for twice as many places, or for `place` where that is more, and puts all notes into new chains.
     #[cold]
     #[inline(never)]
     fn grow(&mut self, place: usize) -> Result<(), AllocError>
@@ -156,7 +157,7 @@ impl PlaceIndex {
         Ok(())
     }
 
-    /// Notes a place that isn't noted yet under the hash; there is room for it.
+    /// Notes `place`, which isn't noted yet and has room, under `hash`.
     #[inline(always)]
     pub fn insert(&mut self, hash: u32, place: u32)
         requires room { place < self.old.places }
@@ -173,7 +174,7 @@ impl PlaceIndex {
         );
     }
 
-    /// The same of a place behind all that are noted, with neither a loop nor a call.
+    /// Notes `place`, which is behind all that are noted and has room, under `hash`, with neither a loop nor a call.
     #[inline(always)]
     pub fn insert_last(&mut self, hash: u32, place: u32)
         requires room { place < self.old.places }
@@ -190,7 +191,7 @@ impl PlaceIndex {
         self.len += 1;
     }
 
-    /// Takes away the note of the place under the hash.
+    /// Takes away the note of `place` under `hash`.
     pub fn remove(&mut self, hash: u32, place: u32)
         requires { 0 < times self.old hash place }
         ensures notes { IsOneMore self.new self.old hash place }
@@ -205,7 +206,8 @@ impl PlaceIndex {
         self.len -= 1;
     }
 
-    /// The same of the last place of all that are noted, with neither a loop nor a call. The index knows its hash.
+    /// Takes away the note of `place`, the last one of all that are noted, with neither a loop nor a call. The index
+    /// knows its hash.
     #[inline(always)]
     pub fn remove_last(&mut self, place: u32)
         requires noted { IsNoted self.old place }

@@ -27,7 +27,7 @@ impl Link {
         }
     }
 
-    /// The link of a place that is noted under this hash, before this one in its chain.
+    /// The link of a place that is noted under `hash`, before the place `next` in its chain.
     #[inline(always)]
     pub(crate) fn noted(hash: u32, next: u32) -> Self
         ensures { result ≡ record { hash = hash; next = next } }
@@ -59,7 +59,7 @@ impl Link {
         self.next
     }
 
-    /// Puts another place next.
+    /// Puts the place `next` behind this one in its chain.
     #[inline(always)]
     pub(crate) fn set_next(&mut self, next: u32)
         ensures { self.new ≡ record { hash = self.old.hash; next = next } }

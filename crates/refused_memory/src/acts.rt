@@ -24,7 +24,7 @@ pub enum Act<'a> {
     GoesOn,
 }
 
-/// Does so at a desk that has nothing yet, with this growth refused.
+/// Does `act` at `desk`, which has nothing yet, with the growth numbered `growth` refused.
 pub fn perform<T: PartTable, B: Board<T>, D: Desk<OwnSession<T, B>>, R: Wait>(
     rt: &R,
     alloc: Global,

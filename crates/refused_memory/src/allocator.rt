@@ -10,23 +10,24 @@ const NONE: usize = 7_000_000;
 /// The number that stands for every growth.
 const EVERY: u16 = 1_000;
 
-/// Whether a request for so many bytes is granted.
+/// Whether a request for `bytes` bytes is granted.
 fn is_granted(alloc: Global, bytes: usize) -> bool {
     let taken: Result<Vec<u8>, _> = Vec::with_capacity(alloc, bytes);
     taken.is_ok()
 }
 
-/// The growth of this number is to be refused. Whether the allocator listens, which refuses the request then.
+/// Has the growth numbered `growth` refused from now on, and answers whether the allocator listens, which refuses
+/// the request then.
 pub fn refuse(alloc: Global, growth: u16) -> bool {
     !is_granted(alloc, NONE + usize::from(growth))
 }
 
-/// Every growth is to be refused. Whether the allocator listens.
+/// Has every growth refused from now on, and answers whether the allocator listens.
 pub fn refuse_all(alloc: Global) -> bool {
     refuse(alloc, EVERY)
 }
 
-/// None is to be refused any more. Whether one was, since one was to be: the request is refused then.
+/// Has no growth refused any more, and answers whether one was refused since one was to be.
 pub fn was_refused(alloc: Global) -> bool {
     refuse(alloc, 0)
 }

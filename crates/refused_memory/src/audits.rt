@@ -21,7 +21,7 @@ const COUNTED: Audit = Audit {
     strong: 1,
 };
 
-/// Takes what an audit is to count.
+/// Takes with `session` what an audit is to count.
 fn take_counted<T: PartTable, B: Board<T>, R: Wait>(rt: &R, session: &mut OwnSession<T, B>)
     ensures seat { KeepsSeat B.seat session.old session.new }
 {
@@ -33,7 +33,7 @@ fn take_counted<T: PartTable, B: Board<T>, R: Wait>(rt: &R, session: &mut OwnSes
     }
 }
 
-/// What two audits answered, of which the first one had this growth refused.
+/// What two audits answered, `counted` and `again`, the first one with a growth refused where `refused`.
 fn told_of(counted: Result<Audit, Refusal>, again: Result<Audit, Refusal>, refused: bool) -> Told {
     let is_right = again == Ok(COUNTED);
     match counted {
@@ -42,7 +42,7 @@ fn told_of(counted: Result<Audit, Refusal>, again: Result<Audit, Refusal>, refus
     }
 }
 
-/// Counts what a session has with this growth refused, and once more.
+/// Counts what a session of `desk` has with the growth numbered `growth` refused, and once more.
 pub fn tell<T: PartTable, B: Board<T>, D: Desk<OwnSession<T, B>>, R: Wait>(
     rt: &R,
     alloc: Global,

@@ -40,7 +40,7 @@ impl Answer {
     }
 }
 
-/// A refusal, which may name a hold in the way.
+/// What is told of `refusal`, which may name a hold in the way.
 fn refused(refusal: Refusal) -> Answer {
     let Refusal::Conflict { session, mode, how } = refusal else {
         return Answer::Refused(refusal.number());
@@ -52,7 +52,7 @@ fn refused(refusal: Refusal) -> Answer {
     }
 }
 
-/// What a request is answered.
+/// What is told of the `answer` to a request.
 fn answer_of(answer: Result<Acquired, Refusal>) -> Answer {
     match answer {
         Ok(Acquired::Granted) => Answer::Granted,
@@ -64,7 +64,7 @@ fn answer_of(answer: Result<Acquired, Refusal>) -> Answer {
 /// The session, and what it is answered.
 type Answered<T, B> = (OwnSession<T, B>, Answer);
 
-/// Asks for a mode without waiting.
+/// Asks for `tag` in `mode` with `session`, without waiting.
 pub fn try_lock<T: PartTable, B: Board<T>, R: Wait>(
     rt: &R,
     mut session: OwnSession<T, B>,
@@ -88,7 +88,7 @@ fn try_fast<T: PartTable, B: Board<T>>(
     (session, answer_of(answer))
 }
 
-/// Begins to wait for an object. Where it has not to wait the session comes back.
+/// Begins to wait for `tag` with `session`, which comes back where it has not to wait.
 pub fn queue<T: PartTable, B: Board<T>, R: Wait>(
     rt: &R,
     session: OwnSession<T, B>,
@@ -105,7 +105,7 @@ pub fn queue<T: PartTable, B: Board<T>, R: Wait>(
     }
 }
 
-/// A wait is cancelled.
+/// Cancels the wait `waiting`.
 pub fn end_wait<T: PartTable, B: Board<T>, R: Wait>(
     rt: &R,
     waiting: OwnWaiting<T, B>,
@@ -156,7 +156,7 @@ fn list<T: PartTable, B: Board<T>, R: Wait>(rt: &R, mut session: OwnSession<T, B
     (session, answer)
 }
 
-/// Makes a call.
+/// Makes `call` with `session`.
 pub fn make<T: PartTable, B: Board<T>, R: Wait>(
     rt: &R,
     session: OwnSession<T, B>,

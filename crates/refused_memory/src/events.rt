@@ -31,7 +31,7 @@ fn put() -> Step {
     }
 }
 
-/// A session opens, takes the partition of a relation, and puts it back with a grant.
+/// The events by which `session` opens, takes the partition of a relation, and puts it back with a grant.
 fn events(session: SessionId) -> [Event; 3] {
     [
         Event {
@@ -49,12 +49,12 @@ fn events(session: SessionId) -> [Event; 3] {
     ]
 }
 
-/// Whether there is one hold, as the events lead to.
+/// Whether `plain` has one hold, as the events lead to.
 fn is_right(plain: &Plain) -> bool {
     plain.holds().len() == 1 && plain.waits().is_empty()
 }
 
-/// Runs them with this growth refused, and again where it was.
+/// Runs the events with the growth numbered `growth` refused, and again where it was.
 pub fn run(alloc: Global, growth: u16) -> Told {
     let Some(session) = SessionId::new(0) else {
         return Told::Otherwise;

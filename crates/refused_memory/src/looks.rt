@@ -30,7 +30,7 @@ pub enum Look {
     Blockers,
 }
 
-/// How many rows a look answers.
+/// How many rows `look` answers to `session`.
 fn rows_of<T: PartTable, B: Board<T>, R: Wait>(
     rt: &R,
     session: &mut OwnSession<T, B>,
@@ -51,7 +51,7 @@ fn rows_of<T: PartTable, B: Board<T>, R: Wait>(
     }
 }
 
-/// Looks with this growth refused, and once more where it was. There is one row.
+/// Looks with the growth numbered `growth` refused, and once more where it was. There is one row.
 fn look_twice<T: PartTable, B: Board<T>, R: Wait>(
     rt: &R,
     alloc: Global,
@@ -72,7 +72,7 @@ fn look_twice<T: PartTable, B: Board<T>, R: Wait>(
     Told::of(refused, answer == Err(Refusal::NoMemory), again)
 }
 
-/// The second one waits for the object meanwhile, which the first one has.
+/// Looks with `first` while `second` waits for the object that `first` has.
 fn look_at_wait<T: PartTable, B: Board<T>, R: Wait>(
     rt: &R,
     alloc: Global,
@@ -93,7 +93,7 @@ fn look_at_wait<T: PartTable, B: Board<T>, R: Wait>(
     }
 }
 
-/// Two sessions of a desk do so.
+/// Has two sessions of `desk` look as `kind` says, with the growth numbered `growth` refused.
 pub fn tell<T: PartTable, B: Board<T>, D: Desk<OwnSession<T, B>>, R: Wait>(
     rt: &R,
     alloc: Global,

@@ -29,7 +29,8 @@ use told::Told;
 /// How many growths of a call are tried at most.
 const MOST: u16 = 200;
 
-/// How many growths of a call were refused, one after another, until none was left, if all went as it is to.
+/// How many growths of a call of `story` were refused, one after another, until none was left, if all went as it is
+/// to.
 fn refused_in_turn<R: Wait>(rt: &R, alloc: Global, story: Story<'_>) -> Option<u16> {
     for growth in 1..MOST {
         match tell(rt, alloc, story, growth) {
@@ -41,7 +42,7 @@ fn refused_in_turn<R: Wait>(rt: &R, alloc: Global, story: Story<'_>) -> Option<u
     None
 }
 
-/// Tells a story with each of its growths refused in turn, of which there are so many. Where the allocator doesn't
+/// Tells `story`, called `name`, with each of its `growths` growths refused in turn. Where the allocator doesn't
 /// listen it is told once, and none is refused.
 fn tell_in_turn<R: Wait + Print>(
     rt: &R,
@@ -65,7 +66,7 @@ fn tell_in_turn<R: Wait + Print>(
     Ok(())
 }
 
-/// All stories.
+/// Tells all stories, with growths refused where the allocator `listens`.
 fn tell_all<R: Wait + Print>(rt: &R, alloc: Global, listens: bool) -> anyhow::Result<()> {
     for (name, story, growths) in &STORIES {
         tell_in_turn(rt, alloc, listens, name, *story, *growths)?;

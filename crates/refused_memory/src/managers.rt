@@ -19,7 +19,7 @@ const CONFIG: Config = Config {
 
 const DATABASE: u32 = 5;
 
-/// Does so at the desk of a manager of its own, with this growth refused.
+/// Does `act` at the desk of a manager of its own, with the growth numbered `growth` refused.
 pub fn perform<R: Wait>(rt: &R, alloc: Global, act: Act<'_>, growth: u16) -> Told {
     let Ok((manager, opener)) = Manager::new(alloc, CONFIG) else {
         return Told::Otherwise;
@@ -34,7 +34,7 @@ pub fn perform<R: Wait>(rt: &R, alloc: Global, act: Act<'_>, growth: u16) -> Tol
     Told::Otherwise
 }
 
-/// The board of the shared table is named here alone.
+/// Does `act` at `desk`. The board of the shared table is named here alone.
 fn perform_at<R: Wait>(
     rt: &R,
     alloc: Global,
@@ -48,7 +48,7 @@ fn perform_at<R: Wait>(
     acts::perform(rt, alloc, desk, act, growth)
 }
 
-/// Makes a manager with this growth refused.
+/// Makes a manager with the growth numbered `growth` refused.
 pub fn make(alloc: Global, growth: u16) -> Told {
     refuse(alloc, growth);
     let made = Manager::new(alloc, CONFIG);
@@ -62,7 +62,8 @@ pub fn make(alloc: Global, growth: u16) -> Told {
     }
 }
 
-/// Opens a session with this growth refused. After a refusal the next one that opens is the first one.
+/// Opens a session with the growth numbered `growth` refused. After a refusal the next one that opens is the first
+/// one.
 pub fn open<R: Wait>(rt: &R, alloc: Global, growth: u16) -> Told {
     let Ok((manager, mut opener)) = Manager::new(alloc, CONFIG) else {
         return Told::Otherwise;
@@ -82,7 +83,7 @@ pub fn open<R: Wait>(rt: &R, alloc: Global, growth: u16) -> Told {
     }
 }
 
-/// Whether a session opens, as the first one.
+/// Whether a session of `manager` opens, as the first one.
 fn open_again<R: Wait>(rt: &R, manager: &Manager, opener: &mut Opener) -> bool
     requires { IsOpenerOf opener.old manager.now }
 {

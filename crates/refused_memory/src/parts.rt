@@ -27,7 +27,7 @@ pub enum PartCall {
     Rows,
 }
 
-/// Begins a request in a part with nothing in it, and gives it up.
+/// Begins a request of `session` in `part`, which has nothing in it, and gives it up.
 fn begin<P: PartTable>(alloc: Global, part: &mut P, session: SessionId, growth: u16) -> Told
     requires blank { IsBlank P.content P.begun part.old }
 {
@@ -42,7 +42,7 @@ fn begin<P: PartTable>(alloc: Global, part: &mut P, session: SessionId, growth: 
     Told::of(refused, true, begun && holds == 0)
 }
 
-/// Decides a request there.
+/// Decides a request of `session` in `part`.
 fn ask<P: PartTable>(part: &mut P, session: SessionId) -> Result<Decision, Refusal>
     requires blank { IsBlank P.content P.begun part.old }
     ensures begun { P.begun part.new ≡ None }
@@ -51,7 +51,7 @@ fn ask<P: PartTable>(part: &mut P, session: SessionId) -> Result<Decision, Refus
     decide(part, session, &OBJECT, Mode::Exclusive, Kind::Conditional)
 }
 
-/// Decides it with this growth refused, and once more where it was.
+/// Decides a request of `session` in `part` with the growth numbered `growth` refused, and once more where it was.
 fn decide_once<P: PartTable>(alloc: Global, part: &mut P, session: SessionId, growth: u16) -> Told
     requires blank { IsBlank P.content P.begun part.old }
 {
@@ -67,7 +67,7 @@ fn decide_once<P: PartTable>(alloc: Global, part: &mut P, session: SessionId, gr
     }
 }
 
-/// Appends the rows of a part with one hold to a list that has four rows already and no room for more.
+/// Appends the rows of `part`, which has one hold, to a list that has four rows already and no room for more.
 fn rows<P: PartTable>(alloc: Global, part: &mut P, session: SessionId, growth: u16) -> Told
     requires blank { IsBlank P.content P.begun part.old }
 {
@@ -91,7 +91,7 @@ fn rows<P: PartTable>(alloc: Global, part: &mut P, session: SessionId, growth: u
     Told::of(refused, true, kept && appended && rows.len() == 5)
 }
 
-/// Makes a call of a part with nothing in it.
+/// Makes `call` of `part`, which has nothing in it.
 fn make<P: PartTable>(alloc: Global, part: &mut P, call: PartCall, growth: u16) -> Told
     requires blank { IsBlank P.content P.begun part.old }
 {
@@ -105,7 +105,7 @@ fn make<P: PartTable>(alloc: Global, part: &mut P, call: PartCall, growth: u16) 
     }
 }
 
-/// The same of a part with records.
+/// Makes `call` of a part with records, with the growth numbered `growth` refused.
 pub fn of_records(alloc: Global, call: PartCall, growth: u16) -> Told {
     match RecordPart::new(alloc) {
         Ok(mut part) => make(alloc, &mut part, call, growth),
@@ -113,7 +113,7 @@ pub fn of_records(alloc: Global, call: PartCall, growth: u16) -> Told {
     }
 }
 
-/// Of a plain one.
+/// Makes `call` of a plain part, with the growth numbered `growth` refused.
 pub fn of_plain(alloc: Global, call: PartCall, growth: u16) -> Told {
     match PlainPart::new(alloc) {
         Ok(mut part) => make(alloc, &mut part, call, growth),
@@ -121,7 +121,7 @@ pub fn of_plain(alloc: Global, call: PartCall, growth: u16) -> Told {
     }
 }
 
-/// Makes a local table.
+/// Makes a local table with the growth numbered `growth` refused.
 pub fn new_local(alloc: Global, growth: u16) -> Told {
     refuse(alloc, growth);
     let made = LocalTable::new(alloc, 64);
@@ -135,12 +135,12 @@ pub fn new_local(alloc: Global, growth: u16) -> Told {
     }
 }
 
-/// The relation of this number.
+/// The tag of the relation numbered `number`.
 fn relation(number: u32) -> Tag {
     Tag::relation(5, number)
 }
 
-/// Reserves an entry in a table that has sixteen.
+/// Reserves an entry in a table that has sixteen, with the growth numbered `growth` refused.
 pub fn reserve(alloc: Global, growth: u16) -> Told {
     let Ok(mut table) = LocalTable::new(alloc, 64) else {
         return Told::Otherwise;

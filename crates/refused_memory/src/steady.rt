@@ -63,7 +63,7 @@ static TURNS: [Turn; 17] = [
     (true, Deed::Takes, (OBJECT, Exclusive)),
 ];
 
-/// Does it. Whether it went so.
+/// Does `deed` with `hold`, and answers whether it went so.
 fn goes<T: PartTable, B: Board<T>, R: Wait>(
     rt: &R,
     session: &mut OwnSession<T, B>,
@@ -83,7 +83,7 @@ fn goes<T: PartTable, B: Board<T>, R: Wait>(
     }
 }
 
-/// All turns of a round.
+/// Plays all turns of a round with `first` and `second`, and answers whether they went as they are to.
 fn turns_go<T: PartTable, B: Board<T>, R: Wait>(
     rt: &R,
     first: &mut OwnSession<T, B>,
@@ -105,7 +105,7 @@ fn turns_go<T: PartTable, B: Board<T>, R: Wait>(
     all
 }
 
-/// The wait ends, and is found granted.
+/// Ends the wait `waiting`, and answers whether it is found granted.
 fn is_granted<T: PartTable, B: Board<T>, R: Wait>(
     rt: &R,
     waiting: OwnWaiting<T, B>,
@@ -119,7 +119,7 @@ fn is_granted<T: PartTable, B: Board<T>, R: Wait>(
     }
 }
 
-/// The second one waits for the object that the first one has, which commits.
+/// Has `second` wait for the object that `first` has, which commits.
 fn hand_over<T: PartTable, B: Board<T>, R: Wait>(
     rt: &R,
     first: &mut OwnSession<T, B>,
@@ -139,7 +139,7 @@ fn hand_over<T: PartTable, B: Board<T>, R: Wait>(
     }
 }
 
-/// A round, and whether it went as it is to.
+/// Plays a round with `first` and `second`, and answers whether it went as it is to.
 fn go_round<T: PartTable, B: Board<T>, R: Wait>(
     rt: &R,
     first: &mut OwnSession<T, B>,
@@ -155,7 +155,7 @@ fn go_round<T: PartTable, B: Board<T>, R: Wait>(
     (second, turned && handed)
 }
 
-/// So many rounds.
+/// Plays `rounds` rounds with `first` and `second`.
 fn go_rounds<T: PartTable, B: Board<T>, R: Wait>(
     rt: &R,
     first: &mut OwnSession<T, B>,
@@ -175,7 +175,7 @@ fn go_rounds<T: PartTable, B: Board<T>, R: Wait>(
     (second, all)
 }
 
-/// One round, and then the others with every growth refused. None is asked for.
+/// Plays one round with `first` and `second`, and then the others with every growth refused. None is asked for.
 fn go_on<T: PartTable, B: Board<T>, R: Wait>(
     rt: &R,
     alloc: Global,
@@ -193,7 +193,7 @@ fn go_on<T: PartTable, B: Board<T>, R: Wait>(
     (second, Told::of(refused, false, kept && went && all))
 }
 
-/// Two sessions of a desk do so.
+/// Has two sessions of `desk` play their rounds.
 pub fn tell<T: PartTable, B: Board<T>, D: Desk<OwnSession<T, B>>, R: Wait>(
     rt: &R,
     alloc: Global,

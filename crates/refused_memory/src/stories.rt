@@ -79,7 +79,7 @@ pub static STORIES: [(&'static str, Story<'static>, u16); 14] = [
     ),
 ];
 
-/// Tells a story with this growth refused.
+/// Tells `story` with the growth numbered `growth` refused.
 pub fn tell<R: Wait>(rt: &R, alloc: Global, story: Story<'_>, growth: u16) -> Told {
     match story {
         Story::MakesManager => managers::make(alloc, growth),

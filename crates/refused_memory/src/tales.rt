@@ -49,7 +49,7 @@ const MANY: Tag = Tag::Object {
     sub_object: 0,
 };
 
-/// The object of this number: all of them are in the partition of `TABLE`.
+/// The tag of the object numbered `number`: all of them are in the partition of `TABLE`.
 pub fn object(number: u32) -> Tag {
     Tag::object(5, 2_600, 16 * (number % 1_024), 0)
 }

@@ -25,7 +25,7 @@ struct Seen {
     is_in_order: bool,
 }
 
-/// How many sessions come before the first one that has the table in a slot.
+/// How many sessions come in `rows` before the first one that has the table in a slot.
 fn before_slots(rows: &[SlotRow]) -> u8 {
     let mut before = 64u8;
     for row in rows {
@@ -36,7 +36,7 @@ fn before_slots(rows: &[SlotRow]) -> u8 {
     before
 }
 
-/// How many sessions there are up to the last one that has the table in the lock table.
+/// How many sessions there are in `rows` up to the last one that has the table in the lock table.
 fn up_to_table(rows: &[TableRow]) -> u8 {
     let mut up_to = 0u8;
     for row in rows {
@@ -47,14 +47,14 @@ fn up_to_table(rows: &[TableRow]) -> u8 {
     up_to
 }
 
-/// How many rows a listing has, and whether those of the table are in order.
+/// How many rows `listing` has, and whether those of the table are in order.
 fn look_at(listing: &Listing) -> (usize, bool) {
     let rows = listing.fast.len().saturating_add(listing.table.len());
     let in_table = up_to_table(listing.table.as_slice());
     (rows, in_table <= before_slots(listing.fast.as_slice()))
 }
 
-/// Looks.
+/// Lists with `session`, and looks at what it shows.
 fn see<T: PartTable, B: Board<T>, R: Wait>(rt: &R, session: &mut OwnSession<T, B>) -> Seen
     ensures seat { KeepsSeat B.seat session.old session.new }
 {
@@ -72,7 +72,7 @@ fn see<T: PartTable, B: Board<T>, R: Wait>(rt: &R, session: &mut OwnSession<T, B
     }
 }
 
-/// Takes a mode on an object of its own for each number.
+/// Takes a mode with `session` on an object of its own for each number below `number`.
 fn take_own<T: PartTable, B: Board<T>, R: Wait>(rt: &R, session: &mut OwnSession<T, B>, number: u32)
     ensures seat { KeepsSeat B.seat session.old session.new }
 {
@@ -81,7 +81,7 @@ fn take_own<T: PartTable, B: Board<T>, R: Wait>(rt: &R, session: &mut OwnSession
     }
 }
 
-/// Makes the call with this growth refused, and again where it was.
+/// Makes the call of `tale` with `session` and the growth numbered `growth` refused, and again where it was.
 fn ask<T: PartTable, B: Board<T>, R: Wait>(
     rt: &R,
     alloc: Global,
@@ -108,7 +108,8 @@ fn ask<T: PartTable, B: Board<T>, R: Wait>(
     (session, Told::of(true, answer.ran_out(), is_right))
 }
 
-/// So many sessions open and wait for an object each that the asking one has. Once all of them do, it asks.
+/// Opens `waiters` sessions, each of which waits for an object that the asking one has. Once all of them do, that
+/// one asks.
 fn with_waiters<T: PartTable, B: Board<T>, D: Desk<OwnSession<T, B>>, R: Wait>(
     rt: &R,
     alloc: Global,
@@ -141,7 +142,7 @@ fn with_waiters<T: PartTable, B: Board<T>, D: Desk<OwnSession<T, B>>, R: Wait>(
     }
 }
 
-/// The asking session takes what it has, and asks.
+/// Has the asking session of `tale` take what it has, and ask.
 fn with_asking<T: PartTable, B: Board<T>, D: Desk<OwnSession<T, B>>, R: Wait>(
     rt: &R,
     alloc: Global,
@@ -161,7 +162,7 @@ fn with_asking<T: PartTable, B: Board<T>, D: Desk<OwnSession<T, B>>, R: Wait>(
     told
 }
 
-/// A session takes what it is to have, if anything. Whether it has it.
+/// Takes `hold`, if there is one, with `session`, and answers whether it has it.
 fn take<T: PartTable, B: Board<T>, R: Wait>(
     rt: &R,
     session: &mut OwnSession<T, B>,
@@ -175,7 +176,8 @@ fn take<T: PartTable, B: Board<T>, R: Wait>(
     }
 }
 
-/// The others open from this place on, take what they are to have, and the asking one comes after them.
+/// Opens the other sessions of `tale` from `place` on, which take what they are to have; the asking one comes after
+/// them.
 fn with_others<T: PartTable, B: Board<T>, D: Desk<OwnSession<T, B>>, R: Wait>(
     rt: &R,
     alloc: Global,
@@ -200,7 +202,7 @@ fn with_others<T: PartTable, B: Board<T>, D: Desk<OwnSession<T, B>>, R: Wait>(
     if has { told } else { Told::Otherwise }
 }
 
-/// Tells a tale at a desk that has nothing yet, with this growth refused.
+/// Tells `tale` at `desk`, which has nothing yet, with the growth numbered `growth` refused.
 pub fn tell<T: PartTable, B: Board<T>, D: Desk<OwnSession<T, B>>, R: Wait>(
     rt: &R,
     alloc: Global,

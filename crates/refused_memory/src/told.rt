@@ -12,7 +12,8 @@ pub enum Told {
 }
 
 impl Told {
-    /// How it went, by whether a growth was refused, whether it answered so, and whether all the rest was right.
+    /// How a story went: whether a growth was refused (`was_refused`), whether it answered so (`ran_out`), and
+    /// whether all the rest was right (`is_right`).
     pub fn of(was_refused: bool, ran_out: bool, is_right: bool) -> Told {
         match (was_refused, ran_out, is_right) {
             (true, true, true) => Told::Refused,

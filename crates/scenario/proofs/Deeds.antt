@@ -1,6 +1,6 @@
 -- What a command asks of the session that it names, where it is played.
 use Rattle.std.specs.Prelude.{⊤}
-use Rattle.std.proofs.Common.{◌≡◌, ℕ, subst, sym}
+use Rattle.std.proofs.Common.{ℕ, subst, sym}
 use Rattle.lock_script.specs.declared.command.Command.{Command}
 use Rattle.lock_script.specs.declared.command.Command.TheVariants as command
 use Rattle.lock_script.specs.declared.sessions.OpenSessions.{OpenSessions}

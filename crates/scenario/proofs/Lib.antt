@@ -1,1 +1,4 @@
 pub mod Deeds
+mod Hearing
+mod Playing
+mod Polling

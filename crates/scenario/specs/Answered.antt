@@ -1,12 +1,12 @@
-use Rattle.std.specs.Prelude.{◌≡◌, ◌⊎◌, ℕ, remove}
+use Rattle.std.specs.Prelude.{◌≡◌, ℕ, Option, Some, None, remove}
 use Rattle.std.specs.List.{HoldsAt}
 use Rattle.modes_core.specs.declared.sessions.Owner.{Owner}
-use Rattle.modes_core.specs.declared.refusals.Refusal.{Refusal}
 use Rattle.lock_world.specs.Account.{Account}
 use Rattle.shared_rule.specs.Boards.{Seated, Stack}
 use Rattle.lock_manager.specs.Sessions.{SessionView}
 use Rattle.lock_manager.specs.WaitingSessions.{WaitingView}
 use Rattle.lock_script.specs.declared.command.Target.{Target}
+use Rattle.arrayvec.specs.declared.array_string.ArrayString.{ArrayString}
 use Rattle.lock_script.specs.declared.sessions.Caller.{Caller}
 use Rattle.lock_script.specs.declared.sessions.OpenSessions.{OpenSessions}
 use Rattle.lock_script.specs.Lending.{with_session}
@@ -15,12 +15,9 @@ use Rattle.scenario.specs.declared.answers.Answer.{Answer}
 use Rattle.scenario.specs.declared.answers.Answer.TheVariants as answer
 use Rattle.scenario.specs.declared.answers.Said.{Said}
 use Rattle.scenario.specs.declared.answers.Said.TheVariants as said
-use Rattle.scenario.specs.declared.answers.Row.TheVariants as row
 use Rattle.scenario.specs.declared.calls.Call.{Call}
-use Rattle.scenario.specs.declared.sessions.Deed.{Deed}
-use Rattle.scenario.specs.declared.sessions.Deed.TheVariants as deed
 use Rattle.scenario.specs.Made.{IsMade}
-use Rattle.scenario.specs.Waits.{IsBegun, IsQueued}
+use Rattle.scenario.specs.Waits.{GoesOn, IsBegun, IsQueued, LooksOn}
 
 -- What a command leaves of the sessions of a script, and what it is answered.
 
@@ -57,3 +54,23 @@ module _ {B : Type 0} (seat : B → Seated) (view : B → Account) (stack : B �
     pub answered : it ≡ answer.Said caller.name said.Closed
     pub resting : new.resting ≡ remove old.resting caller.place
     pub waiting : new.waiting ≡ old.waiting
+
+  -- The session that waits at its place looks, goes on, and is told this.
+  pub record GoesOnAt (place : ℕ) (name : ArrayString 16) (told : Said) : Type 0 where
+    pub after : SessionView B
+    pub goes_on : HoldsAt (λ one. GoesOn seat view stack one.session told after) old.waiting place
+    pub called : HoldsAt (λ one. name ≡ one.name) old.waiting place
+    pub rests : PutsIn old.resting (record { name = name; session = after }) new.resting
+    pub waiting : new.waiting ≡ remove old.waiting place
+
+  -- It looks, and waits on at its place.
+  pub record WaitsOnAt (place : ℕ) : Type 0 where
+    pub after : WaitingView B
+    pub looks : HoldsAt (λ one. LooksOn seat view stack one.session after) old.waiting place
+    pub there : new.waiting ≡ with_session old.waiting place after
+    pub resting : new.resting ≡ old.resting
+
+  -- The session that waits at its place is polled, and this is what it is told if it goes on.
+  abbrev pub PollsAt : ℕ → Option (ArrayString 16 × Said) → Type 0
+  PollsAt place (Some (name, told)) = GoesOnAt place name told
+  PollsAt place None = WaitsOnAt place

@@ -1,6 +1,13 @@
+pub mod Texts
+pub mod Json
 pub mod Told
 pub mod Calls
 pub mod Made
 pub mod Waits
 pub mod Answered
+pub mod Answers
 pub mod Tasks
+pub mod Heard
+pub mod Polled
+pub mod Played
+pub mod Printed

@@ -1,4 +1,4 @@
-use Rattle.std.specs.Prelude.{◌≡◌, ◌↔◌, ◌≢◌, ℕ, ◌<◌, ◌++◌, [], ◌∷◌, true, false, Bool, Result, Ok, IfOk, OnOk, OnErr, IsErrOf, IsOkUnless}
+use Rattle.std.specs.Prelude.{◌≡◌, ◌↔◌, ◌≢◌, ℕ, ◌<◌, ◌++◌, [], ◌∷◌, true, false, Bool, Result, Ok, IfOk, OnOk, OnErr, IsErrOf}
 use Rattle.std.specs.Global.{Vec}
 use Rattle.arrayvec.specs.declared.array_string.ArrayString.{ArrayString}
 use Rattle.modes_core.specs.declared.modes.Mode.{Mode}

@@ -1,4 +1,4 @@
-use Rattle.std.specs.Prelude.{◌≡◌, true, Result, Ok, Err, IfOk, OnErr}
+use Rattle.std.specs.Prelude.{◌≡◌, ◌⊎◌, Bool, true, false, Result, Ok, Err, IfOk, OnErr}
 use Rattle.modes_core.specs.declared.modes.Mode.{Mode}
 use Rattle.modes_core.specs.declared.tags.Tag.{Tag}
 use Rattle.modes_core.specs.declared.sessions.Owner.{Owner}
@@ -11,8 +11,10 @@ use Rattle.wait_queue.specs.declared.requests.Kind.TheVariants.{Waiting}
 use Rattle.lock_manager.specs.declared.requests.Begun.{Begun}
 use Rattle.lock_manager.specs.declared.requests.Begun.TheVariants as begun
 use Rattle.lock_manager.specs.Acquires.{AnswersByOwned, Begins, entries_begun}
+use Rattle.lock_manager.specs.declared.waiting.Looked.TheVariants as looked
 use Rattle.lock_manager.specs.Sessions.{SessionView, IsSame}
-use Rattle.lock_manager.specs.WaitingSessions.{WaitingView, HasBegun}
+use Rattle.lock_manager.specs.Waiting.{Polls, Cancels}
+use Rattle.lock_manager.specs.WaitingSessions.{WaitingView, HasBegun, HasEnded, WaitsOn}
 use Rattle.scenario.specs.declared.answers.Said.{Said}
 use Rattle.scenario.specs.declared.answers.Said.TheVariants as said
 
@@ -24,12 +26,6 @@ begun_by (said.Acquired acquired.Granted) = Ok begun.Granted
 begun_by (said.Acquired acquired.AlreadyHeld) = Ok begun.AlreadyHeld
 begun_by (said.Refused refusal) = Err refusal
 begun_by _ = Ok begun.Queued
-
--- The session that waited goes on, and is told this: its lock is counted, or it has what it had.
-abbrev pub GoesOn : {B : Type 0} → WaitingView B → Said → SessionView B → Type 0
-GoesOn old said.GrantedAfterWaiting new = new.owned.entries ≡ with_one_more old.owned.entries old.tag old.mode old.owner
-GoesOn old said.Cancelled new = new.owned ≡ old.owned
-GoesOn old _ new = ⊥
 
 module _ {B : Type 0} (seat : B → Seated) (view : B → Account) (stack : B → Stack) (old : SessionView B) (tag : Tag) (mode : Mode) (owner : Owner) where
   -- The acquire was answered at once.
@@ -44,3 +40,36 @@ module _ {B : Type 0} (seat : B → Seated) (view : B → Account) (stack : B �
   pub record IsQueued (new : WaitingView B) : Type 0 where
     pub steps : Begins Waiting (seat old.board) old.owned (view old.board) old.uses tag mode (Ok begun.Queued) (view new.board) new.uses
     pub begun : HasBegun seat view stack old tag mode owner new
+
+-- A session cancels its wait, which may have been granted before that.
+pub record GivesUp {B : Type 0} (seat : B → Seated) (view : B → Account) (stack : B → Stack) (old : WaitingView B) (was_granted : Bool) (new : SessionView B) :
+    Type 0 where
+  pub steps : Cancels (seat old.board).number (view old.board).trace old.tag old.mode was_granted (view new.board).trace
+  pub entries : was_granted ≡ true → new.owned.entries ≡ with_one_more old.owned.entries old.tag old.mode old.owner
+  pub same_owned : was_granted ≡ false → new.owned ≡ old.owned
+  pub same : HasEnded seat view stack old new
+
+module _ {B : Type 0} (seat : B → Seated) (view : B → Account) (stack : B → Stack) (old : WaitingView B) where
+  -- A session that waits looks once, and waits on.
+  pub record LooksOn (new : WaitingView B) : Type 0 where
+    pub polled : Polls (seat old.board).number (view old.board).trace looked.Still (view new.board).trace
+    pub same : WaitsOn seat view stack old new
+
+  -- It looks, and was granted.
+  pub record FindsGrant (new : SessionView B) : Type 0 where
+    pub polled : Polls (seat old.board).number (view old.board).trace looked.Granted (view new.board).trace
+    pub entries : new.owned.entries ≡ with_one_more old.owned.entries old.tag old.mode old.owner
+    pub same : HasEnded seat view stack old new
+
+  -- It looks, was asked to stop, and cancels its wait.
+  pub record StopsAsAsked (was_granted : Bool) (new : SessionView B) : Type 0 where
+    pub asked : WaitingView B
+    pub polled : Polls (seat old.board).number (view old.board).trace looked.CancelAsked (view asked.board).trace
+    pub still : WaitsOn seat view stack old asked
+    pub gave_up : GivesUp seat view stack asked was_granted new
+
+  -- It looks, goes on, and is told this.
+  abbrev pub GoesOn : Said → SessionView B → Type 0
+  GoesOn said.GrantedAfterWaiting new = FindsGrant new ⊎ StopsAsAsked true new
+  GoesOn said.Cancelled new = StopsAsAsked false new
+  GoesOn _ new = ⊥

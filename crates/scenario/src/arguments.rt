@@ -101,16 +101,21 @@ Example:
 /// What `orders --help` shows beside its options.
 const ORDERS_HELP: &str =
     "The lines that open sessions come first. Each session's other lines keep their
-order, and those of different sessions are merged in every way. An order is
-stuck where everybody who has lines left waits, as in a deadlock. Another one in
-which a line addresses a session that waits, or was closed, is not possible, and
-is counted apart. For each way to end, the answers of each session and who is
-left waiting, it prints how many orders lead there, and the first of them as a
-script, up to where it is stuck.
+order, and those of different sessions are merged in every way in which only a
+session that can go on has its next line. Of orders that differ only in
+neighbouring lines that have nothing to do with one another one is run. An order
+is stuck where nobody who has lines left can go on, as in a deadlock. For each
+way to end, the answers of each session and who is left waiting, it prints how
+many orders that were run lead there, and the first of them as a script.
+
+Where there are more than K orders, half of the K are the first ones and half
+are drawn: each session that can go on comes next as likely as it has lines left.
+The last lines say whether all were run.
 
 Examples:
   lock_scenario orders < scenarios/a_deadlock_over_two_tables.scn
-  lock_scenario orders --ends < scenarios/an_upgrade_of_two_shared_locks.scn";
+  lock_scenario orders --ends < scenarios/an_upgrade_of_two_shared_locks.scn
+  lock_scenario orders --limit 1000 --seed 7 < FILE";
 
 /// The subcommand that runs a script's lines in every order.
 const ORDERS: &str = "orders";
@@ -121,6 +126,11 @@ const MOST_ORDERS: u32 = 1_000_000;
 const USUAL_ORDERS: u32 = 10_000;
 
 const USUAL_ORDERS_SHOWN: &str = "10000";
+
+/// The seed by which orders are drawn, where the command line doesn't say, and as `--help` shows it.
+const USUAL_SEED: u32 = 0;
+
+const USUAL_SEED_SHOWN: &str = "0";
 
 /// What `shell --help` shows beside its options.
 const SHELL_HELP: &str =
@@ -177,7 +187,7 @@ fn with_styles<'a>(alloc: Global, run: Command<'a>) -> Result<Command<'a>, Alloc
     let graph = Arg::new(alloc, "graph")
         .long("graph")
         .value_name("LANGUAGE")
-        .help("Draw who waits for whom, behind each list")
+        .help("Draw who waits for whom, behind each list, or the whole script")
         .value_parser(DRAWINGS.as_slice());
     run.arg(echo)?.arg(json)?.arg(graph)
 }
@@ -209,14 +219,20 @@ fn with_config<'a>(
     command.arg(sessions)?.arg(max_local)?.arg(slot_groups)
 }
 
-/// The subcommand `orders [--sessions N] [--max-local M] [--slot-groups G] [--limit K] [--ends]`.
+/// The subcommand `orders [--sessions N] [--max-local M] [--slot-groups G] [--limit K] [--seed S] [--ends]`.
 fn orders_command<'a>(alloc: Global) -> Result<Command<'a>, AllocError> {
     let limit = Arg::new(alloc, "limit")
         .long("limit")
         .value_name("K")
-        .help("Orders run at most, 1 to 1000000")
+        .help("Orders begun at most, 1 to 1000000")
         .value_parser(value_parser!(u32).range(1..=i64::from(MOST_ORDERS)))
         .default_value(USUAL_ORDERS_SHOWN);
+    let seed = Arg::new(alloc, "seed")
+        .long("seed")
+        .value_name("S")
+        .help("Which orders are drawn where not all are run, 0 to 4294967295")
+        .value_parser(value_parser!(u32))
+        .default_value(USUAL_SEED_SHOWN);
     let ends = Arg::new(alloc, "ends")
         .long("ends")
         .help("Leave out what list, count, queue, owned, blockers and waiters answer")
@@ -227,11 +243,12 @@ fn orders_command<'a>(alloc: Global) -> Result<Command<'a>, AllocError> {
         .after_help(ORDERS_HELP);
     with_config(alloc, orders, USUAL_SESSIONS_SHOWN)?
         .arg(limit)?
+        .arg(seed)?
         .arg(ends)
 }
 
 /// The command line: `run [--sessions N] [--max-local M] [--slot-groups G] [--echo] [--json] [--graph LANGUAGE]`,
-/// `orders [--sessions N] [--max-local M] [--slot-groups G] [--limit K] [--ends]`,
+/// `orders [--sessions N] [--max-local M] [--slot-groups G] [--limit K] [--seed S] [--ends]`,
 /// `shell [--sessions N] [--max-local M] [--slot-groups G]`, `modes`, `hammer --sessions N --rounds K`, or `--man`.
 fn command<'a>(alloc: Global, helps: &'a Helps) -> Result<Command<'a>, AllocError> {
     let run = Command::new(alloc, "run")
@@ -388,6 +405,7 @@ fn config_of(words: &ArgMatches) -> Config
 fn options_of(words: &ArgMatches) -> OrdersOptions {
     OrdersOptions {
         limit: words.get_one::<u32>("limit").unwrap_or(USUAL_ORDERS),
+        seed: words.get_one::<u32>("seed").unwrap_or(USUAL_SEED),
         ends: words.get_flag("ends"),
     }
 }

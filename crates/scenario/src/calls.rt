@@ -1,9 +1,8 @@
 //! The calls that a line has its session make, over any board, and what it is answered. Each keeps whose session it is.
-ghost use Rattle.std.specs.Prelude.{◌≡◌, ℕ, ◌<◌, true, false, IfOk, IfErr};
-ghost use Rattle.local_locks.specs.Owned.{with_one_more};
+ghost use Rattle.std.specs.Prelude.{◌≡◌, ℕ, ◌<◌, IfOk, IfErr};
 ghost use Rattle.scenario.specs.Calls.{ShowsCounter};
 ghost use Rattle.scenario.specs.Made.{IsMade, Looks, SeesCount};
-ghost use Rattle.scenario.specs.Waits.{GoesOn, IsBegun, IsQueued};
+ghost use Rattle.scenario.specs.Waits.{GivesUp, GoesOn, IsBegun, IsQueued, LooksOn};
 
 use crate::answers::{
     Answer, Row, Said, of_acquire, of_blockers, of_cancel, of_level, of_list, of_queue, of_unlock,
@@ -330,7 +329,8 @@ pub fn poll_wait<T: PartTable, B: Board<T>, H: Wait>(
     rt: &H,
     waiting: OwnWaiting<T, B>,
 ) -> Result<(OwnSession<T, B>, Said), OwnWaiting<T, B>>
-    ensures goes_on { IfOk result (λ seen. GoesOn waiting seen.1 seen.0) }
+    ensures goes_on { IfOk result (λ seen. GoesOn B.seat B.view B.stack waiting seen.1 seen.0) }
+    ensures looks_on { IfErr result (LooksOn B.seat B.view B.stack waiting) }
     ensures rests { IfOk result (λ seen. B.seat seen.0.board ≡ B.seat waiting.board) }
     ensures waits { IfErr result (λ still. B.seat still.board ≡ B.seat waiting.board) }
 {
@@ -349,9 +349,7 @@ pub fn cancel<T: PartTable, B: Board<T>, H: Wait>(
     rt: &H,
     waiting: OwnWaiting<T, B>,
 ) -> (OwnSession<T, B>, bool)
-    ensures granted { result.1 ≡ true → result.0.owned.entries
-        ≡ with_one_more waiting.owned.entries waiting.tag waiting.mode waiting.owner }
-    ensures removed { result.1 ≡ false → result.0.owned ≡ waiting.owned }
+    ensures gave_up { GivesUp B.seat B.view B.stack waiting result.1 result.0 }
     ensures seat { B.seat result.0.board ≡ B.seat waiting.board }
 {
     match waiting.cancel(rt) {

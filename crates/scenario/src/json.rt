@@ -1,6 +1,10 @@
 //! The answers of a script as JSON: an object for each line of text, with the number of the script's line that it
 //! answers.
 
+ghost use Rattle.std.specs.Prelude.{◌≡◌, IfOk, IfSome, []};
+ghost use Rattle.serde_json.specs.View.{view};
+ghost use Rattle.scenario.specs.Json.{in_the_way_data, line_data, not_owned_data, picture_data, refused_data, refused_with, row_data, said_data, told_data};
+
 use crate::answers::{Row, Said};
 use crate::text::{how_text, in_the_way_text, name_of, plain_text, refusal_text};
 use lock_manager::{Blocker, Mode, QueueRow, Refusal, SlotRow, TableRow};
@@ -12,17 +16,23 @@ use std::alloc::{AllocError, Global};
 pub type Object = Result<Value, AllocError>;
 
 /// A line of the script.
-pub fn echo(alloc: Global, line: u32, text: &str) -> Object {
+pub fn echo(alloc: Global, line: u32, text: &str) -> Object
+    ensures { IfOk result (λ object. view object ≡ line_data line text.now) }
+{
     json!(in alloc; {"line": line, "echo": text})
 }
 
 /// A picture of who waits for whom.
-pub fn picture(alloc: Global, line: u32, drawing: &str, text: &str) -> Object {
+pub fn picture(alloc: Global, line: u32, drawing: &str, text: &str) -> Object
+    ensures { IfOk result (λ object. view object ≡ picture_data line drawing.now text.now) }
+{
     json!(in alloc; {"line": line, "graph": drawing, "text": text})
 }
 
 /// What the session of this name is told.
-pub fn said(alloc: Global, line: u32, names: &Names, name: &Name, said: Said) -> Object {
+pub fn said(alloc: Global, line: u32, names: &Names, name: &Name, said: Said) -> Object
+    ensures { IfOk result (λ object. view object ≡ said_data line names.now name.now said) }
+{
     match said {
         Said::Opened { session, database } => json!(in alloc; {
             "line": line, "session": name.as_str(), "answer": "opened",
@@ -41,21 +51,32 @@ pub fn said(alloc: Global, line: u32, names: &Names, name: &Name, said: Said) ->
             "line": line, "session": name.as_str(), "answer": "owned",
             "of_transaction": of_transaction, "of_session": of_session
         }),
-        Said::NotOwned(mode) => json!(in alloc; {
-            "line": line, "session": name.as_str(), "answer": "not owned", "mode": mode.name()
-        }),
+        Said::NotOwned(mode) => not_owned(alloc, line, name, mode.name()),
         Said::Refused(refusal) => refused(alloc, line, names, name, refusal),
         plain => answer(alloc, line, name, plain_text(plain)),
     }
 }
 
+/// The session doesn't own the lock, in the mode of this name, that it gives back.
+fn not_owned(alloc: Global, line: u32, name: &Name, mode: &str) -> Object
+    ensures { IfOk result (λ object. view object ≡ not_owned_data line name.now mode.now) }
+{
+    json!(in alloc; {
+        "line": line, "session": name.as_str(), "answer": "not owned", "mode": mode
+    })
+}
+
 /// An answer to a session in words alone.
-fn answer(alloc: Global, line: u32, name: &Name, text: &str) -> Object {
+fn answer(alloc: Global, line: u32, name: &Name, text: &str) -> Object
+    ensures { IfOk result (λ object. view object ≡ told_data line name.now text.now []) }
+{
     json!(in alloc; {"line": line, "session": name.as_str(), "answer": text})
 }
 
 /// A call was refused.
-fn refused(alloc: Global, line: u32, names: &Names, name: &Name, refusal: Refusal) -> Object {
+fn refused(alloc: Global, line: u32, names: &Names, name: &Name, refusal: Refusal) -> Object
+    ensures { IfOk result (λ object. view object ≡ refused_data line names.now name.now refusal) }
+{
     let (number, text) = (refusal.number(), refusal_text(refusal));
     match &refusal {
         Refusal::Conflict { session, mode, how } => {
@@ -72,15 +93,24 @@ fn refused(alloc: Global, line: u32, names: &Names, name: &Name, refusal: Refusa
                 "number": number, "refusal": text, "other": other.as_str()
             })
         }
-        _ => json!(in alloc; {
-            "line": line, "session": name.as_str(), "answer": "refused",
-            "number": number, "refusal": text
-        }),
+        _ => refused_alone(alloc, line, name, number, text),
     }
 }
 
+/// A call was refused for a reason that names nobody.
+fn refused_alone(alloc: Global, line: u32, name: &Name, number: u8, text: &str) -> Object
+    ensures { IfOk result (λ object. view object ≡ refused_with line name.now number text.now []) }
+{
+    json!(in alloc; {
+        "line": line, "session": name.as_str(), "answer": "refused",
+        "number": number, "refusal": text
+    })
+}
+
 /// A row.
-pub fn row(alloc: Global, line: u32, names: &Names, row: Row) -> Object {
+pub fn row(alloc: Global, line: u32, names: &Names, row: Row) -> Object
+    ensures { IfSome (row_data line names.now row) (λ shown. IfOk result (λ object. view object ≡ shown)) }
+{
     match row {
         Row::Slot(row) => slot_row(alloc, line, names, row),
         Row::Table(row) => table_row(alloc, line, names, row),
@@ -135,7 +165,9 @@ fn queue_row(alloc: Global, line: u32, names: &Names, row: &QueueRow) -> Object 
 }
 
 /// One that is in the way of a session that waits.
-fn in_the_way(alloc: Global, line: u32, names: &Names, name: Name, blocker: Blocker) -> Object {
+fn in_the_way(alloc: Global, line: u32, names: &Names, name: Name, blocker: Blocker) -> Object
+    ensures { IfOk result (λ object. view object ≡ in_the_way_data line names.now name blocker) }
+{
     let who = name_of(names, blocker.session);
     json!(in alloc; {
         "line": line, "row": "blocker", "session": name.as_str(), "waits_for": who.as_str(),

@@ -24,6 +24,7 @@ mod statements;
 mod statuses;
 mod style;
 mod text;
+mod timelines;
 mod workers;
 
 pub use answers::{Answer, Row, Said};
@@ -39,4 +40,5 @@ pub use run::{Scene, run_before, run_script, run_shell, run_styled_script};
 pub use script_orders::OrdersOptions;
 pub use sessions::{Deed, Stage};
 pub use style::{Drawing, Pen, Style};
+pub use timelines::draw_script;
 pub use workers::{Gate, OpenGate};

@@ -1,37 +1,54 @@
 //! Where the answers of a script go: to a writer, as text or as JSON.
+ghost use Rattle.std.specs.Prelude.{◌≡◌, OnOk, IfOk, IsOk, map, false};
+ghost use Rattle.std.specs.Io.KnownBytes.{Appends, Keeps};
+ghost use Rattle.serde_json.specs.View.{view};
+ghost use Rattle.serde_json.specs.Written.{has_float};
+ghost use Rattle.scenario.specs.Heard.{Done, Drawn, HearsAll, Helped, Line, Listed, Told, told_of};
+ghost use Rattle.scenario.specs.Printed.{Prints, data_line};
 
 use crate::answers::{Answer, Row, Said};
 use crate::json::{self, Object};
 use crate::picture::Picture;
 use crate::style::{Form, Pen, Style};
 use crate::text::{RowText, SaidText};
-use lock_manager::Listing;
+use lock_manager::{Blocker, Listing, QueueRow, SlotRow, TableRow};
 use lock_script::{Fault, Name, Names};
 use std::alloc::Global;
 use std::io::{self, Write};
 
 /// What hears the answers of a script, each as soon as it is given.
 pub trait Listener {
+    ghost use Rattle.scenario.specs.Heard.{Heard};
+
+    // What it is before it hears something, what it hears, and what it is then.
+    ghost hears: { Self → Heard → Self → Type 0 };
+
     /// A line of the script was read, with this number. What follows answers it.
-    fn begin_line(&mut self, number: u32, text: &str) -> Result<(), Fault>;
+    fn begin_line(&mut self, number: u32, text: &str) -> Result<(), Fault>
+        ensures heard { OnOk result (hears self.old (Line number text.now) self.new) };
 
     /// The session of this name is told this. The other sessions are known by `names`.
-    fn said(&mut self, names: &Names, name: Name, said: Said) -> Result<(), Fault>;
+    fn said(&mut self, names: &Names, name: Name, said: Said) -> Result<(), Fault>
+        ensures heard { OnOk result (hears self.old (Told names.now name said) self.new) };
 
     /// A row of an answer. Its sessions are known by `names`.
-    fn row(&mut self, names: &Names, row: Row) -> Result<(), Fault>;
+    fn row(&mut self, names: &Names, row: Row) -> Result<(), Fault>
+        ensures heard { OnOk result (hears self.old (Listed names.now row) self.new) };
 
     /// What draws the pictures, if any are wanted.
     fn pen(&self) -> Option<Pen>;
 
     /// A picture of who waits for whom. Its sessions are known by `names`.
-    fn picture(&mut self, names: &Names, picture: &Picture) -> Result<(), Fault>;
+    fn picture(&mut self, names: &Names, picture: &Picture) -> Result<(), Fault>
+        ensures heard { OnOk result (hears self.old Drawn self.new) };
 
     /// Tells somebody at a shell this text, at once.
-    fn tell(&mut self, text: &str) -> Result<(), Fault>;
+    fn tell(&mut self, text: &str) -> Result<(), Fault>
+        ensures heard { OnOk result (hears self.old (Helped text.now) self.new) };
 
     /// A line is answered, and all who go on have said so.
-    fn end_line(&mut self) -> Result<(), Fault>;
+    fn end_line(&mut self) -> Result<(), Fault>
+        ensures heard { OnOk result (hears self.old Done self.new) };
 }
 
 /// Tells a listener an answer, row by row. The sessions are known by `names`.
@@ -39,23 +56,18 @@ pub fn tell_answer<L: Listener>(
     listener: &mut L,
     names: &Names,
     answer: &Answer,
-) -> Result<(), Fault> {
+) -> Result<(), Fault>
+    ensures heard { OnOk result (HearsAll L.hears listener.old (told_of names.now answer.now) listener.new) }
+{
     match answer {
         Answer::Said(name, said) => listener.said(names, *name, *said),
         Answer::Row(row) => listener.row(names, *row),
         Answer::Listing(listing) => tell_listing(listener, names, listing),
         Answer::Queue(rows) => {
-            for row in rows {
-                listener.row(names, Row::Wait(*row))?;
-            }
+            tell_waits(listener, names, rows.as_slice())?;
             listener.row(names, Row::Waits(rows.len() as u64))
         }
-        Answer::Blockers(name, found) => {
-            for blocker in found {
-                listener.row(names, Row::InTheWay(*name, *blocker))?;
-            }
-            Ok(())
-        }
+        Answer::Blockers(name, found) => tell_blockers(listener, names, *name, found.as_slice()),
     }
 }
 
@@ -64,15 +76,63 @@ fn tell_listing<L: Listener>(
     listener: &mut L,
     names: &Names,
     listing: &Listing,
-) -> Result<(), Fault> {
-    for row in &listing.fast {
-        listener.row(names, Row::Slot(*row))?;
-    }
-    for row in &listing.table {
-        listener.row(names, Row::Table(*row))?;
-    }
+) -> Result<(), Fault>
+    ensures heard { OnOk result (HearsAll L.hears listener.old
+        (told_of names.now (Answer.Listing listing.now)) listener.new) }
+{
+    tell_slots(listener, names, listing.fast.as_slice())?;
+    tell_table(listener, names, listing.table.as_slice())?;
     let rows = (listing.fast.len() as u64).saturating_add(listing.table.len() as u64);
     listener.row(names, Row::Rows(rows))
+}
+
+/// Tells a listener the locks in slots, row by row.
+fn tell_slots<L: Listener>(listener: &mut L, names: &Names, rows: &[SlotRow]) -> Result<(), Fault>
+    ensures heard { OnOk result (HearsAll L.hears listener.old
+        (map (λ row. Listed names.now (Row.Slot row)) rows.now) listener.new) }
+{
+    'rows: for row in rows {
+        listener.row(names, Row::Slot(*row))?;
+    }
+    Ok(())
+}
+
+/// Tells a listener the locks in the table, and the waits for them, row by row.
+fn tell_table<L: Listener>(listener: &mut L, names: &Names, rows: &[TableRow]) -> Result<(), Fault>
+    ensures heard { OnOk result (HearsAll L.hears listener.old
+        (map (λ row. Listed names.now (Row.Table row)) rows.now) listener.new) }
+{
+    'rows: for row in rows {
+        listener.row(names, Row::Table(*row))?;
+    }
+    Ok(())
+}
+
+/// Tells a listener the waits of a queue, row by row.
+fn tell_waits<L: Listener>(listener: &mut L, names: &Names, rows: &[QueueRow]) -> Result<(), Fault>
+    ensures heard { OnOk result (HearsAll L.hears listener.old
+        (map (λ row. Listed names.now (Row.Wait row)) rows.now) listener.new) }
+{
+    'rows: for row in rows {
+        listener.row(names, Row::Wait(*row))?;
+    }
+    Ok(())
+}
+
+/// Tells a listener who is in the way of the session of this name, row by row.
+fn tell_blockers<L: Listener>(
+    listener: &mut L,
+    names: &Names,
+    name: Name,
+    found: &[Blocker],
+) -> Result<(), Fault>
+    ensures heard { OnOk result (HearsAll L.hears listener.old
+        (map (λ one. Listed names.now (Row.InTheWay name one)) found.now) listener.new) }
+{
+    'rows: for blocker in found {
+        listener.row(names, Row::InTheWay(name, *blocker))?;
+    }
+    Ok(())
 }
 
 /// The printed answers of a script. Each line goes to the writer at once, and is passed on where a line of the script is
@@ -88,7 +148,9 @@ pub struct Output<W: Write + Drop> {
 }
 
 /// A writer's error is a fault of the script.
-fn written(outcome: io::Result<()>) -> Result<(), Fault> {
+fn written(outcome: io::Result<()>) -> Result<(), Fault>
+    ensures { OnOk result (IsOk outcome) }
+{
     outcome.map_err(|_| Fault::WriteFailed)
 }
 
@@ -125,7 +187,14 @@ impl<W: Write + Drop> Output<W> {
     }
 
     /// A line of JSON.
-    fn write_object(&mut self, alloc: Global, object: Object) -> Result<(), Fault> {
+    fn write_object(&mut self, alloc: Global, object: Object) -> Result<(), Fault>
+        ensures written { OnOk result (IfOk object (λ it. has_float (view it) ≡ false →
+            Appends (W.contents self.old.writer) (W.contents self.new.writer) (data_line (view it)))) }
+        ensures object { OnOk result (IsOk object) }
+        ensures line { self.new.line ≡ self.old.line }
+        ensures form { self.new.form ≡ self.old.form }
+        ensures is_echoing { self.new.is_echoing ≡ self.old.is_echoing }
+    {
         let Ok(object) = object else {
             return Err(Fault::NoMemory);
         };
@@ -136,12 +205,19 @@ impl<W: Write + Drop> Output<W> {
     }
 
     /// Passes on what was printed.
-    fn flush(&mut self) -> Result<(), Fault> {
+    fn flush(&mut self) -> Result<(), Fault>
+        ensures kept { Keeps (W.contents self.old.writer) (W.contents self.new.writer) }
+        ensures line { self.new.line ≡ self.old.line }
+        ensures form { self.new.form ≡ self.old.form }
+        ensures is_echoing { self.new.is_echoing ≡ self.old.is_echoing }
+    {
         written(self.writer.flush())
     }
 }
 
 impl<W: Write + Drop> Listener for Output<W> {
+    ghost hears = { λ old heard new. Prints W.contents old heard new };
+
     fn begin_line(&mut self, number: u32, text: &str) -> Result<(), Fault> {
         self.line = number;
         if !self.is_echoing {

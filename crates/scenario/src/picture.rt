@@ -81,7 +81,7 @@ impl Picture {
         let mut text = String::new(self.pen.alloc);
         match self.pen.drawing {
             Drawing::Mermaid => self.write_mermaid(names, &mut text)?,
-            Drawing::Dot => self.write_dot(names, &mut text)?,
+            _ => self.write_dot(names, &mut text)?,
         }
         Ok(text)
     }

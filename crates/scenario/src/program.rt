@@ -6,13 +6,14 @@ use crate::arguments::{Hammer, NoRun, Task, parse_arguments};
 use crate::hammer::{run_hammer, run_watched_hammer};
 use crate::man::man_page;
 use crate::modes::print_modes;
-use crate::orders::{OnManagers, bad_line_text};
+use crate::orders::{OnManagers, bad_line_text, refused_session_text};
 use crate::progress::ProgressLine;
 use crate::run::{run_shell, run_styled_script};
 use crate::style::Style;
+use crate::timelines::draw_script;
 use crate::workers::OpenGate;
 use lock_manager::Config;
-use lock_script::Fault;
+use lock_script::{Defect, Fault};
 use script_orders::{OrdersFault, OrdersLine, OrdersOptions, run_orders};
 use std::alloc::Global;
 use std::io::{self, BufWriter, Read, Write};
@@ -57,10 +58,18 @@ impl From<Fault> for Failure {
 }
 
 impl Failure {
-    /// What ended the orders of a script.
-    fn of_orders(alloc: Global, ended: OrdersFault) -> Self {
+    /// What ended the orders of a script, which were run against lock managers of this size.
+    fn of_orders(alloc: Global, ended: OrdersFault, config: Config) -> Self {
         match ended {
             OrdersFault::Other(fault) => Failure::from(fault),
+            OrdersFault::Session(refused) => {
+                let fault = Fault::BadLine {
+                    line: refused.number,
+                    what: Defect::NoSuchSession,
+                };
+                let text = refused_session_text(alloc, refused, config).ok();
+                Failure { fault, text }
+            }
             OrdersFault::Line(bad) => {
                 let fault = Fault::BadLine {
                     line: bad.number,
@@ -149,7 +158,12 @@ fn run_input<H: AllocGlobal + Wait, R: Read + Drop, W: Write + Drop, E: Write>(
     if input.is_terminal {
         say_input_is_typed(errors.writer);
     }
-    run_styled_script(rt, input.reader, output, config, style)
+    match style.graph {
+        Some(drawing) if drawing.is_of_all_lines() => {
+            draw_script(rt, input.reader, output, config, style)
+        }
+        _ => run_styled_script(rt, input.reader, output, config, style),
+    }
 }
 
 /// Has a hammer run, and shows to somebody at a terminal how far it is.
@@ -193,7 +207,7 @@ fn run_all_orders<H: AllocGlobal + Wait, R: Read + Drop, W: Write + Drop, E: Wri
     let player = OnManagers { config };
     match run_orders(rt, &player, input.reader, output, &mut line, options) {
         Ok(()) => Ok(()),
-        Err(fault) => Err(Failure::of_orders(alloc, fault)),
+        Err(fault) => Err(Failure::of_orders(alloc, fault, config)),
     }
 }
 

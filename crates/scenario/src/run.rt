@@ -1,8 +1,10 @@
 //! Scripts: a line is read, run and answered before the next one is read.
-ghost use Rattle.std.specs.Prelude.{◌≡◌, ◌≤◌, ◌<◌, [], true, length, Ok, IfOk};
+ghost use Rattle.std.specs.Prelude.{◌≡◌, ◌≤◌, ◌<◌, [], true, length, Ok, IfOk, OnOk};
 ghost use Rattle.lock_manager.specs.Crews.{SeatsAre};
 ghost use Rattle.lock_script.specs.Command.{Addresses, NamesCounter};
 ghost use Rattle.lock_script.specs.Sessions.{IsThere, MayAct};
+ghost use Rattle.scenario.specs.Heard.{Hears};
+ghost use Rattle.scenario.specs.Played.{Draws, IsPassHeard, IsPollHeard, Plays, Settles};
 ghost use Rattle.scenario.specs.Tasks.{IsForManager};
 
 use crate::answers::{Answer, Said};
@@ -235,21 +237,46 @@ impl<T: PartTable, B: Board<T>, D: Desk<OwnSession<T, B>>, L: Listener> Scene<T,
         requires seats { SeatsAre B.seat D.seat }
         requires addressed { Addresses self.old.stage.sessions command }
         requires counter { NamesCounter command }
+        ensures played { OnOk result (Hears L.hears self.old.listener self.new.listener (λ heard.
+            Plays B.seat B.view B.stack D.database_of D.entries
+            (record { sessions = self.old.stage.sessions; names = self.old.stage.names }) command heard
+            (record { sessions = self.new.stage.sessions; names = self.new.stage.names }))) }
         ensures manager { D.manager self.new.stage.desk ≡ D.manager self.old.stage.desk }
     {
         let lister = lister_of(&command);
         let answer = self.stage.answer(rt, command);
         let stage = &self.stage;
         tell_answer(&mut self.listener, &stage.names, &answer)?;
-        if let (Some(caller), Answer::Listing(listing)) = (lister, &answer) {
-            self.draw(rt, caller, listing.table.as_slice())?;
-        }
+        self.draw_listing(rt, lister, &answer)?;
         self.poll_all(rt)?;
         self.listener.end_line()
     }
 
+    /// Draws who waits for whom behind an answer that is a listing.
+    fn draw_listing<H: Wait>(
+        &mut self,
+        rt: &H,
+        lister: Option<Caller>,
+        answer: &Answer,
+    ) -> Result<(), Fault>
+        ensures drawn { OnOk result (Hears L.hears self.old.listener self.new.listener (λ picture. Draws
+            (record { sessions = self.old.stage.sessions; names = self.old.stage.names }) picture
+            (record { sessions = self.new.stage.sessions; names = self.new.stage.names }))) }
+        ensures manager { D.manager self.new.stage.desk ≡ D.manager self.old.stage.desk }
+    {
+        match (lister, answer) {
+            (Some(caller), Answer::Listing(listing)) => {
+                self.draw(rt, caller, listing.table.as_slice())
+            }
+            _ => Ok(()),
+        }
+    }
+
     /// Draws who waits for whom, by the rows of a listing, if that is wanted.
     fn draw<H: Wait>(&mut self, rt: &H, caller: Caller, rows: &[TableRow]) -> Result<(), Fault>
+        ensures drawn { OnOk result (Hears L.hears self.old.listener self.new.listener (λ picture. Draws
+            (record { sessions = self.old.stage.sessions; names = self.old.stage.names }) picture
+            (record { sessions = self.new.stage.sessions; names = self.new.stage.names }))) }
         ensures manager { D.manager self.new.stage.desk ≡ D.manager self.old.stage.desk }
     {
         let Some(pen) = self.listener.pen() else {
@@ -274,6 +301,9 @@ impl<T: PartTable, B: Board<T>, D: Desk<OwnSession<T, B>>, L: Listener> Scene<T,
     /// Polls those who wait, pass by pass, until a pass finds none that goes on. A pass in which one goes on
     /// leaves fewer who wait.
     fn poll_all<H: Wait>(&mut self, rt: &H) -> Result<(), Fault>
+        ensures settled { OnOk result (Hears L.hears self.old.listener self.new.listener (λ news. Settles B.seat B.view B.stack
+            (record { sessions = self.old.stage.sessions; names = self.old.stage.names }) news
+            (record { sessions = self.new.stage.sessions; names = self.new.stage.names }))) }
         ensures manager { D.manager self.new.stage.desk ≡ D.manager self.old.stage.desk }
     {
         'passes: while self.poll_each(rt)? {}
@@ -282,6 +312,9 @@ impl<T: PartTable, B: Board<T>, D: Desk<OwnSession<T, B>>, L: Listener> Scene<T,
 
     /// Polls each session that waits, in the byte order of their names, and answers whether one went on.
     fn poll_each<H: Wait>(&mut self, rt: &H) -> Result<bool, Fault>
+        ensures passed { IfOk result (λ went_on. IsPassHeard B.seat B.view B.stack L.hears
+            (record { sessions = self.old.stage.sessions; names = self.old.stage.names }) self.old.listener went_on
+            (record { sessions = self.new.stage.sessions; names = self.new.stage.names }) self.new.listener) }
         ensures fewer { result ≡ Ok true →
             length self.new.stage.sessions.waiting < length self.old.stage.sessions.waiting }
         ensures manager { D.manager self.new.stage.desk ≡ D.manager self.old.stage.desk }
@@ -305,6 +338,9 @@ impl<T: PartTable, B: Board<T>, D: Desk<OwnSession<T, B>>, L: Listener> Scene<T,
         ensures fewer { result ≡ Ok true →
             length self.new.stage.sessions.waiting < length self.old.stage.sessions.waiting }
         ensures no_more { length self.new.stage.sessions.waiting ≤ length self.old.stage.sessions.waiting }
+        ensures polled { IfOk result (λ went_on. IsPollHeard B.seat B.view B.stack L.hears
+            (record { sessions = self.old.stage.sessions; names = self.old.stage.names }) self.old.listener place went_on
+            (record { sessions = self.new.stage.sessions; names = self.new.stage.names }) self.new.listener) }
         ensures manager { D.manager self.new.stage.desk ≡ D.manager self.old.stage.desk }
     {
         match self.stage.poll(rt, place) {

@@ -3,7 +3,10 @@
 ghost use Rattle.std.specs.Prelude.{◌≡◌, ◌⊎◌, ◌≤◌, ◌<◌, ◌+◌, [], All, length, is_some, if◌then◌else◌, IfOk};
 ghost use Rattle.lock_manager.specs.Crews.{SeatsAre};
 ghost use Rattle.lock_script.specs.Command.{Addresses, NamesCounter};
-ghost use Rattle.scenario.specs.Answered.{AcquiresAt, CallsAt, ClosesAt, WaitsAt};
+ghost use Rattle.scenario.specs.Answered.{AcquiresAt, CallsAt, ClosesAt, PollsAt, WaitsAt};
+ghost use Rattle.scenario.specs.Answers.{Answers, IsNumberAt, IsOtherOf, Opens, OpensNone};
+ghost use Rattle.lock_manager.specs.Sessions.{SessionView};
+ghost use Rattle.lock_script.specs.Lending.{with_session};
 ghost use Rattle.scenario.specs.Calls.{IsDeedOf, ShowsCounter};
 
 use crate::answers::{Answer, Row, Said};
@@ -107,6 +110,9 @@ impl<T: PartTable, B: Board<T>, D: Desk<OwnSession<T, B>>> Stage<T, B, D> {
         requires seats { SeatsAre B.seat D.seat }
         requires addressed { Addresses self.old.sessions command }
         requires counter { NamesCounter command }
+        ensures answered { Answers B.seat B.view B.stack D.database_of D.entries
+            (record { sessions = self.old.sessions; names = self.old.names })
+            (record { sessions = self.new.sessions; names = self.new.names }) command result }
         ensures manager { D.manager self.new.desk ≡ D.manager self.old.desk }
     {
         let other = self.other_of(&command);
@@ -122,6 +128,7 @@ impl<T: PartTable, B: Board<T>, D: Desk<OwnSession<T, B>>> Stage<T, B, D> {
     /// The number of the other session that a command names, or else of the first one.
     fn other_of(&self, command: &Command) -> SessionId
         requires addressed { Addresses self.now.sessions command.now }
+        ensures number { IsOtherOf B.seat self.now.sessions command.now result }
     {
         match command {
             Command::Blockers(_, other, _) => self.number_at(other.place),
@@ -133,6 +140,12 @@ impl<T: PartTable, B: Board<T>, D: Desk<OwnSession<T, B>>> Stage<T, B, D> {
     /// Opens a session of this database under this name.
     fn open(&mut self, name: Name, database: u32) -> Answer
         requires seats { SeatsAre B.seat D.seat }
+        ensures opened { Opens B.seat D.database_of D.entries
+            (record { sessions = self.old.sessions; names = self.old.names })
+            (record { sessions = self.new.sessions; names = self.new.names }) name database result
+            ⊎ OpensNone
+            (record { sessions = self.old.sessions; names = self.old.names })
+            (record { sessions = self.new.sessions; names = self.new.names }) name result }
         ensures manager { D.manager self.new.desk ≡ D.manager self.old.desk }
     {
         match self.desk.open(database) {
@@ -151,6 +164,7 @@ impl<T: PartTable, B: Board<T>, D: Desk<OwnSession<T, B>>> Stage<T, B, D> {
         requires seats { SeatsAre B.seat D.seat }
         requires place { MayAct self.old.sessions caller.place }
         ensures closed { ClosesAt B.seat B.view B.stack self.old.sessions self.new.sessions caller result }
+        ensures names { self.new.names ≡ self.old.names }
         ensures manager { D.manager self.new.desk ≡ D.manager self.old.desk }
         ensures live { D.live self.new.desk + 1 ≡ D.live self.old.desk }
     {
@@ -164,6 +178,7 @@ impl<T: PartTable, B: Board<T>, D: Desk<OwnSession<T, B>>> Stage<T, B, D> {
         requires { MayAct self.old.sessions target.caller.place }
         ensures locked { AcquiresAt B.seat B.view B.stack self.old.sessions self.new.sessions target owner result
             ⊎ WaitsAt B.seat B.view B.stack self.old.sessions self.new.sessions target owner result }
+        ensures names { self.new.names ≡ self.old.names }
         ensures manager { D.manager self.new.desk ≡ D.manager self.old.desk }
     {
         let Named { name, session } = self.sessions.resting.take(target.caller.place);
@@ -200,6 +215,9 @@ impl<T: PartTable, B: Board<T>, D: Desk<OwnSession<T, B>>> Stage<T, B, D> {
         rows: &[TableRow],
     ) -> Result<Picture, Refusal>
         requires { MayAct self.old.sessions place }
+        ensures looked { (after : SessionView B) × (self.new.sessions.resting ≡ with_session self.old.sessions.resting place after) }
+        ensures waiting { self.new.sessions.waiting ≡ self.old.sessions.waiting }
+        ensures names { self.new.names ≡ self.old.names }
         ensures manager { D.manager self.new.desk ≡ D.manager self.old.desk }
     {
         let session = self.sessions.resting.session_mut(place);
@@ -209,6 +227,7 @@ impl<T: PartTable, B: Board<T>, D: Desk<OwnSession<T, B>>> Stage<T, B, D> {
     /// The number of the session that stands there.
     fn number_at(&self, place: Place) -> SessionId
         requires { IsThere self.now.sessions place }
+        ensures { IsNumberAt B.seat self.now.sessions place result }
     {
         match place {
             Place::Resting(place) => self.sessions.resting.at(place).session.id(),
@@ -220,6 +239,8 @@ impl<T: PartTable, B: Board<T>, D: Desk<OwnSession<T, B>>> Stage<T, B, D> {
     /// what the session is told, if it goes on.
     pub fn poll<H: Wait>(&mut self, rt: &H, place: usize) -> Option<(Name, Said)>
         requires { place < length self.old.sessions.waiting }
+        ensures polled { PollsAt B.seat B.view B.stack self.old.sessions self.new.sessions place result }
+        ensures names { self.new.names ≡ self.old.names }
         ensures waiting { length self.new.sessions.waiting + (if is_some result then 1 else 0)
             ≡ length self.old.sessions.waiting }
         ensures manager { D.manager self.new.desk ≡ D.manager self.old.desk }
@@ -231,7 +252,7 @@ impl<T: PartTable, B: Board<T>, D: Desk<OwnSession<T, B>>> Stage<T, B, D> {
                 Some((name, said))
             }
             Err(waiting) => {
-                self.sessions.waiting.put(name, waiting);
+                self.sessions.waiting.put_at(place, name, waiting);
                 None
             }
         }
@@ -252,7 +273,7 @@ impl<T: PartTable, B: Board<T>, D: Desk<OwnSession<T, B>>> Stage<T, B, D> {
     }
 
     /// Cancels the waits of those that wait.
-    fn cancel_all<H: Wait>(&mut self, rt: &H)
+    pub fn cancel_all<H: Wait>(&mut self, rt: &H)
         ensures manager { D.manager self.new.desk ≡ D.manager self.old.desk }
         ensures none_waits { self.new.sessions.waiting ≡ [] }
     {

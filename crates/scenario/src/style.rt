@@ -4,7 +4,7 @@ use std::alloc::Global;
 use std::str::FromStr;
 
 /// The names of the languages of pictures, as the command line has them.
-pub static DRAWINGS: [&str; 2] = ["mermaid", "dot"];
+pub static DRAWINGS: [&str; 4] = ["mermaid", "dot", "timeline", "gantt"];
 
 /// The language of a picture.
 #[derive(Clone, Copy, Debug, PartialEq, Eq)]
@@ -13,14 +13,25 @@ pub enum Drawing {
     Mermaid,
     /// Graphviz's.
     Dot,
+    /// SVG: what each session held and awaited, from line to line.
+    Timeline,
+    /// Mermaid's chart of the same.
+    Gantt,
 }
 
 impl Drawing {
+    /// Whether one picture shows the whole script, at its end.
+    pub fn is_of_all_lines(self) -> bool {
+        matches!(self, Drawing::Timeline | Drawing::Gantt)
+    }
+
     /// Its name.
     pub fn name(self) -> &'static str {
         match self {
             Drawing::Mermaid => "mermaid",
             Drawing::Dot => "dot",
+            Drawing::Timeline => "timeline",
+            Drawing::Gantt => "gantt",
         }
     }
 }
@@ -36,6 +47,8 @@ impl FromStr for Drawing {
         match text {
             "mermaid" => Ok(Drawing::Mermaid),
             "dot" => Ok(Drawing::Dot),
+            "timeline" => Ok(Drawing::Timeline),
+            "gantt" => Ok(Drawing::Gantt),
             _ => Err(NoDrawing),
         }
     }
@@ -48,7 +61,7 @@ pub struct Style {
     pub echo: bool,
     /// An object of JSON for each line that is printed, instead of its text.
     pub json: bool,
-    /// A picture of who waits for whom behind the rows of each `list`.
+    /// A picture of who waits for whom behind the rows of each `list`; or one of the whole script, in place of the answers.
     pub graph: Option<Drawing>,
 }
 

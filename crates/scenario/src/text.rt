@@ -1,4 +1,6 @@
 //! The answers of a script as text.
+ghost use Rattle.std.specs.Prelude.{◌≡◌, Some};
+ghost use Rattle.scenario.specs.Texts.{how_text as text_of_how, in_the_way_text as text_in_the_way, name_in, plain_text as text_of_plain, refusal_text as text_of_refusal, refused_text, row_text, said_text, hash_text};
 
 use crate::answers::{Row, Said};
 use lock_manager::{Acquired, How, InTheWay, Refusal, SessionId, SlotRow, TableRow, Tag, Unlocked};
@@ -6,7 +8,9 @@ use lock_script::{Name, Names};
 use std::fmt;
 
 /// What a conflicting session does with the mode.
-pub fn how_text(how: How) -> &'static str {
+pub fn how_text(how: How) -> &'static str
+    ensures { result.now ≡ text_of_how how }
+{
     match how {
         How::Held => "held",
         How::Awaited => "awaited",
@@ -14,7 +18,9 @@ pub fn how_text(how: How) -> &'static str {
 }
 
 /// How a session stands in the way of one that waits, by its mode.
-pub fn in_the_way_text(how: InTheWay) -> &'static str {
+pub fn in_the_way_text(how: InTheWay) -> &'static str
+    ensures { result.now ≡ text_in_the_way how }
+{
     match how {
         InTheWay::Holds => "held",
         InTheWay::StandsBefore => "awaited",
@@ -22,7 +28,9 @@ pub fn in_the_way_text(how: InTheWay) -> &'static str {
 }
 
 /// The text of a refusal, before what it names.
-pub fn refusal_text(refusal: Refusal) -> &'static str {
+pub fn refusal_text(refusal: Refusal) -> &'static str
+    ensures { result.now ≡ text_of_refusal refusal }
+{
     match refusal {
         Refusal::Conflict { .. } => "conflict",
         Refusal::NoMemory => "no memory",
@@ -43,12 +51,16 @@ pub fn refusal_text(refusal: Refusal) -> &'static str {
 }
 
 /// The name of a session that a row or a refusal tells of. All of them were opened under a name.
-pub fn name_of(names: &Names, session: SessionId) -> Name {
+pub fn name_of(names: &Names, session: SessionId) -> Name
+    ensures { result.bytes ≡ name_in names.now session }
+{
     names.name(session).unwrap_or(Name::new())
 }
 
 /// What a session is told in words alone, or none where that has more to it.
-pub fn plain_text(said: Said) -> &'static str {
+pub fn plain_text(said: Said) -> &'static str
+    ensures { result.now ≡ text_of_plain said }
+{
     match said {
         Said::Acquired(Acquired::Granted) => "granted",
         Said::Acquired(Acquired::AlreadyHeld) => "already held",
@@ -79,12 +91,14 @@ pub struct SaidText<'a> {
 }
 
 impl fmt::Display for SaidText<'_> {
+    ghost output = { λ it. Some (said_text it.names.now it.said) };
+
     fn fmt<W: fmt::Write>(&self, f: &mut fmt::Formatter<W>) -> fmt::Result {
         match self.said {
-            Said::Opened { session, database } => write!(
-                f,
-                "session {session} database {database}"
-            ),
+            Said::Opened { session, database } => {
+                let number = session.number();
+                write!(f, "session {number} database {database}")
+            }
             Said::Asked(other) => write!(f, "asked {other}"),
             Said::Level(level) => write!(f, "level {level}"),
             Said::Owned {
@@ -110,6 +124,8 @@ struct RefusedText<'a> {
 }
 
 impl fmt::Display for RefusedText<'_> {
+    ghost output = { λ it. Some (refused_text it.names.now it.refusal) };
+
     fn fmt<W: fmt::Write>(&self, f: &mut fmt::Formatter<W>) -> fmt::Result {
         let number = self.refusal.number();
         let text = refusal_text(self.refusal);
@@ -136,6 +152,8 @@ pub struct RowText<'a> {
 }
 
 impl fmt::Display for RowText<'_> {
+    ghost output = { λ it. row_text it.names.now it.row };
+
     fn fmt<W: fmt::Write>(&self, f: &mut fmt::Formatter<W>) -> fmt::Result {
         let names = self.names;
         match self.row {
@@ -185,6 +203,8 @@ struct HashText {
 }
 
 impl fmt::Display for HashText {
+    ghost output = { λ it. Some (hash_text it.tag) };
+
     fn fmt<W: fmt::Write>(&self, f: &mut fmt::Formatter<W>) -> fmt::Result {
         let hash = self.tag.hash();
         let partition = self.tag.partition();

@@ -45,5 +45,8 @@ mod streams;
 mod styles;
 #[cfg(test)]
 mod texts;
+mod timelines;
 #[cfg(test)]
 mod waiting;
+#[cfg(test)]
+mod ways;

@@ -1,9 +1,6 @@
 //! Every order of a script: a story whose table of outcomes is known, and a plain enumeration beside the program's.
 use crate::printed::printed;
 use crate::programs::{Run, expect_program, words_of};
-use lock_manager::Config;
-use lock_script::{Defect, Fault};
-use scenario::run_script;
 use std::alloc::Global;
 use std::process::Abort;
 use std::sync::Wait;
@@ -17,9 +14,9 @@ const UPGRADE: &str = "# Whoever comes first.\n\
     lock a 5/1259/16384/0 ShareLock\nlock a 5/1259/16384/0 ExclusiveLock\ncommit a\n\
     lock b 5/1259/16384/0 ShareLock\n\nlock b 5/1259/16384/0 ExclusiveLock\ncommit b\n";
 
-/// Eight orders of twenty are possible, of which four end in a simple deadlock.
+/// In eight orders every line comes to a session that doesn't wait. Four of these end in a simple deadlock.
 const UPGRADED: &str = "\
-# 20 orders: 8 possible, 12 in which a line addresses a session that waits
+# 8 orders run, of at most 20: 8 ended, 0 stuck
 
 # way 1: 2 orders
 #   a: granted; granted; committed
@@ -80,6 +77,9 @@ lock a 5/1259/16384/0 ShareLock
 commit b
 lock a 5/1259/16384/0 ExclusiveLock
 commit a
+
+# all were run, but for those that differ from one of these only in neighbouring
+# lines of different sessions that have nothing to do with one another
 ";
 
 /// Two sessions lock two tables, each in its own order.
@@ -87,9 +87,11 @@ const TWO_TABLES: &str = "session a 5\nsession b 5\n\
     lock a 5/1 AccessExclusiveLock\nlock a 5/2 AccessExclusiveLock\ncommit a\n\
     lock b 5/2 AccessExclusiveLock\nlock b 5/1 AccessExclusiveLock\ncommit b\n";
 
-/// Each has its first table in eight orders of twenty, and then both wait: four ways to come there, and two to go on.
+/// Each may have its first table, and then both wait: which of the two comes first to its first table is nothing to the
+/// other, and who comes first to wait is. Where one has both tables, the other waits or comes later; it comes later in two
+/// orders, since both have to do with both tables.
 const TWO_TABLES_LOCKED: &str = "\
-# 20 orders: 4 possible, 8 stuck, 8 in which a line addresses a session that waits
+# 6 orders run, of at most 20: 4 ended, 2 stuck
 
 # way 1: 2 orders
 #   a: granted; granted; committed
@@ -127,7 +129,7 @@ commit b
 lock a 5/2 AccessExclusiveLock
 commit a
 
-# way 4: 8 orders, stuck
+# way 4: 2 orders, stuck
 #   a: granted; waits
 #   b: granted; waits
 #   left waiting: a, b
@@ -138,6 +140,9 @@ lock a 5/1 AccessExclusiveLock
 lock b 5/2 AccessExclusiveLock
 lock a 5/2 AccessExclusiveLock
 lock b 5/1 AccessExclusiveLock
+
+# all were run, but for those that differ from one of these only in neighbouring
+# lines of different sessions that have nothing to do with one another
 ";
 
 /// A session looks at the queue in which another one comes to wait.
@@ -146,7 +151,7 @@ const LOOKED: &str = "session a 5\nsession b 5\n\
 
 /// What it sees makes two ways. In the third one it waits for a session that has no line left.
 const LOOKED_AT: &str = "\
-# 3 orders: 2 possible, 1 stuck, 0 in which a line addresses a session that waits
+# 3 orders run, of at most 3: 2 ended, 1 stuck
 
 # way 1: 1 order
 #   a: granted; waits 0
@@ -177,13 +182,16 @@ session a 5
 session b 5
 lock b 5/1 ExclusiveLock
 lock a 5/1 ShareLock
+
+# all were run, but for those that differ from one of these only in neighbouring
+# lines of different sessions that have nothing to do with one another
 ";
 
-/// The same where what it sees is left out.
+/// The ways of the script with a look, with what the look sees left out: then it has nothing to do with the other session.
 const LOOKED_AT_ENDS: &str = "\
-# 3 orders: 2 possible, 1 stuck, 0 in which a line addresses a session that waits
+# 2 orders run, of at most 3: 1 ended, 1 stuck
 
-# way 1: 2 orders
+# way 1: 1 order
 #   a: granted
 #   b: waits
 #   left waiting: b
@@ -202,13 +210,16 @@ session a 5
 session b 5
 lock b 5/1 ExclusiveLock
 lock a 5/1 ShareLock
+
+# all were run, but for those that differ from one of these only in neighbouring
+# lines of different sessions that have nothing to do with one another
 ";
 
-/// A session is asked to stop waiting, which it never does, before it is closed or behind that.
+/// A session is asked to stop waiting, which it never does, before it is closed. Behind that nobody can ask it.
 const CLOSED: &str = "session a 5\nsession b 5\ncancel a b\nclose b\n";
 
 const CLOSED_LATER: &str = "\
-# 2 orders: 1 possible, 1 in which a line addresses a session that waits or is closed
+# 2 orders run, of at most 2: 1 ended, 1 stuck
 
 # way 1: 1 order
 #   a: b isn't waiting
@@ -217,10 +228,60 @@ session a 5
 session b 5
 cancel a b
 close b
+
+# way 2: 1 order, stuck
+#   a: nothing
+#   b: closed
+#   not reached: cancel a b
+session a 5
+session b 5
+close b
+
+# all were run, but for those that differ from one of these only in neighbouring
+# lines of different sessions that have nothing to do with one another
 ";
 
+/// What is said where all were run.
+const ALL_RUN: &str = "
+# all were run, but for those that differ from one of these only in neighbouring
+# lines of different sessions that have nothing to do with one another
+";
+
+/// What is said where half of a hundred were drawn.
+const DRAWN: &str = "
+# not all were run: 50 of the first ones, and 50 drawn by seed 0
+# --limit runs more, --seed draws others
+";
+
+/// Thirteen lines, which have 60,060 orders. In all that begin with a's first line, and these are the first 13,860, b
+/// waits for a, which never ends, and so never stands in c's way.
+const GUARDED: &str = "\
+session a 5
+session b 5
+session c 5
+lock a 5/1 AccessShareLock
+lock a 5/4 RowExclusiveLock
+lock a 5/5 RowExclusiveLock
+lock b 5/1 AccessExclusiveLock
+lock b 5/2 AccessExclusiveLock
+lock b 5/3 AccessExclusiveLock
+commit b
+lock c 5/6 RowExclusiveLock
+lock c 5/7 RowExclusiveLock
+lock c 5/3 AccessExclusiveLock
+lock c 5/8 RowExclusiveLock
+lock c 5/2 AccessExclusiveLock
+commit c
+";
+
+/// The deadlock of b and c.
+const GUARDED_LOCKED: &str = "
+#   b: granted; granted; waits
+#   c: granted; granted; granted; granted; waits
+#   left waiting: ";
+
 /// Words, and a run of the program on them.
-static RUNS: [(&str, Run); 15] = [
+static RUNS: [(&str, Run); 18] = [
     ("lock_scenario orders", (UPGRADE, false, 0, UPGRADED, "")),
     (
         "lock_scenario orders",
@@ -252,8 +313,10 @@ static RUNS: [(&str, Run); 15] = [
             "# Nothing to do.\n\n",
             false,
             0,
-            "# 1 order: 1 possible, 0 in which a line addresses a session that waits\n\n\
-             # way 1: 1 order\n#   no line addresses a session\n",
+            "# 1 order run, of at most 1: 1 ended, 0 stuck\n\n\
+             # way 1: 1 order\n#   no line addresses a session\n\n\
+             # all were run, but for those that differ from one of these only in neighbouring\n\
+             # lines of different sessions that have nothing to do with one another\n",
             "",
         ),
     ),
@@ -263,8 +326,10 @@ static RUNS: [(&str, Run); 15] = [
             "session a 5\nsession b 5\nbegin b\n",
             false,
             0,
-            "# 1 order: 1 possible, 0 in which a line addresses a session that waits\n\n\
-             # way 1: 1 order\n#   a: nothing\n#   b: level 2\nsession a 5\nsession b 5\nbegin b\n",
+            "# 1 order run, of at most 1: 1 ended, 0 stuck\n\n\
+             # way 1: 1 order\n#   a: nothing\n#   b: level 2\nsession a 5\nsession b 5\nbegin b\n\n\
+             # all were run, but for those that differ from one of these only in neighbouring\n\
+             # lines of different sessions that have nothing to do with one another\n",
             "",
         ),
     ),
@@ -294,10 +359,11 @@ static RUNS: [(&str, Run); 15] = [
             "session a 5\nsession b 5\nlock a 5/1 ShareLock\nlock b 5/1 ExclusiveLock\n",
             false,
             0,
-            "# the first 1 order, and there are more\n\
-             # 1 order: 1 possible, 0 in which a line addresses a session that waits\n\n\
-             # way 1: 1 order\n#   a: granted\n#   b: waits\n#   left waiting: b\n\
-             session a 5\nsession b 5\nlock a 5/1 ShareLock\nlock b 5/1 ExclusiveLock\n",
+            "# 1 order run, of at most 2: 1 ended, 0 stuck\n\n\
+             # way 1: 1 order\n#   a: waits\n#   b: granted\n#   left waiting: a\n\
+             session a 5\nsession b 5\nlock b 5/1 ExclusiveLock\nlock a 5/1 ShareLock\n\n\
+             # not all were run: 0 of the first ones, and 1 drawn by seed 0\n\
+             # --limit runs more, --seed draws others\n",
             "",
         ),
     ),
@@ -307,9 +373,11 @@ static RUNS: [(&str, Run); 15] = [
             "hash 5/1\nsession a 5\nclose a\nsession a 6\ncount a 0\n",
             false,
             0,
-            "# 1 order: 1 possible, 0 in which a line addresses a session that waits\n\n\
+            "# 1 order run, of at most 1: 1 ended, 0 stuck\n\n\
              # way 1: 1 order\n#   a: closed; session 1 database 6; strong 0 0\n\
-             hash 5/1\nsession a 5\nclose a\nsession a 6\ncount a 0\n",
+             hash 5/1\nsession a 5\nclose a\nsession a 6\ncount a 0\n\n\
+             # all were run, but for those that differ from one of these only in neighbouring\n\
+             # lines of different sessions that have nothing to do with one another\n",
             "",
         ),
     ),
@@ -321,6 +389,37 @@ static RUNS: [(&str, Run); 15] = [
             3,
             "",
             "line 5: bad mode \"Share\", perhaps \"ShareLock\"\n",
+        ),
+    ),
+    (
+        "lock_scenario orders --sessions 2",
+        (
+            "session a 5\nsession b 5\nsession c 5\nlock c 5/1 ShareLock\n",
+            false,
+            3,
+            "",
+            "line 3: no more than 2 sessions may be opened; --sessions 3 allows all of them\n",
+        ),
+    ),
+    (
+        "lock_scenario orders --sessions 2",
+        (
+            "session a 5\nsession b 5\nclose b\nsession b 6\n",
+            false,
+            3,
+            "",
+            "line 4: no more than 2 sessions may be opened; --sessions 3 allows all of them\n",
+        ),
+    ),
+    // The script's own order puts off what comes to a session that waits, so that a bad line behind it is told.
+    (
+        "lock_scenario orders",
+        (
+            "session a 5\nsession b 5\nlock a 5/1 ExclusiveLock\nlock b 5/1 ShareLock\ncommit b\nunlock a 5/1 Share\n",
+            false,
+            3,
+            "",
+            "line 6: bad mode \"Share\", perhaps \"ShareLock\"\n",
         ),
     ),
     (
@@ -343,13 +442,13 @@ fn shows_at_a_terminal_how_many_were_run(rt: HostRuntime) -> Result<(), Fail> {
     let words = words_of(rt.alloc(), "lock_scenario orders")?;
     let shown =
         "reading a script from the terminal, to its end (Ctrl-D); run --help shows its lines\n\
-                 \r0 orders\x1b[K\r\x1b[K";
+                 \r0 orders\x1b[K\r0 orders\x1b[K\r\x1b[K";
     expect_program(&rt, Ok(words), true, (UPGRADE, false, 0, UPGRADED, shown));
     Ok(())
 }
 
-/// What stands before the orders, the sessions' lines, how many orders there are, and how many of them are stuck.
-type Tale = (&'static str, &'static [&'static [&'static str]], u32, u32);
+/// What stands before the orders, the sessions' lines, and how many orders there are.
+type Tale = (&'static str, &'static [&'static [&'static str]], u32);
 
 static TALES: [Tale; 3] = [
     (
@@ -367,7 +466,6 @@ static TALES: [Tale; 3] = [
             ],
         ],
         20,
-        8,
     ),
     (
         "session a 5\nsession b 5\nsession c 5\n",
@@ -377,7 +475,6 @@ static TALES: [Tale; 3] = [
             &["lock c 5/1 AccessShareLock\n", "cancel c a\n"],
         ],
         90,
-        0,
     ),
     (
         "session a 5\nsession b 5\n",
@@ -391,21 +488,13 @@ static TALES: [Tale; 3] = [
             ],
         ],
         5,
-        3,
     ),
 ];
-
-/// How many orders are possible, and how many are stuck or none.
-#[derive(Clone, Copy)]
-struct Counts {
-    possible: u32,
-    left_out: u32,
-}
 
 /// The lines in the order that the digits of this number say, one of which says whose line comes next. There is
 /// none where a digit names a session whose lines are all taken.
 fn script_of(alloc: Global, tale: &Tale, lines: u32, code: u32) -> Result<Option<String>, Fail> {
-    let (opening, actors, _, _) = *tale;
+    let (opening, actors, _) = *tale;
     let many = u32::try_from(actors.len()).unwrap_or(0);
     let mut script = String::from_str(alloc, opening)?;
     let mut taken = vec![in alloc; 0; actors.len()]?;
@@ -434,46 +523,19 @@ fn next_line(
     Some(*line)
 }
 
-/// Runs an order.
-fn count(rt: &(impl Abort + AllocGlobal + Wait), script: &str, counts: &mut Counts) {
-    let config = Config {
-        sessions: 8,
-        max_local: 16,
-        slot_groups: 1,
-    };
-    let mut printed = Vec::new(rt.alloc());
-    match run_script(rt, script.as_bytes(), &mut printed, config) {
-        Ok(()) => counts.possible = counts.possible.saturating_add(1),
-        Err(
-            Fault::BadLine {
-                what: Defect::SessionWaits,
-                ..
-            },
-        ) => counts.left_out = counts.left_out.saturating_add(1),
-        Err(_) => assert!(rt; false, "the script {script:?}"),
-    }
-}
-
-/// Runs each order of a story.
-fn count_all(
-    rt: &(impl Abort + AllocGlobal + Wait),
-    tale: &Tale,
-    lines: u32,
-) -> Result<Counts, Fail> {
-    let mut counts = Counts {
-        possible: 0,
-        left_out: 0,
-    };
+/// How many orders a story has.
+fn count_all(alloc: Global, tale: &Tale, lines: u32) -> Result<u32, Fail> {
+    let mut orders = 0u32;
     let codes = u32::try_from(tale.1.len())
         .unwrap_or(0)
         .checked_pow(lines)
         .unwrap_or(0);
     for code in 0..codes {
-        if let Some(script) = script_of(rt.alloc(), tale, lines, code)? {
-            count(rt, script.as_str(), &mut counts);
+        if script_of(alloc, tale, lines, code)?.is_some() {
+            orders = orders.saturating_add(1);
         }
     }
-    Ok(counts)
+    Ok(orders)
 }
 
 /// A story as one script, and how many lines its sessions have.
@@ -489,37 +551,83 @@ fn whole(alloc: Global, tale: &Tale) -> Result<(String, u32), Fail> {
     Ok((script, many))
 }
 
-/// Checks that the program counts as many orders as the plain enumeration.
+/// Checks that the program tells as many orders as the plain enumeration has.
 fn expect_counts(
     rt: &(impl Abort + AllocGlobal + Clock + Threads + Wait + Sync),
     tale: &Tale,
 ) -> Result<(), Fail> {
     let alloc: Global = rt.alloc();
     let (script, lines) = whole(alloc, tale)?;
-    let Counts { possible, left_out } = count_all(rt, tale, lines)?;
-    let all = possible.saturating_add(left_out);
+    let all = count_all(alloc, tale, lines)?;
     assert_eq!(rt; all, tale.2, "the orders of {script:?}");
-    let mut first = format!(in alloc; "# {all} orders: {possible} possible, ")?;
-    if tale.3 > 0 {
-        write!(first, "{} stuck, ", tale.3)?;
-    }
-    let none = left_out.saturating_sub(tale.3);
-    write!(
-        first,
-        "{none} in which a line addresses a session that waits\n"
-    )?;
+    let most = format!(in alloc; ", of at most {all}: ")?;
     let told = printed(rt, "lock_scenario orders", script.as_str())?;
     assert!(rt;
-        told.as_str().starts_with(first.as_str()),
+        told.as_str().contains(most.as_str()),
         "the orders of {script:?}"
     );
     Ok(())
 }
 
 #[test]
-fn runs_the_orders_of_a_plain_enumeration(rt: HostRuntime) -> Result<(), Fail> {
+fn tells_as_many_orders_as_a_plain_enumeration(rt: HostRuntime) -> Result<(), Fail> {
     for tale in &TALES {
         expect_counts(&rt, tale)?;
     }
+    Ok(())
+}
+
+#[test]
+fn finds_a_deadlock_that_the_first_orders_have_not(rt: HostRuntime) -> Result<(), Fail> {
+    let told = printed(&rt, "lock_scenario orders", GUARDED)?;
+    let told = told.as_str();
+    assert!(&rt;
+        told.contains("order run, of at most 60060: ")
+            || told.contains("orders run, of at most 60060: "),
+        "{told:?}"
+    );
+    assert!(&rt; told.contains(GUARDED_LOCKED), "{told:?}");
+    assert!(&rt; told.ends_with(ALL_RUN), "{told:?}");
+    Ok(())
+}
+
+/// Twenty sessions, each of which shares a table and then wants it alone.
+fn twenty(alloc: Global) -> Result<String, Fail> {
+    let mut script = String::new(alloc);
+    for number in 0..20 {
+        write!(script, "session s{number} 5\n")?;
+    }
+    for number in 0..20 {
+        write!(
+            script,
+            "lock s{number} 5/1 AccessShareLock\nlock s{number} 5/1 AccessExclusiveLock\n"
+        )?;
+    }
+    Ok(script)
+}
+
+#[test]
+fn draws_orders_of_many_sessions(rt: HostRuntime) -> Result<(), Fail> {
+    let script = twenty(rt.alloc())?;
+    let line = "lock_scenario orders --sessions 20 --limit 100";
+    let told = printed(&rt, line, script.as_str())?;
+    let again = printed(&rt, line, script.as_str())?;
+    assert!(&rt;
+        told.as_str() == again.as_str(),
+        "one seed draws the same orders"
+    );
+    let told = told.as_str();
+    assert!(&rt;
+        told.starts_with("# 100 orders run, of at most 7.7 * 10^41: "),
+        "{told:?}"
+    );
+    assert!(&rt; told.contains("\n# way 2: "), "{told:?}");
+    assert!(&rt; told.ends_with(DRAWN), "{told:?}");
+    let other = printed(
+        &rt,
+        "lock_scenario orders --sessions 20 --limit 100 --seed 1",
+        script.as_str(),
+    )?;
+    assert!(&rt; other.as_str() != told, "another seed draws others");
     Ok(())
 }

@@ -34,7 +34,7 @@ pub fn words_of(alloc: Global, line: &str) -> Result<Vec<String>, Fail> {
 }
 
 /// Words, and how many sessions and local entries or rounds they ask for, where they aren't refused.
-static WORDS: [(&str, Option<(u32, u32)>); 39] = [
+static WORDS: [(&str, Option<(u32, u32)>); 44] = [
     ("lock_scenario run", Some((8, 1024))),
     ("lock_scenario run --sessions 1", Some((1, 1024))),
     ("lock_scenario run --sessions=64", Some((64, 1024))),
@@ -85,6 +85,11 @@ static WORDS: [(&str, Option<(u32, u32)>); 39] = [
         Some((2, 1_000_000)),
     ),
     ("lock_scenario orders --limit 0", None),
+    ("lock_scenario orders --limit 1000001", None),
+    ("lock_scenario orders --limit x", None),
+    ("lock_scenario orders --seed 4294967295", Some((8, 10_000))),
+    ("lock_scenario orders --seed 4294967296", None),
+    ("lock_scenario orders --seed x", None),
     ("lock_scenario orders --ends", Some((8, 10_000))),
     ("lock_scenario orders --ends more", None),
     ("lock_scenario shell --max-local 3", Some((64, 3))),
@@ -152,7 +157,7 @@ Options:
       --slot-groups <G>   Groups of 16 fast-path slots, 1 to 8 [default: 1]
       --echo              Print each line of the script before its answers
       --json              Print an object of JSON for each line, instead of its text
-      --graph <LANGUAGE>  Draw who waits for whom, behind each list [possible values: mermaid, dot]
+      --graph <LANGUAGE>  Draw who waits for whom, behind each list, or the whole script [possible values: mermaid, dot, timeline, gantt]
   -h, --help              Print help
 
 Lines of a script, after lock_scenario run < FILE:
@@ -383,7 +388,7 @@ static RUNS: [(&str, Run); 18] = [
 ];
 
 /// Words that say what a run shows, with a run of the program on them.
-static SHOWN: [(&str, Run); 3] = [
+static SHOWN: [(&str, Run); 4] = [
     (
         "lock_scenario run --echo",
         (
@@ -406,13 +411,23 @@ static SHOWN: [(&str, Run); 3] = [
         ),
     ),
     (
+        "lock_scenario run --graph gantt --echo",
+        (
+            "session a 5\nlock a 5/1 ShareLock\n",
+            false,
+            0,
+            "gantt\n  dateFormat X\n  axisFormat %s\n  section a\n  5/1 ShareLock :done, 2, 3\n",
+            "",
+        ),
+    ),
+    (
         "lock_scenario run --graph svg",
         (
             "session a 5\n",
             false,
             2,
             "",
-            "error: invalid value 'svg' for '--graph <LANGUAGE>'\n  [possible values: mermaid, dot]\n\n\
+            "error: invalid value 'svg' for '--graph <LANGUAGE>'\n  [possible values: mermaid, dot, timeline, gantt]\n\n\
              For more information, try '--help'.\n",
         ),
     ),

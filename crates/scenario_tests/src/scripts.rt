@@ -2,7 +2,7 @@
 use crate::inputs::INPUTS;
 use crate::pipes::Pipe;
 use crate::rows::{self, BadRow, Copies, Row};
-use crate::scenarios::{deadlocks, owners, the_fast_path, the_queue};
+use crate::scenarios::{deadlocks, migrations_on_a_busy_table, owners, the_fast_path, the_queue};
 use crate::{advisory, groups, nested, queues, waiting};
 use lock_manager::{Config, MOST_GROUPS, MOST_LOCAL, MOST_SESSIONS};
 use lock_script::{Defect, Fault};
@@ -159,6 +159,11 @@ fn expect_rows(
 }
 
 // A test for each list: the proof of one that plays several goes past the prover's step limit.
+#[test]
+fn scenarios_of_migrations_print_what_their_files_say(rt: HostRuntime) -> Result<(), Fail> {
+    expect_rows(&rt, EIGHT, &migrations_on_a_busy_table::ROWS)
+}
+
 #[test]
 fn scenarios_of_deadlocks_print_what_their_files_say(rt: HostRuntime) -> Result<(), Fail> {
     expect_rows(&rt, EIGHT, &deadlocks::ROWS)

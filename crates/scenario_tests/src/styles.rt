@@ -38,7 +38,7 @@ const ALL: Style = Style {
 };
 
 /// A style, a script, and what is printed.
-type StyledRow<'a> = (Style, &'a str, &'a str);
+pub type StyledRow<'a> = (Style, &'a str, &'a str);
 
 /// Each line of a script is shown before its answers, comments and lines with no word too.
 const ECHOED: StyledRow<'static> = (

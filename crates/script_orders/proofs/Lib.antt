@@ -1,2 +1,5 @@
 mod MergeLemmas
 mod NextLemmas
+mod StepLemmas
+mod StoryLemmas
+mod TurnLemmas

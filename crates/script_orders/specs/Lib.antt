@@ -1,1 +1,4 @@
+pub mod Ends
 pub mod Merges
+pub mod Steps
+pub mod Turns

@@ -1,21 +1,30 @@
 //! How orders end: what is told of each way, and how many orders lead there.
+ghost use Rattle.std.specs.Prelude.{◌≡◌, ◌<◌, ◌+◌, ◌-◌, ◌^◌, ◌≤◌, OnOk, OnErr, length};
+ghost use Rattle.std.specs.List.{sum_by};
+ghost use Rattle.indexmap.specs.IndexSet.{index_set_len};
+ghost use Rattle.script_orders.specs.declared.ends.Way.{Way};
 
-use crate::stories::Script;
-use indexmap::IndexMap;
+use crate::totals::Total;
+use indexmap::IndexSet;
 use std::alloc::{AllocError, Global};
 use std::fmt;
 use std::io::{self, Write};
 
+/// What is said behind the ways where all orders were run.
+const ALL_RUN: &str = "
+# all were run, but for those that differ from one of these only in neighbouring
+# lines of different sessions that have nothing to do with one another";
+
 /// A way to end: how many orders lead there, and the first of them as a script.
 #[derive(Drop)]
-struct Ending {
-    orders: u32,
-    script: Script,
+pub struct Way {
+    pub orders: u32,
+    pub script: String,
 }
 
 /// How many orders there are, in words.
 #[derive(Clone, Copy)]
-struct Orders(u32);
+struct Orders(u64);
 
 impl fmt::Display for Orders {
     fn fmt<W: fmt::Write>(&self, f: &mut fmt::Formatter<W>) -> fmt::Result {
@@ -26,121 +35,165 @@ impl fmt::Display for Orders {
     }
 }
 
-/// Ways to end, by what is told of each, in the order in which they came first.
+/// Ways to end, in the order in which they came first. Each order that is counted leads to one of them.
 #[derive(Drop)]
-struct Ways {
-    endings: IndexMap<String, Ending>,
+pub struct Ways {
+    /// What is told of each.
+    tellings: IndexSet<String>,
+    ways: Vec<Way>,
     /// How many orders lead to one of them.
-    orders: u32,
+    pub orders: u32,
+    ghost each: { index_set_len tellings ≤ length ways.items },
+    ghost all: { sum_by (λ (way : Way). way.orders) ways.items ≡ orders },
 }
 
 impl Ways {
     /// None.
-    fn new(alloc: Global) -> Self {
+    pub fn new(alloc: Global) -> Self
+        ensures { result.orders ≡ 0 }
+    {
         Ways {
-            endings: IndexMap::new(alloc),
+            tellings: IndexSet::new(alloc),
+            ways: Vec::new(alloc),
             orders: 0,
         }
     }
 
-    /// Counts an order that ended as is told.
-    fn count(&mut self, told: String, script: Script) -> Result<(), AllocError> {
-        self.orders = self.orders.saturating_add(1);
-        let ending = self
-            .endings
-            .entry(told)?
-            .or_insert(Ending { orders: 0, script });
-        ending.orders = ending.orders.saturating_add(1);
+    /// Counts an order that ended as is told, of which `script` is the script.
+    pub fn count(&mut self, told: String, script: String) -> Result<(), AllocError>
+        requires { self.old.orders < 2 ^ 32 - 1 }
+        ensures counted { OnOk result (self.new.orders ≡ self.old.orders + 1) }
+        ensures refused { OnErr result (self.new.orders ≡ self.old.orders) }
+    {
+        match self.tellings.get_index_of(&told) {
+            Some(place) => {
+                self.ways[place].orders += 1;
+            }
+            None => {
+                self.ways.push(Way { orders: 1, script })?;
+                if let Err(refused) = self.tellings.insert(told) {
+                    let _ = self.ways.pop();
+                    return Err(AllocError::from(refused));
+                }
+            }
+        }
+        self.orders += 1;
         Ok(())
     }
+}
 
-    /// Writes them, with numbers behind this one, and with these words behind the head of each.
+impl Ways {
+    /// Writes them, with numbers behind `before`, and with these words behind the head of each.
     fn write<W: Write>(&self, output: &mut W, before: usize, words: &str) -> io::Result<()> {
-        for (place, (told, ending)) in self.endings.iter().enumerate() {
+        for (place, (told, way)) in self.tellings.iter().zip(&self.ways).enumerate() {
             let number = before.saturating_add(place).saturating_add(1);
-            writeln!(output, "\n# way {number}: {}{words}", Orders(ending.orders))?;
-            write!(output, "{told}{}", ending.script.text)?;
+            writeln!(
+                output,
+                "\n# way {number}: {}{words}",
+                Orders(u64::from(way.orders))
+            )?;
+            write!(output, "{told}{}", way.script)?;
         }
         Ok(())
     }
 }
 
-/// How the orders of a script ended.
+/// How the orders of a script ended that were begun.
 #[derive(Drop)]
 pub struct Endings {
     /// The ways of those that ran to their end.
     ended: Ways,
-    /// The ways of those in which everybody who has lines left waits.
+    /// The ways of those in which nobody who has lines left can go on.
     stuck: Ways,
-    /// How many are no order, since a line addresses a session that waits.
-    addressing_waiting: u32,
-    /// How many are no order, since a line addresses a session that was closed.
-    addressing_closed: u32,
+    /// How many were given up: others are run in their place.
+    given_up: u32,
+}
+
+/// Which orders were run.
+#[derive(Clone, Copy, Debug, PartialEq, Eq)]
+pub enum Extent {
+    /// All, but for those that differ only in neighbouring lines that have nothing to do with one another.
+    All,
+    /// So many of the first ones, and others that were drawn by this seed.
+    Drawn { first: u64, seed: u32 },
 }
 
 impl Endings {
-    /// No order was run.
-    pub fn new(alloc: Global) -> Self {
+    ghost use Rattle.script_orders.specs.Ends.{begun_of, run_of};
+
+    /// No order was begun.
+    pub fn new(alloc: Global) -> Self
+        ensures { begun_of result ≡ 0 }
+    {
         Endings {
             ended: Ways::new(alloc),
             stuck: Ways::new(alloc),
-            addressing_waiting: 0,
-            addressing_closed: 0,
+            given_up: 0,
         }
     }
 
-    /// Counts one that ended as is told.
-    pub fn count(&mut self, told: String, script: Script) -> Result<(), AllocError> {
-        self.ended.count(told, script)
+    /// How many orders were run to their end, or until they were stuck.
+    pub fn run(&self) -> u64
+        ensures sum { result ≡ run_of self.now }
+        ensures small { result < 2 ^ 33 }
+    {
+        u64::from(self.ended.orders) + u64::from(self.stuck.orders)
     }
 
-    /// Counts one that is stuck as is told, behind the lines of this script.
-    pub fn count_stuck(&mut self, told: String, script: Script) -> Result<(), AllocError> {
-        self.stuck.count(told, script)
+    /// How many orders were begun: those that were run, and those that were given up.
+    pub fn begun(&self) -> u64
+        ensures { result ≡ begun_of self.now }
+    {
+        self.run() + u64::from(self.given_up)
     }
 
-    /// Counts one in which a line addresses a session that waits.
-    pub fn leave_out_waiting(&mut self) {
-        self.addressing_waiting = self.addressing_waiting.saturating_add(1);
-    }
-
-    /// Counts one in which a line addresses a session that was closed.
-    pub fn leave_out_closed(&mut self) {
-        self.addressing_closed = self.addressing_closed.saturating_add(1);
-    }
-
-    /// Writes the table of all, as a script of comments in which the orders are. Where not all orders were run it
-    /// says so.
-    pub fn write<W: Write>(&self, output: &mut W, is_whole: bool) -> io::Result<()> {
-        self.write_head(output, is_whole)?;
-        self.ended.write(output, 0, "")?;
-        self.stuck
-            .write(output, self.ended.endings.len(), ", stuck")?;
-        output.flush()
-    }
-
-    /// Writes how many orders were run, and how many of each kind there are.
-    fn write_head<W: Write>(&self, output: &mut W, is_whole: bool) -> io::Result<()> {
-        let (possible, stuck) = (self.ended.orders, self.stuck.orders);
-        let left_out = self
-            .addressing_waiting
-            .saturating_add(self.addressing_closed);
-        let run = possible.saturating_add(stuck).saturating_add(left_out);
-        if !is_whole {
-            writeln!(output, "# the first {}, and there are more", Orders(run))?;
-        }
-        write!(output, "# {}: {possible} possible, ", Orders(run))?;
-        if stuck > 0 {
-            write!(output, "{stuck} stuck, ")?;
-        }
-        let closed = if self.addressing_closed > 0 {
-            " or is closed"
+    /// Counts an order that was run and ended as is told, of which `script` is the script. `is_stuck` says whether lines
+    /// are left.
+    pub fn count(&mut self, told: String, script: String, is_stuck: bool) -> Result<(), AllocError>
+        requires { run_of self.old < 2 ^ 32 - 1 }
+        ensures counted { OnOk result (run_of self.new ≡ run_of self.old + 1) }
+        ensures refused { OnErr result (run_of self.new ≡ run_of self.old) }
+        ensures given_up { self.new.given_up ≡ self.old.given_up }
+    {
+        if is_stuck {
+            self.stuck.count(told, script)
         } else {
-            ""
-        };
+            self.ended.count(told, script)
+        }
+    }
+
+    /// Counts an order that was given up.
+    pub fn give_up(&mut self)
+        requires { self.old.given_up < 2 ^ 32 - 1 }
+        ensures given_up { self.new.given_up ≡ self.old.given_up + 1 }
+        ensures run { run_of self.new ≡ run_of self.old }
+    {
+        self.given_up += 1;
+    }
+
+    /// Writes the table of all, as a script of comments in which the orders are. `total` is in how many ways the lines can
+    /// be merged.
+    pub fn write<W: Write>(&self, output: &mut W, total: Total, extent: Extent) -> io::Result<()> {
+        let run = self.run();
+        let (ended, stuck) = (self.ended.orders, self.stuck.orders);
         writeln!(
             output,
-            "{left_out} in which a line addresses a session that waits{closed}"
-        )
+            "# {} run, of at most {total}: {ended} ended, {stuck} stuck",
+            Orders(run)
+        )?;
+        self.ended.write(output, 0, "")?;
+        self.stuck.write(output, self.ended.ways.len(), ", stuck")?;
+        match extent {
+            Extent::All => writeln!(output, "{ALL_RUN}")?,
+            Extent::Drawn { first, seed } => {
+                let drawn = run.saturating_sub(first);
+                writeln!(
+                    output,
+                    "\n# not all were run: {first} of the first ones, and {drawn} drawn by seed {seed}"
+                )?;
+                writeln!(output, "# --limit runs more, --seed draws others")?;
+            }
+        }
+        output.flush()
     }
 }

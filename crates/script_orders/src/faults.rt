@@ -15,11 +15,22 @@ pub struct BadLine {
     pub open: Vec<Name>,
 }
 
+/// A line that opens a session, which is refused since all that may be opened were.
+#[derive(Clone, Copy, Debug, PartialEq, Eq)]
+pub struct RefusedSession {
+    /// Its number in the script, from 1.
+    pub number: u32,
+    /// How many sessions the script opens.
+    pub wanted: u32,
+}
+
 /// What ends the orders of a script early.
 #[derive(Debug, Drop)]
 pub enum OrdersFault {
     /// A line of the script is bad.
     Line(BadLine),
+    /// A session of the script is not opened.
+    Session(RefusedSession),
     /// Another fault, or a line that can't be read.
     Other(Fault),
 }

@@ -1,10 +1,12 @@
 //! How orders are run and told.
 
-/// How many orders are run, and what is told of how they end.
+/// How many orders are run, which are drawn, and what is told of how they end.
 #[derive(Clone, Copy, Debug, PartialEq, Eq)]
 pub struct OrdersOptions {
-    /// How many are run at most.
+    /// How many are begun at most.
     pub limit: u32,
+    /// Which orders are drawn where not all are run: one seed draws the same ones each time.
+    pub seed: u32,
     /// Whether what a session sees is left out: the answers to `list`, `count`, `queue`, `owned`, `blockers` and
     /// `waiters`. Then orders end alike where the same sessions were refused and waited.
     pub ends: bool,

@@ -2,9 +2,6 @@
 
 use std::io::Write;
 
-/// After so many orders the line is written.
-const ORDERS_A_LINE: u32 = 128;
-
 /// The line, which only a terminal is shown.
 #[derive(Drop)]
 pub struct OrdersLine<'a, E> {
@@ -14,8 +11,8 @@ pub struct OrdersLine<'a, E> {
 
 impl<E: Write> OrdersLine<'_, E> {
     /// So many orders were run.
-    pub fn renew(&mut self, orders: u32) {
-        if self.is_terminal && orders % ORDERS_A_LINE == 0 {
+    pub fn renew(&mut self, orders: u64) {
+        if self.is_terminal {
             // Where the line can't be written, the orders are run all the same.
             let _ = write!(self.writer, "\r{orders} orders\x1b[K");
             let _ = self.writer.flush();

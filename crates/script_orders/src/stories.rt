@@ -1,6 +1,11 @@
 //! A script taken apart: the lines that stand before all orders, and each session's own.
 
-use lock_script::{Fault, LineReader, split_words};
+ghost use Rattle.std.specs.Prelude.{◌≡◌, ◌<◌, ◌-◌, ◌^◌, IfSome, IsSome};
+ghost use Rattle.script_orders.specs.Turns.{IsLineAt};
+
+use crate::steps::Step;
+use lock_script::{Fault, LineReader, WordKind, command_row, parse_tag, split_words};
+use modes_core::Tag;
 use std::alloc::{AllocError, Global};
 use std::io::Read;
 
@@ -29,14 +34,8 @@ pub struct Story {
     pub own_merge: Vec<usize>,
 }
 
-/// A script as a lock manager plays it, and the number that each of its lines has in the script that it was made from.
-#[derive(Drop)]
-pub struct Script {
-    pub text: String,
-    pub numbers: Vec<u32>,
-}
-
 /// What a line is to the orders.
+#[derive(Clone, Copy)]
 enum LineKind<'a> {
     /// It says nothing.
     Silent,
@@ -57,13 +56,48 @@ fn kind_of(line: &str) -> LineKind<'_> {
     if verb.starts_with('#') {
         return LineKind::Silent;
     }
-    match words.first() {
-        Some(name) => match *verb {
-            "session" => LineKind::Opens(*name),
-            "hash" => LineKind::Free,
-            _ => LineKind::Of(*name),
+    let Some(name) = words.first() else {
+        return LineKind::Free;
+    };
+    match command_row(*verb) {
+        Some(row) => match row.kinds.first() {
+            Some(WordKind::FreeName) => LineKind::Opens(*name),
+            Some(WordKind::CallerName) => LineKind::Of(*name),
+            _ => LineKind::Free,
         },
-        None => LineKind::Free,
+        None => LineKind::Of(*name),
+    }
+}
+
+/// The word of a line that names another session than the one that acts, if its command has one.
+fn named_word<'a>(words: &[&'a str]) -> Option<&'a str> {
+    let verb = words.first()?;
+    let place = command_row(*verb)?.place_of(WordKind::OpenName)?;
+    words.get(place).copied()
+}
+
+/// Whether a line opens a session.
+fn opens(line: &str) -> bool {
+    matches!(kind_of(line), LineKind::Opens(_))
+}
+
+impl StoryLine {
+    /// The word of another session that the line names beside its own, if it names one.
+    pub fn named(&self) -> Option<&str> {
+        let words = split_words(self.text.as_str());
+        named_word(words.as_slice())
+    }
+
+    /// Whether the line only looks at locks.
+    pub fn looks(&self) -> bool {
+        let words = split_words(self.text.as_str());
+        match words.as_slice().first() {
+            Some(verb) => match command_row(*verb) {
+                Some(row) => row.looks,
+                None => false,
+            },
+            None => false,
+        }
     }
 }
 
@@ -138,70 +172,82 @@ impl Story {
         Ok(())
     }
 
-    /// The first merge of the sessions' lines: each session's stand together.
-    pub fn first_merge(&self, alloc: Global) -> Result<Vec<usize>, AllocError> {
-        let mut merge = Vec::new(alloc);
-        for (place, actor) in self.actors.iter().enumerate() {
-            for _ in &actor.lines {
-                merge.push(place)?;
+    /// The object that a line which stands before all orders gives this name, if one does.
+    pub fn object_named(&self, name: &str) -> Option<Tag> {
+        for line in &self.opening {
+            let words = split_words(line.text.as_str());
+            if let ["name", other, tag] = words.as_slice() {
+                if *other == name {
+                    return parse_tag(*tag);
+                }
             }
         }
-        Ok(merge)
+        None
     }
 
-    /// How many of the sessions' lines stand before a line of an order's script. Lines are counted from 1.
-    pub fn lines_before(&self, line: u32) -> usize {
-        (line as usize)
-            .saturating_sub(1)
-            .saturating_sub(self.opening.len())
-    }
-
-    /// The script in which the sessions' lines come in the order of this merge.
-    pub fn script(&self, alloc: Global, merge: &[usize]) -> Result<Script, AllocError> {
-        let mut script = Script {
-            text: String::new(alloc),
-            numbers: Vec::new(alloc),
-        };
-        for line in &self.opening {
-            script.add(line)?;
+    /// A line of a session, if there is one.
+    pub fn line(&self, step: Step) -> Option<&StoryLine>
+        ensures found { IfSome result (λ line. IsLineAt self.now step line.now) }
+        ensures fits { IsSome result → step.line < 2 ^ 64 - 1 }
+    {
+        let lines = &self.actors.get(step.session)?.lines;
+        if step.line < lines.len() {
+            lines.get(step.line)
+        } else {
+            None
         }
-        let mut taken = vec![in alloc; 0; self.actors.len()]?;
-        for place in merge {
-            if let Some(line) = self.next_line(*place, taken.as_mut_slice()) {
-                script.add(line)?;
+    }
+
+    /// How many lines open a session.
+    pub fn sessions_wanted(&self) -> usize {
+        let mut wanted = 0usize;
+        for line in &self.opening {
+            if opens(line.text.as_str()) {
+                wanted = wanted.saturating_add(1);
+            }
+        }
+        for actor in &self.actors {
+            for line in &actor.lines {
+                if opens(line.text.as_str()) {
+                    wanted = wanted.saturating_add(1);
+                }
+            }
+        }
+        wanted
+    }
+
+    /// Whether all is as it was behind the lines that stand before all orders, once each session has aborted: no
+    /// session opens or closes within the orders, and none has a lock of its own that an abort leaves it.
+    pub fn is_undone_by_aborts(&self) -> bool {
+        for actor in &self.actors {
+            for line in &actor.lines {
+                let words = split_words(line.text.as_str());
+                match words.as_slice() {
+                    ["session" | "close", ..] | [_, _, _, _, _, ..] => return false,
+                    _ => {}
+                }
+            }
+        }
+        true
+    }
+
+    /// The script in which these lines of the sessions come behind those that stand before all orders.
+    pub fn script(&self, alloc: Global, steps: &[Step]) -> Result<String, AllocError> {
+        let mut script = String::new(alloc);
+        for line in &self.opening {
+            add_text(&mut script, line)?;
+        }
+        for step in steps {
+            if let Some(line) = self.line(*step) {
+                add_text(&mut script, line)?;
             }
         }
         Ok(script)
     }
-
-    /// The next line of a session, of whose lines so many were taken.
-    fn next_line(&self, place: usize, taken: &mut [usize]) -> Option<&StoryLine> {
-        let actor = self.actors.get(place)?;
-        let taken = taken.get_mut(place)?;
-        let line = actor.lines.get(*taken)?;
-        *taken = taken.saturating_add(1);
-        Some(line)
-    }
 }
 
-impl Script {
-    /// Adds a line.
-    fn add(&mut self, line: &StoryLine) -> Result<(), AllocError> {
-        self.text.push_str(line.text.as_str())?;
-        self.text.push('\n')?;
-        self.numbers.push(line.number)?;
-        Ok(())
-    }
-
-    /// The text of a line. Lines are counted from 1.
-    pub fn line(&self, line: u32) -> &str {
-        let place = line.saturating_sub(1) as usize;
-        self.text.as_str().lines().nth(place).unwrap_or("")
-    }
-
-    /// The number that a line has in the script that this one was made from. Lines are counted from 1.
-    pub fn number_of(&self, line: u32) -> u32 {
-        let place = line.saturating_sub(1) as usize;
-        self.numbers.get(place).copied().unwrap_or(line)
-    }
+/// Adds a line to a script.
+fn add_text(script: &mut String, line: &StoryLine) -> Result<(), AllocError> {
+    script.push_str(line.text.as_str())?;
+    script.push('\n')
 }

@@ -15,11 +15,12 @@ use Rattle.shared_rule.specs.declared.kept.Kept.{Kept}
 use Rattle.shared_rule.specs.declared.kept.Kept.TheVariants.{Nothing}
 use Rattle.shared_rule.specs.History.{slots_shown}
 use Rattle.shared_rule.specs.Layout.{content_slot_of}
-use Rattle.shared_rule.specs.Led.{Led}
+use Rattle.shared_rule.specs.Led.{Led, LedBy}
 use Rattle.shared_rule.specs.LwLocks.{no_lists, queued_for}
 use Rattle.shared_rule.specs.Acquires.{IsAsBefore, GetsSlots, MayGetSlots, account_getting, TakesPartition}
-use Rattle.shared_rule.specs.Plays.{Side, account_at, number_at, HasSession, IsSameSeat, TookSlots, SharedSlots}
-use Rattle.shared_rule.proofs.Led.{led-noted, led-as, led-then}
+use Rattle.shared_rule.specs.Plays.{Side, account_at, number_at, quiet_at, HasSession, IsSameSeat, TookSlots, SharedSlots}
+use Rattle.shared_rule.specs.Quiet.{quiet_getting}
+use Rattle.shared_rule.proofs.Led.{led-noted, led-as, led_by-as, led-then, led_by-then}
 
 -- How the calls of an acquire make it up.
 
@@ -125,8 +126,8 @@ module _ {T : Type 0} (content : T → Content) where
       shown = takes.shown;
       knows = subst (λ n. KnowsSlots groups n (account_at content before) owner takes.shown) first.led.number
           (subst (λ a. KnowsSlots groups (number_at middle) a owner takes.shown) first.led.account takes.knows);
-      led = subst (λ n. Led content before after (account_getting mode n (account_at content before) owner takes.shown)) first.led.number
-          (led-then content before middle after (account_at content before) (λ a. account_getting mode (number_at middle) a owner takes.shown) first.led takes.led);
+      led = subst (λ n. LedBy content before after (account_getting mode n (account_at content before) owner takes.shown) (quiet_getting mode owner (quiet_at before))) first.led.number
+          (led_by-then content before middle after (account_at content before) (quiet_at before) (λ a. account_getting mode (number_at middle) a owner takes.shown) (quiet_getting mode owner) first.led takes.led);
       slots = takes.slots ∙ first.slots;
     }
 
@@ -173,17 +174,18 @@ module _ {T : Type 0} (content : T → Content) where
     got_slots-between groups mode owner takes leaves rest =
         let a : Account = account_at content before in
         let n : ℕ = number_at queued in
-        let twice = led-then content before queued attempted (with_lists a (queued_for lock)) (λ b. account_getting mode n b owner takes.shown) queues takes.led in
-        let thrice = led-then content before attempted after (account_getting mode n (with_lists a (queued_for lock)) owner takes.shown) (λ b. with_lists b no_lists) twice leaves in
-        let fourth : Led content before after (account_getting mode n a owner takes.shown) =
-        led-as content before after (with_lists (account_getting mode n (with_lists a (queued_for lock)) owner takes.shown) no_lists) (account_getting mode n a owner takes.shown) thrice
+        let its = quiet_getting mode owner (quiet_at before) in
+        let twice = led_by-then content before queued attempted (with_lists a (queued_for lock)) (quiet_at before) (λ b. account_getting mode n b owner takes.shown) (quiet_getting mode owner) queues takes.led in
+        let thrice = led_by-then content before attempted after (account_getting mode n (with_lists a (queued_for lock)) owner takes.shown) its (λ b. with_lists b no_lists) (λ q. q) twice leaves in
+        let fourth : LedBy content before after (account_getting mode n a owner takes.shown) its =
+        led_by-as content before after its (with_lists (account_getting mode n (with_lists a (queued_for lock)) owner takes.shown) no_lists) (account_getting mode n a owner takes.shown) thrice
         (getting-with mode n a (queued_for lock) no_lists owner takes.shown ∙ ap (λ b. account_getting mode n b owner takes.shown) (idle-same a idle)) in
         record {
           shown = takes.shown;
           knows = knows-slots groups (number_at before) a (queued_for lock) owner takes.shown
               (subst (λ n. KnowsSlots groups n (with_lists a (queued_for lock)) owner takes.shown) queues.number
               (subst (λ b. KnowsSlots groups (number_at queued) b owner takes.shown) queues.account takes.knows));
-          led = subst (λ n. Led content before after (account_getting mode n a owner takes.shown)) queues.number fourth;
+          led = subst (λ n. LedBy content before after (account_getting mode n a owner takes.shown) its) queues.number fourth;
           slots = rest ∙ takes.slots ∙ same;
         }
 

@@ -13,6 +13,8 @@ pub mod Opening
 pub mod Events
 pub mod Sides
 pub mod Taken
+pub mod QuietSteps
+pub mod Adopted
 pub mod Led
 pub mod Acquires
 pub mod Idle

@@ -174,4 +174,7 @@ words-set groups some few table words word n shown exists = record {
         ∙ shown.word o there
         ∙ sym (word_in-else words word n o (λ same. other (ap index_of_word same)))
   ];
+  gap = λ index none.
+      get_or-set_other table (index_of_word word) index n 0 (λ same. none word (may_be groups few word exists) (sym same))
+      ∙ shown.gap index none;
 }

@@ -6,6 +6,7 @@ use Rattle.shared_rule.specs.declared.history.View.{View}
 use Rattle.shared_rule.specs.History.{first_account, first_number, lone, noted, noting, noting_first}
 use Rattle.shared_rule.specs.Boards.{first_marks, StaysLone}
 use Rattle.shared_rule.specs.Plays.{HasSession}
+use Rattle.shared_rule.specs.Quiet.{first_quiet, quiet_noted}
 
 -- What a step that is noted makes of the view and of the account.
 
@@ -29,6 +30,13 @@ module _ {T : Type 0} where
     others = has.others;
     sessions = ap (λ (sessions : List (History T)). noting_first sessions mark) has.sessions;
   }
+
+  -- Its quiet steps are as the step makes them.
+  pub quiet-noted : (view : View T) (mark : Mark T) → HasSession view
+      → first_quiet (noting view mark).sessions ≡ quiet_noted (first_quiet view.sessions) mark
+  quiet-noted view mark has =
+      ap (λ (sessions : List (History T)). first_quiet (noting_first sessions mark)) has.sessions
+      ∙ sym (ap (λ (sessions : List (History T)). quiet_noted (first_quiet sessions) mark) has.sessions)
 
 module _ {T : Type 0} (content : T → Content) where
   -- Its account is as the step makes it.

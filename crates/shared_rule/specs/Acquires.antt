@@ -12,8 +12,9 @@ use Rattle.shared_rule.specs.declared.history.View.{View}
 use Rattle.shared_rule.specs.declared.kept.Kept.{Kept}
 use Rattle.shared_rule.specs.declared.kept.Kept.TheVariants.{Nothing}
 use Rattle.shared_rule.specs.Layout.{content_slot_of}
-use Rattle.shared_rule.specs.Led.{Led}
-use Rattle.shared_rule.specs.Plays.{account_at, number_at}
+use Rattle.shared_rule.specs.Led.{Led, LedBy}
+use Rattle.shared_rule.specs.Plays.{account_at, number_at, quiet_at}
+use Rattle.shared_rule.specs.Quiet.{quiet_getting}
 
 -- What an acquire of a lightweight lock leads to, whether it won at once or waited in the lock's list.
 
@@ -38,8 +39,9 @@ module _ {T : Type 0} (content : T → Content) where
     pub shown : SlotsInHand
     pub knows : KnowsSlots groups (number_at before) (account_at content before) owner shown
     pub led :
-        Led content before after
+        LedBy content before after
         (account_getting mode (number_at before) (account_at content before) owner shown)
+        (quiet_getting mode owner (quiet_at before))
     pub slots : after.me.1 ≡ before.me.1
 
 module _ {T : Type 0} (content : T → Content) (begun : T → Option Request) where

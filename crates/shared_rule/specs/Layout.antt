@@ -1,4 +1,4 @@
-use Rattle.std.specs.Prelude.{ℕ, ◌+◌, ◌*◌, ◌/◌, ◌%◌, ◌<◌, ◌≤◌, ◌⊎◌}
+use Rattle.std.specs.Prelude.{◌≢◌, ℕ, ◌+◌, ◌*◌, ◌/◌, ◌%◌, ◌<◌, ◌≤◌, ◌⊎◌}
 use Rattle.lock_world.specs.declared.events.Word.{Word}
 use Rattle.lock_world.specs.declared.events.Word.TheVariants.{Partition, Fast, Database, Slot, Wait, Strong, Sleep}
 use Rattle.lock_world.specs.SlotHolds.{group_size, most_groups}
@@ -45,6 +45,10 @@ IsInTable groups word = WordExists groups word × SessionHasWords word
 -- A table has this word, whatever number of groups it is for.
 abbrev pub MayBeInTable : Word → Type 0
 MayBeInTable word = IsInTable most_groups word
+
+-- No word stands at this index: it is a gap.
+abbrev pub IsGap : ℕ → Type 0
+IsGap index = (word : Word) → MayBeInTable word → index_of_word word ≢ index
 
 -- Words of one group may share a cache line: each partition's word is a group, all counters together are one, and a
 -- session's words are one.

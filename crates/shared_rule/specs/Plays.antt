@@ -24,6 +24,7 @@ use Rattle.shared_rule.specs.LwLocks.{word_of_lock, lock_number, LockIsInTable}
 use Rattle.shared_rule.specs.declared.layout.TheConstants.{TABLE_WORDS, TABLE_SLOTS}
 use Rattle.shared_rule.specs.Layout.{index_of_word, content_slot_of, list_slot_of, words_of_groups, MayBeInTable}
 use Rattle.shared_rule.specs.History.{noting, first_account, first_number, slots_shown}
+use Rattle.shared_rule.specs.Quiet.{Quiet, first_quiet}
 use Rattle.shared_rule.specs.Slots.{KnowsWord}
 
 -- What each step tells. A session's side of a step: its view, and the contents that it has in hand, each with its slot.
@@ -49,6 +50,10 @@ module _ {T : Type 0} where
 
   abbrev pub account_at : (T → Content) → Seat (Kept T) (View T) → Account
   account_at content place = first_account content place.me.0.sessions
+
+  -- and its quiet steps
+  abbrev pub quiet_at : Seat (Kept T) (View T) → List Quiet
+  quiet_at place = first_quiet place.me.0.sessions
 
   -- the seat is at this table
   pub record FitsTable (place : Seat (Kept T) (View T)) (table : TableId) : Type 0 where

@@ -224,9 +224,9 @@ fn put_back<T: PartTable>(top: &Top<T>, place: &mut Place<T>, part: u8, content:
     put_part_home::<T, Brand>(top, place, part, &Move::Keep, content);
 }
 
-/// Takes the partitions from this one on, in rising order, counts with all in hand what slots show, and puts them
-/// back as they were, in the opposite order, with their rows appended to the list. Where memory runs out for these
-/// it is refused, and all partitions are put back as well.
+/// Takes the partitions from `part` on, in rising order, counts in `fast` with all in hand what slots show, and puts
+/// them back as they were, in the opposite order, with their rows appended to `rows`. Where memory runs out for
+/// these the call is refused, and all partitions are put back as well.
 pub(crate) fn count_from<T: PartTable, R: Wait>(
     rt: &R,
     top: &Top<T>,
@@ -270,10 +270,10 @@ fn granted_in(rows: &[TableRow]) -> u64
 }
 
 impl<T: PartTable> Opener<T> {
-    /// Counts what stands in the table, with all sessions gathered here that are open, and nobody waiting: the
-    /// strong lock counters, each by a load; what fast-path slots show, each loaded with all partitions in hand;
-    /// and the rows of these, which are appended to an empty list. The first session makes the steps. Where memory
-    /// runs out for the rows it is refused, and all is as before as well.
+    /// Counts what stands in `table`, with all sessions gathered here that are open, and nobody waiting: the strong
+    /// lock counters, each by a load; what fast-path slots show, each loaded with all partitions in hand; and the
+    /// rows of these, which are appended to `rows`, an empty list. The first session makes the steps. Where memory
+    /// runs out for the rows the call is refused, and all is as before as well.
     pub fn count<R: Wait>(
         &mut self,
         rt: &R,

@@ -26,6 +26,7 @@ ghost use Rattle.lock_world.specs.AccountLaw.{MayPassBy, MayCountBy, MayUncountB
 ghost use Rattle.lock_world.specs.AccountLaw.{MaySetSlotBy, MayClearSlotBy, MayTransferBy};
 ghost use Rattle.shared_rule.specs.History.{taken_of, slots_here, in_hand, sessions_told};
 ghost use Rattle.shared_rule.specs.History.{account_granting, account_cleared, account_left};
+ghost use Rattle.shared_rule.specs.Quiet.{Quiet, TakesSlots, SharesSlots, SetsSlot, CountsStrong, quiet_trying};
 ghost use Rattle.shared_rule.specs.Slots.{TakesFast, SharesFast, TriesFast};
 ghost use Rattle.shared_rule.specs.Boards.{Seated, Stack, nothing_due, stack_taking, stack_putting};
 ghost use Rattle.shared_rule.specs.Boards.{stack_owing, stack_asking, stack_waking};
@@ -38,7 +39,8 @@ use lw_word::SlotWord;
 use modes_core::{Mode, SessionId, Tag};
 use std::sync::Wait;
 
-/// One session's board. Contracts see the session's account: its holds, what it has in hand and counted, its trace.
+/// One session's board. Contracts see the session's account: its holds, what it has in hand and counted, its trace. They also
+/// see its quiet steps, which leave no trace: each call says which of them it makes.
 ///
 /// All sessions take lightweight locks in one order: the lock of a session's slots only with no other one in hand, and
 /// then partitions in rising order. Partitions go home in the opposite order of their taking. Whoever lets another
@@ -52,6 +54,9 @@ pub trait Board<T: PartTable> {
 
     // What it has to do yet: the partitions to put, and the sessions to wake.
     ghost stack: { Self → Stack };
+
+    // Its steps that the account may not tell, the last one first.
+    ghost quiet: { Self → List Quiet };
 
     /// The session's number, one of those that there can be.
     fn number(&self) -> SessionId
@@ -69,8 +74,8 @@ pub trait Board<T: PartTable> {
         ensures some { 0 < (seat self.now).groups }
         ensures few { (seat self.now).groups ≤ most_groups };
 
-    /// Takes a partition's lightweight lock exclusively, and its content in hand (`LWLockAcquire` in lwlock.c). It
-    /// waits until the lock is free.
+    /// Takes the lightweight lock of partition `part` exclusively, and its content in hand (`LWLockAcquire` in
+    /// lwlock.c). The call waits until the lock is free.
     fn take_part<R: Wait>(&mut self, rt: &R, part: u8) -> T
         requires exists { part < 16 }
         requires rising { IsAboveHand (view self.old) part }
@@ -78,10 +83,12 @@ pub trait Board<T: PartTable> {
         ensures seat { seat self.new ≡ seat self.old }
         ensures view { view self.new ≡ account_taking (view self.old) part (T.content result) }
         ensures stack { stack self.new ≡ stack_taking (stack self.old) part }
+        ensures quiet { quiet self.new ≡ quiet self.old }
         ensures none_begun { T.begun result ≡ None }
         ensures knows { KnowsContent (seat self.old).number (view self.old) part (T.content result) };
 
-    /// Puts a partition's content home after this move, and its lightweight lock (`LWLockRelease` in lwlock.c).
+    /// Puts `content` home to partition `part` after the move `done`, and its lightweight lock (`LWLockRelease` in
+    /// lwlock.c).
     fn put_part(&mut self, part: u8, done: &Move, content: T)
         requires exists { part < 16 }
         requires in_hand { (others : List ℕ) × ((stack self.old).parts ≡ part ∷ others) }
@@ -91,10 +98,11 @@ pub trait Board<T: PartTable> {
         ensures seat { seat self.new ≡ seat self.old }
         ensures view { view self.new ≡
             account_putting (view self.old) part (taken_of ((view self.old).hand part)) (T.content content) done.now }
-        ensures stack { stack self.new ≡ stack_putting (stack self.old) };
+        ensures stack { stack self.new ≡ stack_putting (stack self.old) }
+        ensures quiet { quiet self.new ≡ quiet self.old };
 
-    /// Takes the lock of a session's fast-path slots exclusively, whether its number is issued or not (`fpInfoLock` in
-    /// proc.h). It waits until the lock is free.
+    /// Takes the lock of the fast-path slots of `owner` exclusively, whether its number is issued or not
+    /// (`fpInfoLock` in proc.h). The call waits until the lock is free.
     fn take_fast<R: Wait>(&mut self, rt: &R, owner: SessionId)
         requires exists { owner < (seat self.old).limit }
         requires nothing_due { stack self.old ≡ nothing_due }
@@ -102,7 +110,8 @@ pub trait Board<T: PartTable> {
         requires no_shared_slots { (view self.old).fast.shared_slots ≡ (λ _. None) }
         ensures seat { seat self.new ≡ seat self.old }
         ensures taken { TakesFast (seat self.old).groups (seat self.old).number (view self.old) owner (view self.new) }
-        ensures stack { stack self.new ≡ stack self.old };
+        ensures stack { stack self.new ≡ stack self.old }
+        ensures quiet { quiet self.new ≡ TakesSlots owner ∷ quiet self.old };
 
     /// Takes the lock of its own slots if nobody holds it: a load of its word and, where bits 0 to 24 are all 0, one
     /// exchange that expects the very number loaded (`LWLockConditionalAcquire` in lwlock.c). `Busy` where somebody
@@ -113,19 +122,22 @@ pub trait Board<T: PartTable> {
         requires no_shared_slots { (view self.old).fast.shared_slots ≡ (λ _. None) }
         ensures seat { seat self.new ≡ seat self.old }
         ensures tried { TriesFast (seat self.old).groups (seat self.old).number (view self.old) result (view self.new) }
-        ensures stack { stack self.new ≡ stack self.old };
+        ensures stack { stack self.new ≡ stack self.old }
+        ensures quiet { quiet self.new ≡ quiet_trying (seat self.old).number result (quiet self.old) };
 
-    /// Puts the lock of a session's fast-path slots, which it holds exclusively (`LWLockRelease` in lwlock.c).
+    /// Puts the lock of the fast-path slots of `owner`, which the session holds exclusively (`LWLockRelease` in
+    /// lwlock.c).
     fn put_fast(&mut self, owner: SessionId)
         requires exists { owner < (seat self.old).limit }
         requires lawful { (slots : SlotsInHand) × MayPutFastBy (view self.old) owner slots }
         ensures seat { seat self.new ≡ seat self.old }
         ensures view { view self.new ≡ account_putting_fast (seat self.old).number (view self.old) owner }
-        ensures stack { stack self.new ≡ stack self.old };
+        ensures stack { stack self.new ≡ stack self.old }
+        ensures quiet { quiet self.new ≡ quiet self.old };
 
-    /// Shares the lock of a session's fast-path slots, whether its number is issued or not, so that nobody changes
-    /// them while others may read them too (`fpInfoLock` in `LW_SHARED`, as `GetLockStatusData` in lock.c takes
-    /// it). It waits until nobody holds the lock exclusively.
+    /// Shares the lock of the fast-path slots of `owner`, whether its number is issued or not, so that nobody
+    /// changes them while others may read them too (`fpInfoLock` in `LW_SHARED`, as `GetLockStatusData` in lock.c
+    /// takes it). The call waits until nobody holds the lock exclusively.
     fn share_fast<R: Wait>(&mut self, rt: &R, owner: SessionId)
         requires exists { owner < (seat self.old).limit }
         requires nothing_due { stack self.old ≡ nothing_due }
@@ -134,78 +146,90 @@ pub trait Board<T: PartTable> {
         ensures seat { seat self.new ≡ seat self.old }
         ensures shared { SharesFast (seat self.old).groups (seat self.old).number (view self.old) owner
             (view self.new) }
-        ensures stack { stack self.new ≡ stack self.old };
+        ensures stack { stack self.new ≡ stack self.old }
+        ensures quiet { quiet self.new ≡ SharesSlots owner ∷ quiet self.old };
 
-    /// Gives back its share of the lock of a session's fast-path slots (`LWLockRelease` in lwlock.c).
+    /// Gives back the session's share of the lock of the fast-path slots of `owner` (`LWLockRelease` in lwlock.c).
     fn unshare_fast(&mut self, owner: SessionId)
         requires exists { owner < (seat self.old).limit }
         requires lawful { (slots : SlotsInHand) × MayUnshareFastBy (view self.old) owner slots }
         ensures seat { seat self.new ≡ seat self.old }
         ensures view { view self.new ≡ account_unsharing_fast (view self.old) owner }
-        ensures stack { stack self.new ≡ stack self.old };
+        ensures stack { stack self.new ≡ stack self.old }
+        ensures quiet { quiet self.new ≡ quiet self.old };
 
-    /// Puts the lock of a session's slots, and goes past that session with a strong lock that is counted (the end of a
-    /// turn of the loop in `FastPathTransferRelationLocks` in lock.c).
+    /// Puts the lock of the slots of `owner`, and goes past that session with the strong lock of `mode` on `tag`,
+    /// which is counted (the end of a turn of the loop in `FastPathTransferRelationLocks` in lock.c).
     fn pass_fast(&mut self, owner: SessionId, tag: &Tag, mode: Mode)
         requires exists { owner < (seat self.old).limit }
         requires lawful { (slots : SlotsInHand) × MayPassBy (view self.old) owner slots tag.now mode }
         ensures seat { seat self.new ≡ seat self.old }
         ensures view { view self.new ≡ account_passing (seat self.old).number (view self.old) owner tag.now mode }
-        ensures stack { stack self.new ≡ stack self.old };
+        ensures stack { stack self.new ≡ stack self.old }
+        ensures quiet { quiet self.new ≡ quiet self.old };
 
-    /// Counts a strong lock, past nobody yet (`BeginStrongLockAcquire` in lock.c).
+    /// Counts a strong lock of `mode` on `tag`, past nobody yet (`BeginStrongLockAcquire` in lock.c).
     fn add_strong(&mut self, tag: &Tag, mode: Mode)
         requires lawful { MayCountBy (view self.old) tag.now mode }
         ensures seat { seat self.new ≡ seat self.old }
         ensures view { view self.new ≡ account_counting (view self.old) tag.now mode }
-        ensures stack { stack self.new ≡ stack self.old };
+        ensures stack { stack self.new ≡ stack self.old }
+        ensures quiet { quiet self.new ≡ CountsStrong tag.now mode ∷ quiet self.old };
 
-    /// Takes the count of a strong lock back (`AbortStrongLockAcquire` and `RemoveLocalLock` in lock.c).
+    /// Takes the count of the strong lock of `mode` on `tag` back (`AbortStrongLockAcquire` and `RemoveLocalLock` in
+    /// lock.c).
     fn sub_strong(&mut self, tag: &Tag, mode: Mode)
         requires lawful { MayUncountBy (view self.old) tag.now mode }
         ensures seat { seat self.new ≡ seat self.old }
         ensures view { view self.new ≡ account_uncounting (view self.old) tag.now mode }
-        ensures stack { stack self.new ≡ stack self.old };
+        ensures stack { stack self.new ≡ stack self.old }
+        ensures quiet { quiet self.new ≡ quiet self.old };
 
-    /// Loads a session's database, 0 where it has none (`databaseId` in proc.h).
+    /// Loads the database of `owner`, 0 where it has none (`databaseId` in proc.h).
     fn load_database(&mut self, owner: SessionId) -> u64
         ensures seat { seat self.new ≡ seat self.old }
         ensures view { view self.new ≡ account_tracing (view self.old) (Loaded (Database owner) result) }
         ensures stack { stack self.new ≡ stack self.old }
+        ensures quiet { quiet self.new ≡ quiet self.old }
         ensures of_slots { (slots : SlotsInHand) → (view self.old).fast.slots owner ≡ Some slots
             → slots.holds ≡ slot_holds result slots.word }
         ensures of_shared_slots { (slots : SlotsInHand) → (view self.old).fast.shared_slots owner ≡ Some slots
             → slots.holds ≡ slot_holds result slots.word }
         ensures own { owner ≡ (seat self.old).number → result ≡ (view self.old).fast.database };
 
-    /// Stores its own database, once (`InitPostgres` in postinit.c).
+    /// Stores `database` as its own database, once (`InitPostgres` in postinit.c).
     fn store_database(&mut self, database: u32)
         requires unset { (view self.old).fast.database ≡ 0 }
         ensures seat { seat self.new ≡ seat self.old }
         ensures view { view self.new ≡ account_storing (view self.old) database }
-        ensures stack { stack self.new ≡ stack self.old };
+        ensures stack { stack self.new ≡ stack self.old }
+        ensures quiet { quiet self.new ≡ quiet self.old };
 
-    /// Loads a fast-path slot of a session, one of those of its groups (`fpRelId` and `fpLockBits` in proc.h).
+    /// Loads the fast-path slot of `owner` at `place`, one of those of its groups (`fpRelId` and `fpLockBits` in
+    /// proc.h).
     fn load_slot(&mut self, owner: SessionId, place: u8) -> SlotWord
         requires within { place < group_size * (seat self.old).groups }
         ensures seat { seat self.new ≡ seat self.old }
         ensures view { view self.new ≡ account_tracing (view self.old) (Loaded (Slot owner place) result) }
         ensures stack { stack self.new ≡ stack self.old }
+        ensures quiet { quiet self.new ≡ quiet self.old }
         ensures of_slots { (slots : SlotsInHand) → (view self.old).fast.slots owner ≡ Some slots
             → result ≡ slots.word place }
         ensures of_shared_slots { (slots : SlotsInHand) → (view self.old).fast.shared_slots owner ≡ Some slots
             → result ≡ slots.word place };
 
-    /// Loads a strong lock counter. Where it shows 0 while the session has its own slots in hand, the session may set
-    /// slots for objects of that index until it puts them (`FastPathStrongRelationLocks->count` in
+    /// Loads the strong lock counter at `index`. Where it shows 0 while the session has its own slots in hand, the
+    /// session may set slots for objects of that index until it puts them (`FastPathStrongRelationLocks->count` in
     /// `LockAcquireExtended` of lock.c).
     fn load_strong(&mut self, index: u16) -> u64
         requires within { index < 1024 }
         ensures seat { seat self.new ≡ seat self.old }
         ensures view { view self.new ≡ account_reading (seat self.old).number (view self.old) index result }
-        ensures stack { stack self.new ≡ stack self.old };
+        ensures stack { stack self.new ≡ stack self.old }
+        ensures quiet { quiet self.new ≡ quiet self.old };
 
-    /// Sets a mode in a slot of the session's own, whose word shows this (`FastPathGrantRelationLock` in lock.c).
+    /// Sets `mode` on `tag` in the session's own slot at `place`, whose word shows `shown`
+    /// (`FastPathGrantRelationLock` in lock.c).
     fn set_slot(&mut self, place: u8, shown: SlotWord, tag: &Tag, mode: Mode)
         requires within { place < group_size * (seat self.old).groups }
         requires lawful { (mine : SlotsInHand)
@@ -214,9 +238,11 @@ pub trait Board<T: PartTable> {
         ensures seat { seat self.new ≡ seat self.old }
         ensures view { view self.new ≡ account_setting (seat self.old).number (view self.old)
             (slots_here ((view self.old).fast.slots (seat self.old).number)) place tag.now mode }
-        ensures stack { stack self.new ≡ stack self.old };
+        ensures stack { stack self.new ≡ stack self.old }
+        ensures quiet { quiet self.new ≡ SetsSlot tag.now mode ∷ quiet self.old };
 
-    /// Clears a mode in a slot of the session's own, whose word shows this (`FastPathUnGrantRelationLock` in lock.c).
+    /// Clears `mode` on `tag` in the session's own slot at `place`, whose word shows `shown`
+    /// (`FastPathUnGrantRelationLock` in lock.c).
     fn clear_slot(&mut self, place: u8, shown: SlotWord, tag: &Tag, mode: Mode)
         requires within { place < group_size * (seat self.old).groups }
         requires lawful { (mine : SlotsInHand)
@@ -225,11 +251,12 @@ pub trait Board<T: PartTable> {
         ensures seat { seat self.new ≡ seat self.old }
         ensures view { view self.new ≡ account_unsetting (seat self.old).number (view self.old)
             (slots_here ((view self.old).fast.slots (seat self.old).number)) place tag.now mode }
-        ensures stack { stack self.new ≡ stack self.old };
+        ensures stack { stack self.new ≡ stack self.old }
+        ensures quiet { quiet self.new ≡ quiet self.old };
 
-    /// Moves a mode from a slot of a session, whose word shows this, to the content in hand, which has it already,
-    /// with a strong lock counted that is to go past that session next (a mode of the inner loop of
-    /// `FastPathTransferRelationLocks` in lock.c).
+    /// Moves `mode` on `tag` from the slot of `owner` at `place`, whose word shows `shown`, to `content` in hand,
+    /// which has it already, with the strong lock of the mode `strong` counted, which is to go past that session
+    /// next (a mode of the inner loop of `FastPathTransferRelationLocks` in lock.c).
     fn transfer_slot(
         &mut self,
         owner: SessionId,
@@ -249,10 +276,11 @@ pub trait Board<T: PartTable> {
         ensures view { view self.new ≡ account_transferring (view self.old) owner place
             (slots_here ((view self.old).fast.slots owner))
             (in_hand ((view self.old).hand (partition_of tag.now))) tag.now mode }
-        ensures stack { stack self.new ≡ stack self.old };
+        ensures stack { stack self.new ≡ stack self.old }
+        ensures quiet { quiet self.new ≡ quiet self.old };
 
-    /// Stores in its own wait word that the session waits, with its join made in the content in hand (`ProcSleep` in
-    /// proc.c sets `waitStatus` so).
+    /// Stores in its own wait word that the session waits for `mode` on `tag`, with its join made in `content` in
+    /// hand (`ProcSleep` in proc.c sets `waitStatus` so).
     fn set_waiting(&mut self, tag: &Tag, mode: Mode, content: &T)
         requires lawful { (mine : InHand) × MayMoveBy (seat self.old).limit (seat self.old).number (view self.old)
             (partition_of tag.now) mine (Join tag.now mode) [] (T.content content.now) }
@@ -261,11 +289,13 @@ pub trait Board<T: PartTable> {
             (in_hand ((view self.old).hand (partition_of tag.now)))
             tag.now mode (T.content content.now)
             ((in_hand ((view self.old).hand (partition_of tag.now))).now.holds (seat self.old).number tag.now) }
-        ensures stack { stack self.new ≡ stack self.old };
+        ensures stack { stack self.new ≡ stack self.old }
+        ensures quiet { quiet self.new ≡ quiet self.old };
 
-    /// Marks the wait of a session granted, one of those whom the move in the content in hand grants. By the first mark
-    /// the move stands recorded, and own holds follow it; the partition is put once all are marked, as after `Keep`
-    /// (`ProcWakeup` in proc.c sets `waitStatus`). The session is owed a wake from then on.
+    /// Marks the wait of `other` granted, one of those in `woken` whom the move `done` in `content`, that of
+    /// partition `part` in hand, grants. By the first mark the move stands recorded, and own holds follow it; the
+    /// partition is put once all are marked, as after `Keep` (`ProcWakeup` in proc.c sets `waitStatus`). That
+    /// session is owed a wake from then on.
     fn mark_granted(&mut self, part: u8, other: SessionId, done: &Move, woken: &Woken, content: &T)
         requires grants { IsGrantingIn part done.now }
         requires lawful { (mine : InHand) × (granted : List contents.Wait)
@@ -276,7 +306,8 @@ pub trait Board<T: PartTable> {
         ensures view { view self.new ≡ account_granting (view self.old) part
             (in_hand ((view self.old).hand part)) other done.now
             (sessions_told woken.now.items) (T.content content.now) }
-        ensures stack { stack self.new ≡ stack_owing (stack self.old) other };
+        ensures stack { stack self.new ≡ stack_owing (stack self.old) other }
+        ensures quiet { quiet self.new ≡ quiet self.old };
 
     /// Loads its own wait word: 2 in bits 0 to 1 where the wait was granted, bit 2 set where it was asked to cancel
     /// (`waitStatus` in proc.h, as `ProcSleep` in proc.c reads it).
@@ -285,14 +316,16 @@ pub trait Board<T: PartTable> {
         ensures view { view self.new ≡
             record (account_tracing (view self.old) (Loaded (Wait (seat self.old).number) result))
             { seen = (view self.old).seen || (wait_state result == 2) } }
-        ensures stack { stack self.new ≡ stack self.old };
+        ensures stack { stack self.new ≡ stack self.old }
+        ensures quiet { quiet self.new ≡ quiet self.old };
 
-    /// Asks a session to cancel its wait, and tells what its wait word showed before (`pg_cancel_backend` in
-    /// signalfuncs.c). Where it showed that the session waits, this one is owed a wake from then on.
+    /// Asks `other` to cancel its wait, and answers what its wait word showed before (`pg_cancel_backend` in
+    /// signalfuncs.c). Where it showed that the session waits, that one is owed a wake from then on.
     fn ask_cancel(&mut self, other: SessionId) -> u64
         ensures seat { seat self.new ≡ seat self.old }
         ensures view { view self.new ≡ account_tracing (view self.old) (AskedToCancel other result) }
         ensures stack { stack self.new ≡ stack_asking (stack self.old) other result }
+        ensures quiet { quiet self.new ≡ quiet self.old }
         ensures own { other ≡ (seat self.old).number → (view self.old).awaited ≡ None → wait_state result ≡ 0 };
 
     /// Clears its own wait word: the wait is over, since the grant was seen or the wait is gone from the content in
@@ -301,10 +334,11 @@ pub trait Board<T: PartTable> {
         requires lawful { (wait : OwnWait) × MayClearBy (seat self.old).number (view self.old) wait }
         ensures seat { seat self.new ≡ seat self.old }
         ensures view { view self.new ≡ account_cleared (seat self.old).number (view self.old) (view self.old).awaited }
-        ensures stack { stack self.new ≡ stack self.old };
+        ensures stack { stack self.new ≡ stack self.old }
+        ensures quiet { quiet self.new ≡ quiet self.old };
 
-    /// Clears its own wait word and records that the wait was taken out of the queue of the content in hand, which
-    /// granted the waits of those told (`RemoveFromWaitQueue` in lock.c).
+    /// Clears its own wait word and records that the wait was taken out of the queue of `content` in hand, which
+    /// granted the waits of those in `woken` (`RemoveFromWaitQueue` in lock.c).
     fn leave_queue(&mut self, woken: &Woken, content: &T)
         requires lawful { (wait : OwnWait) × (mine : InHand) × (granted : List contents.Wait)
             × (woken.now.items ≡ map whose_and_mode granted)
@@ -313,22 +347,24 @@ pub trait Board<T: PartTable> {
         ensures seat { seat self.new ≡ seat self.old }
         ensures view { view self.new ≡ account_left (view self.old) (view self.old).awaited (T.content content.now)
             (sessions_told woken.now.items) }
-        ensures stack { stack self.new ≡ stack self.old };
+        ensures stack { stack self.new ≡ stack self.old }
+        ensures quiet { quiet self.new ≡ quiet self.old };
 
-    /// Sleeps while its own wait word shows this, until somebody wakes the session; it may also return for no reason
-    /// (`WaitLatch` in `ProcSleep` of proc.c). The session has loaded that number just before, so no grant and no
-    /// request to cancel that came since is slept through. It has no lightweight lock, so nobody waits for one that it
-    /// would keep while it sleeps, and owes nobody a wake.
+    /// Sleeps while its own wait word shows `shown`, until somebody wakes the session; the call may also return for
+    /// no reason (`WaitLatch` in `ProcSleep` of proc.c). The session has loaded that number just before, so no grant
+    /// and no request to cancel that came since is slept through. It has no lightweight lock, so nobody waits for
+    /// one that it would keep while it sleeps, and owes nobody a wake.
     fn sleep<R: Wait>(&self, rt: &R, shown: u64)
         requires looked { HasJustLooked (seat self.now).number (view self.now) shown }
         requires nothing_due { stack self.now ≡ nothing_due }
         requires no_slots { (owner : ℕ) → (view self.now).fast.slots owner ≡ None }
         requires no_shared_slots { (owner : ℕ) → (view self.now).fast.shared_slots owner ≡ None };
 
-    /// Wakes a session that sleeps until its wait word changes (`SetLatch` in `ProcWakeup` of proc.c): it is then
+    /// Wakes `other`, which sleeps until its wait word changes (`SetLatch` in `ProcWakeup` of proc.c): it is then
     /// owed one wake less. This is not a step.
     fn wake(&mut self, other: SessionId)
         ensures seat { seat self.new ≡ seat self.old }
         ensures view { view self.new ≡ view self.old }
-        ensures stack { stack self.new ≡ stack_waking (stack self.old) other };
+        ensures stack { stack self.new ≡ stack_waking (stack self.old) other }
+        ensures quiet { quiet self.new ≡ quiet self.old };
 }

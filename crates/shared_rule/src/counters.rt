@@ -13,7 +13,7 @@ use crate::words::{fetch_add_as, fetch_sub_as, load_as};
 use lock_table::PartTable;
 use modes_core::{Mode, Tag};
 
-/// Counts a strong lock, past nobody yet (`BeginStrongLockAcquire` in lock.c).
+/// Counts a strong lock of `mode` on `tag`, past nobody yet (`BeginStrongLockAcquire` in lock.c).
 pub(crate) fn add_strong<T: PartTable, M: Marking<T>>(
     top: &Top<T>,
     place: &mut Place<T>,
@@ -30,7 +30,8 @@ pub(crate) fn add_strong<T: PartTable, M: Marking<T>>(
     fetch_add_as::<T, M>(top, place, strong_word(tag.strong_index()), 1);
 }
 
-/// Takes that count back (`AbortStrongLockAcquire`, and `RemoveLocalLock` in lock.c).
+/// Takes the count of the strong lock of `mode` on `tag` back (`AbortStrongLockAcquire`, and `RemoveLocalLock` in
+/// lock.c).
 pub(crate) fn sub_strong<T: PartTable, M: Marking<T>>(
     top: &Top<T>,
     place: &mut Place<T>,
@@ -47,7 +48,8 @@ pub(crate) fn sub_strong<T: PartTable, M: Marking<T>>(
     fetch_sub_as::<T, M>(top, place, strong_word(tag.strong_index()), 1);
 }
 
-/// Loads a strong lock counter (`FastPathStrongRelationLocks->count` in `LockAcquireExtended` of lock.c).
+/// Loads the strong lock counter at `index` (`FastPathStrongRelationLocks->count` in `LockAcquireExtended` of
+/// lock.c).
 pub(crate) fn load_strong<T: PartTable, M: Marking<T>>(
     top: &Top<T>,
     place: &mut Place<T>,

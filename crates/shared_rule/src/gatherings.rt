@@ -45,7 +45,7 @@ impl<'a, T: PartTable> Model for Absent<'a, T> {
 }
 
 impl<T: PartTable> Opener<T> {
-    /// Takes a session's seat, which has nothing in hand, behind those that came before.
+    /// Takes the seat of the session on `board`, which has nothing in hand, behind those that came before.
     pub fn gather<'a>(&mut self, board: SeatBoard<'a, T>) -> Absent<'a, T>
         requires table { (⟦<SeatBoard<'a, T> as Board<T>>⟧.seat board).table ≡ self.old.table }
         requires stack { ⟦<SeatBoard<'a, T> as Board<T>>⟧.stack board ≡ nothing_due }
@@ -65,7 +65,7 @@ impl<T: PartTable> Opener<T> {
         }
     }
 
-    /// Gives the session that came last its seat back.
+    /// Gives the session that came last, which was `absent`, its seat back.
     pub fn send_back<'a>(&mut self, absent: Absent<'a, T>) -> SeatBoard<'a, T>
         requires table { absent.table ≡ self.old.table }
         requires last { HasLastOf absent.number self.old }

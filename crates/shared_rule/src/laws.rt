@@ -1,25 +1,29 @@
 //! Laws of the layout, each a clause over all words, and what the rule of the table keeps. The bodies are empty.
 
-ghost use Rattle.std.specs.Prelude.{◌≡◌, ◌≢◌, ◌⊎◌, ◌<◌, ◌≤◌, ℕ, List, ◌∷◌, ◌++◌, slice_set, slice_index};
+ghost use Rattle.std.specs.Prelude.{◌≡◌, ◌≢◌, ◌⊎◌, ◌<◌, ◌≤◌, ℕ, List, [], ◌∷◌, ◌++◌, Some, true, false, slice_set, slice_index};
 ghost use mathlib.Core.Option.{some};
 ghost use lib.ListN.{get_elem?};
 ghost use Rattle.atomic_table.specs.Table.{State};
 ghost use Rattle.lock_world.specs.SlotHolds.{most_groups};
-ghost use Rattle.lock_world.specs.World.{World, TraceEntry, opening};
+ghost use Rattle.lock_world.specs.World.{World, Hand, TraceEntry, opening};
 ghost use Rattle.shared_rule.specs.declared.rule.Sizes.{Sizes};
 ghost use Rattle.shared_rule.specs.declared.history.History.{History};
 ghost use Rattle.shared_rule.specs.declared.history.Mark.{Mark};
 ghost use Rattle.shared_rule.specs.History.{told, lone, spent_view};
-ghost use Rattle.shared_rule.specs.WasSo.{WasSo};
+ghost use Rattle.shared_rule.specs.WasSo.{WasSo, WasInSlot};
+ghost use Rattle.modes_core.specs.declared.modes.Mode.{Mode};
+ghost use Rattle.modes_core.specs.declared.tags.Tag.{Tag};
+ghost use Rattle.lock_table.specs.declared.moves.Move.TheVariants.{Adopt};
 ghost use Rattle.lock_world.specs.declared.events.Word.{Word};
-ghost use Rattle.shared_rule.specs.Layout.{index_of_word, words_of_groups, IsInTable, MayBeInTable, IsApart, group_of};
+ghost use Rattle.shared_rule.specs.Layout.{index_of_word, words_of_groups, IsInTable, MayBeInTable, IsGap, IsApart, group_of};
 ghost use Rattle.lock_world.specs.World.{Words};
 ghost use Rattle.shared_rule.specs.Shown.{WordsAreShown, set_word};
 ghost use Rattle.shared_rule.specs.declared.history.View.{View};
 ghost use Rattle.shared_rule.specs.declared.kept.Kept.{Kept};
 ghost use Rattle.shared_rule.specs.declared.layout.TheConstants.{TABLE_WORDS};
-ghost use Rattle.shared_rule.specs.Headline.{ShowsHeadline};
-ghost use Rattle.shared_rule.specs.Tells.{Leads};
+ghost use Rattle.shared_rule.specs.Headline.{ShowsHeadline, ShowsReasons};
+ghost use Rattle.shared_rule.specs.Tells.{Leads, steps_of};
+ghost use Rattle.shared_rule.specs.Quiet.{quiet_told, quiet_of};
 ghost use Rattle.shared_rule.specs.Ruled.{Ruled, StandsAtSeat, StandsClosed, HasSeat, HasClosedHistory, NobodyElse, StepsAreTold};
 ghost use Rattle.shared_rule.specs.Marks.{LoadedStrong};
 ghost use Rattle.lock_world.specs.declared.events.Word.TheVariants.{Strong};
@@ -33,6 +37,14 @@ use lock_table::PartTable;
 pub fn the_table_shows_no_two_sessions_in_conflict<T: PartTable>()
     ensures { (sizes : Sizes) (state : State (Kept T) (View T)) → Ruled T.content T.begun sizes state
         → ShowsHeadline T.content T.begun sizes state }
+{}
+
+/// A table that keeps the rule shows a World in which every session that waits has a reason. Where the object's partition
+/// is at home, another session holds the object in a mode that conflicts with the one awaited, or one that waits before it
+/// awaits such a mode; otherwise its wait word shows the grant.
+pub fn the_table_shows_why_each_session_waits<T: PartTable>()
+    ensures { (sizes : Sizes) (state : State (Kept T) (View T)) → Ruled T.content T.begun sizes state
+        → ShowsReasons T.content T.begun sizes state }
 {}
 
 /// Each word of a table for so many groups of slots stands below the table's length, `TABLE_WORDS` with one group.
@@ -106,6 +118,35 @@ pub fn no_load_of_a_counter_lies<T: PartTable>()
         StandsAtSeat state.views (record { number = number; marks = LoadedStrong index shown ∷ marks }) →
         index < 1024 → NobodyElse state.views number →
         shown ≡ slice_index state.words (index_of_word (Strong index)) }
+{}
+
+/// The quiet steps of a session are those of the run: where the rule holds, what its history tells of them is what the steps tell that
+/// it made, of each session that seats are for and of each that has closed. So no lock of slots is taken or shared, no mode set in
+/// a slot and no strong lock counted that isn't told, whatever undoes it later.
+pub fn the_quiet_steps_are_those_of_the_run<T: PartTable>()
+    ensures at_seat { (sizes : Sizes) (state : State (Kept T) (View T)) (rule : Ruled T.content T.begun sizes state)
+        (history : History T) → StandsAtSeat state.views history →
+        quiet_told history.marks ≡ quiet_of [] (steps_of history.number rule.events) }
+    ensures closed { (sizes : Sizes) (state : State (Kept T) (View T)) (rule : Ruled T.content T.begun sizes state)
+        (history : History T) → StandsClosed state.views history →
+        quiet_told history.marks ≡ quiet_of [] (steps_of history.number rule.events) }
+{}
+
+/// An adopt moves what its slot had. Where the rule holds, let a partition be in hand with the adopt of a session's slot recorded: a hold
+/// that its content has of that session, and that the content taken had not, was in that slot, with the partition in hand with
+/// that content taken, in a World on the way of the events that led there.
+pub fn an_adopt_moves_what_its_slot_had<T: PartTable>()
+    ensures { (sizes : Sizes) (state : State (Kept T) (View T)) (rule : Ruled T.content T.begun sizes state)
+        (partition owner place : ℕ) (tag : Tag) (mode : Mode) (hand : Hand) →
+        rule.world.contents.hand partition ≡ Some hand → hand.recorded ≡ Some (Adopt owner place) →
+        hand.taken.holds owner tag mode ≡ false → (rule.world.contents.now partition).holds owner tag mode ≡ true →
+        WasInSlot (opening sizes.sessions sizes.groups) rule.world rule.events partition owner place tag mode hand.taken }
+{}
+
+/// Nobody writes where no word stands: where the rule holds, each gap of the table shows what it opened with.
+pub fn gaps_are_never_written<T: PartTable>()
+    ensures { (sizes : Sizes) (state : State (Kept T) (View T)) → Ruled T.content T.begun sizes state →
+        (index : ℕ) → IsGap index → slice_index state.words index ≡ 0 }
 {}
 
 /// No seat vanishes: where the rule holds and a seat is one session's, it doesn't hold with that session's view gone and all

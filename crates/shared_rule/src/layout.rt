@@ -39,7 +39,7 @@ pub const TABLE_WORDS: usize = SESSIONS_START + AREA;
 /// How many slots a group has (`FP_LOCK_SLOTS_PER_GROUP` in proc.h of version 18).
 pub(crate) const SLOTS_PER_GROUP: u8 = 16;
 
-/// How many words the table has, with so many groups of slots.
+/// How many words the table has, with `groups` groups of slots.
 pub fn table_words(groups: u8) -> usize
     ensures { result ≡ words_of_groups groups }
 {
@@ -60,7 +60,7 @@ pub(crate) const LISTS: usize = 2 * SESSIONS as usize;
 /// How many slots the table has. Two lists lie on different lines too.
 pub const TABLE_SLOTS: usize = CONTENT_SLOTS + LISTS * CONTENT_GAP;
 
-/// The index of a partition's lightweight lock. Each is on a line of its own, as `LWLockPadded` in lwlock.h has
+/// The index of the lightweight lock of `partition`. Each is on a line of its own, as `LWLockPadded` in lwlock.h has
 /// it: sessions that work on different partitions don't wait for each other.
 pub fn partition_word(partition: u8) -> usize
     requires exists { partition < 16 }
@@ -70,8 +70,8 @@ pub fn partition_word(partition: u8) -> usize
     GAP * partition as usize
 }
 
-/// The index of a strong lock counter. The counters are packed, as in `FastPathStrongRelationLockData` in lock.c:
-/// they are seldom written, and each request that takes the fast path reads one.
+/// The index of the strong lock counter at `index`. The counters are packed, as in `FastPathStrongRelationLockData`
+/// in lock.c: they are seldom written, and each request that takes the fast path reads one.
 pub fn strong_word(index: u16) -> usize
     requires exists { index < 1024 }
     ensures index { result ≡ index_of_word (Strong index) }
@@ -80,9 +80,9 @@ pub fn strong_word(index: u16) -> usize
     COUNTERS_START + index as usize
 }
 
-/// The index of the lightweight lock of a session's fast-path slots (`fpInfoLock` in proc.h), the first word of
-/// the session's block. Mostly the session alone takes it, for each lock that goes by the fast path, so no
-/// other session's words are near. In PostgreSQL a `PGPROC` is many lines long, which keeps them apart.
+/// The index of the lightweight lock of the fast-path slots of `session` (`fpInfoLock` in proc.h), the first word of
+/// the session's block. Mostly the session alone takes it, for each lock that goes by the fast path, so no other
+/// session's words are near. In PostgreSQL a `PGPROC` is many lines long, which keeps them apart.
 pub fn fast_word(session: SessionId) -> usize
     ensures index { result ≡ index_of_word (Fast session) }
     ensures within { result < TABLE_WORDS }
@@ -90,7 +90,7 @@ pub fn fast_word(session: SessionId) -> usize
     block(session)
 }
 
-/// The index of the word with a session's database (`databaseId` in proc.h), beside the lightweight lock.
+/// The index of the word with the database of `session` (`databaseId` in proc.h), beside the lightweight lock.
 pub fn database_word(session: SessionId) -> usize
     ensures index { result ≡ index_of_word (Database session) }
     ensures within { result < TABLE_WORDS }
@@ -98,9 +98,9 @@ pub fn database_word(session: SessionId) -> usize
     block(session) + 1
 }
 
-/// The index of a fast-path slot of a session (`fpRelId` in proc.h). The 16 slots of the first group come after the
-/// database: who has the lightweight lock reads those of one group. Those of each further group stand the same way in a
-/// block of that group's area, so no two sessions' slots share a line.
+/// The index of the fast-path slot `slot` of `session` (`fpRelId` in proc.h). The 16 slots of the first group come
+/// after the database: a session that has the lightweight lock reads those of one group. Those of each further group
+/// stand the same way in a block of that group's area, so no two sessions' slots share a line.
 pub fn slot_word(session: SessionId, slot: u8) -> usize
     requires exists { slot < slot_count }
     ensures index { result ≡ index_of_word (Slot session slot) }
@@ -112,7 +112,7 @@ pub fn slot_word(session: SessionId, slot: u8) -> usize
         + (slot % SLOTS_PER_GROUP) as usize
 }
 
-/// The index of a session's wait word (`waitStatus` in proc.h). Others write it while the session waits, or to
+/// The index of the wait word of `session` (`waitStatus` in proc.h). Others write it while the session waits, or to
 /// cancel its wait, and the session does not use its slots meanwhile: they may share a line.
 pub fn wait_word(session: SessionId) -> usize
     ensures index { result ≡ index_of_word (Wait session) }
@@ -121,7 +121,7 @@ pub fn wait_word(session: SessionId) -> usize
     block(session) + 18
 }
 
-/// The index of a session's sleep word (`lwWaiting` in proc.h), beside the wait word for the same reason.
+/// The index of the sleep word of `session` (`lwWaiting` in proc.h), beside the wait word for the same reason.
 pub fn sleep_word(session: SessionId) -> usize
     ensures index { result ≡ index_of_word (Sleep session) }
     ensures within { result < TABLE_WORDS }
@@ -129,7 +129,7 @@ pub fn sleep_word(session: SessionId) -> usize
     block(session) + 19
 }
 
-/// The slot of the table in which a partition's content lies while nobody has it in hand. Two partitions'
+/// The slot of the table in which the content of `partition` lies while nobody has it in hand. Two partitions'
 /// contents lie on different lines, as their words do; the slots between stay unused.
 pub fn content_slot(partition: u8) -> usize
     requires exists { partition < 16 }
@@ -139,7 +139,7 @@ pub fn content_slot(partition: u8) -> usize
     CONTENT_GAP * partition as usize
 }
 
-/// The slot of the table in which the wait list of the lightweight lock with this number lies while nobody has it in
+/// The slot of the table in which the wait list of the lightweight lock numbered `lock` lies while nobody has it in
 /// hand (`waiters` of an `LWLock` in lwlock.h). Partitions have the even numbers and sessions' slots the odd ones.
 pub(crate) fn list_slot(lock: u8) -> usize
     requires exists { lock < lock_count }

@@ -30,8 +30,8 @@ use lw_word::{LwMode, LwWord, WaitList};
 use modes_core::SessionId;
 use std::marker::Brand;
 
-/// One attempt to lock the wait list of a lightweight lock (`LWLockWaitListLock` in lwlock.c). Who gets it is told
-/// that the session stands there only if it knows that it waits for that lock.
+/// Makes one attempt to lock the wait list of `lock` (`LWLockWaitListLock` in lwlock.c). A session that gets it is
+/// told that it stands there only if it knows that it waits for that lock.
 pub(crate) fn try_lock_list<T: PartTable>(
     top: &Top<T>,
     place: &mut Place<T>,
@@ -94,8 +94,8 @@ pub(crate) fn unlock_list<T: PartTable>(
     }
 }
 
-/// Stores in its own sleep word that the session waits in the list in hand (`LWLockQueueSelf` in lwlock.c sets
-/// `lwWaiting`).
+/// Stores in the sleep word of the session `number`, its own, that it waits for `mode` in the list in hand
+/// (`LWLockQueueSelf` in lwlock.c sets `lwWaiting`).
 pub(crate) fn join_list<T: PartTable, M: Marking<T>>(
     top: &Top<T>,
     place: &mut Place<T>,
@@ -114,7 +114,8 @@ pub(crate) fn join_list<T: PartTable, M: Marking<T>>(
     store_as::<T, M>(top, place, sleep_word(number), 1);
 }
 
-/// Stores there that it no longer waits, with itself in the list in hand (`LWLockDequeueSelf` in lwlock.c).
+/// Stores in the sleep word of the session `number`, its own, that it no longer waits, with itself in the list in
+/// hand (`LWLockDequeueSelf` in lwlock.c).
 pub(crate) fn leave_list<T: PartTable>(top: &Top<T>, place: &mut Place<T>, number: SessionId)
     requires table { FitsTable place.old top.now.table_id }
     requires session { HasSession place.old.me.0 }
@@ -128,8 +129,8 @@ pub(crate) fn leave_list<T: PartTable>(top: &Top<T>, place: &mut Place<T>, numbe
     store_as::<T, Brand>(top, place, sleep_word(number), 0);
 }
 
-/// Takes another session off the list in hand: its sleep word shows that it is to be told (the first loop of
-/// `LWLockWakeup` in lwlock.c, and `LW_WS_PENDING_WAKEUP`).
+/// Takes `other` off the list in hand: its sleep word shows that it is to be told (the first loop of `LWLockWakeup`
+/// in lwlock.c, and `LW_WS_PENDING_WAKEUP`).
 pub(crate) fn take_off<T: PartTable, M: Marking<T>>(
     top: &Top<T>,
     place: &mut Place<T>,
@@ -147,7 +148,7 @@ pub(crate) fn take_off<T: PartTable, M: Marking<T>>(
     store_as::<T, M>(top, place, sleep_word(other), 2);
 }
 
-/// Tells a session that was taken off a list that it may go on (the second loop of `LWLockWakeup` in lwlock.c).
+/// Tells `other`, which was taken off a list, that it may go on (the second loop of `LWLockWakeup` in lwlock.c).
 pub(crate) fn tell<T: PartTable, M: Marking<T>>(
     top: &Top<T>,
     place: &mut Place<T>,
@@ -163,7 +164,8 @@ pub(crate) fn tell<T: PartTable, M: Marking<T>>(
     store_as::<T, M>(top, place, sleep_word(other), 0);
 }
 
-/// Loads its own sleep word (`lwWaiting` in proc.h, as the sleep of `LWLockAcquire` in lwlock.c reads it).
+/// Loads the sleep word of the session `number`, its own (`lwWaiting` in proc.h, as the sleep of `LWLockAcquire` in
+/// lwlock.c reads it).
 pub(crate) fn load_sleep<T: PartTable>(top: &Top<T>, place: &mut Place<T>, number: SessionId) -> u64
     requires table { FitsTable place.old top.now.table_id }
     requires session { HasSession place.old.me.0 }
@@ -175,7 +177,7 @@ pub(crate) fn load_sleep<T: PartTable>(top: &Top<T>, place: &mut Place<T>, numbe
     load_as::<T, Brand>(top, place, sleep_word(number))
 }
 
-/// Sets release-ok in a lock's word: releases may wake waiters again (`LW_FLAG_RELEASE_OK` in lwlock.c).
+/// Sets release-ok in the word of `lock`: releases may wake waiters again (`LW_FLAG_RELEASE_OK` in lwlock.c).
 pub(crate) fn set_release_ok<T: PartTable, M: Marking<T>>(
     top: &Top<T>,
     place: &mut Place<T>,
@@ -193,7 +195,7 @@ pub(crate) fn set_release_ok<T: PartTable, M: Marking<T>>(
     fetch_or_as::<T, M>(top, place, lock.word(), LwWord::RELEASE_OK);
 }
 
-/// Sets has-waiters there, with the lock's list in hand (`LWLockQueueSelf` in lwlock.c).
+/// Sets has-waiters in the word of `lock`, with its list in hand (`LWLockQueueSelf` in lwlock.c).
 pub(crate) fn set_has_waiters<T: PartTable, M: Marking<T>>(
     top: &Top<T>,
     place: &mut Place<T>,

@@ -11,8 +11,9 @@ ghost use Rattle.shared_rule.specs.Acquires.{IsAsBefore, GetsSlots};
 ghost use Rattle.shared_rule.specs.History.{noting};
 ghost use Rattle.shared_rule.specs.Led.{Led};
 ghost use Rattle.shared_rule.specs.LwLocks.{no_lists};
-ghost use Rattle.shared_rule.specs.Plays.{account_at, number_at, FitsTable, HasSession, IsSameSeat, TookSlots};
+ghost use Rattle.shared_rule.specs.Plays.{account_at, number_at, quiet_at, FitsTable, HasSession, IsSameSeat, TookSlots};
 ghost use Rattle.std.specs.Bool.{OnTrue, OnFalse};
+ghost use Rattle.shared_rule.specs.Quiet.{quiet_trying};
 ghost use Rattle.shared_rule.specs.Slots.{TriesFast};
 ghost use Rattle.shared_rule.specs.Boards.{StaysLone};
 
@@ -75,8 +76,8 @@ pub(crate) fn attempt_free_fast<T: PartTable>(
     }
 }
 
-/// Takes the lock of a session's fast-path slots exclusively, issued or not (`LWLockAcquire` of `fpInfoLock`). It
-/// waits in the lock's list until the lock is free.
+/// Takes the lock of the fast-path slots of `owner` exclusively, issued or not (`LWLockAcquire` of `fpInfoLock` in
+/// lwlock.c). The call waits in the lock's list until the lock is free.
 #[inline]
 pub(crate) fn take_fast<T: PartTable, R: Wait>(
     rt: &R,
@@ -134,8 +135,8 @@ fn take_own_fast<T: PartTable, G: Grouping>(
     top.compare_exchange::<TriesSlots<G>>(place, fast_word(number), shown, taken)
 }
 
-/// Takes the lock of its own slots if nobody holds it, by a load and one exchange that expects the very number loaded
-/// (`LWLockConditionalAcquire` in lwlock.c).
+/// Takes the lock of the slots of the session `number`, its own, if nobody holds it, by a load and one exchange that
+/// expects the very number loaded (`LWLockConditionalAcquire` in lwlock.c).
 pub(crate) fn try_take_fast<T: PartTable>(
     top: &Top<T>,
     place: &mut Place<T>,
@@ -147,6 +148,7 @@ pub(crate) fn try_take_fast<T: PartTable>(
     ensures seat { IsSameSeat place.old place.new }
     ensures tried { TriesFast top.now.key.groups (number_at place.old) (account_at T.content place.old) result
         (account_at T.content place.new) }
+    ensures quiet { quiet_at place.new ≡ quiet_trying number result (quiet_at place.old) }
     ensures lone { StaysLone place.old.me.0 place.new.me.0 }
     ensures slots { place.new.me.1 ≡ place.old.me.1 }
 {
@@ -179,8 +181,8 @@ fn put_fast_home<T: PartTable, M: Marking<T>>(
     fetch_sub_as::<T, M>(top, place, fast_word(owner), LwMode::Exclusive.amount())
 }
 
-/// Puts the lock of a session's fast-path slots (`LWLockRelease` of `fpInfoLock`). Where the word says so it wakes
-/// those who wait for it.
+/// Puts the lock of the fast-path slots of `owner` (`LWLockRelease` of `fpInfoLock` in lwlock.c). Where the word
+/// says so the call wakes those who wait for it.
 pub(crate) fn put_fast<T: PartTable, M: Marking<T>>(
     top: &Top<T>,
     place: &mut Place<T>,
@@ -222,9 +224,9 @@ fn pass_fast_home<T: PartTable, M: Marking<T>>(
     fetch_sub_as::<T, M>(top, place, fast_word(owner), LwMode::Exclusive.amount())
 }
 
-/// Puts that lock, and goes past its session with a strong lock that is counted (the end of a turn of the loop in
-/// `FastPathTransferRelationLocks` in lock.c): the session has no slot on the object. Where the word says so it
-/// wakes those who wait for the lock.
+/// Puts the lock of the slots of `owner`, and goes past that session with the strong lock of `mode` on `tag`, which
+/// is counted (the end of a turn of the loop in `FastPathTransferRelationLocks` in lock.c): the session has no slot
+/// on the object. Where the word says so the call wakes those who wait for the lock.
 pub(crate) fn pass_fast<T: PartTable, M: Marking<T>>(
     top: &Top<T>,
     place: &mut Place<T>,

@@ -8,6 +8,7 @@ ghost use Rattle.shared_rule.specs.History.{blank_account, first_account, lone};
 ghost use Rattle.shared_rule.specs.Opening.{AreNew};
 ghost use Rattle.shared_rule.specs.Boards.{Seated, nothing_due, parts_in_hand, slots_out, first_marks};
 ghost use Rattle.shared_rule.specs.Boards.{IsIdle};
+ghost use Rattle.shared_rule.specs.Quiet.{first_quiet};
 
 use crate::board::Board;
 use crate::busy::Busy;
@@ -47,8 +48,8 @@ pub struct OneThread<T: PartTable> {
 }
 
 impl<T: PartTable> OneThread<T> {
-    /// Session 0 at a new table for so many sessions, with so many groups of slots each. Without memory the parts
-    /// come back.
+    /// Session 0 at a new table of `sizes`, with `parts` in its slots. Without memory, by `alloc`, the parts come
+    /// back.
     pub fn new(
         alloc: Global,
         sizes: &Sizes,
@@ -61,6 +62,7 @@ impl<T: PartTable> OneThread<T> {
         requires parts { AreNew T.content T.begun parts.items }
         ensures blank { IfOk result (λ board. ⟦<OneThread<T> as Board<T>>⟧.view board ≡ blank_account) }
         ensures stack { IfOk result (λ board. ⟦<OneThread<T> as Board<T>>⟧.stack board ≡ nothing_due) }
+        ensures quiet { IfOk result (λ board. ⟦<OneThread<T> as Board<T>>⟧.quiet board ≡ []) }
         ensures number { IfOk result (λ board. (⟦<OneThread<T> as Board<T>>⟧.seat board).number ≡ 0) }
         ensures limit { IfOk result (λ board. (⟦<OneThread<T> as Board<T>>⟧.seat board).limit ≡ sizes.now.sessions) }
         ensures groups { IfOk result (λ board. (⟦<OneThread<T> as Board<T>>⟧.seat board).groups ≡ sizes.now.groups) }
@@ -91,6 +93,8 @@ impl<T: PartTable> Board<T> for OneThread<T> {
     ghost view = { λ board. first_account T.content board.place.me.0.sessions };
 
     ghost stack = { λ board. record { parts = parts_in_hand board.place.me.1; owed = board.owed.sessions } };
+
+    ghost quiet = { λ board. first_quiet board.place.me.0.sessions };
 
     fn number(&self) -> SessionId {
         self.number

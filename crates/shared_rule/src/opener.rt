@@ -1,11 +1,13 @@
 //! The opener, who gives out session numbers and takes closed sessions back.
 
-ghost use Rattle.std.specs.Prelude.{◌≡◌, ◌<◌, ◌≤◌, ◌+◌, ◌↔◌, [], ◌∷◌, IfSome, IfNone, IsNone, OnSome};
+ghost use Rattle.std.specs.Prelude.{◌≡◌, ◌<◌, ◌≤◌, ◌+◌, ◌↔◌, List, [], ◌∷◌, IfSome, IfNone, IsNone, OnSome};
 ghost use Rattle.shared_rule.specs.History.{blank_account, lone, opening_view};
 ghost use Rattle.shared_rule.specs.Boards.{nothing_due};
 ghost use Rattle.shared_rule.specs.Plays.{FitsTable, HasGroups, IsSized};
 ghost use Rattle.shared_rule.specs.Openers.{HaveClosed, HasTakenBack};
 ghost use Rattle.shared_rule.specs.Seats.{MayCloseBy};
+ghost use Rattle.shared_rule.specs.declared.history.History.{History};
+ghost use Rattle.shared_rule.specs.Quiet.{quiet_told};
 
 use crate::board::Board;
 use crate::rule::{Place, Sizes, Top};
@@ -88,7 +90,8 @@ impl<T: PartTable> Opener<T> {
         seats::open(table, &mut place)
     }
 
-    /// The next session's board, whose account has nothing in it, or `None` where all numbers are given out.
+    /// The next session's board at `table`, whose account has nothing in it, or `None` where all numbers are given
+    /// out.
     pub fn session<'a>(&mut self, table: &'a Top<T>) -> Option<SeatBoard<'a, T>>
         requires table { (self.old.table ≡ table.now.table_id) × (self.old.limit ≡ table.now.key.sessions)
             × (self.old.groups ≡ table.now.key.groups) }
@@ -100,6 +103,7 @@ impl<T: PartTable> Opener<T> {
         ensures issued { OnSome result (self.new.issued ≡ self.old.issued + 1) }
         ensures blank { IfSome result (λ board. ⟦<SeatBoard<'a, T> as Board<T>>⟧.view board ≡ blank_account) }
         ensures stack { IfSome result (λ board. ⟦<SeatBoard<'a, T> as Board<T>>⟧.stack board ≡ nothing_due) }
+        ensures quiet { IfSome result (λ board. ⟦<SeatBoard<'a, T> as Board<T>>⟧.quiet board ≡ []) }
         ensures seat { IfSome result (λ board. ⟦<SeatBoard<'a, T> as Board<T>>⟧.seat board
             ≡ record {
               number = self.old.issued;
@@ -117,15 +121,17 @@ impl<T: PartTable> Opener<T> {
         Some(SeatBoard::at(table, place, number, self.sizes))
     }
 
-    /// Takes a session's board back, which has nothing any more (`ProcKill` in proc.c). Its number is that of a
-    /// closed session from then on, with all that it did, and all else of the opener is as before. Of those that
-    /// have closed it tells that each was given out, and none closed twice.
+    /// Takes back `board`, that of a session which has nothing any more (`ProcKill` in proc.c). Its number is that
+    /// of a closed session from then on, with all that it did, and all else of the opener is as before. Of those
+    /// that have closed each was given out, and none closed twice.
     pub fn close<'a>(&mut self, board: SeatBoard<'a, T>)
         requires table { (⟦<SeatBoard<'a, T> as Board<T>>⟧.seat board).table ≡ self.old.table }
         requires stack { ⟦<SeatBoard<'a, T> as Board<T>>⟧.stack board ≡ nothing_due }
         requires lawful { MayCloseBy (⟦<SeatBoard<'a, T> as Board<T>>⟧.view board) }
         ensures closed { let B = ⟦<SeatBoard<'a, T> as Board<T>>⟧ in
             HasTakenBack T.content (B.seat board.entry).number (B.view board.entry).trace self.old self.new }
+        ensures quiet { let B = ⟦<SeatBoard<'a, T> as Board<T>>⟧ in (last : History T) (others : List (History T)) →
+            self.new.closed ≡ last ∷ others → quiet_told last.marks ≡ B.quiet board.entry }
         ensures have_closed { HaveClosed self.new.issued self.new.closed }
     {
         let (table, place) = board.into_place();

@@ -21,11 +21,10 @@ use crate::layout::{content_slot, partition_word};
 use crate::lists::set_release_ok;
 use crate::lw_lock::LwLock;
 use crate::plays::{Marking, TakesPart};
-use crate::queues::{SPINS, dequeue_self, queue_self, sleep_until_told};
+use crate::queues::{SPINS, dequeue_self, pause_before, queue_self, sleep_until_told};
 use crate::rule::{Place, Top};
 use crate::wakeups::{must_wake_after, wake_waiters};
 use crate::words::{put_home_as, taken};
-use crossbeam_utils::Backoff;
 use lock_table::{Move, PartTable};
 use lw_word::LwMode;
 use modes_core::SessionId;
@@ -80,8 +79,8 @@ fn attempt_free_part<T: PartTable>(top: &Top<T>, place: &mut Place<T>, part: u8)
     }
 }
 
-/// Takes a partition while all sessions that are open are gathered at one seat: nobody holds its lock then, so the
-/// attempt is repeated only where its exchange is lost to a flag of the word.
+/// Takes partition `part` while all sessions that are open are gathered at one seat: nobody holds its lock then, so
+/// the attempt is repeated only where its exchange is lost to a flag of the word.
 pub(crate) fn take_part_alone<T: PartTable, R: Wait>(
     rt: &R,
     top: &Top<T>,
@@ -105,7 +104,7 @@ pub(crate) fn take_part_alone<T: PartTable, R: Wait>(
     unreachable!()
 }
 
-// A few attempts, with a short pause before each.
+// A few attempts, with pauses before each.
 fn attempt_part_a_while<T: PartTable>(top: &Top<T>, place: &mut Place<T>, part: u8) -> Option<T>
     requires table { FitsTable place.old top.now.table_id }
     requires exists { part < 16 }
@@ -114,9 +113,8 @@ fn attempt_part_a_while<T: PartTable>(top: &Top<T>, place: &mut Place<T>, part: 
     ensures lost { IfNone result (IsAsBefore T.content place.old place.new) }
     ensures won { IfSome result (TakesPartition T.content T.begun part place.old place.new) }
 {
-    let backoff = Backoff::new();
-    for _ in 0..SPINS {
-        backoff.spin();
+    for attempt in 0..SPINS {
+        pause_before(attempt);
         if let Some(content) = attempt_free_part(top, place, part) {
             return Some(content);
         }
@@ -207,8 +205,9 @@ fn take_part_in_turn<T: PartTable, R: Wait>(
     }
 }
 
-/// Takes a partition's lightweight lock exclusively, and its content in hand (`LWLockAcquire` in lwlock.c). It
-/// waits in the lock's list until the lock is free. Of the content it tells what the session's account knows of it.
+/// Takes the lightweight lock of partition `part` exclusively, and its content in hand (`LWLockAcquire` in
+/// lwlock.c). The call waits in the lock's list until the lock is free. Of the content it tells what the account of
+/// the session `number` knows of it.
 #[inline]
 pub(crate) fn take_part<T: PartTable, R: Wait>(
     rt: &R,
@@ -230,7 +229,7 @@ pub(crate) fn take_part<T: PartTable, R: Wait>(
     }
 }
 
-/// The same after an attempt that failed.
+/// Takes partition `part` as `take_part` does, after an attempt that failed.
 #[cold]
 #[inline(never)]
 fn take_part_held<T: PartTable, R: Wait>(
@@ -255,8 +254,8 @@ fn take_part_held<T: PartTable, R: Wait>(
     unreachable!()
 }
 
-/// Puts a partition's content home, after this move, and its lightweight lock, and tells what the lock's word
-/// showed. It wakes nobody.
+/// Puts `content` home to partition `part`, after the move `done`, and its lightweight lock, and answers what the
+/// lock's word showed. Nobody is woken.
 pub(crate) fn put_part_home<T: PartTable, M: Marking<T>>(
     top: &Top<T>,
     place: &mut Place<T>,
@@ -282,8 +281,8 @@ pub(crate) fn put_part_home<T: PartTable, M: Marking<T>>(
     }
 }
 
-/// Puts a partition's content home, after this move, and its lightweight lock (`LWLockRelease` in lwlock.c). Where
-/// the word says so it wakes those who wait for the lock.
+/// Puts `content` home to partition `part`, after the move `done`, and its lightweight lock (`LWLockRelease` in
+/// lwlock.c). Where the word says so the call wakes those who wait for the lock.
 pub(crate) fn put_part<T: PartTable, M: Marking<T>>(
     top: &Top<T>,
     place: &mut Place<T>,

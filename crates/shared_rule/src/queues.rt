@@ -34,14 +34,27 @@ use crossbeam_utils::Backoff;
 use lock_table::PartTable;
 use lw_word::{LwMode, WaitList};
 use modes_core::SessionId;
+use std::hint::spin_loop;
 use std::marker::Brand;
 use std::sync::Wait;
 
-/// How many attempts a session makes before it queues, with a short pause before each, each twice as long as the
-/// one before (PostgreSQL spins so for spin locks, `perform_spin_delay` in s_lock.c).
-pub(crate) const SPINS: u32 = 6;
+/// How many attempts a session makes before it queues, with pauses before each (PostgreSQL spins so for spin locks,
+/// `perform_spin_delay` in s_lock.c). A sleep with its wake-up takes two threads 5 to 8 microseconds, and all pauses of
+/// these attempts some 10: so a session sleeps where a lock is held for long, and seldom where others only take turns.
+pub(crate) const SPINS: u32 = 13;
 
-/// Locks the wait list of a lightweight lock: it tries until it has it, with pauses between (`LWLockWaitListLock` in
+/// How often the number of pauses doubles, from one to 256, which take 1.5 microseconds.
+const DOUBLINGS: u32 = 8;
+
+/// Pauses before the attempt numbered `attempt`, counted from 0: once before the first, and twice as often before
+/// each further one, up to 256 times.
+pub(crate) fn pause_before(attempt: u32) {
+    for _ in 0..1u32 << attempt.min(DOUBLINGS) {
+        spin_loop();
+    }
+}
+
+/// Locks the wait list of `lock`: tries until the session has it, with pauses between (`LWLockWaitListLock` in
 /// lwlock.c). A list is in hand for a few steps only.
 fn lock_list<T: PartTable, R: Wait>(
     rt: &R,
@@ -70,8 +83,9 @@ fn lock_list<T: PartTable, R: Wait>(
     unreachable!()
 }
 
-/// Queues the session at the end of a lock's wait list (`LWLockQueueSelf` in lwlock.c). Has-waiters stands before the
-/// session does, so whoever releases the lock from then on sees it. The caller attempts the lock once more after it.
+/// Queues the session `number` at the end of the wait list of `lock`, as one that wants `mode` (`LWLockQueueSelf` in
+/// lwlock.c). Has-waiters stands before the session does, so a session that releases the lock from then on sees it.
+/// The caller attempts the lock once more after it.
 pub(crate) fn queue_self<T: PartTable, R: Wait>(
     rt: &R,
     top: &Top<T>,
@@ -97,9 +111,9 @@ pub(crate) fn queue_self<T: PartTable, R: Wait>(
     unlock_list(top, place, lock, list, true, true);
 }
 
-/// Sleeps until its own sleep word shows 0: whoever took the session off its list has told it so (the sleep on the
-/// semaphore in `LWLockAcquire` in lwlock.c). The kernel compares the word before a thread sleeps, so nothing that
-/// is told meanwhile is slept through.
+/// Sleeps until the sleep word of the session `number`, its own, shows 0: the session that took it off its list has
+/// told it so (the sleep on the semaphore in `LWLockAcquire` in lwlock.c). The kernel compares the word before a
+/// thread sleeps, so nothing that is told meanwhile is slept through.
 pub(crate) fn sleep_until_told<T: PartTable, R: Wait>(
     rt: &R,
     top: &Top<T>,
@@ -125,9 +139,9 @@ pub(crate) fn sleep_until_told<T: PartTable, R: Wait>(
     unreachable!()
 }
 
-/// Leaves the list of a lock that the session has got meanwhile. Where somebody has taken it off already, it is
-/// told so in any case: it waits for that, and sets release-ok in that one's stead (`LWLockDequeueSelf` in
-/// lwlock.c).
+/// Leaves the list of `lock`, which the session `number` has got meanwhile. Where another session has taken it off
+/// already, it is told so in any case: it waits for that, and sets release-ok in that one's stead
+/// (`LWLockDequeueSelf` in lwlock.c).
 pub(crate) fn dequeue_self<T: PartTable, R: Wait>(
     rt: &R,
     top: &Top<T>,

@@ -9,6 +9,7 @@ ghost use Rattle.shared_rule.specs.Plays.{FitsTable};
 ghost use Rattle.shared_rule.specs.Seats.{DoNotConflict, MayBeKeptApartBy};
 ghost use Rattle.shared_rule.specs.Boards.{Seated, nothing_due, parts_in_hand, slots_out, first_marks};
 ghost use Rattle.shared_rule.specs.Boards.{IsIdle};
+ghost use Rattle.shared_rule.specs.Quiet.{first_quiet};
 
 use crate::board::Board;
 use crate::busy::Busy;
@@ -73,8 +74,8 @@ impl<'a, T: PartTable> SeatBoard<'a, T> {
         }
     }
 
-    /// Meets another session of the same table, whose board comes back: no hold of the one conflicts with a hold of the
-    /// other on an object. Both accounts are as before.
+    /// Meets `other`, a session of the same table, whose board comes back: no hold of the one conflicts with a hold
+    /// of the other on an object. Both accounts are as before.
     pub fn meet(&mut self, other: SeatBoard<'a, T>) -> SeatBoard<'a, T>
         requires table { (⟦<SeatBoard<'a, T> as Board<T>>⟧.seat other).table
             ≡ (⟦<SeatBoard<'a, T> as Board<T>>⟧.seat self.old).table }
@@ -88,9 +89,13 @@ impl<'a, T: PartTable> SeatBoard<'a, T> {
             ≡ ⟦<SeatBoard<'a, T> as Board<T>>⟧.stack self.old }
         ensures seat { ⟦<SeatBoard<'a, T> as Board<T>>⟧.seat self.new
             ≡ ⟦<SeatBoard<'a, T> as Board<T>>⟧.seat self.old }
+        ensures quiet { ⟦<SeatBoard<'a, T> as Board<T>>⟧.quiet self.new
+            ≡ ⟦<SeatBoard<'a, T> as Board<T>>⟧.quiet self.old }
         ensures its_view { ⟦<SeatBoard<'a, T> as Board<T>>⟧.view result
             ≡ ⟦<SeatBoard<'a, T> as Board<T>>⟧.view other.entry }
         ensures its_stack { ⟦<SeatBoard<'a, T> as Board<T>>⟧.stack result ≡ nothing_due }
+        ensures its_quiet { ⟦<SeatBoard<'a, T> as Board<T>>⟧.quiet result
+            ≡ ⟦<SeatBoard<'a, T> as Board<T>>⟧.quiet other.entry }
         ensures its_seat { ⟦<SeatBoard<'a, T> as Board<T>>⟧.seat result
             ≡ ⟦<SeatBoard<'a, T> as Board<T>>⟧.seat other.entry }
     {
@@ -147,6 +152,8 @@ impl<'a, T: PartTable> Board<T> for SeatBoard<'a, T> {
     ghost view = { λ board. first_account T.content board.place.me.0.sessions };
 
     ghost stack = { λ board. record { parts = parts_in_hand board.place.me.1; owed = board.owed.sessions } };
+
+    ghost quiet = { λ board. first_quiet board.place.me.0.sessions };
 
     fn number(&self) -> SessionId {
         self.number

@@ -28,8 +28,8 @@ use modes_core::SessionId;
 use std::marker::Brand;
 use std::sync::Wait;
 
-/// What one who shares the lock makes of its word, or `None` where bit 24 says that somebody holds it exclusively
-/// (`LWLockAttemptLock` in lwlock.c).
+/// What a session that shares a lock makes of its word, which shows `shown`, or `None` where bit 24 says that
+/// another one holds it exclusively (`LWLockAttemptLock` in lwlock.c).
 pub(crate) fn shared(shown: u64) -> Option<u64>
     ensures { SomeIff result (IsFreeToShare shown) (shared_word shown) }
 {
@@ -87,8 +87,8 @@ pub(crate) fn attempt_free_share<T: PartTable>(
     }
 }
 
-/// Shares the lock of a session's fast-path slots, issued or not (`LWLockAcquire` of `fpInfoLock` with `LW_SHARED`).
-/// It waits in the lock's list until nobody holds the lock exclusively.
+/// Shares the lock of the fast-path slots of `owner`, issued or not (`LWLockAcquire` of `fpInfoLock` with
+/// `LW_SHARED` in lwlock.c). The call waits in the lock's list until nobody holds the lock exclusively.
 #[inline]
 pub(crate) fn share_fast<T: PartTable, R: Wait>(
     rt: &R,
@@ -128,8 +128,8 @@ fn unshare_fast_home<T: PartTable, M: Marking<T>>(
     fetch_sub_as::<T, M>(top, place, fast_word(owner), LwMode::Shared.amount())
 }
 
-/// Gives its share back (`LWLockRelease`). The last one who shared it wakes those who wait for the lock, where its
-/// word says so.
+/// Gives back the session's share of the lock of the slots of `owner` (`LWLockRelease` in lwlock.c). The last
+/// session that shared it wakes those who wait for the lock, where its word says so.
 pub(crate) fn unshare_fast<T: PartTable, M: Marking<T>>(
     top: &Top<T>,
     place: &mut Place<T>,

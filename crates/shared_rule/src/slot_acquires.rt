@@ -11,11 +11,10 @@ use crate::layout::fast_word;
 use crate::lists::set_release_ok;
 use crate::locks::attempt_free_fast;
 use crate::lw_lock::LwLock;
-use crate::queues::{SPINS, dequeue_self, queue_self, sleep_until_told};
+use crate::queues::{SPINS, dequeue_self, pause_before, queue_self, sleep_until_told};
 use crate::rule::{Place, Top};
 use crate::sharing::{attempt_free_share, shared};
 use crate::words::taken;
-use crossbeam_utils::Backoff;
 use lock_table::PartTable;
 use lw_word::LwMode;
 use modes_core::SessionId;
@@ -54,7 +53,7 @@ fn is_held<T: PartTable>(top: &Top<T>, owner: SessionId, mode: LwMode) -> bool
     }
 }
 
-// A few attempts, with a short pause before each.
+// A few attempts, with pauses before each.
 fn attempt_slots_a_while<T: PartTable>(
     top: &Top<T>,
     place: &mut Place<T>,
@@ -69,9 +68,8 @@ fn attempt_slots_a_while<T: PartTable>(
     ensures won { OnTrue result (GetsSlots T.content top.now.key.groups mode owner place.old place.new) }
     ensures lost { OnFalse result (IsAsBefore T.content place.old place.new) }
 {
-    let backoff = Backoff::new();
-    for _ in 0..SPINS {
-        backoff.spin();
+    for attempt in 0..SPINS {
+        pause_before(attempt);
         if attempt_slots(top, place, owner, mode) {
             return true;
         }
@@ -164,8 +162,8 @@ fn get_slots_in_turn<T: PartTable, R: Wait>(
     get_slots_or_sleep(rt, top, place, number, owner, mode)
 }
 
-/// Gets the lock of a session's slots in this mode, after an attempt that was lost. It waits in the lock's list
-/// until nobody holds the lock in its way.
+/// Gets the lock of the slots of `owner` in `mode`, after an attempt that was lost. The call waits in the lock's
+/// list until nobody holds the lock in its way.
 #[cold]
 #[inline(never)]
 pub(crate) fn get_slots_held<T: PartTable, R: Wait>(

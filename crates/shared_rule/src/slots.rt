@@ -19,7 +19,7 @@ use lock_table::PartTable;
 use lw_word::SlotWord;
 use modes_core::{Mode, SessionId, Tag};
 
-/// Loads a session's database, 0 where it has none (`databaseId` in proc.h).
+/// Loads the database of `owner`, 0 where it has none (`databaseId` in proc.h).
 pub(crate) fn load_database<T: PartTable, M: Marking<T>>(
     top: &Top<T>,
     place: &mut Place<T>,
@@ -40,7 +40,7 @@ pub(crate) fn load_database<T: PartTable, M: Marking<T>>(
     look_as::<T, M>(top, place, database_word(owner))
 }
 
-/// Loads a fast-path slot of a session (`fpRelId` and `fpLockBits` in proc.h).
+/// Loads the fast-path slot `slot` of `owner` (`fpRelId` and `fpLockBits` in proc.h).
 pub(crate) fn load_slot<T: PartTable, M: Marking<T>>(
     top: &Top<T>,
     place: &mut Place<T>,
@@ -62,7 +62,8 @@ pub(crate) fn load_slot<T: PartTable, M: Marking<T>>(
     SlotWord::from_number(look_as::<T, M>(top, place, slot_word(owner, slot)))
 }
 
-/// Sets a mode in the session's own slot that shows this (`FastPathGrantRelationLock` in lock.c).
+/// Sets `mode` on `tag` in the slot `slot` of the session `number`, its own, which shows `shown`
+/// (`FastPathGrantRelationLock` in lock.c).
 pub(crate) fn set_slot<T: PartTable, M: Marking<T>>(
     top: &Top<T>,
     place: &mut Place<T>,
@@ -88,7 +89,8 @@ pub(crate) fn set_slot<T: PartTable, M: Marking<T>>(
     store_as::<T, M>(top, place, slot_word(number, slot), word.number());
 }
 
-/// Clears a mode in the session's own slot that shows this (`FastPathUnGrantRelationLock` in lock.c).
+/// Clears `mode` on `tag` in the slot `slot` of the session `number`, its own, which shows `shown`
+/// (`FastPathUnGrantRelationLock` in lock.c).
 pub(crate) fn clear_slot<T: PartTable, M: Marking<T>>(
     top: &Top<T>,
     place: &mut Place<T>,
@@ -113,8 +115,8 @@ pub(crate) fn clear_slot<T: PartTable, M: Marking<T>>(
     store_as::<T, M>(top, place, slot_word(number, slot), word.number());
 }
 
-/// Moves a mode from the slot of a session that shows this to the content in hand, which has it now (a mode of the
-/// inner loop of `FastPathTransferRelationLocks` in lock.c).
+/// Moves `mode` on `tag` from the slot `slot` of `owner`, which shows `shown`, to `content` in hand, which has it
+/// now (a mode of the inner loop of `FastPathTransferRelationLocks` in lock.c).
 pub(crate) fn transfer_slot<T: PartTable, M: Marking<T>>(
     top: &Top<T>,
     place: &mut Place<T>,
@@ -143,7 +145,7 @@ pub(crate) fn transfer_slot<T: PartTable, M: Marking<T>>(
     store_as::<T, M>(top, place, slot_word(owner, slot), word.number());
 }
 
-/// Stores its own database, once (`InitPostgres` in postinit.c).
+/// Stores `database` as that of the session `number`, its own, once (`InitPostgres` in postinit.c).
 pub(crate) fn store_database<T: PartTable, M: Marking<T>>(
     top: &Top<T>,
     place: &mut Place<T>,

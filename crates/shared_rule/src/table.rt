@@ -3,6 +3,7 @@
 ghost use Rattle.std.specs.Prelude.{◌≡◌, ◌<◌, ◌≤◌, ◌+◌, ◌/◌, ◌%◌, [], length, Some, IfOk, IfErr};
 ghost use Rattle.lock_world.specs.SlotHolds.{most_groups};
 ghost use Rattle.lock_world.specs.World.{opening};
+ghost use Rattle.shared_rule.specs.Layout.{IsGap};
 ghost use Rattle.shared_rule.specs.Shown.{WordsAreShown};
 ghost use Rattle.lock_table.specs.Parts.{AreEmptyParts};
 ghost use Rattle.shared_rule.specs.Opening.{IsFirst, IsNew, IsEmptyList, AreNew};
@@ -26,6 +27,7 @@ pub type SharedTable<T> = Table<Kept<T>, View<T>, Sizes, Law, Global>;
 // The word at an index, before the first step: a free one where it is a lightweight lock's, and else 0.
 fn first_word(index: usize) -> u64
     ensures first { IsFirst index result }
+    ensures gap { IsGap index → result ≡ 0 }
 {
     let free = LwWord::opening().number();
     if index < COUNTERS_START {
@@ -86,8 +88,8 @@ fn next_list<T: PartTable>(alloc: Global, index: usize) -> Result<Kept<T>, NoMem
     }
 }
 
-/// The slots of the table with these parts of the sixteen partitions, each in its place (`content_slot`), and with the
-/// wait lists of all lightweight locks. Where memory runs out the parts are let go.
+/// The slots of the table with `parts`, the sixteen partitions, each in its place (`content_slot`), and with the
+/// wait lists of all lightweight locks. Where memory, by `alloc`, runs out the parts are let go.
 pub fn in_slots<T: PartTable + Drop>(
     alloc: Global,
     mut parts: Vec<T>,
@@ -106,9 +108,8 @@ pub fn in_slots<T: PartTable + Drop>(
     Ok(slots)
 }
 
-/// Makes the table for so many sessions, with so many groups of slots each, and the opener at it (`InitProcGlobal`
-/// in proc.c, `InitLocks` in lock.c). The parts come each in its slot of the table, as `in_slots` puts them.
-/// Without memory they come back.
+/// Makes the table of `sizes`, and the opener at it (`InitProcGlobal` in proc.c, `InitLocks` in lock.c). `parts`
+/// come each in its slot of the table, as `in_slots` puts them. Without memory, by `alloc`, they come back.
 pub fn open<T: PartTable>(
     alloc: Global,
     sizes: &Sizes,

@@ -23,8 +23,8 @@ use crate::words::{fetch_add_as, fetch_or_as, load_as, store_as};
 use lock_table::{Move, PartTable, Woken};
 use modes_core::{Mode, SessionId, Tag};
 
-/// Stores in its own wait word that the session waits, with its join made in the content in hand (`ProcSleep` in
-/// proc.c sets `waitStatus` so).
+/// Stores in the wait word of the session `number`, its own, that it waits for `mode` on `tag`, with its join made
+/// in `content` in hand (`ProcSleep` in proc.c sets `waitStatus` so).
 pub(crate) fn set_waiting<T: PartTable, M: Marking<T>>(
     top: &Top<T>,
     place: &mut Place<T>,
@@ -45,8 +45,8 @@ pub(crate) fn set_waiting<T: PartTable, M: Marking<T>>(
     store_as::<T, M>(top, place, wait_word(number), 1);
 }
 
-/// Marks the wait of a session granted, one of those whom the move in the content in hand grants (`ProcWakeup` in
-/// proc.c sets `waitStatus`; the waiter's own side is `GrantAwaitedLock` in lock.c).
+/// Marks the wait of `other` granted, one of those in `woken` whom the move `done` in `content`, that of partition
+/// `part`, grants (`ProcWakeup` in proc.c sets `waitStatus`; the waiter's own side is `GrantAwaitedLock` in lock.c).
 pub(crate) fn mark_granted<T: PartTable, M: Marking<T>>(
     top: &Top<T>,
     place: &mut Place<T>,
@@ -75,7 +75,7 @@ pub(crate) fn mark_granted<T: PartTable, M: Marking<T>>(
     fetch_add_as::<T, M>(top, place, wait_word(other), 1);
 }
 
-/// Loads its own wait word (`waitStatus` in proc.h, as `ProcSleep` in proc.c reads it).
+/// Loads the wait word of the session `number`, its own (`waitStatus` in proc.h, as `ProcSleep` in proc.c reads it).
 pub(crate) fn load_wait<T: PartTable, M: Marking<T>>(
     top: &Top<T>,
     place: &mut Place<T>,
@@ -91,7 +91,7 @@ pub(crate) fn load_wait<T: PartTable, M: Marking<T>>(
     load_as::<T, M>(top, place, wait_word(number))
 }
 
-/// Asks a session to cancel its wait, and tells what its wait word showed before (`pg_cancel_backend` in
+/// Asks `other` to cancel its wait, and answers what its wait word showed before (`pg_cancel_backend` in
 /// signalfuncs.c).
 pub(crate) fn ask_cancel<T: PartTable, M: Marking<T>>(
     top: &Top<T>,
@@ -109,7 +109,8 @@ pub(crate) fn ask_cancel<T: PartTable, M: Marking<T>>(
     fetch_or_as::<T, M>(top, place, wait_word(other), 4)
 }
 
-/// Clears its own wait word: the wait is over, since the grant was seen or the wait is gone from the content in hand.
+/// Clears the wait word of the session `number`, its own: the wait is over, since the grant was seen or the wait is
+/// gone from the content in hand.
 pub(crate) fn clear_wait<T: PartTable, M: Marking<T>>(
     top: &Top<T>,
     place: &mut Place<T>,
@@ -126,8 +127,8 @@ pub(crate) fn clear_wait<T: PartTable, M: Marking<T>>(
     store_as::<T, M>(top, place, wait_word(number), 0);
 }
 
-/// Clears its own wait word and records that the wait was taken out of the queue of the content in hand
-/// (`RemoveFromWaitQueue` in lock.c).
+/// Clears the wait word of the session `number`, its own, and records that the wait was taken out of the queue of
+/// `content` in hand, which granted those in `woken` (`RemoveFromWaitQueue` in lock.c).
 pub(crate) fn leave_queue<T: PartTable, M: Marking<T>>(
     top: &Top<T>,
     place: &mut Place<T>,

@@ -20,8 +20,8 @@ use lock_table::PartTable;
 use lw_word::{LwMode, LwWaiter, LwWord, WaitList};
 use std::marker::Brand;
 
-/// Whether whoever held a lock exclusively has to wake waiters, by the number that its fetch-and-subtract found in the
-/// lock's word (`check_waiters` in `LWLockReleaseInternal`).
+/// Whether a session that held a lock exclusively has to wake waiters, by `found`, the number that its
+/// fetch-and-subtract found in the lock's word (`check_waiters` in `LWLockReleaseInternal` of lwlock.c).
 pub(crate) fn must_wake_after(found: u64) -> bool
     ensures { result ≡ must_wake (put_in Exclusive (state_of found)) }
 {
@@ -30,7 +30,8 @@ pub(crate) fn must_wake_after(found: u64) -> bool
         && found / LwWord::RELEASE_OK % 2 == 1
 }
 
-/// The same of whoever shared it: the last one to put it.
+/// Whether a session that shared a lock has to wake waiters, by `found`, the number that its fetch-and-subtract
+/// found in the lock's word: the last one to put it.
 pub(crate) fn must_wake_after_sharing(found: u64) -> bool
     ensures { result ≡ must_wake (put_in Shared (state_of found)) }
 {
@@ -113,9 +114,9 @@ fn unlock_after_wakeup<T: PartTable>(
     unlock_list(top, place, lock, list, some_left, release_ok);
 }
 
-/// Wakes those first in a lock's wait list: one who wants it exclusively, or all who want to share it
-/// (`LWLockWakeup`). Where another session has the list, it leaves that to it: who has a list in hand attempts the
-/// lock afterwards, holds it, or has taken somebody off.
+/// Wakes those first in the wait list of `lock`: one that wants it exclusively, or all that want to share it
+/// (`LWLockWakeup` in lwlock.c). Where another session has the list, the waking is left to it: a session that has a
+/// list in hand attempts the lock afterwards, holds it, or has taken somebody off.
 #[cold]
 #[inline(never)]
 pub(crate) fn wake_waiters<T: PartTable>(top: &Top<T>, place: &mut Place<T>, lock: &LwLock)

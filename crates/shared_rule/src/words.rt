@@ -18,8 +18,8 @@ use crate::rule::{Place, Top};
 use lock_table::PartTable;
 use lw_word::LwMode;
 
-/// What one who takes the lock exclusively makes of its word, or `None` where bits 0 to 24 say that somebody holds it
-/// (`LWLockAttemptLock` in lwlock.c).
+/// What a session that takes a lock exclusively makes of its word, which shows `shown`, or `None` where bits 0 to 24
+/// say that somebody holds it (`LWLockAttemptLock` in lwlock.c).
 pub(crate) fn taken(shown: u64) -> Option<u64>
     ensures { SomeIff result (IsHeldByNobody shown) (taken_word shown) }
 {

@@ -43,6 +43,7 @@ standing_of mode wait = if conflict mode wait.mode then record { session = wait.
 abbrev pub standing : List Wait → Mode → List Blocker
 standing ahead mode = flat_map (standing_of mode) ahead
 
+-- Those in the way of a session's wait, if it has one.
 abbrev pub blockers_of_wait : Option Wait → Content → Tag → ℕ → List Blocker
 blockers_of_wait None content tag session = []
 blockers_of_wait (Some wait) content tag session =

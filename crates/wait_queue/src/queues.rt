@@ -14,24 +14,25 @@ use std::alloc::Global;
 /// How a session stands in the way of one that waits.
 #[derive(Clone, Copy, Debug, PartialEq, Eq)]
 pub enum InTheWay {
-    /// It holds a mode that conflicts with the awaited one.
+    /// The session holds a mode that conflicts with the awaited one.
     Holds,
-    /// It stands before the other in the queue, and awaits such a mode.
+    /// The session stands before the other one in the queue, and awaits such a mode.
     StandsBefore,
 }
 
-/// One that stands in the way of a session that waits, by this mode.
+/// A session in the way of another one that waits, with the mode by which it is.
 #[derive(Clone, Copy, Debug, PartialEq, Eq)]
 pub struct Blocker {
     /// Who stands in the way.
     pub session: SessionId,
-    /// The mode by which it does.
+    /// The mode by which `session` is in the way.
     pub mode: Mode,
-    /// Whether it holds that mode or stands before the other in the queue.
+    /// Whether `session` holds that mode, or stands before the other one in the queue.
     pub how: InTheWay,
 }
 
-/// The waits of an object, in the order of its queue.
+/// The waits on `tag` in the content of `part`, in the order of the object's queue. Refused only where memory for the
+/// list, by `alloc`, ran out.
 pub fn queue_of<P: PartTable>(alloc: Global, part: &P, tag: &Tag) -> Result<Vec<Waiter>, NoMemory>
     ensures whole { IfOk result (λ rows. map shown_wait rows.items ≡ (P.content part.now).waits tag.now) }
 {
@@ -42,9 +43,10 @@ pub fn queue_of<P: PartTable>(alloc: Global, part: &P, tag: &Tag) -> Result<Vec<
     Ok(rows)
 }
 
-/// Those that stand in the way of a session's wait on an object (`GetBlockerStatusData` in lock.c, for
-/// `pg_blocking_pids`): who holds a mode that conflicts with the awaited one, by session and mode, and then who
-/// awaits one before it in the queue. Nobody where the session doesn't wait there.
+/// Those in the way of the wait of `session` on `tag` in the content of `part` (`GetBlockerStatusData` in lock.c, for
+/// `pg_blocking_pids`): sessions that hold a mode in conflict with the awaited one, by session and mode, and then those
+/// that await one before it in the queue. Nobody where the session doesn't wait there. Refused only where memory ran
+/// out.
 pub fn blockers_of<P: PartTable>(
     alloc: Global,
     part: &P,
@@ -62,7 +64,7 @@ pub fn blockers_of<P: PartTable>(
     Ok(found)
 }
 
-/// Where the session stands in the object's queue, counted from the front, and for which mode.
+/// The place of `session` in the queue of `tag`, counted from the front, and the mode that it awaits there.
 fn wait_of<P: PartTable>(part: &P, tag: &Tag, session: SessionId) -> Option<(usize, Mode)>
     ensures none { IfNone result (wait_in ((P.content part.now).waits tag.now) session ≡ None) }
     ensures mode { IfSome result (λ found.
@@ -81,7 +83,7 @@ fn wait_of<P: PartTable>(part: &P, tag: &Tag, session: SessionId) -> Option<(usi
     None
 }
 
-/// Appends those that hold a mode in conflict with this one, which the session awaits.
+/// Appends to `found` the sessions other than `session` that hold a mode in conflict with `mode`, which it awaits.
 fn append_holding<P: PartTable>(
     part: &P,
     tag: &Tag,
@@ -98,7 +100,7 @@ fn append_holding<P: PartTable>(
     Ok(())
 }
 
-/// The same of one session.
+/// Appends `other` to `found` by each mode that it holds on `tag` in conflict with `mode`, unless it is `session`.
 fn append_holding_of<P: PartTable>(
     part: &P,
     tag: &Tag,
@@ -116,7 +118,7 @@ fn append_holding_of<P: PartTable>(
     append_modes(other, part.held(other, tag), conflicts(mode), found)
 }
 
-/// Appends a session by each mode that is in both sets, in the order of their numbers.
+/// Appends `other` to `found` by each mode that is in `held` and in `against`, in the order of the modes' numbers.
 fn append_modes(
     other: SessionId,
     held: ModeSet,
@@ -135,7 +137,7 @@ fn append_modes(
     append_mode(other, held, against, Mode::AccessExclusive, found)
 }
 
-/// Appends a session by this mode, if it is in both sets.
+/// Appends `other` to `found` by `mode`, if that is in `held` and in `against`.
 fn append_mode(
     other: SessionId,
     held: ModeSet,
@@ -157,7 +159,7 @@ fn append_mode(
     Ok(())
 }
 
-/// Appends those that await a mode in conflict with this one before this place of the object's queue.
+/// Appends to `found` the waiters before `place` in the queue of `tag` that await a mode in conflict with `mode`.
 fn append_standing<P: PartTable>(
     part: &P,
     tag: &Tag,
@@ -176,7 +178,7 @@ fn append_standing<P: PartTable>(
     Ok(())
 }
 
-/// The same of one waiter.
+/// Appends `waiter` to `found`, if it awaits a mode in conflict with `mode`.
 fn append_waiter(waiter: Waiter, mode: Mode, found: &mut Vec<Blocker>) -> Result<(), NoMemory>
     ensures { OnOk result (found.new.items ≡ found.old.items ++ standing_of mode (shown_wait waiter)) }
 {

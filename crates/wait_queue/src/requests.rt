@@ -9,26 +9,26 @@ use modes_core::{Mode, Refusal, SessionId, Tag};
 /// Whether a request may wait (`dontWait` of `LockAcquireExtended` in lock.c).
 #[derive(Clone, Copy, Debug, PartialEq, Eq)]
 pub enum Kind {
-    /// It is granted or refused.
+    /// The request is granted or refused at once.
     Conditional,
-    /// It is granted, joins the queue, or is refused since it would wait for ever.
+    /// The request is granted, joins the queue, or is refused since it would wait for ever.
     Waiting,
 }
 
 /// What became of a request that was not refused.
 #[derive(Clone, Copy, Debug, PartialEq, Eq)]
 pub enum Decision {
-    /// It is a hold.
+    /// The request was granted: it is a hold.
     Granted,
-    /// It is a wait in the object's queue.
+    /// The request waits in the object's queue.
     Queued,
 }
 
-/// Decides a request for a mode that the session neither holds nor awaits (`LockAcquireExtended` in
-/// lock.c, with `ProcSleep` in proc.c). Where nothing stands in its way it is granted. Else a
-/// conditional one is refused with what stands in its way, and one that may wait is answered by its
-/// place in the queue. After `NoMemory`, as after each refusal, the content is as before. Room for the request is
-/// made first, so that each other refusal comes only where there was memory.
+/// Decides the request of `session` for `tag` in `mode`, which it neither holds nor awaits (`LockAcquireExtended` in
+/// lock.c, with `ProcSleep` in proc.c). Where nothing is in its way it is granted. Otherwise a conditional one (`kind`)
+/// is refused with what is in its way, and one that may wait is answered by its place in the queue. After `NoMemory`,
+/// as after each refusal, the content of `part` is as before. Room for the request is made first, so that each other
+/// refusal comes only where there was memory.
 #[inline(always)]
 pub fn decide<P: PartTable>(
     part: &mut P,
@@ -56,7 +56,7 @@ pub fn decide<P: PartTable>(
     decide_begun(part, session, tag, mode, kind)
 }
 
-/// Decides a request that is begun, with the room that was made for it: no more memory is taken.
+/// Decides a request of `session` that is begun in `part`, with the room that was made for it: no memory is taken.
 #[inline(always)]
 fn decide_begun<P: PartTable>(
     part: &mut P,
@@ -98,9 +98,8 @@ fn decide_begun<P: PartTable>(
     }
 }
 
-/// Ends a begun request that something stands in the way of, by its place in the queue: it is granted,
-/// queued, or withdrawn, since it and the session that the error names would wait for one another. It
-/// takes no memory.
+/// Ends a begun request that something is in the way of, by its place in the queue: it is granted, queued, or
+/// withdrawn, since `session` and the one that the error names would wait for one another. No memory is taken.
 #[inline(never)]
 fn end_by_place<P: PartTable>(
     part: &mut P,

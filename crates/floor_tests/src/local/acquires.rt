@@ -7,7 +7,7 @@ use modes_core::{Mode, Owner, Refusal, Tag};
 use std::alloc::Global;
 use std::process::Abort;
 
-/// A table, at the second attempt where there was no memory.
+/// A table for `max_local` entries, at the second attempt where there was no memory.
 pub fn new_table(rt: &impl Abort, alloc: Global, max_local: u32) -> LocalTable
     requires from { 1 ≤ max_local }
     requires to { max_local ≤ 65536 }
@@ -28,7 +28,8 @@ fn acquire_once(
     Ok(table.add(tag, mode, owner))
 }
 
-/// Acquires by `reserve` and `add`. Where memory is refused, nothing changes and the next call goes on.
+/// Acquires `tag` in `mode` for `owner` by `reserve` and `add`. Where memory is refused, nothing changes and the
+/// next call goes on.
 pub fn acquire(
     rt: &impl Abort,
     table: &mut LocalTable,
@@ -60,7 +61,8 @@ fn acquire_once_in_one_look(
     Ok(Acquired::Granted)
 }
 
-/// Acquires with one look, by `add_held` or, where it isn't held, by `reserve_new` and `add_new`.
+/// Acquires `tag` in `mode` for `owner` with one look, by `add_held` or, where it isn't held, by `reserve_new` and
+/// `add_new`.
 pub fn acquire_in_one_look(
     table: &mut LocalTable,
     tag: Tag,

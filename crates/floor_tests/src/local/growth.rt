@@ -11,12 +11,12 @@ const ROUNDS: u32 = 100_000;
 /// How many entries more a table of this test may ever have room for.
 const FEW: u32 = 100;
 
-/// The relation that is taken in this round.
+/// The tag of the relation that is taken in `round`.
 fn relation(round: u32) -> Tag {
     Tag::relation(5, round)
 }
 
-/// Takes the relation of this round, for which the one of the round before is given back: its slot, which isn't the
+/// Takes the relation of `round`, for which the one of the round before is given back: its slot, which isn't the
 /// last one, is empty from then on.
 fn go_on(rt: &impl Abort, table: &mut LocalTable, round: u32) {
     let taken = acquire(rt, table, relation(round), AccessShare, Owner::Transaction);
@@ -26,8 +26,8 @@ fn go_on(rt: &impl Abort, table: &mut LocalTable, round: u32) {
     assert!(rt; given_back == Ok(Unlocked::Released), "{round}");
 }
 
-/// In each round but some in a hundred the table has room. Once it is full it uses slots again, so it soon is full
-/// again.
+/// Ends the test unless `table` has room in each round but some in a hundred. Once it is full it uses slots again,
+/// so it soon is full again.
 fn expect_few_slots(rt: &impl Abort, table: &mut LocalTable) {
     let mut with_room = 0u32;
     for round in 2..ROUNDS {

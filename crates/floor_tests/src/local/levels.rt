@@ -54,7 +54,7 @@ fn place_of(plain: &Plain, tag: Tag, mode: Mode) -> Option<usize> {
     None
 }
 
-/// An acquire in the list, and what it is answered.
+/// Acquires `tag` in `mode` for `owner` in the list `plain`, and answers what it is answered.
 fn raise(rt: &impl Abort, plain: &mut Plain, tag: Tag, mode: Mode, owner: Owner) -> Acquired {
     let found = place_of(plain, tag, mode);
     let place = match found {
@@ -85,7 +85,7 @@ fn raise(rt: &impl Abort, plain: &mut Plain, tag: Tag, mode: Mode, owner: Owner)
     }
 }
 
-/// A release in the list, and what it is answered.
+/// Releases `tag` in `mode` for `owner` in the list `plain`, and answers what it is answered.
 fn lower(
     rt: &impl Abort,
     plain: &mut Plain,
@@ -117,7 +117,7 @@ fn lower(
     Ok(Unlocked::StillHeld)
 }
 
-/// What an end leaves of an entry.
+/// What `end` leaves of the entry `held`, at `depth` inner levels.
 fn left_of(rt: &impl Abort, held: Held, depth: usize, end: End) -> Held {
     let mut left = held;
     assert!(rt; depth < 16);
@@ -136,7 +136,7 @@ fn left_of(rt: &impl Abort, held: Held, depth: usize, end: End) -> Held {
     left
 }
 
-/// An end of both, and whether the table gives what the list loses, in its order.
+/// Ends both by `end`, and answers whether `table` gives what `plain` loses, in its order.
 fn end_both(
     rt: &impl Abort,
     alloc: Global,
@@ -164,7 +164,7 @@ fn end_both(
     is_right
 }
 
-/// The next that the end takes away.
+/// The next entry that `end` takes away.
 pub fn next(rt: &impl Abort, table: &mut LocalTable, end: End) -> Option<(Tag, Mode)> {
     if end == End::Inner {
         assert!(rt; table.level() > 1);
@@ -172,7 +172,7 @@ pub fn next(rt: &impl Abort, table: &mut LocalTable, end: End) -> Option<(Tag, M
     table.end_next(end)
 }
 
-/// Hands the innermost level up in both, and whether they answer the same.
+/// Hands the innermost level up in `table` and `plain`, and answers whether they answer alike.
 fn hand_up_both(rt: &impl Abort, table: &mut LocalTable, plain: &mut Plain) -> bool {
     let inner = plain.depth;
     let Some(outer) = inner.checked_sub(1) else {
@@ -197,7 +197,7 @@ fn level_of(plain: &Plain) -> u8 {
     level
 }
 
-/// Begins a level in both, and whether they answer the same.
+/// Begins a level in `table` and `plain`, and answers whether they answer alike.
 fn begin_both(table: &mut LocalTable, plain: &mut Plain) -> bool {
     if plain.depth >= 15 {
         return table.begin_nested() == Err(Refusal::TooDeep);
@@ -206,7 +206,7 @@ fn begin_both(table: &mut LocalTable, plain: &mut Plain) -> bool {
     table.begin_nested() == Ok(level_of(plain))
 }
 
-/// Makes a call on both, by some bits of a random number, and whether the answers are the same.
+/// Makes a call on `table` and `plain`, by some bits of `random`, and answers whether the answers are alike.
 fn call_both(
     rt: &impl Abort,
     alloc: Global,
@@ -233,7 +233,7 @@ fn call_both(
     }
 }
 
-/// Whether the table has the entries of the list, in their order, with the counts of each level.
+/// Whether `table` has the entries of `plain`, in their order, with the counts of each level.
 fn is_same(rt: &impl Abort, table: &LocalTable, plain: &Plain) -> bool {
     let mut entries = table.entries();
     for place in 0..plain.list.len() {

@@ -8,7 +8,7 @@ use std::process::Abort;
 
 const MANY: u32 = 10_000;
 
-/// Whether the owner has a relation of these: each has an owner, and some have both.
+/// Whether `owner` is to have `relation`: each relation has an owner, and some have both.
 fn owns(owner: Owner, relation: u32) -> bool {
     match owner {
         Owner::Transaction => relation % 5 != 0 || relation % 7 == 0,
@@ -16,12 +16,12 @@ fn owns(owner: Owner, relation: u32) -> bool {
     }
 }
 
-/// The relation that is released at this step of half of them.
+/// The relation that is released at `step` of releasing half of them.
 fn released_at(step: u32) -> u32 {
     step.wrapping_mul(3) % MANY
 }
 
-/// Whether it is left after that.
+/// Whether `relation` is left after half of them were released.
 fn is_left(relation: u32) -> bool {
     for step in 0..MANY / 2 {
         if released_at(step) == relation {
@@ -31,13 +31,13 @@ fn is_left(relation: u32) -> bool {
     true
 }
 
-/// The owner acquires a relation, if it is one of its own.
+/// Acquires `relation` for `owner`, if it is one of its own.
 fn acquire_for(rt: &impl Abort, table: &mut LocalTable, owner: Owner, relation: u32) -> bool {
     let tag = Tag::relation(5, relation);
     !owns(owner, relation) || acquire(rt, table, tag, AccessShare, owner).is_ok()
 }
 
-/// All relations are acquired.
+/// Acquires all relations in `table`.
 fn acquire_all(rt: &impl Abort, table: &mut LocalTable) {
     for relation in 0..MANY {
         assert!(rt;
@@ -51,13 +51,13 @@ fn acquire_all(rt: &impl Abort, table: &mut LocalTable) {
     }
 }
 
-/// Whether the owner's release of a relation that is its own is answered so.
+/// Whether the release of `relation` for `owner`, if it is one of its own, is answered `answer`.
 fn release_for(table: &mut LocalTable, owner: Owner, relation: u32, answer: Unlocked) -> bool {
     let tag = Tag::relation(5, relation);
     !owns(owner, relation) || table.drop_one(tag, AccessShare, owner) == Ok(answer)
 }
 
-/// Half of them are released, first by the transaction.
+/// Releases half of the relations in `table`, first those of the transaction.
 fn release_half(rt: &impl Abort, table: &mut LocalTable) {
     for step in 0..MANY / 2 {
         let relation = released_at(step);
@@ -78,12 +78,12 @@ fn release_half(rt: &impl Abort, table: &mut LocalTable) {
     }
 }
 
-/// Whether a commit ends this one next.
+/// Whether a commit ends `relation` next.
 fn ends_next(table: &mut LocalTable, relation: u32) -> bool {
     table.end_next(End::Commit) == Some((Tag::relation(5, relation), AccessShare))
 }
 
-/// A commit ends those that are left and not the session's, in the order of making.
+/// Commits in `table`, which ends those that are left and not the session's, in the order of making.
 fn commit(rt: &impl Abort, table: &mut LocalTable) {
     for relation in 0..MANY {
         if !owns(Owner::Session, relation) && is_left(relation) {
@@ -93,7 +93,7 @@ fn commit(rt: &impl Abort, table: &mut LocalTable) {
     assert!(rt; table.end_next(End::Commit).is_none());
 }
 
-/// The entry of a relation that the session alone has.
+/// The entry of `relation`, which the session alone has.
 fn kept(relation: u32) -> Entry {
     Entry {
         tag: Tag::relation(5, relation),
@@ -103,7 +103,7 @@ fn kept(relation: u32) -> Entry {
     }
 }
 
-/// The next relation from this one on that the session has and that is left, or `MANY`.
+/// The next relation from `from` on that the session has and that is left, or `MANY`.
 fn next_left(from: u32) -> u32 {
     for relation in from..MANY {
         if owns(Owner::Session, relation) && is_left(relation) {
@@ -113,7 +113,7 @@ fn next_left(from: u32) -> u32 {
     MANY
 }
 
-/// Whether what the session has and is left is what there is, in the order of making.
+/// Whether `table` has just what the session has and is left, in the order of making.
 fn are_left(table: &LocalTable) -> bool {
     let mut next = next_left(0);
     for entry in table.entries() {

@@ -18,7 +18,8 @@ fn is_noted(index: &PlaceIndex, hash: u32, place: u16) -> bool {
         .is_some()
 }
 
-/// Notes a place, which is not noted yet. Where memory is refused, nothing changes and the next call goes on.
+/// Notes `place`, which is not noted yet, under `hash`. Where memory is refused, nothing changes and the next call
+/// goes on.
 fn note(rt: &impl Abort, index: &mut PlaceIndex, hash: u32, place: u16) {
     let place = u32::from(place);
     if index.reserve(place).is_err() {
@@ -33,7 +34,7 @@ fn note(rt: &impl Abort, index: &mut PlaceIndex, hash: u32, place: u16) {
     }
 }
 
-/// Forgets the place, if it is noted under the hash, and whether it was.
+/// Forgets `place`, if it is noted under `hash`, and answers whether it was.
 fn forget(index: &mut PlaceIndex, hash: u32, place: u16) -> bool {
     let found = index.find(hash, |other| other == u32::from(place));
     match found {
@@ -45,7 +46,7 @@ fn forget(index: &mut PlaceIndex, hash: u32, place: u16) -> bool {
     }
 }
 
-/// Forgets all places, and whether the room for them stays.
+/// Forgets all places of `index`, and answers whether the room for them stays.
 fn clear(index: &mut PlaceIndex) -> bool {
     let room = index.places();
     index.clear();
@@ -97,7 +98,7 @@ const NOTED_UNTIL_FORGOTTEN_OR_CLEARED: [Step; 25] = [
     Step::First(5, None),
 ];
 
-/// Does what the step says, or looks at it, and whether it is as it says.
+/// Does what `step` says, or looks at it, and answers whether it is as it says.
 fn make(rt: &impl Abort, index: &mut PlaceIndex, step: Step) -> bool {
     match step {
         Step::Note(hash, place) => {
@@ -113,7 +114,7 @@ fn make(rt: &impl Abort, index: &mut PlaceIndex, step: Step) -> bool {
     }
 }
 
-/// All steps, in order.
+/// Plays all `steps`, in order.
 fn play(rt: &impl Abort, index: &mut PlaceIndex, steps: &[Step]) {
     for place in 0..steps.len() {
         let is_right = make(rt, index, steps[place]);
@@ -136,14 +137,15 @@ fn hash_of(place: u16, hashes: u32) -> u32 {
 
 const MANY: u16 = 3_000;
 
-/// Notes many places, under so many hashes.
+/// Notes many places, under `hashes` hashes.
 fn note_many(rt: &impl Abort, index: &mut PlaceIndex, hashes: u32) {
     for place in 0..MANY {
         note(rt, index, hash_of(place, hashes), place);
     }
 }
 
-/// Forgets each second one, the even or the odd ones.
+/// Forgets each second place, noted under `hashes` hashes: the even ones where `odd` is 0, the odd ones where it is
+/// 1.
 fn forget_half(rt: &impl Abort, index: &mut PlaceIndex, hashes: u32, odd: u16) {
     for place in 0..MANY {
         if place % 2 == odd {
@@ -153,7 +155,7 @@ fn forget_half(rt: &impl Abort, index: &mut PlaceIndex, hashes: u32, odd: u16) {
     }
 }
 
-/// Looks for all, of which the odd ones are noted or none.
+/// Looks for all places under `hashes` hashes, of which the odd ones are noted where `odd`, otherwise none.
 fn find_all(rt: &impl Abort, index: &PlaceIndex, hashes: u32, odd: bool) {
     for place in 0..MANY {
         let is = is_noted(index, hash_of(place, hashes), place);
@@ -161,7 +163,7 @@ fn find_all(rt: &impl Abort, index: &PlaceIndex, hashes: u32, odd: bool) {
     }
 }
 
-/// Notes many places, and forgets the even ones and then the others.
+/// Notes many places under `hashes` hashes, and forgets the even ones and then the others.
 fn forget_by_halves(rt: &impl Abort, index: &mut PlaceIndex, hashes: u32) {
     note_many(rt, index, hashes);
     forget_half(rt, index, hashes, 0);
@@ -186,7 +188,7 @@ fn few_hashes(rt: HostRuntime) {
 /// The hash that each place is noted under, if it is.
 type Plain = [Option<u32>; 256];
 
-/// Notes all places of a plain list, which is returned.
+/// Notes all places of a plain list in `index`, and answers that list.
 fn note_all(rt: &impl Abort, index: &mut PlaceIndex) -> Plain {
     let mut list = [None; 256];
     for place in 0..256u16 {
@@ -197,7 +199,7 @@ fn note_all(rt: &impl Abort, index: &mut PlaceIndex) -> Plain {
     list
 }
 
-/// A hash of a random number or, half of the time, the one that the place has.
+/// A hash by `random` or, half of the time, `its`, the one that the place has.
 fn hash_by(random: u32, its: Option<u32>) -> u32 {
     let other = (random >> 24) % 40;
     if random >> 20 & 1 == 0 {
@@ -206,7 +208,7 @@ fn hash_by(random: u32, its: Option<u32>) -> u32 {
     its.unwrap_or(other)
 }
 
-/// Makes a call on both, by some bits of a random number, and whether the answers are the same.
+/// Makes a call on `index` and `list`, by some bits of `random`, and answers whether the answers are alike.
 fn call_both(rt: &impl Abort, index: &mut PlaceIndex, list: &mut Plain, random: u32) -> bool {
     let place = random >> 12 & 0xFF;
     let its = list[place as usize];

@@ -26,7 +26,7 @@ fn place_of(list: &Plain, tag: Tag, mode: Mode) -> Option<usize> {
     None
 }
 
-/// The entry with one more count of this owner.
+/// The entry with one more count of `owner`.
 fn raised(entry: Entry, owner: Owner) -> Entry {
     let Entry {
         tag,
@@ -46,7 +46,7 @@ fn raised(entry: Entry, owner: Owner) -> Entry {
     }
 }
 
-/// The entry with one count of this owner less, if it has one.
+/// The entry with one count of `owner` less, if it has one.
 fn lowered(entry: Entry, owner: Owner) -> Option<Entry> {
     let Entry {
         tag,
@@ -66,7 +66,7 @@ fn lowered(entry: Entry, owner: Owner) -> Option<Entry> {
     })
 }
 
-/// An acquire in the list, and what it is answered.
+/// Acquires `tag` in `mode` for `owner` in `list`, and answers what it is answered.
 fn raise(rt: &impl Abort, list: &mut Plain, tag: Tag, mode: Mode, owner: Owner) -> Acquired {
     let Some(place) = place_of(list, tag, mode) else {
         let none = Entry {
@@ -83,7 +83,7 @@ fn raise(rt: &impl Abort, list: &mut Plain, tag: Tag, mode: Mode, owner: Owner) 
     Acquired::AlreadyHeld
 }
 
-/// A release in the list, and what it is answered.
+/// Releases `tag` in `mode` for `owner` in `list`, and answers what it is answered.
 fn lower(
     rt: &impl Abort,
     list: &mut Plain,
@@ -106,7 +106,7 @@ fn lower(
     Ok(Unlocked::StillHeld)
 }
 
-/// Whether the table has the entries of the list, in their order.
+/// Whether `table` has the entries of `list`, in their order.
 fn is_same(table: &LocalTable, list: &Plain) -> bool {
     let mut entries = table.entries();
     for place in 0..list.len() {
@@ -117,7 +117,7 @@ fn is_same(table: &LocalTable, list: &Plain) -> bool {
     entries.next().is_none()
 }
 
-/// One of 32 tags, by some bits of a random number.
+/// One of 32 tags, by some bits of `random`.
 pub(super) fn random_tag(random: u32) -> Tag {
     let number = random >> 20 & 15;
     if random >> 19 & 1 == 0 {
@@ -146,7 +146,8 @@ pub(super) fn random_owner(random: u32) -> Owner {
     }
 }
 
-/// Counts it once more in both where it is held, and whether both say that it is or isn't.
+/// Counts `tag` in `mode` once more in both where it is held, and answers whether both say alike that it is or
+/// isn't.
 fn add_held(
     rt: &impl Abort,
     table: &mut LocalTable,
@@ -162,7 +163,7 @@ fn add_held(
     table.add_held(&tag, mode, owner) == Ok(held)
 }
 
-/// Makes a call on both, by some bits of a random number, and whether the answers are the same.
+/// Makes a call on `table` and `list`, by some bits of `random`, and answers whether the answers are alike.
 fn call_both(rt: &impl Abort, table: &mut LocalTable, list: &mut Plain, random: u32) -> bool {
     let (tag, mode, owner) = (
         random_tag(random),
@@ -183,7 +184,7 @@ fn call_both(rt: &impl Abort, table: &mut LocalTable, list: &mut Plain, random: 
     }
 }
 
-/// What an abort leaves of an entry, if anything.
+/// What an abort leaves of `entry`, if anything.
 fn aborted(entry: Entry) -> Option<Entry> {
     match entry.tag.method() {
         LockMethod::User if entry.session > 0 => Some(Entry {
@@ -194,7 +195,7 @@ fn aborted(entry: Entry) -> Option<Entry> {
     }
 }
 
-/// An abort, by which most that is held goes.
+/// Aborts in `table` and `list`, by which most that is held goes.
 fn end(rt: &impl Abort, alloc: Global, table: &mut LocalTable, list: &mut Plain) {
     for _ in 0..200u32 {
         let _ = table.end_next(End::Abort);

@@ -240,7 +240,7 @@ const THE_LIMITS_ARE_KEPT: [Turn; 15] = [
     ),
 ];
 
-/// A new table answers the calls of the list as it says.
+/// Ends the test unless a new table of `max_local` entries answers the calls of `turns` as these say.
 fn run(rt: &impl Abort, alloc: Global, max_local: u32, turns: &[Turn])
     requires from { 1 ≤ max_local }
     requires to { max_local ≤ 65536 }

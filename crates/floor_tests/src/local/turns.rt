@@ -44,7 +44,7 @@ pub enum Answer {
 /// A call that is made so often, and what it is answered each time.
 pub type Turn = (u32, Call, Answer);
 
-/// What an acquire is answered.
+/// What is told of `answer`, to an acquire.
 fn acquired(answer: Result<Acquired, Refusal>) -> Answer {
     match answer {
         Ok(Acquired::Granted) => Answer::Granted,
@@ -53,7 +53,7 @@ fn acquired(answer: Result<Acquired, Refusal>) -> Answer {
     }
 }
 
-/// What a try at a held one is answered.
+/// What is told of `answer`, to a try at a held one.
 fn counted(answer: Result<bool, Refusal>) -> Answer {
     match answer {
         Ok(true) => Answer::AlreadyHeld,
@@ -62,7 +62,7 @@ fn counted(answer: Result<bool, Refusal>) -> Answer {
     }
 }
 
-/// What is known at once.
+/// What is told of `answer`, of what is known at once.
 fn known(answer: AtOnce) -> Answer {
     match answer {
         AtOnce::AlreadyHeld => Answer::AlreadyHeld,
@@ -71,7 +71,7 @@ fn known(answer: AtOnce) -> Answer {
     }
 }
 
-/// What a release is answered.
+/// What is told of `answer`, to a release.
 fn released(answer: Result<Unlocked, Refusal>) -> Answer {
     match answer {
         Ok(Unlocked::Released) => Answer::Released,
@@ -80,7 +80,7 @@ fn released(answer: Result<Unlocked, Refusal>) -> Answer {
     }
 }
 
-/// What a release is answered as far as one slot goes.
+/// What is told of `answer`, to a release as far as one slot goes.
 fn released_at_once(answer: Option<Unlocked>) -> Answer {
     match answer {
         Some(answer) => released(Ok(answer)),
@@ -88,7 +88,7 @@ fn released_at_once(answer: Option<Unlocked>) -> Answer {
     }
 }
 
-/// What the next step of an end is answered.
+/// What is told of `answer`, to the next step of an end.
 fn ended(answer: Option<(Tag, Mode)>) -> Answer {
     match answer {
         Some((tag, mode)) => Answer::Ends(tag, mode),
@@ -96,7 +96,7 @@ fn ended(answer: Option<(Tag, Mode)>) -> Answer {
     }
 }
 
-/// How many entries there are.
+/// How many entries `table` has.
 fn count(table: &LocalTable) -> u32 {
     let mut number = 0u32;
     for _ in table.entries() {
@@ -105,7 +105,7 @@ fn count(table: &LocalTable) -> u32 {
     number
 }
 
-/// Makes a call.
+/// Makes `call` on `table`, and answers what is told of it.
 fn make(rt: &impl Abort, table: &mut LocalTable, call: Call) -> Answer {
     match call {
         Call::Acquire(tag, mode, owner) => acquired(acquire(rt, table, tag, mode, owner)),
@@ -125,7 +125,7 @@ fn make(rt: &impl Abort, table: &mut LocalTable, call: Call) -> Answer {
     }
 }
 
-/// Makes a call so often, and whether it is answered so each time.
+/// Makes the call of `turn` as often as it says, and answers whether it is answered so each time.
 fn take(rt: &impl Abort, table: &mut LocalTable, turn: Turn) -> bool {
     let (times, call, answer) = turn;
     for _ in 0..times {
@@ -136,7 +136,7 @@ fn take(rt: &impl Abort, table: &mut LocalTable, turn: Turn) -> bool {
     true
 }
 
-/// All turns, in order.
+/// Plays all `turns`, in order.
 pub fn play(rt: &impl Abort, table: &mut LocalTable, turns: &[Turn]) {
     for place in 0..turns.len() {
         let is_right = take(rt, table, turns[place]);

@@ -17,7 +17,7 @@ pub fn session(rt: &impl Abort, number: u8) -> SessionId {
     SessionId::new(number).expect(rt, "a session number")
 }
 
-/// Whether the session may ask for the mode: it neither holds it nor waits. A wait of it ends.
+/// Whether `session` may ask for `tag` in `mode`: it neither holds it nor waits. A wait of it ends.
 fn may_ask<P: PartTable>(part: &mut P, session: SessionId, tag: &Tag, mode: Mode) -> bool
     ensures new { result ≡ true → (P.content part.new).holds session tag.now mode ≡ false }
     ensures no_wait { waits_there ((P.content part.new).waits tag.now) session ≡ false }
@@ -28,7 +28,7 @@ fn may_ask<P: PartTable>(part: &mut P, session: SessionId, tag: &Tag, mode: Mode
     !part.held(session, tag).has(mode)
 }
 
-/// The session comes to hold the object, unless it holds it in this mode already. Nothing is looked at.
+/// Has `session` hold `tag` in `mode`, unless it does already. Nothing is looked at.
 pub fn hold<P: PartTable>(
     part: &mut P,
     session: SessionId,
@@ -46,7 +46,7 @@ pub fn hold<P: PartTable>(
     Ok(true)
 }
 
-/// The same where no other session is in the way; else the request is given up.
+/// Has `session` hold `tag` in `mode` where no other session is in the way; otherwise the request is given up.
 pub fn hold_beside<P: PartTable>(
     part: &mut P,
     session: SessionId,
@@ -68,7 +68,7 @@ pub fn hold_beside<P: PartTable>(
     Ok(true)
 }
 
-/// The session comes to wait on the object, at this place of its queue, or first where there is no wait before that
+/// Has `session` wait for `tag` in `mode`, at `place` of its queue, or first where there is no wait before that
 /// place.
 pub fn wait<P: PartTable>(
     part: &mut P,
@@ -92,7 +92,7 @@ pub fn wait<P: PartTable>(
     Ok(true)
 }
 
-/// A hold of the session is taken out, if it is there.
+/// Takes the hold of `session` on `tag` in `mode` out, if it is there.
 pub fn release<P: PartTable>(part: &mut P, session: SessionId, tag: &Tag, mode: Mode) -> bool
     ensures begun { P.begun part.new ≡ P.begun part.old }
 {
@@ -103,7 +103,7 @@ pub fn release<P: PartTable>(part: &mut P, session: SessionId, tag: &Tag, mode: 
     true
 }
 
-/// Whether two wakeups granted the same.
+/// Whether two wakeups, `woken` and `others`, granted alike.
 pub fn are_same(woken: &Woken, others: &Woken) -> bool {
     if woken.len() != others.len() {
         return false;

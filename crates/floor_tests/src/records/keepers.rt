@@ -13,7 +13,7 @@ use std::test::Fail;
 /// How many calls there are.
 const CALLS: u32 = 100_000;
 
-/// The next of a row of numbers that look random (xorshift).
+/// The number after `seed` in a row of numbers that look random (xorshift).
 fn next(seed: u32) -> u32 {
     let mut x = seed;
     x ^= x << 13;
@@ -22,7 +22,7 @@ fn next(seed: u32) -> u32 {
     x
 }
 
-/// One of twelve objects.
+/// The tag numbered `number` of twelve.
 fn object(number: u32) -> Tag {
     if number % 3 == 0 {
         Tag::relation(5, 16384 + number % 4)
@@ -31,17 +31,17 @@ fn object(number: u32) -> Tag {
     }
 }
 
-/// A mode, from a number.
+/// A mode, from `number`.
 fn mode_of(rt: &impl Abort, number: u32) -> Mode {
     Mode::from_number((number % 8) as u8 + 1).expect(rt, "a mode")
 }
 
-/// A session, from a number.
+/// A session, from `number`.
 fn session_of(rt: &impl Abort, number: u32) -> SessionId {
     SessionId::new((number % 16) as u8).expect(rt, "a session")
 }
 
-/// Makes a call of both keepers, whose answers are the same.
+/// Makes a call of both keepers, `plain` and `records`, by `seed`, whose answers are alike.
 fn call_both(
     rt: &impl Abort,
     plain: &mut PlainPart,
@@ -106,7 +106,7 @@ fn call_both(
     Ok(())
 }
 
-/// Both list the same.
+/// Sees that `plain` and `records` list alike.
 fn list_both(
     rt: &impl Abort,
     alloc: Global,
@@ -122,7 +122,7 @@ fn list_both(
     Ok(())
 }
 
-/// Makes the calls, and lists both after each hundredth.
+/// Makes the calls on `plain` and `records`, and lists both after each hundredth.
 fn call_in_turn(
     rt: &impl Abort,
     alloc: Global,

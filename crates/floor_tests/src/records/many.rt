@@ -13,12 +13,12 @@ use std::test::Fail;
 /// How many objects there are.
 const OBJECTS: u32 = 10_000;
 
-/// One of them. Numbers that lie sixteen apart give objects of one partition.
+/// The tag of the object numbered `number`. Numbers that lie sixteen apart give objects of one partition.
 fn object(number: u32) -> Tag {
     Tag::object(5, 1259, number.wrapping_mul(16), 0)
 }
 
-/// The first session comes to hold each.
+/// Has the first session hold each object in `part`.
 fn hold_all(rt: &impl Abort, part: &mut RecordPart) -> Result<(), NoMemory>
     requires none_begun { part.old.begun ≡ None }
     ensures none_begun { part.new.begun ≡ None }
@@ -30,7 +30,7 @@ fn hold_all(rt: &impl Abort, part: &mut RecordPart) -> Result<(), NoMemory>
     Ok(())
 }
 
-/// Each is counted by itself, and its holder stands in the way of another session.
+/// Sees that each object of `part` is counted by itself, and that its holder is in the way of another session.
 fn look_at_all(rt: &impl Abort, part: &RecordPart) {
     for number in 0..OBJECTS {
         let tag = object(number);

@@ -10,12 +10,12 @@ use modes_core::Mode::{AccessExclusive, AccessShare};
 use std::process::Abort;
 use std::test::Fail;
 
-/// What is counted of the object.
+/// What `part` counts of the object.
 fn counted(rt: &impl Abort, part: &RecordPart) -> Counts {
     part.counts(&OBJECT).expect(rt, "a lock record")
 }
 
-/// At the number of the mode.
+/// The one of `numbers` at the number of `mode`.
 fn at(numbers: [u16; 9], mode: Mode) -> u16 {
     numbers[usize::from(mode.number())]
 }
@@ -48,7 +48,7 @@ fn two_hold_and_one_waits(rt: HostRuntime) -> Result<(), Fail> {
     Ok(())
 }
 
-/// All sessions come to hold the object, and all but the first one to wait for it.
+/// Has all sessions hold the object in `part`, and all but the first one wait for it.
 fn crowd(rt: &impl Abort, part: &mut RecordPart) -> Result<(), NoMemory>
     requires none_begun { part.old.begun ≡ None }
     ensures none_begun { part.new.begun ≡ None }

@@ -12,7 +12,7 @@ fn caller(rt: &impl Abort) -> Caller {
     Caller { name, place: 1 }
 }
 
-/// What `b` has on an object in RowShareLock.
+/// What `b` has on `tag` in RowShareLock.
 fn target(rt: &impl Abort, tag: Tag) -> Target {
     let caller = caller(rt);
     let mode = Mode::RowShare;
@@ -98,14 +98,14 @@ fn other_commands(rt: &impl Abort) -> [(&'static str, Command); 10] {
     ]
 }
 
-/// Looks at the answer to each line.
+/// Ends the test where a line of `rows` isn't answered as the row says.
 fn expect_commands(rt: &impl Abort, sessions: &OpenSessions<u32, u32>, rows: &[(&str, Command)]) {
     for (line, command) in rows {
         assert!(rt; parse(line, sessions) == Ok(Some(*command)), "{line}");
     }
 }
 
-/// Looks at lines that ask for nothing.
+/// Ends the test where a line that asks for nothing is answered.
 fn expect_silence(rt: &impl Abort, sessions: &OpenSessions<u32, u32>) {
     for line in ["", " \t", "#", "#session a 5"] {
         assert!(rt; parse(line, sessions) == Ok(None), "{line}");
@@ -141,7 +141,7 @@ const DEFECTS: [(&str, Defect); 13] = [
     ("lock b 5/7 ShareLock owner", Defect::BadOwner),
 ];
 
-/// Looks at the defect that is told of each line.
+/// Ends the test where the defect of a line of `rows` isn't the one that the row says.
 fn expect_defects(rt: &impl Abort, sessions: &OpenSessions<u32, u32>, rows: &[(&str, Defect)]) {
     for (line, defect) in rows {
         assert!(rt; parse(line, sessions) == Err(*defect), "{line}");

@@ -29,7 +29,7 @@ const FAULTS: [(Fault, &str); 4] = [
     (Fault::GateHeld, "gate held"),
 ];
 
-/// Whether the fault prints so, and the status for it.
+/// Whether `fault` prints as `text`, and the status for it.
 fn printed(alloc: Global, fault: Fault, text: &str) -> Result<(bool, u8), AllocError> {
     let printed = fault.to_string(alloc)?;
     Ok((printed.as_str() == text, fault.status()))

@@ -55,7 +55,7 @@ const LINES: [Lines; 6] = [
     ("one\ntw", true, &["one"], Some(Fault::ReadFailed)),
 ];
 
-/// Whether the next line is this one.
+/// Whether the next line of `reader` is `expected`.
 fn is_next<R: Read>(reader: &mut LineReader<R>, expected: &str) -> bool {
     match reader.next_line() {
         Ok(Some(line)) => line.as_str() == expected,
@@ -63,7 +63,7 @@ fn is_next<R: Read>(reader: &mut LineReader<R>, expected: &str) -> bool {
     }
 }
 
-/// Whether no line is left, and for this fault if there is one.
+/// Whether `reader` has no line left, and ends with `fault` if there is one.
 fn is_over<R: Read>(reader: &mut LineReader<R>, fault: Option<Fault>) -> bool {
     match reader.next_line() {
         Ok(None) => fault.is_none(),
@@ -72,7 +72,7 @@ fn is_over<R: Read>(reader: &mut LineReader<R>, fault: Option<Fault>) -> bool {
     }
 }
 
-/// Whether the lines of a reader are these, and so is the fault behind them.
+/// Whether the lines of `reader` are `lines`, and `fault` comes behind them.
 fn are_read<R: Read>(reader: &mut LineReader<R>, lines: &[&str], fault: Option<Fault>) -> bool {
     for line in lines {
         if !is_next(reader, line) {
@@ -82,7 +82,7 @@ fn are_read<R: Read>(reader: &mut LineReader<R>, lines: &[&str], fault: Option<F
     is_over(reader, fault)
 }
 
-/// The same of a text, by a reader that gives so many bytes at a time.
+/// Whether the text of `row` is read as it says, by a reader that gives up to `most` bytes at a time.
 fn is_read(row: Lines, most: usize) -> bool {
     let (text, fails, lines, fault) = row;
     let mut reader = LineReader::new(Text {

@@ -23,7 +23,7 @@ pub fn three(rt: &impl Abort, alloc: Global) -> Result<OpenSessions<u32, u32>, A
     Ok(sessions)
 }
 
-/// The one that waits goes over to those that rest, and whether there was one.
+/// Has the one of `sessions` that waits go over to those that don't, and answers whether there was one.
 fn goes_on(sessions: &mut OpenSessions<u32, u32>) -> bool
     requires { length sessions.old.resting ≡ 2 }
 {
@@ -34,7 +34,7 @@ fn goes_on(sessions: &mut OpenSessions<u32, u32>) -> bool
     true
 }
 
-/// Whether the session has this name and number.
+/// Whether `session` has the name `name` and the number `number`.
 fn is_one(session: Option<Named<u32>>, name: Name, number: u32) -> bool {
     match session {
         Some(one) => one.name == name && one.session == number,

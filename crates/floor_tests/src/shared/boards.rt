@@ -19,7 +19,7 @@ use std::time::Clock;
 
 const ROUNDS: u32 = 10_000;
 
-/// Takes the partition in hand, and puts it home as it was.
+/// Takes partition `part` in hand, and puts it home as it was.
 pub fn keep_once<T: PartTable, B: Board<T>, R: Wait>(rt: &R, board: &mut B, part: u8)
     requires exists { part < 16 }
     requires idle { MayCloseBy (B.view board.old) }

@@ -47,7 +47,7 @@ const SHORTER: u64 = 96;
 
 const CHANCE: u64 = 128;
 
-const LONGEST: u64 = 16_384;
+const LONGEST: u64 = 65_536;
 
 /// For which lightweight lock they race, and how the one that comes late wants it.
 #[derive(Clone, Copy)]
@@ -59,7 +59,7 @@ enum Lock {
 
 static LOCKS: [Lock; 3] = [Lock::Partition, Lock::Slots, Lock::SharedSlots];
 
-/// Whether a word comes to show this round soon.
+/// Whether `word` comes to show `round` soon.
 fn comes_soon(word: &AtomicU64, round: u64) -> bool {
     for _ in 0..SOON {
         if word.load(Ordering::SeqCst) >= round {
@@ -69,7 +69,7 @@ fn comes_soon(word: &AtomicU64, round: u64) -> bool {
     false
 }
 
-/// Whether it comes to show this round within a time that is long beside all that a round takes.
+/// Whether `word` comes to show `round` within a time that is long beside all that a round takes.
 fn comes<R: Clock>(rt: &R, word: &AtomicU64, round: u64) -> bool {
     if comes_soon(word, round) {
         return true;
@@ -89,12 +89,12 @@ fn comes<R: Clock>(rt: &R, word: &AtomicU64, round: u64) -> bool {
     false
 }
 
-/// The number of a round, from 1 on.
+/// The number of the round at `place`, from 1 on, of the rounds that `beginning` counts before it.
 fn round_of(beginning: u64, place: u64) -> u64 {
     beginning.wrapping_mul(ROUNDS).wrapping_add(place)
 }
 
-/// A number that looks random, another one for each seed (splitmix).
+/// A number that looks random, another one for each `seed` (splitmix).
 fn mixed(seed: u64) -> u64 {
     let mixed = seed.wrapping_add(1).wrapping_mul(0x9E37_79B9_7F4A_7C15);
     let mixed = (mixed ^ mixed >> 30).wrapping_mul(0xBF58_476D_1CE4_E5B9);
@@ -124,7 +124,8 @@ impl Rounds {
         }
     }
 
-    /// The lock is in hand, and stays there for some looks once the other session comes. Whether that came soon.
+    /// Has the lock in hand for some looks once the other session comes in `round`, and answers whether that came
+    /// soon.
     fn hold<R: Abort + Clock>(&self, rt: &R, round: u64) -> bool {
         self.held.store(round, Ordering::SeqCst);
         let is_soon = comes_soon(&self.came, round);
@@ -141,8 +142,8 @@ impl Rounds {
         is_soon
     }
 
-    /// The lock was put, and the other session has had it too. Where that came soon, how soon it had the lock says
-    /// how long the lock stays in hand in the next round.
+    /// Ends the test unless the lock was put, and the other session has had it too, in `round`. Where that
+    /// `came_soon`, how soon it had the lock says how long the lock stays in hand in the next round.
     fn expect_over<R: Abort + Clock>(&self, rt: &R, round: u64, came_soon: bool) {
         let is_soon = comes_soon(&self.over, round);
         assert!(rt;
@@ -158,7 +159,7 @@ impl Rounds {
         }
     }
 
-    /// Comes for the lock once it is in hand.
+    /// Comes for the lock once it is in hand in `round`.
     fn come<R: Abort + Clock>(&self, rt: &R, round: u64) {
         assert!(rt;
             comes(rt, &self.held, round),
@@ -167,7 +168,7 @@ impl Rounds {
         self.came.store(round, Ordering::SeqCst);
     }
 
-    /// Has had it.
+    /// Notes that the one that came has had the lock in `round`.
     fn end(&self, round: u64) {
         self.over.store(round, Ordering::SeqCst);
     }
@@ -385,7 +386,7 @@ fn race_for<B: Board<PlainPart> + Send, R: Abort + Clock + Threads + Wait + Sync
     }
 }
 
-/// They race for each lock.
+/// Has `first` and `second` race for each lock, that of the slots of `owner` among them.
 pub fn race<B: Board<PlainPart> + Send, R: Abort + Clock + Threads + Wait + Sync>(
     rt: &R,
     first: &mut B,

@@ -4,3 +4,4 @@ pub mod InPart
 pub mod BySlot
 pub mod Refused
 pub mod Room
+pub mod Answered

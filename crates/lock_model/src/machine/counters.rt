@@ -16,21 +16,22 @@ const MOST_COUNTED: usize = 65_536;
 const ALL_PASSED: u8 = 64;
 
 impl CountedBy {
-    /// Whether it is this session's lock of this mode on this object.
+    /// Whether this is the strong lock that `session` has counted, of `mode` on `tag`.
     fn is_by(&self, session: SessionId, tag: Tag, mode: Mode) -> bool
         ensures { result ≡ is_by session tag mode self.now }
     {
         self.session == session && self.tag.is_same(tag) && self.mode.is_same(mode)
     }
 
-    /// Whether it is that, and past just the sessions below the position.
+    /// Whether this is the strong lock that `session` has counted, of `mode` on `tag`, and past just the sessions
+    /// below `position`.
     fn is_by_at(&self, session: SessionId, position: u8, tag: Tag, mode: Mode) -> bool
         ensures { result ≡ is_by_at session position tag mode self.now }
     {
         self.is_by(session, tag, mode) && self.position == position
     }
 
-    /// One past the owner, if it is the session's lock and the owner is next.
+    /// The counted lock one past `owner`, if it is that of `session` for `mode` on `tag` and the owner is next.
     fn passed(self, session: SessionId, owner: SessionId, tag: Tag, mode: Mode) -> Self
         ensures { result ≡ passed_by session owner tag mode self }
     {
@@ -47,7 +48,7 @@ impl CountedBy {
     }
 }
 
-/// Takes what the session has counted of the mode on the object one past the owner, where the owner is next.
+/// Takes what `session` has counted of `mode` on `tag` one past `owner`, where the owner is next.
 fn pass(counted: &mut [CountedBy], session: SessionId, owner: SessionId, tag: Tag, mode: Mode)
     ensures { counted.new ≡ map (passed_by session owner tag mode) counted.old }
 {
@@ -56,7 +57,7 @@ fn pass(counted: &mut [CountedBy], session: SessionId, owner: SessionId, tag: Ta
     }
 }
 
-/// Takes out what the session has counted of the mode on the object.
+/// Takes out what `session` has counted of `mode` on `tag`.
 fn uncounted(counted: &mut Vec<CountedBy>, session: SessionId, tag: Tag, mode: Mode)
     ensures { counted.new.items ≡ filter (λ c. not (is_by session tag mode c)) counted.old.items }
 {
@@ -76,8 +77,9 @@ impl Machine {
     ghost use Rattle.lock_model.specs.Shows.{Shows, ShowsSafe, Follows};
     ghost use Rattle.lock_model.specs.CountedLists.{counter, counted_for, holds_fast, may_count, has_or_awaits, may_uncount, slots_show, may_pass, may_load_counter, reads_zero};
 
-    /// Counts a strong lock, which is not counted yet, past nobody (`BeginStrongLockAcquire` in lock.c). After
-    /// `NoMemory`, which comes only where the list was full, the machine shows what it showed.
+    /// Counts for `session` a strong lock of `mode` on `tag` that is not counted yet, past nobody
+    /// (`BeginStrongLockAcquire` in lock.c). After `NoMemory`, which comes only where the list was full, the machine
+    /// shows what it showed.
     pub fn count(&mut self, session: SessionId, tag: Tag, mode: Mode) -> Result<(), NoMemory>
         requires shown { ShowsSafe self.old }
         ensures followed { OnOk result (Follows self.old session (Step.Count tag mode) self.new) }
@@ -95,7 +97,8 @@ impl Machine {
         Ok(())
     }
 
-    /// Counts a strong lock no more that the session neither has nor awaits (`AbortStrongLockAcquire` in lock.c).
+    /// Takes the count of `mode` on `tag` back, which `session` neither has nor awaits (`AbortStrongLockAcquire` in
+    /// lock.c).
     pub fn uncount(&mut self, session: SessionId, tag: Tag, mode: Mode)
         requires shown { ShowsSafe self.old }
         ensures { Follows self.old session (Step.Uncount tag mode) self.new }
@@ -105,8 +108,8 @@ impl Machine {
         }
     }
 
-    /// Puts the lock of the owner's slots and goes past the owner, which is next and has no slot on the object (a
-    /// turn of the loop of `FastPathTransferRelationLocks` in lock.c).
+    /// Puts the lock of the slots of `owner` and goes past the owner, which is next and has no slot on `tag` (a turn
+    /// of the loop of `FastPathTransferRelationLocks` in lock.c).
     pub fn put_passing(&mut self, session: SessionId, owner: SessionId, tag: Tag, mode: Mode)
         requires shown { ShowsSafe self.old }
         ensures { Follows self.old session (Step.PutPassing owner tag mode) self.new }
@@ -117,8 +120,8 @@ impl Machine {
         }
     }
 
-    /// Loads a strong lock counter, which must show this. Where it is 0 and the session holds the lock of its own
-    /// slots, it may set slots for objects of this index (`LockAcquireExtended` in lock.c).
+    /// Loads the strong lock counter at `index`, which must show `shown`. Where it is 0 and `session` holds the lock
+    /// of its own slots, it may set slots for objects of this index (`LockAcquireExtended` in lock.c).
     pub fn load_strong(&mut self, session: SessionId, index: u16, shown: u64)
         ensures { Follows self.old session (Step.LoadStrong index shown) self.new }
     {
@@ -127,22 +130,22 @@ impl Machine {
         }
     }
 
-    /// Whether the session may be granted the mode on the object, or await it: a strong one must be counted, and
-    /// past each session.
+    /// Whether `session` may be granted `mode` on `tag`, or await it: a strong one must be counted, and past each
+    /// session.
     pub fn is_counted_for(&self, session: SessionId, tag: Tag, mode: Mode) -> bool
         ensures { result ≡ counted_for self.now session tag mode }
     {
         !is_strong(tag, mode) || self.is_counted_at(session, ALL_PASSED, tag, mode)
     }
 
-    /// Whether the session has counted nothing.
+    /// Whether `session` has counted nothing.
     pub fn counts_nothing(&self, session: SessionId) -> bool
         ensures { result ≡ (count_by (λ c. c.session == session) self.now.counted.items == 0) }
     {
         self.how_many_counted(session) == 0
     }
 
-    /// Whether the session may count the mode on the object.
+    /// Whether `session` may count `mode` on `tag`.
     fn may_count(&self, session: SessionId, tag: Tag, mode: Mode) -> bool
         ensures { result ≡ may_count self.now session tag mode }
     {
@@ -152,7 +155,7 @@ impl Machine {
             && self.how_many_counted(session) < MOST_COUNTED
     }
 
-    /// Whether the session may count it no more.
+    /// Whether `session` may count `mode` on `tag` no more.
     fn may_uncount(&self, session: SessionId, tag: Tag, mode: Mode) -> bool
         requires shown { ShowsSafe self.now }
         ensures { result ≡ may_uncount self.now session tag mode }
@@ -162,7 +165,7 @@ impl Machine {
             && !self.has_or_awaits(session, tag, mode)
     }
 
-    /// Whether the session may go past the owner.
+    /// Whether `session` may go past `owner` with its counted lock of `mode` on `tag`.
     fn may_pass(&self, session: SessionId, owner: SessionId, tag: Tag, mode: Mode) -> bool
         requires shown { ShowsSafe self.now }
         ensures { result ≡ may_pass self.now session owner tag mode }
@@ -173,14 +176,14 @@ impl Machine {
             && !self.slots_show(owner, tag)
     }
 
-    /// Whether the session may load the counter, and it shows this.
+    /// Whether `session` may load the counter at `index`, and it shows `shown`.
     fn may_load_counter(&self, session: SessionId, index: u16, shown: u64) -> bool
         ensures { result ≡ may_load_counter self.now session index shown }
     {
         self.makes_steps(session) && index < 1024 && shown == self.counter(index)
     }
 
-    /// Whether the session reads it as 0, and may set slots then.
+    /// Whether `session` reads the counter at `index`, which shows `shown`, as 0, and may set slots then.
     fn reads_zero(&self, session: SessionId, index: u16, shown: u64) -> bool
         ensures { result ≡ reads_zero self.now session index shown }
     {
@@ -189,7 +192,7 @@ impl Machine {
             && self.holds_fast(session, session)
     }
 
-    /// What a strong lock counter shows: how much is counted at its index.
+    /// What the strong lock counter at `index` shows: how much is counted at its index.
     fn counter(&self, index: u16) -> u64
         ensures { result ≡ counter self.now index }
     {
@@ -199,14 +202,14 @@ impl Machine {
             .count() as u64
     }
 
-    /// Whether the session holds the lock of the owner's slots exclusively.
+    /// Whether `session` holds the lock of the slots of `owner` exclusively.
     pub fn holds_fast(&self, session: SessionId, owner: SessionId) -> bool
         ensures { result ≡ holds_fast self.now session owner }
     {
         self.locks.fast_holders[usize::from(owner.number())][usize::from(session.number())]
     }
 
-    /// Puts the lock of the owner's slots back, which the session holds exclusively: a counter that it read as 0
+    /// Puts the lock of the slots of `owner` back, which `session` holds exclusively: a counter that it read as 0
     /// permits no more slot to be set once its own lock is put.
     fn free_fast(&mut self, session: SessionId, owner: SessionId)
         ensures { self.new ≡ record self.old {
@@ -233,7 +236,7 @@ impl Machine {
         }
     }
 
-    /// Whether the session has the mode on the object, in a content or in a slot, or awaits it.
+    /// Whether `session` has `mode` on `tag`, in a content or in a slot, or awaits it.
     fn has_or_awaits(&self, session: SessionId, tag: Tag, mode: Mode) -> bool
         requires shown { ShowsSafe self.now }
         ensures { result ≡ has_or_awaits self.now session tag mode }
@@ -243,7 +246,7 @@ impl Machine {
             || self.slots_hold(session, tag, mode)
     }
 
-    /// Whether the object's content has the session's hold.
+    /// Whether the content of `tag` has the hold of `session`.
     fn in_content(&self, session: SessionId, tag: Tag, mode: Mode) -> bool
         requires shown { ShowsSafe self.now }
         ensures { result ≡ (contents_in self.now.contents.parts.items (partition_of tag)).holds session tag mode }
@@ -253,7 +256,7 @@ impl Machine {
             .has(mode)
     }
 
-    /// Whether the owner's slots show that it holds any mode on the object.
+    /// Whether the slots of `owner` show that it holds any mode on `tag`.
     fn slots_show(&self, owner: SessionId, tag: Tag) -> bool
         requires shown { ShowsSafe self.now }
         ensures { result ≡ slots_show self.now owner tag }
@@ -263,21 +266,21 @@ impl Machine {
             || self.slots_hold(owner, tag, Mode::RowExclusive)
     }
 
-    /// How many strong locks the session has counted.
+    /// How many strong locks `session` has counted.
     fn how_many_counted(&self, session: SessionId) -> usize
         ensures { result ≡ count_by (λ c. c.session == session) self.now.counted.items }
     {
         self.counted.iter().filter(|c| c.session == session).count()
     }
 
-    /// Whether the session has counted the mode on the object.
+    /// Whether `session` has counted `mode` on `tag`.
     fn is_counted(&self, session: SessionId, tag: Tag, mode: Mode) -> bool
         ensures { result ≡ list_any (is_by session tag mode) self.now.counted.items }
     {
         self.counted.iter().any(|c| c.is_by(session, tag, mode))
     }
 
-    /// Whether it has, and is past just the sessions below the position.
+    /// Whether `session` has counted `mode` on `tag`, and is past just the sessions below `position`.
     pub fn is_counted_at(&self, session: SessionId, position: u8, tag: Tag, mode: Mode) -> bool
         ensures { result ≡ list_any (is_by_at session position tag mode) self.now.counted.items }
     {

@@ -29,14 +29,14 @@ impl InHand {
         !self.unmarked.contains(&true)
     }
 
-    /// Whether the session is unmarked.
+    /// Whether `session` is unmarked.
     pub fn is_unmarked(&self, session: SessionId) -> bool
         ensures { result ≡ is_unmarked_in self.now.unmarked session }
     {
         self.unmarked[usize::from(session.number())]
     }
 
-    /// Whether this move is recorded.
+    /// Whether `done` is recorded.
     pub fn has_made(&self, done: &Move) -> bool
         ensures { result ≡ has_made self.now.recorded done.now }
     {
@@ -46,8 +46,8 @@ impl InHand {
         }
     }
 
-    /// Whether a mode may be moved from the owner's slot to the content: no move is recorded, or the adopt of this
-    /// slot.
+    /// Whether a mode may be moved from the slot `slot` of `owner` to the content: no move is recorded, or the adopt
+    /// of this slot.
     pub fn may_adopt(&self, owner: u8, slot: u8) -> bool
         ensures { result ≡ may_adopt self.now.recorded owner slot }
     {
@@ -65,7 +65,7 @@ impl Machine {
     ghost use Rattle.lock_world.specs.WaitWord.{wait_state, granted_word};
     ghost use Rattle.lock_model.specs.Shows.{hand_of};
 
-    /// The partition in hand, where the session makes steps of its own and has it.
+    /// The hand that has `partition`, where `session` makes steps of its own and has it.
     pub fn hand_of(&self, session: SessionId, partition: u8) -> Option<InHand>
         ensures { result ≡ hand_of self.now session partition }
     {
@@ -86,7 +86,7 @@ impl Machine {
         }
     }
 
-    /// Sets the partition's word to this one, by which it is held, and its content is in the session's hand.
+    /// Sets the word of `partition` to `held`, and its content is in the hand of `session`.
     pub fn set_held(&mut self, session: SessionId, partition: u8, held: LwWord)
         requires { partition < 16 }
         ensures { self.new ≡ record self.old {
@@ -106,7 +106,7 @@ impl Machine {
         });
     }
 
-    /// Records a move in the hand that has the partition, with those whom it granted unmarked.
+    /// Records the move `done` in the hand that has `partition`, with those whom it granted unmarked.
     pub fn record(&mut self, partition: u8, hand: InHand, done: Move, unmarked: [bool; 64])
         requires { partition < 16 }
         ensures { self.new ≡ record self.old {
@@ -123,8 +123,8 @@ impl Machine {
         });
     }
 
-    /// Marks the wait of the other session, which the move granted: its wait word goes from waiting to
-    /// granted, and it is unmarked no more.
+    /// Marks the wait of `other`, which the move `done` granted: its wait word goes from waiting to granted, and it
+    /// is unmarked no more.
     pub fn mark(
         &mut self,
         partition: u8,
@@ -157,7 +157,7 @@ impl Machine {
         self.words.waits[index] += 1;
     }
 
-    /// Puts the partition's word, and its content is at home.
+    /// Puts the word of `partition`, and its content is at home.
     pub fn set_free(&mut self, partition: u8)
         requires { partition < 16 }
         ensures { self.new ≡ record self.old {
@@ -174,14 +174,14 @@ impl Machine {
     }
 }
 
-/// Whether the session is among those woken.
+/// Whether `session` is among those in `woken`.
 pub fn is_among(woken: &Woken, session: SessionId) -> bool
     ensures { result ≡ names_in woken.now.items session }
 {
     woken.iter().any(|(other, _)| *other == session)
 }
 
-/// Those woken, by session number: their grants are unmarked so far.
+/// Those in `woken`, by session number: their grants are unmarked so far.
 pub fn unmarked_of(woken: &Woken) -> [bool; 64]
     ensures { (session : ℕ) → is_unmarked_in result session ≡ names_in woken.now.items session }
 {

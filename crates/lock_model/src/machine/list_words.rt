@@ -12,7 +12,7 @@ impl Machine {
     ghost use Rattle.lock_model.specs.Shows.{Follows};
     ghost use Rattle.lock_model.specs.ListWords.{may_lock_list, has_list};
 
-    /// Locks the wait list of a lightweight lock, where nobody has it and the session has no other in hand
+    /// Locks the wait list of the lightweight lock `word`, where nobody has it and `session` has no other in hand
     /// (`LWLockWaitListLock` in lwlock.c).
     pub fn lock_list(&mut self, session: SessionId, word: Word)
         ensures { Follows self.old session (Step.LockList word) self.new }
@@ -25,7 +25,7 @@ impl Machine {
         }
     }
 
-    /// Unlocks the wait list that the session has in hand; of the flags those go that are not to stay
+    /// Unlocks the wait list that `session` has in hand; of the flags those go that are not to stay
     /// (`LWLockWaitListUnlock`).
     pub fn unlock_list(
         &mut self,
@@ -46,7 +46,7 @@ impl Machine {
         }
     }
 
-    /// Sets release-ok in a lock's word, which showed this before (`LWLockAcquire`, once it was woken).
+    /// Sets release-ok in a lock's word, which showed `shown` before (`LWLockAcquire`, once it was woken).
     pub fn set_release_ok(&mut self, session: SessionId, word: Word, shown: u64)
         ensures { Follows self.old session (Step.SetReleaseOk word shown) self.new }
     {
@@ -58,7 +58,7 @@ impl Machine {
         }
     }
 
-    /// Sets has-waiters in the word of the lock whose wait list the session has in hand, which showed this before
+    /// Sets has-waiters in the word of the lock whose wait list `session` has in hand, which showed `shown` before
     /// (`LWLockQueueSelf`).
     pub fn set_has_waiters(&mut self, session: SessionId, word: Word, shown: u64)
         ensures { Follows self.old session (Step.SetHasWaiters word shown) self.new }
@@ -71,14 +71,14 @@ impl Machine {
         }
     }
 
-    /// Whether the session may lock a wait list that nobody has.
+    /// Whether `session` may lock a wait list that nobody has.
     fn may_lock_list(&self, session: SessionId) -> bool
         ensures { result ≡ may_lock_list self.now session }
     {
         self.makes_steps(session) && self.lists.has_list[usize::from(session.number())].is_none()
     }
 
-    /// Whether the session makes steps, and has the wait list of this lock in hand.
+    /// Whether `session` makes steps, and has the wait list of `lock` in hand.
     fn has_list(&self, session: SessionId, lock: u8) -> bool
         ensures { result ≡ has_list self.now session lock }
     {
@@ -86,7 +86,7 @@ impl Machine {
             && self.lists.has_list[usize::from(session.number())].is_some_and(|its| its == lock)
     }
 
-    /// Locks the wait list of a partition's lock.
+    /// Locks the wait list of the lock of `partition`.
     fn lock_partition_list(&mut self, session: SessionId, partition: u8)
         ensures { Follows self.old session (Step.LockList (Word.Partition partition)) self.new }
     {
@@ -99,7 +99,7 @@ impl Machine {
         }
     }
 
-    /// Locks the wait list of the lock of the owner's fast-path slots.
+    /// Locks the wait list of the lock of the fast-path slots of `owner`.
     fn lock_fast_list(&mut self, session: SessionId, owner: SessionId)
         ensures { Follows self.old session (Step.LockList (Word.Fast owner)) self.new }
     {
@@ -112,7 +112,7 @@ impl Machine {
         }
     }
 
-    /// Unlocks the wait list of a partition's lock.
+    /// Unlocks the wait list of the lock of `partition`.
     fn unlock_partition_list(
         &mut self,
         session: SessionId,
@@ -131,7 +131,7 @@ impl Machine {
         }
     }
 
-    /// Unlocks the wait list of the lock of the owner's fast-path slots.
+    /// Unlocks the wait list of the lock of the fast-path slots of `owner`.
     fn unlock_fast_list(
         &mut self,
         session: SessionId,
@@ -149,7 +149,7 @@ impl Machine {
         }
     }
 
-    /// Sets release-ok in the word of a partition's lock.
+    /// Sets release-ok in the word of the lock of `partition`.
     fn set_partition_release_ok(&mut self, session: SessionId, partition: u8, shown: u64)
         ensures { Follows self.old session (Step.SetReleaseOk (Word.Partition partition) shown) self.new }
     {
@@ -162,7 +162,7 @@ impl Machine {
         }
     }
 
-    /// Sets release-ok in the word of the lock of the owner's fast-path slots.
+    /// Sets release-ok in the word of the lock of the fast-path slots of `owner`.
     fn set_fast_release_ok(&mut self, session: SessionId, owner: SessionId, shown: u64)
         ensures { Follows self.old session (Step.SetReleaseOk (Word.Fast owner) shown) self.new }
     {
@@ -172,7 +172,7 @@ impl Machine {
         }
     }
 
-    /// Sets has-waiters in the word of a partition's lock.
+    /// Sets has-waiters in the word of the lock of `partition`.
     fn set_partition_has_waiters(&mut self, session: SessionId, partition: u8, shown: u64)
         ensures { Follows self.old session (Step.SetHasWaiters (Word.Partition partition) shown) self.new }
     {
@@ -185,7 +185,7 @@ impl Machine {
         }
     }
 
-    /// Sets has-waiters in the word of the lock of the owner's fast-path slots.
+    /// Sets has-waiters in the word of the lock of the fast-path slots of `owner`.
     fn set_fast_has_waiters(&mut self, session: SessionId, owner: SessionId, shown: u64)
         ensures { Follows self.old session (Step.SetHasWaiters (Word.Fast owner) shown) self.new }
     {

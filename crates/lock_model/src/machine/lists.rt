@@ -9,7 +9,7 @@ use lw_word::{LwMode, LwWaiter};
 use modes_core::SessionId;
 
 impl Sleeper {
-    /// Whether the session waits for this lock.
+    /// Whether `session` waits for `lock`.
     fn is_at(&self, lock: u8, session: SessionId) -> bool
         ensures { result ≡ is_at lock session self.now }
     {
@@ -17,7 +17,7 @@ impl Sleeper {
     }
 }
 
-/// Takes the session out of the lock's list.
+/// Takes `session` out of the list of `lock`.
 fn take_out(sleepers: &mut Vec<Sleeper>, lock: u8, session: SessionId)
     ensures { sleepers.new.items ≡ filter (λ sleeper. not (is_at lock session sleeper)) sleepers.old.items }
 {
@@ -33,8 +33,8 @@ impl Machine {
     ghost use Rattle.lock_model.specs.Shows.{Shows, ShowsSafe, Follows};
     ghost use Rattle.lock_model.specs.SleeperLists.{list_to_change, waits_at, may_tell, may_load_sleep, sees_no_sleep};
 
-    /// Joins the wait list in hand, behind all others (`LWLockQueueSelf` in lwlock.c). After `NoMemory`, which comes
-    /// only where the list was full, the machine shows what it showed.
+    /// Puts `session` at the end of the wait list that it has in hand, as one that wants `mode` (`LWLockQueueSelf`
+    /// in lwlock.c). After `NoMemory`, which comes only where the list was full, the machine shows what it showed.
     pub fn join_list(&mut self, session: SessionId, mode: LwMode) -> Result<(), NoMemory>
         requires shown { ShowsSafe self.old }
         ensures followed { OnOk result (Follows self.old session (Step.JoinList mode) self.new) }
@@ -56,7 +56,8 @@ impl Machine {
         Ok(())
     }
 
-    /// Leaves the wait list in hand, where it stands in it (`LWLockDequeueSelf` in lwlock.c).
+    /// Takes `session` out of the wait list that it has in hand, where it stands in it (`LWLockDequeueSelf` in
+    /// lwlock.c).
     pub fn leave_list(&mut self, session: SessionId)
         requires shown { ShowsSafe self.old }
         ensures { Follows self.old session Step.LeaveList self.new }
@@ -72,8 +73,7 @@ impl Machine {
         }
     }
 
-    /// Takes the other session off the wait list in hand, to be told later (the first loop of `LWLockWakeup` in
-    /// lwlock.c).
+    /// Takes `other` off the wait list in hand, to be told later (the first loop of `LWLockWakeup` in lwlock.c).
     pub fn take_off(&mut self, session: SessionId, other: SessionId)
         requires shown { ShowsSafe self.old }
         ensures { Follows self.old session (Step.TakeOff other) self.new }
@@ -93,7 +93,7 @@ impl Machine {
         }
     }
 
-    /// Tells a session that this one took off (the second loop of `LWLockWakeup` in lwlock.c).
+    /// Tells `other`, which `session` took off a wait list (the second loop of `LWLockWakeup` in lwlock.c).
     pub fn tell(&mut self, session: SessionId, other: SessionId)
         requires shown { ShowsSafe self.old }
         ensures { Follows self.old session (Step.Tell other) self.new }
@@ -106,8 +106,8 @@ impl Machine {
         }
     }
 
-    /// Loads its own sleep word, which must show this: where that is 0, the session stands in no list (the sleep in
-    /// `LWLockAcquire` in lwlock.c).
+    /// Loads the sleep word of `session`, which must show `shown`: where that is 0, the session stands in no list
+    /// (the sleep in `LWLockAcquire` in lwlock.c).
     pub fn load_sleep(&mut self, session: SessionId, shown: u8)
         requires shown { ShowsSafe self.old }
         ensures { Follows self.old session (Step.LoadSleep shown) self.new }
@@ -118,7 +118,7 @@ impl Machine {
         }
     }
 
-    /// The lock whose wait list the session has in hand, where it makes steps.
+    /// The lock whose wait list `session` has in hand, where it makes steps.
     fn list_to_change(&self, session: SessionId) -> Option<u8>
         ensures { result ≡ list_to_change self.now session }
     {
@@ -129,14 +129,14 @@ impl Machine {
         }
     }
 
-    /// Whether the session stands in the lock's list, and its sleep word shows waiting.
+    /// Whether `session` stands in the list of `lock`, and its sleep word shows waiting.
     fn waits_at(&self, lock: u8, session: SessionId) -> bool
         ensures { result ≡ waits_at self.now lock session }
     {
         self.stands_at(lock, session) && self.lists.sleep[usize::from(session.number())] == 1
     }
 
-    /// Whether the session stands in the lock's list.
+    /// Whether `session` stands in the list of `lock`.
     fn stands_at(&self, lock: u8, session: SessionId) -> bool
         ensures { result ≡ list_any (is_at lock session) self.now.lists.sleepers.items }
     {
@@ -146,7 +146,7 @@ impl Machine {
             .any(|sleeper| sleeper.is_at(lock, session))
     }
 
-    /// Whether the session has the other one to tell, which it took off.
+    /// Whether `session` has `other` to tell, which it took off.
     fn may_tell(&self, session: SessionId, other: SessionId) -> bool
         ensures { result ≡ may_tell self.now session other }
     {
@@ -156,14 +156,14 @@ impl Machine {
             && self.lists.sleep[whose] == 2
     }
 
-    /// Whether the session may load its sleep word, and it shows this.
+    /// Whether `session` may load its sleep word, and it shows `shown`.
     fn may_load_sleep(&self, session: SessionId, shown: u8) -> bool
         ensures { result ≡ may_load_sleep self.now session shown }
     {
         self.makes_steps(session) && shown == self.lists.sleep[usize::from(session.number())]
     }
 
-    /// Whether the session sees that it stands in no list.
+    /// Whether `session` sees that it stands in no list.
     fn sees_no_sleep(&self, session: SessionId, shown: u8) -> bool
         ensures { result ≡ sees_no_sleep self.now session shown }
     {

@@ -9,8 +9,8 @@ ghost use Rattle.lock_model.specs.ListWords.{unlocked_in};
 use lw_word::{LwMode, LwWord};
 use modes_core::SESSIONS;
 
-/// The word with one more sharer, or `None` where somebody holds the lock exclusively. No word shows more sharers
-/// than there are sessions, so that the count has room.
+/// `word` with one more sharer, or `None` where somebody holds the lock exclusively. No word shows more sharers than
+/// there are sessions, so that the count has room.
 pub fn share(word: LwWord) -> Option<LwWord>
     ensures { SomeIff result (IsFreeFor Shared word × (word.shared ≤ 64)) (taken_in Shared word) }
 {
@@ -21,7 +21,7 @@ pub fn share(word: LwWord) -> Option<LwWord>
     }
 }
 
-/// Whether somebody holds the lock in this mode.
+/// Whether somebody holds the lock in `mode`.
 fn is_held_in(word: LwWord, mode: LwMode) -> bool
     ensures { IsTrue result ↔ IsHeldIn mode word }
 {
@@ -31,7 +31,7 @@ fn is_held_in(word: LwWord, mode: LwMode) -> bool
     }
 }
 
-/// The word with one holder less in this mode, or as it is where nobody holds the lock so.
+/// `word` with one holder less in `mode`, or as it is where nobody holds the lock so.
 pub fn put(word: LwWord, mode: LwMode) -> LwWord
     ensures { result ≡ put_in mode word }
 {
@@ -42,7 +42,7 @@ pub fn put(word: LwWord, mode: LwMode) -> LwWord
     }
 }
 
-/// The word with its wait list unlocked, and without the flags that are not to stay.
+/// `word` with its wait list unlocked, and without the flags that are not to stay.
 pub fn unlocked(word: LwWord, has_waiters: bool, release_ok: bool) -> LwWord
     ensures { result ≡ unlocked_in word has_waiters release_ok }
 {

@@ -38,8 +38,8 @@ impl MovedPart {
     }
 }
 
-/// The part once the session's hold is released, with those woken whom that lets go. Nothing where it has
-/// no such hold.
+/// `part` once the hold of `session` is released, with those woken whom that lets go. Nothing where it has no such
+/// hold.
 pub fn after_release(
     part: &PlainPart,
     session: SessionId,
@@ -60,8 +60,8 @@ pub fn after_release(
     Ok(Some(MovedPart { part: after, woken }))
 }
 
-/// The part once the session's wait has left the object's queue, with those woken whom that lets go.
-/// Nothing where it has no wait there.
+/// `part` once the wait of `session` has left the queue of `tag`, with those woken whom that lets go. Nothing where
+/// it has no wait there.
 pub fn after_leaving(
     part: &PlainPart,
     session: SessionId,
@@ -88,7 +88,8 @@ impl Machine {
     ghost use Rattle.lock_model.specs.MovedPart.{IsMoved};
     ghost use Rattle.lock_model.specs.Shows.{IsOwnFor, CannotMake};
 
-    /// What a release or a leave of the session's makes of the partition. Nothing where it may not make it.
+    /// What the release or the leave `done` of `session` makes of `partition`. Nothing where the session may not
+    /// make it.
     pub fn after_move(
         &self,
         session: SessionId,

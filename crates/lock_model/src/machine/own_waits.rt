@@ -20,7 +20,7 @@ impl Machine {
     ghost use Rattle.lock_model.specs.Shows.{ShowsSafe, awaits};
     ghost use Rattle.lock_model.specs.SlotLooks.{may_ask};
 
-    /// Whether the session waits for the mode on the object.
+    /// Whether `session` waits for `mode` on `tag`.
     pub fn awaits(&self, session: SessionId, tag: Tag, mode: Mode) -> bool
         ensures { result ≡ awaits (slice_index_or self.now.waits.awaited session None) tag mode }
     {
@@ -30,8 +30,8 @@ impl Machine {
         }
     }
 
-    /// Whether the session may ask for the mode on the object: it waits for nothing, and hasn't the hold, in no
-    /// content and in no slot.
+    /// Whether `session` may ask for `mode` on `tag`: it waits for nothing, and hasn't the hold, in no content and
+    /// in no slot.
     pub fn may_ask(&self, session: SessionId, tag: Tag, mode: Mode) -> bool
         requires shown { ShowsSafe self.now }
         ensures { result ≡ may_ask self.now session tag mode }
@@ -39,7 +39,7 @@ impl Machine {
         self.may_ask_table(session, tag, mode) && !self.slots_hold(session, tag, mode)
     }
 
-    /// Whether the session waits for nothing, and hasn't the hold in a content.
+    /// Whether `session` waits for nothing, and hasn't the hold in a content.
     fn may_ask_table(&self, session: SessionId, tag: Tag, mode: Mode) -> bool
         requires shown { ShowsSafe self.now }
         ensures { result ≡ (is_none (slice_index_or self.now.waits.awaited session None)
@@ -50,7 +50,7 @@ impl Machine {
             && !part.held(session, &tag).has(mode)
     }
 
-    /// The session waits from now on, by its own account and by its wait word.
+    /// `session` waits from now on, by its own account and by its wait word.
     pub fn begin_wait(&mut self, session: SessionId, tag: Tag, mode: Mode)
         ensures { self.new ≡ record self.old {
           words = record (self.old.words) { waits = slice_set self.old.words.waits session 1 };
@@ -66,7 +66,7 @@ impl Machine {
         self.waits.seen[index] = false;
     }
 
-    /// The session's wait is over, by its own account and by its wait word.
+    /// The wait of `session` is over, by its own account and by its wait word.
     pub fn end_wait(&mut self, session: SessionId)
         ensures { self.new ≡ record self.old {
           words = record (self.old.words) { waits = slice_set self.old.words.waits session 0 };

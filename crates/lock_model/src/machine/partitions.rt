@@ -13,8 +13,8 @@ impl Machine {
     ghost use Rattle.lock_table.specs.declared.moves.Move.{Move};
     ghost use Rattle.lock_model.specs.Shows.{ShowsSafe, Follows, HasUnmoved, is_over};
 
-    /// Takes a word exclusively, where nobody has it: that of a partition, with its content, or that of a
-    /// session's fast-path slots (`LWLockAcquire` with `LW_EXCLUSIVE` in lwlock.c).
+    /// Takes `word` exclusively, where nobody has it: that of a partition, with its content, or that of the
+    /// fast-path slots of `session` (`LWLockAcquire` with `LW_EXCLUSIVE` in lwlock.c).
     pub fn take_exclusive(&mut self, session: SessionId, word: Word)
         ensures { Follows self.old session (Step.TakeExclusive word) self.new }
     {
@@ -26,8 +26,8 @@ impl Machine {
         }
     }
 
-    /// Puts a word back, with the move that the session has made on the partition that it guards: none with
-    /// another word (`LWLockRelease` in lwlock.c).
+    /// Puts `word` back, with the move `done` that `session` has made on the partition that the word guards: none
+    /// with another word (`LWLockRelease` in lwlock.c).
     pub fn put_exclusive(
         &mut self,
         session: SessionId,
@@ -51,7 +51,7 @@ impl Machine {
         }
     }
 
-    /// Takes a partition, where nobody holds its word.
+    /// Takes `partition`, where nobody holds its word.
     fn take_partition(&mut self, session: SessionId, partition: u8)
         ensures { Follows self.old session (Step.TakeExclusive (Word.Partition partition)) self.new }
     {
@@ -63,7 +63,8 @@ impl Machine {
         }
     }
 
-    /// Puts a partition back: with the move that stands recorded in the hand, or with one that is made as it is put.
+    /// Puts `partition` back: with the move `done` that stands recorded in the hand, or with one that is made as it
+    /// is put.
     fn put_partition(
         &mut self,
         session: SessionId,
@@ -85,7 +86,7 @@ impl Machine {
         Ok(())
     }
 
-    /// Whether the session has no wait on an object of the partition that the move should have ended.
+    /// Whether `session` has no wait on an object of `partition` that the move `done` should have ended.
     fn is_over(&self, session: SessionId, partition: u8, done: Move) -> bool
         ensures { result ≡ is_over (slice_index_or self.now.waits.awaited session None) partition done }
     {
@@ -98,7 +99,7 @@ impl Machine {
         }
     }
 
-    /// Puts a partition back with a move that is made as it is put.
+    /// Puts `partition` back with the move `done`, which is made as it is put.
     fn put_made(&mut self, session: SessionId, partition: u8, done: Move) -> Result<(), NoMemory>
         requires shown { ShowsSafe self.old }
         requires in_hand { HasUnmoved self.old session partition }
@@ -117,7 +118,7 @@ impl Machine {
         }
     }
 
-    /// Puts a partition back with one hold of the session more, where the request for it is granted.
+    /// Puts `partition` back with one hold of `session` more, where the request for it is granted.
     fn put_granting(
         &mut self,
         session: SessionId,
@@ -148,7 +149,7 @@ impl Machine {
         Ok(())
     }
 
-    /// Puts a partition back with one hold of the session less, where that wakes nobody.
+    /// Puts `partition` back with one hold of `session` less, where that wakes nobody.
     fn put_releasing(
         &mut self,
         session: SessionId,

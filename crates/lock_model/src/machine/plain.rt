@@ -79,7 +79,8 @@ impl Plain {
         self.lists.sleepers.as_slice()
     }
 
-    /// What a strong lock counter shows, and 0 where there is no counter of this index: there are 1,024.
+    /// What the strong lock counter at `index` shows, and 0 where there is no counter of this index: there are
+    /// 1,024.
     pub fn counter(&self, index: u16) -> u64
         ensures shown { index < 1024 → result ≡ word_of self.now (Strong index) }
         ensures absent { 1024 ≤ index → result ≡ 0 }
@@ -87,8 +88,8 @@ impl Plain {
         self.word(Word::Strong(index))
     }
 
-    /// What a word shows, and 0 where there is no such word: there are 16 partitions, 16 fast-path slots a
-    /// session in each group, and 1,024 strong lock counters.
+    /// What `word` shows, and 0 where there is no such word: there are 16 partitions, 16 fast-path slots a session
+    /// in each group, and 1,024 strong lock counters.
     pub fn word(&self, word: Word) -> u64
         ensures shown { WordExists (groups_of self.now) word → result ≡ word_of self.now word }
         ensures absent { ¬ (WordExists (groups_of self.now) word) → result ≡ 0 }
@@ -113,7 +114,7 @@ impl Plain {
         }
     }
 
-    /// What a fast-path slot of the session shows, and 0 where there is no slot of this place.
+    /// What a fast-path slot of `session` shows, and 0 where there is no slot of this place.
     fn slot(&self, session: SessionId, place: u8) -> u64
         ensures shown { place < group_size * groups_of self.now → result ≡ word_of self.now (Slot session place) }
         ensures absent { group_size * groups_of self.now ≤ place → result ≡ 0 }
@@ -130,7 +131,7 @@ impl Plain {
         }
     }
 
-    /// What a strong lock counter shows, and 0 where there is no counter of this index.
+    /// What the strong lock counter at `index` shows, and 0 where there is no counter of this index.
     fn counted_at(&self, index: u16) -> u64
         ensures shown { index < 1024 → result ≡ word_of self.now (Strong index) }
         ensures absent { 1024 ≤ index → result ≡ 0 }

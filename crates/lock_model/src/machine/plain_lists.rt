@@ -19,8 +19,8 @@ use super::state::FastPath;
 use lock_table::{NoMemory, PlainPart};
 use std::alloc::Global;
 
-/// The holds of all parts and those that sessions' fast-path slots show, in the order of holds. Each request is
-/// held once at most in a part.
+/// The holds of all `parts` and those that sessions' slots show by `fast_path`, in the order of holds. Each request
+/// is held once at most in a part.
 pub fn gather_holds(
     alloc: Global,
     fast_path: &FastPath,
@@ -41,8 +41,8 @@ pub fn gather_holds(
     Ok(holds)
 }
 
-/// The waits of all parts, by tag. Where each object's waits stand in the partition that it lies in, those of
-/// one object are its queue, in its order.
+/// The waits of all `parts`, by tag. Where each object's waits stand in the partition that it lies in, those on one
+/// object are its queue, in its order.
 pub fn gather_waits(alloc: Global, parts: &[PlainPart]) -> Result<Vec<QueuedWait>, NoMemory>
     ensures all { IfOk result (λ list. AreAtHome parts.now → (tag : Tag) →
         map as_wait (filter (λ queued. tag_eq queued.tag tag) list.items)
@@ -58,7 +58,7 @@ pub fn gather_waits(alloc: Global, parts: &[PlainPart]) -> Result<Vec<QueuedWait
     Ok(waits)
 }
 
-/// Appends the part's holds. Each request is held there once at most.
+/// Appends the holds of `part`. Each request is held there once at most.
 fn append_holds(part: &PlainPart, list: &mut Vec<Hold>) -> Result<(), NoMemory>
     ensures added { OnOk result (list.new.items ≡ list.old.items ++ map table_hold_of part.now.holds) }
     ensures each_once { EachOnce part.now.holds part.now.waits }
@@ -74,7 +74,7 @@ fn append_holds(part: &PlainPart, list: &mut Vec<Hold>) -> Result<(), NoMemory>
     Ok(())
 }
 
-/// Appends the part's waits.
+/// Appends the waits of `part`.
 fn append_waits(part: &PlainPart, list: &mut Vec<QueuedWait>) -> Result<(), NoMemory>
     ensures { OnOk result (list.new.items ≡ list.old.items ++ map queued_of part.now.waits) }
 {

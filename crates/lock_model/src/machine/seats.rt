@@ -8,7 +8,7 @@ use super::state::Machine;
 use lock_table::PartTable;
 use modes_core::SessionId;
 
-/// Whether it is the session's hand.
+/// Whether it is the hand of `session`.
 fn is_holder(hand: &Option<InHand>, session: SessionId) -> bool
     ensures { result ≡ is_holder session hand.now }
 {
@@ -24,7 +24,7 @@ impl Machine {
     ghost use Rattle.lock_world.specs.declared.events.Step.{Step};
     ghost use Rattle.lock_model.specs.Shows.{Follows, is_number, is_holder, has_no_list, owes_a_telling};
 
-    /// Issues the session's number, where it is the next one, or lets a session that is kept apart go on.
+    /// Issues the number of `session`, where it is the next one, or lets a session that is kept apart go on.
     pub fn split_seat(&mut self, session: SessionId)
         ensures { Follows self.old session Step.SplitSeat self.new }
     {
@@ -37,7 +37,7 @@ impl Machine {
         }
     }
 
-    /// Joins the session's seat to another one, which keeps it apart, or closes the session.
+    /// Joins the seat of `session` to another one, which keeps it apart, or closes the session.
     pub fn join_seat(&mut self, session: SessionId, joiner: Option<SessionId>)
         ensures { Follows self.old session (Step.JoinSeat joiner) self.new }
     {
@@ -47,7 +47,7 @@ impl Machine {
         }
     }
 
-    /// Keeps the session apart for the joiner.
+    /// Keeps `session` apart for `joiner`.
     fn keep_apart(&mut self, session: SessionId, joiner: SessionId)
         ensures { Follows self.old session (Step.JoinSeat (Some joiner)) self.new }
     {
@@ -62,7 +62,7 @@ impl Machine {
         }
     }
 
-    /// Closes the session.
+    /// Closes `session`.
     fn close(&mut self, session: SessionId)
         ensures { Follows self.old session (Step.JoinSeat None) self.new }
     {
@@ -84,7 +84,7 @@ impl Machine {
         }
     }
 
-    /// Whether the session has no wait list in hand and stands in none.
+    /// Whether `session` has no wait list in hand and stands in none.
     fn has_no_list(&self, session: SessionId) -> bool
         ensures { result ≡ has_no_list self.now session }
     {
@@ -92,7 +92,7 @@ impl Machine {
         self.lists.has_list[index].is_none() && self.lists.stands[index].is_none()
     }
 
-    /// Whether the session has taken somebody off a wait list and not told it.
+    /// Whether `session` has taken somebody off a wait list and not told it.
     fn owes_a_telling(&self, session: SessionId) -> bool
         ensures { result ≡ owes_a_telling self.now session }
     {
@@ -100,7 +100,7 @@ impl Machine {
         off.iter().any(|untold| *untold)
     }
 
-    /// Whether the session has a partition in hand.
+    /// Whether `session` has a partition in hand.
     fn has_a_word(&self, session: SessionId) -> bool
         ensures { result ≡ list_any (is_holder session) self.now.contents.hands }
     {
@@ -110,7 +110,7 @@ impl Machine {
             .any(|hand| is_holder(hand, session))
     }
 
-    /// Whether the session keeps another one apart.
+    /// Whether `session` keeps another one apart.
     fn keeps_someone(&self, session: SessionId) -> bool
         ensures { result ≡ list_any (is_number session) self.now.numbers.kept_by }
     {
@@ -120,7 +120,7 @@ impl Machine {
             .any(|joiner| joiner.is_some_and(|other| other == session))
     }
 
-    /// Whether the session has a hold.
+    /// Whether `session` has a hold.
     fn has_a_hold(&self, session: SessionId) -> bool
         ensures { result
             ≡ list_any (λ part. list_any (λ hold. hold.session == session) part.holds) self.now.contents.parts.items }

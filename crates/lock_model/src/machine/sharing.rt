@@ -13,8 +13,8 @@ impl Machine {
     ghost use Rattle.lock_world.specs.declared.events.Word.{Word};
     ghost use Rattle.lock_model.specs.Shows.{Follows, has_a_mark};
 
-    /// Shares a word, where nobody holds it exclusively and the session does not share it yet
-    /// (`LWLockAcquire` with `LW_SHARED` in lwlock.c).
+    /// Shares `word`, where nobody holds it exclusively and `session` does not share it yet (`LWLockAcquire` with
+    /// `LW_SHARED` in lwlock.c).
     pub fn take_shared(&mut self, session: SessionId, word: Word)
         ensures { Follows self.old session (Step.TakeShared word) self.new }
     {
@@ -38,7 +38,7 @@ impl Machine {
         }
     }
 
-    /// Shares the word of a partition.
+    /// Shares the word of `partition`.
     fn share_partition(&mut self, session: SessionId, partition: u8)
         ensures { Follows self.old session (Step.TakeShared (Word.Partition partition)) self.new }
     {
@@ -52,7 +52,7 @@ impl Machine {
         }
     }
 
-    /// Gives the word of a partition back.
+    /// Gives the word of `partition` back.
     fn unshare_partition(&mut self, session: SessionId, partition: u8)
         ensures { Follows self.old session (Step.PutShared (Word.Partition partition)) self.new }
     {
@@ -64,7 +64,7 @@ impl Machine {
         }
     }
 
-    /// Shares the word of the owner's fast-path slots.
+    /// Shares the word of the fast-path slots of `owner`.
     fn share_fast(&mut self, session: SessionId, owner: SessionId)
         ensures { Follows self.old session (Step.TakeShared (Word.Fast owner)) self.new }
     {
@@ -78,7 +78,7 @@ impl Machine {
         }
     }
 
-    /// Gives the word of the owner's fast-path slots back.
+    /// Gives the word of the fast-path slots of `owner` back.
     fn unshare_fast(&mut self, session: SessionId, owner: SessionId)
         ensures { Follows self.old session (Step.PutShared (Word.Fast owner)) self.new }
     {
@@ -90,7 +90,7 @@ impl Machine {
         }
     }
 
-    /// Whether the session shares any word.
+    /// Whether `session` shares any word.
     pub fn shares_a_word(&self, session: SessionId) -> bool
         ensures { result ≡ (has_a_mark session self.now.locks.fast_sharers
             || has_a_mark session self.now.locks.partition_sharers) }

@@ -8,7 +8,7 @@ use super::state::Machine;
 use lw_word::SlotWord;
 use modes_core::{Mode, SessionId, Tag, is_eligible};
 
-/// Whether one of the slots shows the mode of the relation.
+/// Whether one of `slots` shows the mode of `relation`.
 fn some_slot_shows(slots: &[SlotWord], relation: u32, mode: Mode) -> bool
     ensures { result ≡ list_any (λ word. shows word relation mode) slots.now }
 {
@@ -20,7 +20,7 @@ impl Machine {
     ghost use Rattle.lock_world.specs.SlotHolds.{slot_holds};
     ghost use Rattle.lock_model.specs.Shows.{ShowsSafe};
 
-    /// Whether the session's slots show that it holds the mode on the object.
+    /// Whether the slots of `session` show that it holds `mode` on `tag`.
     pub fn slots_hold(&self, session: SessionId, tag: Tag, mode: Mode) -> bool
         requires shown { ShowsSafe self.now }
         ensures { result ≡ slot_holds (slice_index_or self.now.fast_path.databases session 0)

@@ -9,8 +9,8 @@ use lock_table::NoMemory;
 use lw_word::SlotWord;
 use modes_core::{Mode, SessionId, Tag, is_eligible};
 
-/// Appends the holds that all sessions' slots show, by session and by place (the first part of
-/// `GetLockStatusData` in lock.c).
+/// Appends to `list` the holds that all sessions' slots show by `fast_path`, by session and by place (the first part
+/// of `GetLockStatusData` in lock.c).
 pub fn append_slot_holds(fast_path: &FastPath, list: &mut Vec<Hold>) -> Result<(), NoMemory>
     ensures { OnOk result (list.new.items
         ≡ list.old.items ++ fast_path_rows fast_path.now.databases fast_path.now.slots) }
@@ -22,7 +22,7 @@ pub fn append_slot_holds(fast_path: &FastPath, list: &mut Vec<Hold>) -> Result<(
     Ok(())
 }
 
-/// Appends the holds that the session's slots show, by place.
+/// Appends the holds that the slots of `session` show, by place.
 fn append_session(
     session: SessionId,
     fast_path: &FastPath,
@@ -39,7 +39,7 @@ fn append_session(
     Ok(())
 }
 
-/// The word of the session's slot at this place.
+/// The word of the slot of `session` at `place`.
 fn word_at(fast_path: &FastPath, session: SessionId, place: u8) -> SlotWord
     requires { place < 128 }
     ensures { result ≡ slice_index_or (slice_index_or fast_path.now.slots session []) place 0 }
@@ -47,7 +47,7 @@ fn word_at(fast_path: &FastPath, session: SessionId, place: u8) -> SlotWord
     fast_path.slots[usize::from(session.number())][usize::from(place)]
 }
 
-/// Appends the holds that the slot shows, by mode.
+/// Appends to `list` the holds that the slot with `word` at `place` shows, by mode.
 fn append_slot(
     session: SessionId,
     database: u32,
@@ -62,7 +62,7 @@ fn append_slot(
     append_shown(session, database, place, word, Mode::RowExclusive, list)
 }
 
-/// Appends the hold that the slot shows in the mode, if it shows one.
+/// Appends the hold that the slot shows in `mode`, if it shows one.
 fn append_shown(
     session: SessionId,
     database: u32,

@@ -13,28 +13,28 @@ use lock_world::Word;
 use lw_word::{LwMode, SlotWord};
 use modes_core::{Mode, SessionId, Tag, is_eligible};
 
-/// Whether a slot is in use.
+/// Whether a slot of `slots` is in use.
 fn some_slot_in_use(slots: &[SlotWord]) -> bool
     ensures { result ≡ list_any in_use slots.now }
 {
     slots.iter().any(|word| word.in_use())
 }
 
-/// Whether the slot with this word is in use for the relation.
+/// Whether a slot with `word` is in use for `relation`.
 fn is_slot_of(word: SlotWord, relation: u32) -> bool
     ensures { result ≡ is_slot_of word relation }
 {
     word.in_use() && word.relation() == relation
 }
 
-/// Whether a slot is in use for the relation.
+/// Whether a slot of `slots` is in use for `relation`.
 fn some_slot_is_of(slots: &[SlotWord], relation: u32) -> bool
     ensures { result ≡ list_any (λ word. is_slot_of word relation) slots.now }
 {
     slots.iter().any(|word| is_slot_of(*word, relation))
 }
 
-/// Whether the slot at this place is of the relation's group, of so many.
+/// Whether the slot at `place` is of the group of `relation`, of `groups`.
 fn may_use(groups: u8, relation: u32, place: usize) -> bool
     requires { 0 < groups }
     ensures { result ≡ may_use groups relation place }
@@ -42,8 +42,8 @@ fn may_use(groups: u8, relation: u32, place: usize) -> bool
     place / 16 == (relation % u32::from(groups)) as usize
 }
 
-/// Whether a grant for the relation takes the slot, with so many groups: it is of the relation's group, and in use
-/// for the relation, or not in use and none is for it.
+/// Whether a grant for `relation` takes the slot at `place`, with `groups` groups: it is of the relation's group,
+/// and in use for the relation, or not in use and none of `slots` is for it.
 fn is_slot_to_grant(groups: u8, slots: &[SlotWord], relation: u32, place: usize) -> bool
     requires groups { 0 < groups }
     requires within { place < length slots.now }
@@ -65,8 +65,8 @@ impl Machine {
     ghost use Rattle.lock_model.specs.Shows.{ShowsSafe, Follows, has_a_mark, is_number};
     ghost use Rattle.lock_model.specs.SlotLooks.{slots_at, has_own_slots, may_set_slot, may_clear_slot, may_store_database};
 
-    /// Takes the lock of the owner's slots exclusively, where nobody has it (`LWLockAcquire` with
-    /// `LW_EXCLUSIVE` in lwlock.c). The owner is any session number, issued or not, its own too.
+    /// Takes the lock of the slots of `owner` exclusively, where nobody has it (`LWLockAcquire` with `LW_EXCLUSIVE`
+    /// in lwlock.c). The owner is any session number, issued or not, its own too.
     pub fn take_fast(&mut self, session: SessionId, owner: SessionId)
         ensures { Follows self.old session (Step.TakeExclusive (Word.Fast owner)) self.new }
     {
@@ -80,7 +80,7 @@ impl Machine {
         }
     }
 
-    /// Puts the lock of the owner's slots back, which the session holds exclusively; no move comes with it
+    /// Puts the lock of the slots of `owner` back, which `session` holds exclusively; no move comes with it
     /// (`LWLockRelease` in lwlock.c). With its own lock put, a counter that was read as 0 counts no more.
     pub fn put_fast(&mut self, session: SessionId, owner: SessionId, done: Move)
         ensures { Follows self.old session (Step.PutExclusive (Word.Fast owner) done) self.new }
@@ -99,20 +99,20 @@ impl Machine {
         }
     }
 
-    /// Whether the session holds the lock of any session's slots exclusively.
+    /// Whether `session` holds the lock of any session's slots exclusively.
     pub fn has_a_fast_word(&self, session: SessionId) -> bool
         ensures { result ≡ has_a_mark session self.now.locks.fast_holders }
     {
         has_a_mark(self.locks.fast_holders.as_slice(), session)
     }
 
-    /// Loads a word, which must show this: any slot, any session's database, or the lock of its own slots. No step
-    /// of the machine keeps what a load showed.
+    /// Loads `word`, which must show `shown`: any slot, any session's database, or the lock of its own slots. No
+    /// step of the machine keeps what a load showed.
     pub fn load_word(&mut self, session: SessionId, word: Word, shown: u64)
         ensures { Follows self.old session (Step.LoadWord word shown) self.new }
     {}
 
-    /// Sets the mode in the session's slot, with the lock of its slots held, after its counter was read as 0
+    /// Sets `mode` in `slot` of `session`, with the lock of its slots held, after its counter was read as 0
     /// (`FastPathGrantRelationLock` in lock.c).
     pub fn set_slot(&mut self, session: SessionId, slot: u8, tag: Tag, mode: Mode)
         requires shown { ShowsSafe self.old }
@@ -126,7 +126,7 @@ impl Machine {
         }
     }
 
-    /// Clears the mode in the session's slot, with the lock of its slots held (`FastPathUnGrantRelationLock` in
+    /// Clears `mode` in `slot` of `session`, with the lock of its slots held (`FastPathUnGrantRelationLock` in
     /// lock.c).
     pub fn clear_slot(&mut self, session: SessionId, slot: u8, tag: Tag, mode: Mode)
         ensures { Follows self.old session (Step.ClearSlot slot tag mode) self.new }
@@ -139,7 +139,7 @@ impl Machine {
         }
     }
 
-    /// Stores the session's database, where it has none and no slot in use (`InitPostgres` in postinit.c).
+    /// Stores `database` as that of `session`, where it has none and no slot in use (`InitPostgres` in postinit.c).
     pub fn store_database(&mut self, session: SessionId, database: u32)
         ensures { Follows self.old session (Step.StoreDatabase database) self.new }
     {
@@ -148,7 +148,7 @@ impl Machine {
         }
     }
 
-    /// Whether the session has a slot in use.
+    /// Whether `session` has a slot in use.
     pub fn has_a_slot(&self, session: SessionId) -> bool
         ensures { result ≡ list_any in_use (slots_at self.now session) }
     {
@@ -156,7 +156,7 @@ impl Machine {
         some_slot_in_use(slots.as_slice())
     }
 
-    /// Whether the session makes steps, and holds the lock of its own slots.
+    /// Whether `session` makes steps, and holds the lock of its own slots.
     fn has_own_slots(&self, session: SessionId) -> bool
         ensures { result ≡ has_own_slots self.now session }
     {
@@ -164,7 +164,7 @@ impl Machine {
         self.makes_steps(session) && self.locks.fast_holders[index][index]
     }
 
-    /// Whether the session has read the counter of the object as 0, and may set slots for that.
+    /// Whether `session` has read the counter of `tag` as 0, and may set slots for that.
     fn has_read_zero(&self, session: SessionId, tag: Tag) -> bool
         ensures { result ≡ is_number (index_of tag) (slice_index_or self.now.fast_path.zeros session None) }
     {
@@ -172,7 +172,7 @@ impl Machine {
         self.fast_path.zeros[usize::from(session.number())].is_some_and(|read| read == index)
     }
 
-    /// Whether the session may set the mode in the slot.
+    /// Whether `session` may set `mode` for `tag` in its slot at `place`.
     fn may_set_slot(&self, session: SessionId, place: usize, tag: Tag, mode: Mode) -> bool
         requires shown { ShowsSafe self.now }
         ensures { result ≡ may_set_slot self.now session place tag mode }
@@ -192,7 +192,7 @@ impl Machine {
             )
     }
 
-    /// Whether the session may clear the mode in the slot.
+    /// Whether `session` may clear `mode` for `tag` in its slot at `place`.
     fn may_clear_slot(&self, session: SessionId, place: usize, tag: Tag, mode: Mode) -> bool
         ensures { result ≡ may_clear_slot self.now session place tag mode }
     {
@@ -203,7 +203,7 @@ impl Machine {
             && self.fast_path.slots[index][place].shows(tag.relation_number(), mode)
     }
 
-    /// Whether the session may store its database.
+    /// Whether `session` may store its database.
     fn may_store_database(&self, session: SessionId) -> bool
         ensures { result ≡ may_store_database self.now session }
     {

@@ -49,7 +49,7 @@ pub struct Locks {
     pub partition_sharers: [[bool; 64]; 16],
 }
 
-/// Whether the session has a mark of any lock.
+/// Whether `session` has a mark of any lock.
 pub fn has_a_mark(marks: &[[bool; 64]], session: SessionId) -> bool
     ensures { result ≡ has_a_mark session marks.now }
 {
@@ -195,7 +195,8 @@ impl Machine {
     ghost use Rattle.lock_table.specs.Parts.{contents_in};
     ghost use Rattle.modes_core.specs.Tag.{partition_of};
 
-    /// The machine that shows the opening World, with so many groups of slots.
+    /// The machine that shows the opening World, with `groups` groups of slots. Refused only where memory, by
+    /// `alloc`, ran out.
     pub fn new(alloc: Global, groups: u8) -> Result<Self, NoMemory>
         requires some { 0 < groups }
         ensures { IfOk result (λ machine. Shows machine (opening 64 groups)) }
@@ -231,7 +232,7 @@ impl Machine {
         })
     }
 
-    /// Whether the session makes steps of its own: it is live, and no other session keeps it apart.
+    /// Whether `session` makes steps of its own: it is live, and no other session keeps it apart.
     pub fn makes_steps(&self, session: SessionId) -> bool
         ensures { result ≡ makes_steps self.now session }
     {
@@ -239,7 +240,7 @@ impl Machine {
         self.numbers.live[index] && self.numbers.kept_by[index].is_none()
     }
 
-    /// Makes the event's step, where it is lawful.
+    /// Makes the step of `event`, where it is lawful.
     pub fn step(&mut self, event: Event) -> Result<(), NoMemory>
         requires shown { ShowsSafe self.old }
         ensures { OnOk result (Follows self.old event.session event.step self.new) }

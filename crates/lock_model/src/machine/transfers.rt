@@ -11,9 +11,9 @@ impl Machine {
     ghost use Rattle.lock_model.specs.Shows.{Shows, ShowsSafe, Follows};
     ghost use Rattle.lock_model.specs.Transfers.{is_in_slot, may_transfer};
 
-    /// Moves a mode that the owner's slot has to the object's content in hand, where the owner is next on the way of
-    /// the strong lock and the lock of its slots is held (the inner loop of `FastPathTransferRelationLocks` in lock.c).
-    /// After `NoMemory` the machine shows what it showed.
+    /// Moves `mode`, which the slot `slot` of `owner` has, to the content of `tag` in the hand of `session`, where
+    /// the owner is next on the way of the strong lock and the lock of its slots is held (the inner loop of
+    /// `FastPathTransferRelationLocks` in lock.c). After `NoMemory` the machine shows what it showed.
     pub fn transfer_slot(
         &mut self,
         session: SessionId,
@@ -57,7 +57,7 @@ impl Machine {
         Ok(())
     }
 
-    /// Whether the session may move the mode out of the owner's slot, where it has the partition in hand.
+    /// Whether `session` may move `mode` out of the slot of `owner` at `place`, where it has the partition in hand.
     fn may_transfer(
         &self,
         session: SessionId,
@@ -74,7 +74,7 @@ impl Machine {
             && self.is_in_slot(owner, place, tag, mode)
     }
 
-    /// Whether the owner's slot shows that it holds the mode on the object.
+    /// Whether the slot of `owner` shows that it holds `mode` on `tag`.
     fn is_in_slot(&self, owner: SessionId, place: usize, tag: Tag, mode: Mode) -> bool
         ensures { result ≡ is_in_slot self.now owner place tag mode }
     {

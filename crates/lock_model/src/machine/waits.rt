@@ -21,7 +21,7 @@ impl Machine {
     ghost use Rattle.lock_model.specs.CountedLists.{counted_for};
     ghost use Rattle.lock_model.specs.Shows.{ShowsSafe, Follows, FollowsMarking, IsWaking, IsOwnFor, CannotMake, makes_steps, hand_of};
 
-    /// Asks the other session, whoever it is, to cancel: bit 2 of its wait word is set.
+    /// Asks `other`, whoever it is, to cancel: bit 2 of its wait word is set.
     pub fn ask_cancel(&mut self, session: SessionId, other: SessionId)
         ensures { Follows self.old session (Step.AskCancel other) self.new }
     {
@@ -31,7 +31,8 @@ impl Machine {
         }
     }
 
-    /// Loads its own wait word: where it shows that the wait was granted, the session has seen it.
+    /// Loads the wait word of `session`, which must show `shown`: where it shows that the wait was granted, the
+    /// session has seen it.
     pub fn load_wait(&mut self, session: SessionId, shown: u8)
         ensures { Follows self.old session (Step.LoadWait shown) self.new }
     {
@@ -41,7 +42,7 @@ impl Machine {
         }
     }
 
-    /// Joins the object's queue, and sets its own wait word to waiting.
+    /// Puts `session` into the queue of `tag` as a wait for `mode`, and sets its wait word to waiting.
     pub fn set_waiting(&mut self, session: SessionId, tag: Tag, mode: Mode) -> Result<(), NoMemory>
         requires shown { ShowsSafe self.old }
         ensures { OnOk result (Follows self.old session (Step.SetWaiting tag mode) self.new) }
@@ -63,7 +64,7 @@ impl Machine {
         self.join_now(session, tag, mode, hand, place)
     }
 
-    /// Marks the wait of the other session granted, by a release or a leave of the session's own.
+    /// Marks the wait of `other` granted, by `done`, a release or a leave that `session` makes.
     pub fn mark_granted(
         &mut self,
         session: SessionId,
@@ -86,8 +87,8 @@ impl Machine {
         }
     }
 
-    /// Clears its own wait word, where the session has seen its grant or has the partition in hand and its
-    /// wait is in the queue no more; with leaving, this step may take it out.
+    /// Clears the wait word of `session`, where it has seen its grant, or has the partition in hand and its wait is
+    /// in the queue no more. With `leaving`, this step may take the wait out.
     pub fn clear_wait(&mut self, session: SessionId, leaving: bool)
         requires shown { ShowsSafe self.old }
         ensures { Follows self.old session (Step.ClearWait leaving) self.new }
@@ -107,7 +108,7 @@ impl Machine {
         }
     }
 
-    /// Makes the join: the session's wait goes into the object's queue, at the place that it was answered.
+    /// Makes the join: the wait of `session` for `mode` goes into the queue of `tag`, at `place`.
     fn join_now(
         &mut self,
         session: SessionId,
@@ -137,7 +138,7 @@ impl Machine {
         Ok(())
     }
 
-    /// Marks the wait granted, of a session that waits, by a move in the partition.
+    /// Marks the wait of `other` granted, by the move `done` that `session` makes in `partition`.
     fn mark_in(
         &mut self,
         session: SessionId,
@@ -164,7 +165,8 @@ impl Machine {
         Ok(())
     }
 
-    /// Makes the move, where it grants the other session's wait, and marks that one first.
+    /// Makes the move `done` of `session` in `partition`, where it grants the wait of `other`, and marks that one
+    /// first.
     fn mark_first(
         &mut self,
         session: SessionId,
@@ -193,7 +195,7 @@ impl Machine {
         Ok(())
     }
 
-    /// Whether the session has the object's partition in hand, and no wait in the object's queue.
+    /// Whether `session` has the partition of `tag` in hand, and no wait in the object's queue.
     fn is_gone(&self, session: SessionId, tag: Tag) -> bool
         requires shown { ShowsSafe self.now }
         ensures { result ≡ (is_some (hand_of self.now session (partition_of tag))
@@ -206,7 +208,7 @@ impl Machine {
         }
     }
 
-    /// Takes the session's wait out of the object's queue, and clears its wait word. Where that leave stands
+    /// Takes the wait of `session` out of the queue of `tag`, and clears its wait word. Where that leave stands
     /// recorded already, it clears the word.
     fn leave_queue(&mut self, session: SessionId, tag: Tag)
         requires shown { ShowsSafe self.old }
@@ -232,7 +234,7 @@ impl Machine {
         }
     }
 
-    /// Makes the leave: takes the session's wait out of the object's queue, and clears its wait word.
+    /// Makes the leave: takes the wait of `session` out of the queue of `tag`, and clears its wait word.
     fn leave_now(&mut self, session: SessionId, tag: Tag, hand: InHand)
         requires shown { ShowsSafe self.old }
         requires awaited { (wait : Awaited)

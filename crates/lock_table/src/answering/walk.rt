@@ -20,15 +20,15 @@ pub struct Walk {
     pub ahead: ModeSet,
 }
 
-/// Whether the mode conflicts with one of these.
+/// Whether `mode` conflicts with one of `modes`.
 pub fn is_against(mode: Mode, modes: ModeSet) -> bool
     ensures { result ≡ conflicts_with_some mode (set_has modes) }
 {
     modes.meets(conflicts(mode))
 }
 
-/// Walks along the object's queue, from its front up to the first waiter whose mode conflicts with one
-/// of these (the loop over `waitProcs` of `ProcSleep` in proc.c).
+/// Walks along the queue of `tag`, from its front up to the first waiter whose mode conflicts with one of `modes`
+/// (the loop over `waitProcs` of `ProcSleep` in proc.c).
 #[inline(always)]
 pub fn walk_until<P: PartTable>(part: &P, tag: &Tag, modes: ModeSet) -> Walk
     ensures { WalksUntil (set_has modes) ((P.content part.now).waits tag.now) result }
@@ -53,7 +53,7 @@ pub fn walk_until<P: PartTable>(part: &P, tag: &Tag, modes: ModeSet) -> Walk
     }
 }
 
-/// The first waiter of the object's queue that awaits a mode in conflict with this one.
+/// The first waiter in the queue of `tag` that awaits a mode in conflict with `mode`.
 #[inline(always)]
 pub fn first_against<P: PartTable>(part: &P, tag: &Tag, mode: Mode) -> Option<Waiter>
     ensures { option_map shown_wait result ≡ first_waiter ((P.content part.now).waits tag.now) mode }

@@ -24,6 +24,7 @@ pub record MayCount (w : World) (session : ℕ) (tag : Tag) (mode : Mode) : Type
   pub new : is_counted (w.sessions.counted session) tag mode ≡ false
   pub few : length (w.sessions.counted session) < most_counted
 
+-- the World once a strong lock is counted, past nobody
 abbrev pub after_counting : World → ℕ → Tag → Mode → World
 after_counting w session tag mode = record {
   words = record (w.words) { strong = set_at w.words.strong (index_of tag) (w.words.strong (index_of tag) + 1) };
@@ -41,6 +42,7 @@ pub record MayUncount (w : World) (session : ℕ) (tag : Tag) (mode : Mode) : Ty
   pub not_own : w.sessions.own session tag mode ≡ false
   pub not_awaited : is_for (w.sessions.awaited session) tag mode ≡ false
 
+-- the World once a strong lock is counted no more
 abbrev pub after_uncounting : World → ℕ → Tag → Mode → World
 after_uncounting w session tag mode = record {
   words = record (w.words) { strong = set_at w.words.strong (index_of tag) (w.words.strong (index_of tag) - 1) };
@@ -60,6 +62,7 @@ pub record MayPass (w : World) (session owner : ℕ) (tag : Tag) (mode : Mode) :
   pub next : is_at owner (w.sessions.counted session) tag mode ≡ true
   pub no_slot : (its : Mode) → slot_holds (w.words.database owner) (w.words.slot owner) tag its ≡ false
 
+-- the World once a counted lock is past one session more, whose slots' lock is put
 abbrev pub after_passing : World → ℕ → ℕ → Tag → Mode → World
 after_passing w session owner tag mode = record {
   words = record (w.words) { fast = set_at w.words.fast owner (put_word (w.words.fast owner)) };

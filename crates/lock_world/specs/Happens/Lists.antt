@@ -28,11 +28,13 @@ pub record MayLockList (numbers : Numbers) (word : ℕ) (has_list : ℕ → Opti
   pub unlocked : word / 2 ^ 28 % 2 ≡ 0
   pub no_list : has_list session ≡ None
 
+-- the World once the wait list of a partition's lock is in the session's hand
 abbrev pub after_locking_partition_list : World → ℕ → ℕ → World
 after_locking_partition_list w session partition =
     with_lists w (set_at w.words.partition partition (list_locked_word (w.words.partition partition))) w.words.fast (sleepers w)
     (set_at w.sessions.has_list session (Some (partition_lock partition)))
 
+-- the World once the wait list of the lock of a session's slots is in the session's hand
 abbrev pub after_locking_fast_list : World → ℕ → ℕ → World
 after_locking_fast_list w session owner =
     with_lists w w.words.partition (set_at w.words.fast owner (list_locked_word (w.words.fast owner))) (sleepers w)
@@ -49,6 +51,7 @@ after_unlocking_partition_list w session partition has_waiters release_ok =
     with_lists w (set_at w.words.partition partition (list_unlocked_word (w.words.partition partition) has_waiters release_ok)) w.words.fast
     (sleepers w) (set_at w.sessions.has_list session None)
 
+-- the World once the wait list of the lock of a session's slots is unlocked, with the flags that are to stay
 abbrev pub after_unlocking_fast_list : World → ℕ → ℕ → Bool → Bool → World
 after_unlocking_fast_list w session owner has_waiters release_ok =
     with_lists w w.words.partition (set_at w.words.fast owner (list_unlocked_word (w.words.fast owner) has_waiters release_ok))
@@ -63,6 +66,7 @@ pub record MayJoinList (w : World) (session lock : ℕ) : Type 0 where
   pub has : HasList w session lock
   pub idle : w.words.sleep session ≡ 0
 
+-- the World once the session stands last in the list in its hand
 abbrev pub after_joining_list : World → ℕ → ℕ → LwMode → World
 after_joining_list w session lock mode = with_sleepers w (after_joining (sleepers w) lock (record { session = session; mode = mode }))
 
@@ -72,6 +76,7 @@ pub record MayLeaveList (w : World) (session lock : ℕ) : Type 0 where
   pub stands : stands_in session (w.words.list lock) ≡ true
   pub waits : w.words.sleep session ≡ 1
 
+-- the World once the session is out of the list in its hand
 abbrev pub after_leaving_the_list : World → ℕ → ℕ → World
 after_leaving_the_list w session lock = with_sleepers w (after_leaving_list (sleepers w) lock session)
 
@@ -82,6 +87,7 @@ pub record MayTakeOff (w : World) (session other lock : ℕ) : Type 0 where
   pub stands : stands_in other (w.words.list lock) ≡ true
   pub waits : w.words.sleep other ≡ 1
 
+-- the World once another session is off the list in hand, to be told
 abbrev pub after_taking_off_the_list : World → ℕ → ℕ → ℕ → World
 after_taking_off_the_list w session other lock = with_sleepers w (after_taking_off (sleepers w) lock session other)
 
@@ -91,6 +97,7 @@ pub record MayTell (w : World) (session other : ℕ) : Type 0 where
   pub taken_off : w.sessions.off session other ≡ true
   pub untold : w.words.sleep other ≡ 2
 
+-- the World once a session that was taken off is told
 abbrev pub after_telling_one : World → ℕ → ℕ → World
 after_telling_one w session other = with_sleepers w (after_telling (sleepers w) session other)
 
@@ -99,6 +106,7 @@ pub record MayLoadSleep (w : World) (session shown : ℕ) : Type 0 where
   pub steps : MakesSteps w.numbers session
   pub is_word : shown ≡ w.words.sleep session
 
+-- the World once the session has loaded its sleep word
 abbrev pub after_loading_sleep : World → ℕ → ℕ → World
 after_loading_sleep w session shown = with_sleepers w (if shown == 0 then after_seeing_none (sleepers w) session else sleepers w)
 
@@ -117,6 +125,7 @@ abbrev pub after_flagging_partition : World → ℕ → ℕ → World
 after_flagging_partition w partition flagged =
     with_lists w (set_at w.words.partition partition flagged) w.words.fast (sleepers w) w.sessions.has_list
 
+-- the World once has-waiters is set in the word of the lock of a session's slots
 abbrev pub after_flagging_fast : World → ℕ → ℕ → World
 after_flagging_fast w owner flagged =
     with_lists w w.words.partition (set_at w.words.fast owner flagged) (sleepers w) w.sessions.has_list

@@ -34,6 +34,7 @@ after_taking_partition w session partition = record {
   numbers = w.numbers;
 }
 
+-- The partition is taken, where that is lawful.
 abbrev pub HappensTakingPartition : World → ℕ → ℕ → World → Type 0
 HappensTakingPartition w session partition v = MayTakePartition w session partition × (v ≡ after_taking_partition w session partition)
 
@@ -67,6 +68,7 @@ IsMadeByPutting (Release tag mode) = Unit {0}
 IsMadeByPutting (Leave tag) = ⊥
 IsMadeByPutting (Adopt owner slot) = ⊥
 
+-- A partition may be put with a move that is made as it is put, which leaves this content.
 pub record MayPutPartition (w : World) (session partition : ℕ) (done : Move) (content : Content) : Type 0 where
   pub may_move : MayMove w session partition done [] content
   pub by_putting : IsMadeByPutting done
@@ -100,6 +102,7 @@ WaitIsOver awaited partition (Release tag mode) = Unit {0}
 WaitIsOver awaited partition (Leave tag) = (wait : OwnWait) → awaited ≡ Some wait → partition_of wait.tag ≢ partition
 WaitIsOver awaited partition (Adopt owner slot) = Unit {0}
 
+-- A partition may be put with the move that stands recorded.
 pub record MayPutRecorded (w : World) (session partition : ℕ) (done : Move) : Type 0 where
   pub steps : MakesSteps w.numbers session
   pub holding : w.sessions.holds_partition session partition ≡ true
@@ -111,6 +114,7 @@ pub record MayPutRecorded (w : World) (session partition : ℕ) (done : Move) : 
 abbrev pub after_putting_recorded : World → ℕ → ℕ → World
 after_putting_recorded w session partition = after_putting_partition w session partition Keep (w.contents.now partition)
 
+-- The partition is put, where that is lawful, in one of the two ways.
 abbrev pub HappensPuttingPartition : World → ℕ → ℕ → Move → World → Type 0
 HappensPuttingPartition w session partition done v =
     ((content : Content) × MayPutPartition w session partition done content

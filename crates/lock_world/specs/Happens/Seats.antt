@@ -11,6 +11,7 @@ pub record MayBeIssued (w : World) (session : ℕ) : Type 0 where
   pub next : session ≡ w.numbers.issued
   pub within : session < w.numbers.limit
 
+-- the World once a number is issued and live
 abbrev pub after_issuing : World → ℕ → World
 after_issuing w session = record {
   words = w.words;
@@ -23,6 +24,7 @@ after_issuing w session = record {
 abbrev pub MayGoOn : World → ℕ → Type 0
 MayGoOn w session = (joiner : ℕ) × (w.numbers.kept_by session ≡ Some joiner)
 
+-- the World once a session that was kept apart makes steps of its own again
 abbrev pub after_going_on : World → ℕ → World
 after_going_on w session = record {
   words = w.words;
@@ -31,6 +33,7 @@ after_going_on w session = record {
   numbers = record (w.numbers) { kept_by = set_at w.numbers.kept_by session None };
 }
 
+-- A seat is split, where that is lawful, in one of the two ways.
 abbrev pub HappensSplitting : World → ℕ → World → Type 0
 HappensSplitting w session v =
     (MayBeIssued w session × (v ≡ after_issuing w session)) ⊎ (MayGoOn w session × (v ≡ after_going_on w session))
@@ -46,6 +49,7 @@ pub record MayBeKeptApart (w : World) (session joiner : ℕ) : Type 0 where
   pub no_shared_word : (partition : ℕ) → w.sessions.shares_partition session partition ≡ false
   pub no_shared_fast_word : (owner : ℕ) → w.sessions.shares_fast session owner ≡ false
 
+-- the World once a session is kept apart by another one
 abbrev pub after_keeping_apart : World → ℕ → ℕ → World
 after_keeping_apart w session joiner = record {
   words = w.words;
@@ -84,6 +88,7 @@ after_closing w session = record {
   numbers = record (w.numbers) { live = set_at w.numbers.live session false };
 }
 
+-- A seat is joined to another one, or a session closes, where that is lawful.
 abbrev pub HappensJoining : World → ℕ → Option ℕ → World → Type 0
 HappensJoining w session (Some joiner) v = MayBeKeptApart w session joiner × (v ≡ after_keeping_apart w session joiner)
 HappensJoining w session None v = MayClose w session × (v ≡ after_closing w session)

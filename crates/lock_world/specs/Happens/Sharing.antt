@@ -28,11 +28,13 @@ after_sharing_partition w session partition = record {
   numbers = w.numbers;
 }
 
+-- The word of a partition is shared, where that is lawful.
 abbrev pub HappensSharingPartition : World → ℕ → ℕ → World → Type 0
 HappensSharingPartition w session partition v =
     (partition < 16) × MayShare w.numbers (w.words.partition partition) w.sessions.shares_partition session partition
     × (v ≡ after_sharing_partition w session partition)
 
+-- the World once the word of a partition is shared no more by the session
 abbrev pub after_unsharing_partition : World → ℕ → ℕ → World
 after_unsharing_partition w session partition = record {
   words = record (w.words) { partition = set_at w.words.partition partition (unshared_word (w.words.partition partition)) };
@@ -43,6 +45,7 @@ after_unsharing_partition w session partition = record {
   numbers = w.numbers;
 }
 
+-- The word of a partition is given back, where that is lawful.
 abbrev pub HappensUnsharingPartition : World → ℕ → ℕ → World → Type 0
 HappensUnsharingPartition w session partition v =
     MayUnshare w.numbers w.sessions.shares_partition session partition
@@ -61,11 +64,13 @@ after_sharing_fast w session owner = record {
   numbers = w.numbers;
 }
 
+-- The lock of a session's slots is shared, where that is lawful.
 abbrev pub HappensSharingFast : World → ℕ → ℕ → World → Type 0
 HappensSharingFast w session owner v =
     (owner < w.numbers.limit) × MayShare w.numbers (w.words.fast owner) w.sessions.shares_fast session owner
     × (v ≡ after_sharing_fast w session owner)
 
+-- the World once the lock of a session's slots is shared no more by the session
 abbrev pub after_unsharing_fast : World → ℕ → ℕ → World
 after_unsharing_fast w session owner = record {
   words = record (w.words) { fast = set_at w.words.fast owner (unshared_word (w.words.fast owner)) };
@@ -76,6 +81,7 @@ after_unsharing_fast w session owner = record {
   numbers = w.numbers;
 }
 
+-- The lock of a session's slots is given back, where that is lawful.
 abbrev pub HappensUnsharingFast : World → ℕ → ℕ → World → Type 0
 HappensUnsharingFast w session owner v =
     MayUnshare w.numbers w.sessions.shares_fast session owner × (v ≡ after_unsharing_fast w session owner)

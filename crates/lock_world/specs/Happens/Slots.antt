@@ -25,6 +25,7 @@ abbrev pub remembered_after_taking : (ℕ → ℕ → ℕ) → (ℕ → ℕ → 
 remembered_after_taking remembered slot session owner =
     if owner == session then set_at remembered session (slot owner) else remembered
 
+-- the World once the lock of a session's slots is held
 abbrev pub after_taking_fast : World → ℕ → ℕ → World
 after_taking_fast w session owner = record {
   words = record (w.words) { fast = set_at w.words.fast owner (taken_word (w.words.fast owner)) };
@@ -36,6 +37,7 @@ after_taking_fast w session owner = record {
   numbers = w.numbers;
 }
 
+-- The lock of a session's slots is taken, where that is lawful.
 abbrev pub HappensTakingFast : World → ℕ → ℕ → World → Type 0
 HappensTakingFast w session owner v = MayTakeFast w session owner × (v ≡ after_taking_fast w session owner)
 
@@ -44,9 +46,11 @@ pub record MayPutFast (w : World) (session owner : ℕ) : Type 0 where
   pub steps : MakesSteps w.numbers session
   pub holding : w.sessions.holds_fast session owner ≡ true
 
+-- the counters read as 0 once a lock of slots is put: none of a session that puts its own
 abbrev pub zero_after_putting : (ℕ → Option ℕ) → ℕ → ℕ → ℕ → Option ℕ
 zero_after_putting zero session owner = if owner == session then set_at zero session None else zero
 
+-- the World once the lock of a session's slots is put
 abbrev pub after_putting_fast : World → ℕ → ℕ → World
 after_putting_fast w session owner = record {
   words = record (w.words) { fast = set_at w.words.fast owner (put_word (w.words.fast owner)) };
@@ -58,6 +62,7 @@ after_putting_fast w session owner = record {
   numbers = w.numbers;
 }
 
+-- The lock of a session's slots is put, where that is lawful.
 abbrev pub HappensPuttingFast : World → ℕ → ℕ → World → Type 0
 HappensPuttingFast w session owner v = MayPutFast w session owner × (v ≡ after_putting_fast w session owner)
 
@@ -67,6 +72,7 @@ pub record MayLoad (w : World) (session : ℕ) (word : Word) (shown : ℕ) : Typ
   pub exists : WordExists w.numbers.groups word
   pub is_shown : shown ≡ word_in w.words word
 
+-- the World once a word is loaded: the trace has one entry more
 abbrev pub after_loading : World → ℕ → Word → ℕ → World
 after_loading w session word shown = record {
   words = w.words;
@@ -81,6 +87,7 @@ abbrev pub zero_after_reading : (ℕ → Option ℕ) → (ℕ → ℕ → Bool) 
 zero_after_reading zero holds_fast session index shown =
     if (shown == 0) && holds_fast session session then set_at zero session (Some index) else zero
 
+-- the World once a strong lock counter is loaded, and kept where it is 0 and the lock of the own slots is held
 abbrev pub after_reading_counter : World → ℕ → ℕ → ℕ → World
 after_reading_counter w session index shown = record {
   words = w.words;
@@ -104,6 +111,7 @@ pub record MaySetSlot (w : World) (session place : ℕ) (tag : Tag) (mode : Mode
   pub new : w.sessions.own session tag mode ≡ false
   pub takes : IsSlotToGrant w.numbers.groups (w.words.slot session) (relation_of tag) place
 
+-- the World once a mode is set in the session's slot
 abbrev pub after_setting_slot : World → ℕ → ℕ → Tag → Mode → World
 after_setting_slot w session place tag mode = record {
   words = record (w.words) {
@@ -125,6 +133,7 @@ pub record MayClearSlot (w : World) (session place : ℕ) (tag : Tag) (mode : Mo
   pub holding : w.sessions.holds_fast session session ≡ true
   pub held_in : IsHeldIn (w.words.database session) (w.words.slot session) tag mode place
 
+-- the World once a mode is cleared in the session's slot
 abbrev pub after_clearing_slot : World → ℕ → ℕ → Tag → Mode → World
 after_clearing_slot w session place tag mode = record {
   words = record (w.words) {
@@ -146,6 +155,7 @@ pub record MayStoreDatabase (w : World) (session : ℕ) : Type 0 where
   pub unset : w.words.database session ≡ 0
   pub unused : NoSlotInUse (w.words.slot session)
 
+-- the World once the session's database is stored
 abbrev pub after_storing_database : World → ℕ → ℕ → World
 after_storing_database w session database = record {
   words = record (w.words) { database = set_at w.words.database session database };

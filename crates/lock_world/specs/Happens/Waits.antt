@@ -32,6 +32,7 @@ pub record MayLoadWait (w : World) (session shown : ℕ) : Type 0 where
   pub steps : MakesSteps w.numbers session
   pub is_word : shown ≡ w.words.wait session
 
+-- the World once the session has loaded its wait word
 abbrev pub after_loading_wait : World → ℕ → ℕ → World
 after_loading_wait w session shown = record {
   words = w.words;
@@ -68,6 +69,7 @@ after_setting_waiting w session tag mode content = record {
   numbers = w.numbers;
 }
 
+-- The session sets its wait word to waiting and joins the queue, where that is lawful.
 abbrev pub HappensSetting : World → ℕ → Tag → Mode → World → Type 0
 HappensSetting w session tag mode v =
     (content : Content) × MayMove w session (partition_of tag) (Join tag mode) [] content
@@ -79,11 +81,13 @@ pub record MayMark (w : World) (session other : ℕ) : Type 0 where
   pub another : other ≢ session
   pub waiting : wait_state (w.words.wait other) ≡ 1
 
+-- The first of those whom a move grants may be marked, by which the move is made and recorded.
 pub record MayMarkFirst (w : World) (session other partition : ℕ) (done : Move) (granted : List Wait) (content : Content) : Type 0 where
   pub may_move : MayMove w session partition done granted content
   pub may_mark : MayMark w session other
   pub among : waits_there granted other ≡ true
 
+-- the World once the move is made and recorded, and the first wait is marked
 abbrev pub after_marking_first : World → ℕ → ℕ → ℕ → Move → List Wait → Content → World
 after_marking_first w session other partition done granted content = record {
   words = record (w.words) { wait = set_at w.words.wait other (granted_word (w.words.wait other)) };
@@ -95,6 +99,7 @@ after_marking_first w session other partition done granted content = record {
   numbers = w.numbers;
 }
 
+-- One more of those whom the recorded move granted may be marked.
 pub record MayMarkNext (w : World) (session other partition : ℕ) (done : Move) : Type 0 where
   pub steps : MakesSteps w.numbers session
   pub holding : w.sessions.holds_partition session partition ≡ true
@@ -102,6 +107,7 @@ pub record MayMarkNext (w : World) (session other partition : ℕ) (done : Move)
   pub may_mark : MayMark w session other
   pub is_unmarked_in : is_unmarked (w.contents.hand partition) other ≡ true
 
+-- the World once one more wait is marked
 abbrev pub after_marking_next : World → ℕ → ℕ → Move → World
 after_marking_next w other partition done = record {
   words = record (w.words) { wait = set_at w.words.wait other (granted_word (w.words.wait other)) };
@@ -113,6 +119,7 @@ after_marking_next w other partition done = record {
   numbers = w.numbers;
 }
 
+-- A wait is marked by a move in the partition, where that is lawful, in one of the two ways.
 abbrev pub HappensMarkingIn : World → ℕ → ℕ → ℕ → Move → World → Type 0
 HappensMarkingIn w session other partition done v =
     ((granted : List Wait) × (content : Content) × MayMarkFirst w session other partition done granted content
@@ -135,6 +142,7 @@ pub record MayClearSeen (w : World) (session : ℕ) (wait : OwnWait) : Type 0 wh
   pub is_wait : w.sessions.awaited session ≡ Some wait
   pub seen : w.sessions.seen session ≡ true
 
+-- The session may clear its wait word, with the partition in hand and its wait no more in the queue.
 pub record MayClearInHand (w : World) (session : ℕ) (wait : OwnWait) : Type 0 where
   pub steps : MakesSteps w.numbers session
   pub is_wait : w.sessions.awaited session ≡ Some wait
@@ -147,6 +155,7 @@ taken_over w session wait =
     if w.sessions.seen session || (w.contents.now (partition_of wait.tag)).holds session wait.tag wait.mode
     then set_hold w.sessions.own session wait.tag wait.mode true else w.sessions.own
 
+-- the World once the session's wait is over
 abbrev pub after_clearing : World → ℕ → OwnWait → World
 after_clearing w session wait = record {
   words = record (w.words) { wait = set_at w.words.wait session 0 };
@@ -164,6 +173,7 @@ pub record MayLeave (w : World) (session : ℕ) (wait : OwnWait) (granted : List
   pub is_wait : w.sessions.awaited session ≡ Some wait
   pub may_move : MayMove w session (partition_of wait.tag) (Leave wait.tag) granted content
 
+-- the World once the session's wait is out of the queue, and over
 abbrev pub after_leaving : World → ℕ → OwnWait → List Wait → Content → World
 after_leaving w session wait granted content = record {
   words = record (w.words) { wait = set_at w.words.wait session 0 };

@@ -7,12 +7,12 @@ use std::process::Abort;
 /// What a request for a mode is answered.
 pub type Answer = Result<Acquired, Refusal>;
 
-/// A request was to be answered this.
+/// Ends the test where `answer`, to a request, isn't `expected`.
 pub fn expect_answer<R: Abort>(rt: &R, answer: Answer, expected: Answer) {
     assert_eq!(rt; answer, expected);
 }
 
-/// What was done was to be a request that is answered this.
+/// Ends the test where what was done isn't a request that is answered `expected`.
 pub fn expect_acted<R: Abort>(rt: &R, answer: Option<Answer>, expected: Answer) {
     match answer {
         Some(answer) => expect_answer(rt, answer, expected),
@@ -20,7 +20,7 @@ pub fn expect_acted<R: Abort>(rt: &R, answer: Option<Answer>, expected: Answer) 
     }
 }
 
-/// A look for waiters was to see this.
+/// Ends the test where a look for waiters didn't see `expected`.
 pub fn expect_seen<R: Abort>(
     rt: &R,
     answer: Result<bool, Refusal>,
@@ -29,24 +29,24 @@ pub fn expect_seen<R: Abort>(
     assert!(rt; answer == expected);
 }
 
-/// So it was to be with this mode.
+/// Ends the test unless `is_right`, and names `what` was wrong with `mode` on `tag`.
 fn expect_with<R: Abort>(rt: &R, is_right: bool, tag: Tag, mode: Mode, what: &str) {
     assert!(rt; is_right, "{mode} of {tag} is {what}");
 }
 
-/// A request was to be granted.
+/// Ends the test where a request for `mode` on `tag` wasn't granted.
 pub fn expect_granted<R: Abort>(rt: &R, answer: Answer, tag: Tag, mode: Mode) {
     let is_granted = answer == Ok(Acquired::Granted);
     expect_with(rt, is_granted, tag, mode, "taken");
 }
 
-/// A release was to be the last one of its mode.
+/// Ends the test where a release of `mode` on `tag` wasn't the last one of the mode.
 pub fn expect_released<R: Abort>(rt: &R, answer: Result<Unlocked, Refusal>, tag: Tag, mode: Mode) {
     let is_released = answer == Ok(Unlocked::Released);
     expect_with(rt, is_released, tag, mode, "given back");
 }
 
-/// A listing was to have so many rows of slots, and so many of the table.
+/// Ends the test where `listing` hasn't `fast` rows of slots and `table` rows of the table.
 pub fn expect_rows<R: Abort>(rt: &R, listing: &Listing, fast: usize, table: usize) {
     assert_eq!(rt; listing.fast.len(), fast);
     assert_eq!(rt; listing.table.len(), table);

@@ -33,7 +33,8 @@ struct Ring {
     waiter: SessionId,
 }
 
-/// What the one that waits was answered fits what it has.
+/// Ends the test where `answer`, to the session that waits, doesn't fit `count`, how often it has the mode, and
+/// notes in `wins` which side won.
 fn expect_fit<R: Abort>(rt: &R, wins: &Wins, answer: Answer, count: u16) {
     match answer {
         Ok(Acquired::Granted) => wins.first(),
@@ -43,7 +44,7 @@ fn expect_fit<R: Abort>(rt: &R, wins: &Wins, answer: Answer, count: u16) {
     assert_eq!(rt; count, u16::from(answer.is_ok()));
 }
 
-/// The one that waits: it sleeps until it is granted or asked to cancel.
+/// Plays the session that waits: it sleeps until it is granted or asked to cancel.
 fn wait_or_leave<T: PartTable, B: Board<T>, R: Abort + Wait>(
     rt: &R,
     ring: &Ring,
@@ -57,7 +58,7 @@ fn wait_or_leave<T: PartTable, B: Board<T>, R: Abort + Wait>(
     session.commit(rt);
 }
 
-/// The holder gives back.
+/// Plays the holder, which gives back in round `round`.
 fn release<T: PartTable, B: Board<T>, R: Abort + Wait>(
     rt: &R,
     ring: &Ring,
@@ -71,7 +72,7 @@ fn release<T: PartTable, B: Board<T>, R: Abort + Wait>(
     give_back(rt, session, Mode::AccessExclusive);
 }
 
-/// The third one asks to cancel.
+/// Plays the third session, which asks to cancel in round `round`.
 fn ask<T: PartTable, B: Board<T>, R: Wait>(
     rt: &R,
     ring: &Ring,
@@ -85,7 +86,7 @@ fn ask<T: PartTable, B: Board<T>, R: Wait>(
     session.ask_cancel(ring.waiter);
 }
 
-/// The holder takes what the one that waits is to wait for.
+/// Takes with `session`, where `number` says that it is the holder, what the one that waits is to wait for.
 fn prepare<T: PartTable, B: Board<T>, R: Abort + Wait>(
     rt: &R,
     session: &mut OwnSession<T, B>,
@@ -98,7 +99,7 @@ fn prepare<T: PartTable, B: Board<T>, R: Abort + Wait>(
     }
 }
 
-/// What the session of this number does in a round.
+/// Does what the session numbered `number` does in round `round`.
 fn act<T: PartTable, B: Board<T>, R: Abort + Wait>(
     rt: &R,
     ring: &Ring,
@@ -115,7 +116,7 @@ fn act<T: PartTable, B: Board<T>, R: Abort + Wait>(
     }
 }
 
-/// A round of that session.
+/// Plays round `round` of the session numbered `number`.
 fn play_round<T: PartTable, B: Board<T>, R: Abort + Wait>(
     rt: &R,
     ring: &Ring,
@@ -131,7 +132,7 @@ fn play_round<T: PartTable, B: Board<T>, R: Abort + Wait>(
     ring.all.come(rt, 3);
 }
 
-/// All rounds of a session.
+/// Plays all rounds of `session`.
 fn play<T: PartTable, B: Board<T>, R: Abort + Wait>(
     rt: &R,
     ring: &Ring,
@@ -145,7 +146,7 @@ fn play<T: PartTable, B: Board<T>, R: Abort + Wait>(
     }
 }
 
-/// Each in a thread of its own.
+/// Plays all rounds of all `sessions`, each in a thread of its own.
 fn play_side_by_side<B: Board<Part> + Send, R: Abort + Threads + Wait + Sync>(
     rt: &R,
     ring: &Ring,
@@ -157,7 +158,7 @@ fn play_side_by_side<B: Board<Part> + Send, R: Abort + Threads + Wait + Sync>(
     for_each_mut(rt, sessions, threads, &|_, session| play(rt, ring, session));
 }
 
-/// Three sessions race so, round after round. Both ends of the wait come about.
+/// Has three sessions race, round after round. Both ends of the wait come about.
 pub fn race_three<B: Board<Part> + Send, R: Abort + Threads + Wait + Sync + Print>(
     rt: &R,
     sessions: &mut [OwnSession<Part, B>],
@@ -177,7 +178,7 @@ pub fn race_three<B: Board<Part> + Send, R: Abort + Threads + Wait + Sync + Prin
         .expect_both(rt, "a release against a request to cancel");
 }
 
-/// Those of a desk do.
+/// Has three sessions of `desk` race for `rounds` rounds.
 pub fn race_at<
     B: Board<Part> + Send,
     D: Desk<OwnSession<Part, B>>,

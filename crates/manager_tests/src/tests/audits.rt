@@ -24,7 +24,7 @@ use std::sync::Wait;
 /// How many sessions there are.
 pub const SESSIONS: u32 = 3;
 
-/// The object of this number: relations of the sessions' database, but for 0, which is no relation.
+/// The tag of the object numbered `number`: relations of the sessions' database, but for 0, which is no relation.
 fn tag(number: u32) -> Tag {
     if number == 0 {
         Tag::object(5, 1_259, 16_384, 0)
@@ -66,7 +66,7 @@ const COMMITTED: Numbers = (3, 3, 2);
 
 pub const NOTHING: Numbers = (0, 0, 0);
 
-/// The session takes the mode, at the second attempt where there was no memory.
+/// Takes `tag` in `mode` for `owner` with `session`, at the second attempt where there was no memory.
 fn take<T: PartTable, B: Board<T>, R: Abort + Wait>(
     rt: &R,
     session: &mut OwnSession<T, B>,
@@ -83,7 +83,7 @@ fn take<T: PartTable, B: Board<T>, R: Abort + Wait>(
     expect_granted(rt, answer, tag, mode);
 }
 
-/// It takes all that is for its place.
+/// Takes with `session` all that is for the session at `place`.
 fn take_each<T: PartTable, B: Board<T>, R: Abort + Wait>(
     rt: &R,
     session: &mut OwnSession<T, B>,
@@ -99,7 +99,7 @@ fn take_each<T: PartTable, B: Board<T>, R: Abort + Wait>(
     }
 }
 
-/// An audit was to count these.
+/// Ends the test where an audit didn't count `expected`.
 fn expect_counted<R: Abort>(rt: &R, counted: Result<Audit, Refusal>, expected: Numbers) {
     let (fast, table, strong) = expected;
     let expected = Audit {
@@ -110,7 +110,7 @@ fn expect_counted<R: Abort>(rt: &R, counted: Result<Audit, Refusal>, expected: N
     assert_eq!(rt; counted, Ok(expected));
 }
 
-/// Lends all open sessions, and counts.
+/// Lends all open `sessions` to an audit at `desk`, and answers what it counts.
 fn audit<T: PartTable, B: Board<T>, D: Desk<OwnSession<T, B>>, R: Abort + Wait>(
     rt: &R,
     desk: &mut D,
@@ -127,7 +127,8 @@ fn audit<T: PartTable, B: Board<T>, D: Desk<OwnSession<T, B>>, R: Abort + Wait>(
     desk.audit(rt, sessions)
 }
 
-/// An audit counts these, at the second attempt where there was no memory, since after the first one all is as before.
+/// Ends the test where an audit doesn't count `expected`, at the second attempt where there was no memory, since
+/// after the first one all is as before.
 pub fn count<T: PartTable, B: Board<T>, D: Desk<OwnSession<T, B>>, R: Abort + Wait>(
     rt: &R,
     desk: &mut D,
@@ -148,7 +149,7 @@ pub fn count<T: PartTable, B: Board<T>, D: Desk<OwnSession<T, B>>, R: Abort + Wa
     expect_counted(rt, counted, expected);
 }
 
-/// Opens the session at this place, which takes what is for it.
+/// Opens the session at `place`, which takes what is for it.
 fn open_and_take<T: PartTable, B: Board<T>, D: Desk<OwnSession<T, B>>, R: Abort + Wait>(
     rt: &R,
     desk: &mut D,
@@ -169,7 +170,7 @@ fn open_and_take<T: PartTable, B: Board<T>, D: Desk<OwnSession<T, B>>, R: Abort 
     count(rt, desk, sessions, TAKEN[place]);
 }
 
-/// Opens all sessions, with an audit after each.
+/// Opens all sessions of `desk`, with an audit after each.
 fn open_each<T: PartTable, B: Board<T>, D: Desk<OwnSession<T, B>>, R: Abort + Wait>(
     rt: &R,
     alloc: Global,
@@ -188,7 +189,8 @@ fn open_each<T: PartTable, B: Board<T>, D: Desk<OwnSession<T, B>>, R: Abort + Wa
     sessions
 }
 
-/// The transactions of all sessions end, the last one first, with an audit after it.
+/// Ends the transactions of all `sessions`, the last one first, by a commit where `is_good`, otherwise by an abort.
+/// Ends the test where an audit doesn't count `expected` after that.
 pub fn end_each<T: PartTable, B: Board<T>, D: Desk<OwnSession<T, B>>, R: Abort + Wait>(
     rt: &R,
     alloc: Global,
@@ -218,7 +220,7 @@ pub fn end_each<T: PartTable, B: Board<T>, D: Desk<OwnSession<T, B>>, R: Abort +
     ended
 }
 
-/// Three sessions of a desk take modes, commit, and abort, and an audit counts each time what they have.
+/// Has three sessions of `desk` take modes, commit, and abort, and an audit count each time what they have.
 pub fn audit_often<T: PartTable, B: Board<T>, D: Desk<OwnSession<T, B>>, R: Abort + Wait>(
     rt: &R,
     alloc: Global,
@@ -234,12 +236,12 @@ pub fn audit_often<T: PartTable, B: Board<T>, D: Desk<OwnSession<T, B>>, R: Abor
     close_sessions(rt, desk, sessions);
 }
 
-/// How many of the rows are of holds.
+/// How many of `rows` are of holds.
 fn granted_in(rows: &[TableRow]) -> u64 {
     rows.iter().filter(|row| row.granted).count() as u64
 }
 
-/// What is listed, and how much is counted at all strong lock counters.
+/// How much `listing` shows, and `strong`, how much is counted at all strong lock counters.
 fn numbers_of(listing: &Listing, strong: u64) -> Numbers {
     (
         listing.fast.len() as u64,
@@ -248,7 +250,7 @@ fn numbers_of(listing: &Listing, strong: u64) -> Numbers {
     )
 }
 
-/// The sum of all strong lock counters, as the session sees them.
+/// The sum of all strong lock counters, as `session` sees them.
 fn sum_counters<T: PartTable, B: Board<T>>(session: &mut OwnSession<T, B>) -> u64
     ensures seat { B.seat session.new.board ≡ B.seat session.old.board }
 {
@@ -259,7 +261,7 @@ fn sum_counters<T: PartTable, B: Board<T>>(session: &mut OwnSession<T, B>) -> u6
     sum
 }
 
-/// A listing, at the second attempt where there was no memory.
+/// A listing by `session`, at the second attempt where there was no memory.
 fn list_at_last<T: PartTable, B: Board<T>, R: Abort + Wait>(
     rt: &R,
     session: &mut OwnSession<T, B>,
@@ -272,7 +274,7 @@ fn list_at_last<T: PartTable, B: Board<T>, R: Abort + Wait>(
     }
 }
 
-/// What the session sees of all.
+/// What `session` sees of all.
 fn look<T: PartTable, B: Board<T>, R: Abort + Wait>(
     rt: &R,
     session: &mut OwnSession<T, B>,
@@ -284,7 +286,7 @@ fn look<T: PartTable, B: Board<T>, R: Abort + Wait>(
     numbers_of(&listing, strong)
 }
 
-/// What the last of these sessions sees of all.
+/// What the last of `sessions` sees of all.
 fn look_last<T: PartTable, B: Board<T>, D: Desk<OwnSession<T, B>>, R: Abort + Wait>(
     rt: &R,
     desk: &D,
@@ -302,7 +304,8 @@ fn look_last<T: PartTable, B: Board<T>, D: Desk<OwnSession<T, B>>, R: Abort + Wa
     seen
 }
 
-/// An audit counts what the last of these sessions sees, and all are closed. No other session is open.
+/// Ends the test where an audit doesn't count what the last of `sessions` sees, and closes all of them. No other
+/// session is open.
 pub fn close_counted<T: PartTable, B: Board<T>, D: Desk<OwnSession<T, B>>, R: Abort + Wait>(
     rt: &R,
     desk: &mut D,

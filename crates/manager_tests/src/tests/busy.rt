@@ -15,7 +15,7 @@ use std::sync::Wait;
 use std::sync::atomic::{AtomicBool, Ordering};
 use std::thread::Threads;
 
-/// Whether the slots were found busy. Else the mode was granted, or a strong one counted.
+/// Whether `answer` says that the slots were found busy. Otherwise the mode was granted, or a strong one counted.
 fn is_busy<R: Abort>(rt: &R, answer: Answer) -> bool {
     match answer {
         Err(Refusal::Busy) => true,
@@ -24,8 +24,8 @@ fn is_busy<R: Abort>(rt: &R, answer: Answer) -> bool {
     }
 }
 
-/// Tries a weak mode by a slot, and gives it back. Whether the lock of the slots was found taken, which is not
-/// waited for.
+/// Tries a weak mode by a slot with `session`, and gives it back. Answers whether the lock of the slots was found
+/// taken, which is not waited for.
 fn find_busy<T: PartTable, B: Board<T>, R: Abort + Wait>(
     rt: &R,
     session: &mut OwnSession<T, B>,
@@ -40,7 +40,8 @@ fn find_busy<T: PartTable, B: Board<T>, R: Abort + Wait>(
     false
 }
 
-/// Does so until it was, and says so.
+/// Tries weak modes by a slot with `session` until the lock of its slots was found taken once, and sets `is_seen`
+/// then.
 pub fn try_until_busy<T: PartTable, B: Board<T>, R: Abort + Wait>(
     rt: &R,
     session: &mut OwnSession<T, B>,
@@ -56,7 +57,7 @@ pub fn try_until_busy<T: PartTable, B: Board<T>, R: Abort + Wait>(
     }
 }
 
-/// Takes a strong mode, for which the session has the slots' locks of all sessions in hand in turn, and gives it back.
+/// Takes a strong mode, for which `session` has the slots' locks of all sessions in hand in turn, and gives it back.
 fn go_past_slots<T: PartTable, B: Board<T>, R: Abort + Wait>(rt: &R, session: &mut OwnSession<T, B>)
     ensures seat { B.seat session.new.board ≡ B.seat session.old.board }
 {
@@ -64,7 +65,7 @@ fn go_past_slots<T: PartTable, B: Board<T>, R: Abort + Wait>(rt: &R, session: &m
     session.commit(rt);
 }
 
-/// Does so over and over, until the other one has seen it.
+/// Takes strong modes with `session` over and over, until `is_seen` is set.
 pub fn take_until_seen<T: PartTable, B: Board<T>, R: Abort + Wait>(
     rt: &R,
     session: &mut OwnSession<T, B>,
@@ -80,7 +81,8 @@ pub fn take_until_seen<T: PartTable, B: Board<T>, R: Abort + Wait>(
     }
 }
 
-/// One goes past the slots of the other, until that one finds them busy. At the end nothing stands.
+/// Has one session of `pair` go past the slots of the other, until that one finds them busy. At the end nothing
+/// stands.
 pub fn find_slots_busy<B: Board<Part> + Send, R: Abort + Threads + Wait + Sync>(
     rt: &R,
     pair: Pair<Part, B>,

@@ -23,7 +23,7 @@ static CONFLICTS: [[u8; 8]; 8] = [
     [1, 1, 1, 1, 1, 1, 1, 1],
 ];
 
-/// Whether the table has the two modes in conflict, which are given by their places in the order of numbers.
+/// Whether the server's table has the modes at the places `asked` and `held` in conflict.
 pub fn conflicts(asked: usize, held: usize) -> bool
     requires asked { asked < 8 }
     requires held { held < 8 }
@@ -31,7 +31,7 @@ pub fn conflicts(asked: usize, held: usize) -> bool
     CONFLICTS[asked][held] == 1
 }
 
-/// What a request is answered for one of two modes while another session has the other one, both given by their places.
+/// What a request for the mode at `asked` is answered while `session` has the one at `held`.
 fn expected(asked: usize, session: SessionId, held: usize) -> Answer
     requires asked { asked < 8 }
     requires held { held < 8 }
@@ -45,7 +45,8 @@ fn expected(asked: usize, session: SessionId, held: usize) -> Answer
     }
 }
 
-/// It was answered so.
+/// Ends the test where a request for the mode at `asked`, beside the one at `held` of `session`, wasn't answered
+/// `answer`.
 fn expect_beside<R: Abort>(rt: &R, answer: Answer, asked: usize, session: SessionId, held: usize)
     requires asked { asked < 8 }
     requires held { held < 8 }
@@ -54,7 +55,7 @@ fn expect_beside<R: Abort>(rt: &R, answer: Answer, asked: usize, session: Sessio
     assert!(rt; is_right, "{asked} beside {held}");
 }
 
-/// Asks for a mode and gives it back where it is granted.
+/// Asks for `tag` in `mode` with `asker`, and gives it back where it is granted.
 fn ask<T: PartTable, B: Board<T>, R: Abort + Wait>(
     rt: &R,
     asker: &mut OwnSession<T, B>,
@@ -71,7 +72,7 @@ fn ask<T: PartTable, B: Board<T>, R: Abort + Wait>(
     answer
 }
 
-/// Asks for each mode while another session has one, given by its place.
+/// Asks for each mode on `tag` while `session` has the one at `held`.
 fn ask_for_each<T: PartTable, B: Board<T>, R: Abort + Wait>(
     rt: &R,
     asker: &mut OwnSession<T, B>,
@@ -88,7 +89,7 @@ fn ask_for_each<T: PartTable, B: Board<T>, R: Abort + Wait>(
     }
 }
 
-/// One session takes each mode in turn, and the other asks for each while that is held.
+/// Takes each mode on `tag` in turn with `holder`, and asks for each with `asker` while that is held.
 pub fn ask_for_each_beside_each<T: PartTable, B: Board<T>, R: Abort + Wait>(
     rt: &R,
     holder: &mut OwnSession<T, B>,
@@ -108,7 +109,7 @@ pub fn ask_for_each_beside_each<T: PartTable, B: Board<T>, R: Abort + Wait>(
     }
 }
 
-/// Of an object and of a relation, each session beside the other.
+/// Asks for all modes on an object and on a relation, with each session of `pair` beside the other.
 pub fn ask_for_all<T: PartTable, B: Board<T>, R: Abort + Wait>(rt: &R, pair: &mut Pair<T, B>)
     ensures first { B.seat pair.new.first.board ≡ B.seat pair.old.first.board }
     ensures second { B.seat pair.new.second.board ≡ B.seat pair.old.second.board }

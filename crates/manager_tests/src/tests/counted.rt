@@ -150,7 +150,7 @@ static CALLS: [CountedCall; 26] = [
     (1, Held(TABLE), Modes(0), false),
 ];
 
-/// Makes the call at this place of the list.
+/// Makes the call at `place` of the list with `session`, and counts its steps.
 fn make_counted<T: PartTable, B: Board<T>, R: Abort + Wait>(
     rt: &R,
     session: &mut OwnSession<T, B>,
@@ -166,7 +166,7 @@ fn make_counted<T: PartTable, B: Board<T>, R: Abort + Wait>(
     assert_eq!(rt; steps.made() != before, is_step, "call {place}");
 }
 
-/// Makes them all.
+/// Makes all calls of the list with `session`, and counts their steps.
 fn make_all<T: PartTable, B: Board<T>, R: Abort + Wait>(
     rt: &R,
     session: &mut OwnSession<T, B>,
@@ -205,7 +205,8 @@ fn one_thread(alloc: Global) -> Result<OneThread<PlainPart>, Fail>
     }
 }
 
-/// Makes all of them in a session over this board, of which nothing was asked yet, and counts what is done on it.
+/// Makes all calls of the list in a session over `board`, of which nothing was asked yet, and counts what is done on
+/// it.
 fn make_all_over<T: PartTable, B: Board<T> + Drop, R: Abort + Wait>(
     rt: &R,
     alloc: Global,
@@ -228,7 +229,7 @@ fn make_all_over<T: PartTable, B: Board<T> + Drop, R: Abort + Wait>(
     Ok(())
 }
 
-/// The same over a board for one thread.
+/// Makes all calls of the list over a board for one thread.
 pub fn make_all_on_one_thread<R: Abort + Wait>(rt: &R, alloc: Global) -> Result<(), Fail> {
     make_all_over::<PlainPart, OneThread<PlainPart>, R>(rt, alloc, one_thread(alloc)?)
 }

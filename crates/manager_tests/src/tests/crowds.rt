@@ -54,12 +54,13 @@ impl Watch {
     }
 }
 
-/// The object of the session of this number: all lie in one partition, since their numbers are 16 apart.
+/// The tag of the object of the session numbered `number`: all lie in one partition, since their numbers are 16
+/// apart.
 fn own_object(number: u32) -> Tag {
     Tag::object(5, 1_259, 16 * (number % 1_024), 0)
 }
 
-/// Locks an object and unlocks it.
+/// Locks `tag` with `session` and unlocks it.
 fn lock_once<T: PartTable, B: Board<T>, R: Abort + Wait>(
     rt: &R,
     session: &mut OwnSession<T, B>,
@@ -73,7 +74,7 @@ fn lock_once<T: PartTable, B: Board<T>, R: Abort + Wait>(
     expect_released(rt, released, tag, Mode::Exclusive);
 }
 
-/// Does so over and over, once all have come, and tells the watchdog.
+/// Locks and unlocks with `session` over and over, once all have come, and shows it to the watchdog by `watch`.
 fn lock_often<T: PartTable, B: Board<T>, R: Abort + Wait>(
     rt: &R,
     session: &mut OwnSession<T, B>,
@@ -91,7 +92,7 @@ fn lock_often<T: PartTable, B: Board<T>, R: Abort + Wait>(
     watch.ended.fetch_or(1 << (number % 64), Ordering::SeqCst);
 }
 
-/// Each session does so in a thread of its own.
+/// Has each of `sessions` lock and unlock in a thread of its own.
 fn lock_side_by_side<B: Board<Part> + Send, R: Abort + Threads + Wait + Sync>(
     rt: &R,
     sessions: &mut [OwnSession<Part, B>],
@@ -108,7 +109,7 @@ fn lock_side_by_side<B: Board<Part> + Send, R: Abort + Threads + Wait + Sync>(
     );
 }
 
-/// The same, and that all is over is told.
+/// Has each of `sessions` lock and unlock in a thread of its own, and shows to the watchdog that all is over.
 fn lock_until_over<B: Board<Part> + Send, R: Abort + Threads + Wait + Sync>(
     rt: &R,
     sessions: &mut [OwnSession<Part, B>],
@@ -120,7 +121,7 @@ fn lock_until_over<B: Board<Part> + Send, R: Abort + Threads + Wait + Sync>(
     watch.is_over.store(true, Ordering::SeqCst);
 }
 
-/// The same under the watchdog.
+/// Has each of `sessions` lock and unlock in a thread of its own, under the watchdog.
 fn lock_watched<B: Board<Part> + Send, R: Abort + Clock + Threads + Wait + Sync>(
     rt: &R,
     sessions: &mut [OwnSession<Part, B>],
@@ -135,7 +136,7 @@ fn lock_watched<B: Board<Part> + Send, R: Abort + Clock + Threads + Wait + Sync>
     );
 }
 
-/// Looks until all is over. Where nobody goes on for too long it ends the test, and says what it saw.
+/// Looks at `watch` until all is over. Where nobody goes on for too long it ends the test, and says what it saw.
 fn guard<R: Abort + Clock + Wait>(rt: &R, watch: &Watch) {
     let mut seen = 0;
     let mut in_vain: u32 = 0;
@@ -159,7 +160,7 @@ fn guard<R: Abort + Clock + Wait>(rt: &R, watch: &Watch) {
     unreachable!()
 }
 
-/// As many sessions as there can be lock and unlock on one partition.
+/// Has all of `sessions`, as many as there can be, lock and unlock on one partition.
 pub fn crowd<B: Board<Part> + Send, R: Abort + Clock + Threads + Wait + Sync>(
     rt: &R,
     sessions: &mut [OwnSession<Part, B>],
@@ -172,7 +173,7 @@ pub fn crowd<B: Board<Part> + Send, R: Abort + Clock + Threads + Wait + Sync>(
     assert_eq!(rt; rounds, ALL);
 }
 
-/// Those of a desk do.
+/// Has as many sessions of `desk` as there can be lock and unlock on one partition.
 pub fn crowd_at<
     B: Board<Part> + Send,
     D: Desk<OwnSession<Part, B>>,

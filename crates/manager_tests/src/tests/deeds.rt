@@ -54,7 +54,7 @@ struct Shown {
 }
 
 impl Shown {
-    /// Nothing is done yet.
+    /// What two sides show in round `round`, of which nothing is done yet: `of_first` and `of_second` are to be.
     fn of(of_first: Deed, of_second: Deed, round: u32) -> Shown {
         Shown {
             deeds: (of_first, of_second),
@@ -66,7 +66,7 @@ impl Shown {
         }
     }
 
-    /// What the one on this side does.
+    /// What the session on `side` is to do.
     fn deed(&self, side: u32) -> Deed {
         if side == 0 {
             self.deeds.0
@@ -75,7 +75,7 @@ impl Shown {
         }
     }
 
-    /// The one on this side has ended.
+    /// Notes that the session on `side` has ended.
     fn end(&self, side: u32) {
         if self.ended.fetch_add(1, Ordering::SeqCst) == 0 {
             self.is_first_ahead.store(side == 0, Ordering::SeqCst);
@@ -93,7 +93,8 @@ pub struct Ended {
     pub is_first_ahead: bool,
 }
 
-/// Does what the one on this side does, once both have begun. What a request was answered, if it is one.
+/// Does with `session` what the one on `side` is to do, once both have begun. Answers what a request was answered,
+/// if it is one.
 fn act<T: PartTable, B: Board<T>, R: Abort + Wait>(
     rt: &R,
     shown: &Shown,
@@ -108,7 +109,7 @@ fn act<T: PartTable, B: Board<T>, R: Abort + Wait>(
     answer
 }
 
-/// Does it. What a request was answered, if it is one.
+/// Does `deed` with `session`. Answers what a request was answered, if it is one.
 fn do_deed<T: PartTable, B: Board<T>, R: Abort + Wait>(
     rt: &R,
     shown: &Shown,
@@ -150,7 +151,7 @@ fn do_deed<T: PartTable, B: Board<T>, R: Abort + Wait>(
     }
 }
 
-/// Two that are lent do something, the one beside the other.
+/// Has `first` and `second`, which are lent, do their deeds, the one beside the other.
 fn act_on_loan<B: Board<Part> + Send, R: Abort + Threads + Wait + Sync>(
     rt: &R,
     shown: &Shown,
@@ -172,7 +173,7 @@ fn act_on_loan<B: Board<Part> + Send, R: Abort + Threads + Wait + Sync>(
     }
 }
 
-/// Each of two sessions does something, the one beside the other, in this round of a race.
+/// Has each of two sessions of `pair` do its deed, the one beside the other, in round `round` of a race.
 pub fn race_side_by_side<B: Board<Part> + Send, R: Abort + Threads + Wait + Sync>(
     rt: &R,
     pair: Pair<Part, B>,
@@ -192,7 +193,7 @@ pub fn race_side_by_side<B: Board<Part> + Send, R: Abort + Threads + Wait + Sync
     (Pair { first, second }, ended)
 }
 
-/// The same by itself, and what each was answered.
+/// Has each of two sessions of `pair` do its deed, the one beside the other, and answers what each was answered.
 pub fn act_side_by_side<B: Board<Part> + Send, R: Abort + Threads + Wait + Sync>(
     rt: &R,
     pair: Pair<Part, B>,

@@ -12,7 +12,7 @@ use std::process::Abort;
 /// The database of all sessions.
 const DATABASE: u32 = 5;
 
-/// A session, at the second attempt where there was no memory.
+/// Opens a session at `desk`, at the second attempt where there was no memory.
 pub fn open<T: PartTable, B: Board<T>, D: Desk<OwnSession<T, B>>, R: Abort>(
     rt: &R,
     desk: &mut D,
@@ -28,7 +28,7 @@ pub fn open<T: PartTable, B: Board<T>, D: Desk<OwnSession<T, B>>, R: Abort>(
     }
 }
 
-/// Puts it behind the others, at the second attempt where there was no memory.
+/// Puts `session` behind the others of `list`, at the second attempt where there was no memory.
 pub fn append<S, R: Abort>(rt: &R, list: &mut Vec<S>, session: S)
     ensures { list.new.items ≡ list.old.items ++ session ∷ [] }
 {
@@ -41,7 +41,7 @@ pub fn append<S, R: Abort>(rt: &R, list: &mut Vec<S>, session: S)
     }
 }
 
-/// Opens a session, and puts it behind the others.
+/// Opens a session at `desk`, and puts it behind the others of `sessions`.
 fn open_behind<T: PartTable, B: Board<T>, D: Desk<OwnSession<T, B>>, R: Abort>(
     rt: &R,
     desk: &mut D,
@@ -58,7 +58,7 @@ fn open_behind<T: PartTable, B: Board<T>, D: Desk<OwnSession<T, B>>, R: Abort>(
     append(rt, sessions, session);
 }
 
-/// So many sessions, in the order of their numbers.
+/// Opens `number` sessions at `desk`, in the order of their numbers.
 pub fn open_many<T: PartTable, B: Board<T>, D: Desk<OwnSession<T, B>>, R: Abort>(
     rt: &R,
     alloc: Global,

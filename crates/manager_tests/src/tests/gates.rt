@@ -37,12 +37,13 @@ impl Gate {
         self.come.load(Ordering::SeqCst)
     }
 
-    /// Comes, and goes on once so many have come that meet here each time.
+    /// Comes to the gate, and goes on once `many` have come that meet here each time.
     pub fn come<R: Wait>(&self, rt: &R, many: u64) {
         self.wait(rt, many, SOON);
     }
 
-    /// The same, with so many looks before the processor is left to others.
+    /// Comes to the gate, and goes on once `many` have come, with `patience` looks before the processor is left to
+    /// others.
     fn wait<R: Wait>(&self, rt: &R, many: u64, patience: u64) {
         let before = self.come.fetch_add(1, Ordering::SeqCst);
         let all = match before.checked_rem(many) {
@@ -61,7 +62,7 @@ impl Gate {
         }
     }
 
-    /// Comes, and goes on after a pause, which is another one for each round and each of two sides.
+    /// Comes to the gate, and goes on after a pause, which is another one for each `round` and each `side`.
     pub fn pass<R: Wait>(&self, rt: &R, round: u32, side: u32) {
         self.wait(rt, 2, LATE);
         let number = pause(round, side);
@@ -76,7 +77,7 @@ impl Gate {
     }
 }
 
-/// A number for the pause of a side in a round.
+/// A number for the pause of `side` in `round`.
 fn pause(round: u32, side: u32) -> u64 {
     mixed(
         u64::from(round)
@@ -85,7 +86,7 @@ fn pause(round: u32, side: u32) -> u64 {
     )
 }
 
-/// A number that looks random, another one for each seed (splitmix).
+/// A number that looks random, another one for each `seed` (splitmix).
 pub fn mixed(seed: u64) -> u64 {
     let mixed = seed.wrapping_add(1).wrapping_mul(0x9E37_79B9_7F4A_7C15);
     let mixed = (mixed ^ mixed >> 30).wrapping_mul(0xBF58_476D_1CE4_E5B9);
@@ -117,7 +118,7 @@ impl Wins {
         self.second.fetch_add(1, Ordering::SeqCst);
     }
 
-    /// The first side won, or the second one.
+    /// Counts that the first side won, where `is_first`, or the second one.
     pub fn count(&self, is_first: bool) {
         if is_first {
             self.first();
@@ -126,7 +127,7 @@ impl Wins {
         }
     }
 
-    /// Says how often each side won. Each did.
+    /// Prints how often each side of `race` won, and ends the test where one never did.
     pub fn expect_both<R: Abort + Print>(&self, rt: &R, race: &str) {
         let first = self.first.load(Ordering::SeqCst);
         let second = self.second.load(Ordering::SeqCst);

@@ -32,8 +32,8 @@ impl Limits {
     }
 }
 
-/// What the entry of this number locks: the first ones go by slots, and the others, which no other session has,
-/// stand in the table.
+/// What the entry numbered `number` of `session` locks: the first ones go by slots, and the others, which no other
+/// session has, stand in the table.
 fn entry(session: u16, number: u32) -> (Tag, Mode) {
     if number < BY_SLOT {
         (Tag::relation(5, number), Mode::AccessShare)
@@ -42,7 +42,7 @@ fn entry(session: u16, number: u32) -> (Tag, Mode) {
     }
 }
 
-/// The session takes so many, and is refused one more.
+/// Takes `entries` modes with `session`, and is refused one more.
 fn fill<T: PartTable, B: Board<T>, R: Abort + Wait>(
     rt: &R,
     session: &mut OwnSession<T, B>,
@@ -61,7 +61,7 @@ fn fill<T: PartTable, B: Board<T>, R: Abort + Wait>(
     assert_eq!(rt; answer, Err(Refusal::LocalFull), "{entries} entries");
 }
 
-/// Opens a session, which takes so many.
+/// Opens a session, which takes `entries` modes.
 fn open_full<T: PartTable, B: Board<T>, D: Desk<OwnSession<T, B>>, R: Abort + Wait>(
     rt: &R,
     desk: &mut D,
@@ -80,7 +80,7 @@ fn open_full<T: PartTable, B: Board<T>, D: Desk<OwnSession<T, B>>, R: Abort + Wa
     append(rt, sessions, session);
 }
 
-/// Opens all, and each takes all that it may have.
+/// Opens all sessions that `limits` says, and each takes all that it may have.
 fn open_all<T: PartTable, B: Board<T>, D: Desk<OwnSession<T, B>>, R: Abort + Wait>(
     rt: &R,
     alloc: Global,
@@ -99,7 +99,7 @@ fn open_all<T: PartTable, B: Board<T>, D: Desk<OwnSession<T, B>>, R: Abort + Wai
     sessions
 }
 
-/// The last session lists what all have.
+/// Lists with the last of `sessions` what all have, which is to be `expected`.
 fn list_all<T: PartTable, B: Board<T>, D: Desk<OwnSession<T, B>>, R: Abort + Wait>(
     rt: &R,
     desk: &D,
@@ -118,7 +118,8 @@ fn list_all<T: PartTable, B: Board<T>, D: Desk<OwnSession<T, B>>, R: Abort + Wai
     }
 }
 
-/// All sessions have all that they may have, which is counted and listed, and give it back.
+/// Has all sessions of `desk` take all that they may have by `limits`, which is counted and listed, and give it
+/// back.
 pub fn hold_all<T: PartTable, B: Board<T>, D: Desk<OwnSession<T, B>>, R: Abort + Wait>(
     rt: &R,
     alloc: Global,

@@ -12,7 +12,7 @@ use std::sync::Wait;
 
 pub const MANY: u32 = 200;
 
-/// Shares many objects, which it names neither in rising nor in falling order.
+/// Shares many objects with `session`, which it names neither in rising nor in falling order.
 fn share_many<T: PartTable, B: Board<T>, R: Abort + Wait>(rt: &R, session: &mut OwnSession<T, B>)
     ensures seat { B.seat session.new.board ≡ B.seat session.old.board }
 {
@@ -23,7 +23,8 @@ fn share_many<T: PartTable, B: Board<T>, R: Abort + Wait>(rt: &R, session: &mut 
     }
 }
 
-/// Each row comes after the one before it, and together they are of all sixteen partitions.
+/// Ends the test unless each of `rows` comes after the one before it, and together they are of all sixteen
+/// partitions.
 fn expect_order<R: Abort>(rt: &R, rows: &[TableRow]) {
     let mut partitions = 0;
     let mut before: Option<TableRow> = None;
@@ -38,7 +39,7 @@ fn expect_order<R: Abort>(rt: &R, rows: &[TableRow]) {
     assert_eq!(rt; partitions, u16::MAX);
 }
 
-/// Two sessions share as many objects, and one of them lists.
+/// Has the two sessions of `pair` share many objects, and one of them list.
 pub fn list_many<T: PartTable, B: Board<T>, R: Abort + Wait>(rt: &R, pair: &mut Pair<T, B>)
     ensures first { B.seat pair.new.first.board ≡ B.seat pair.old.first.board }
     ensures second { B.seat pair.new.second.board ≡ B.seat pair.old.second.board }

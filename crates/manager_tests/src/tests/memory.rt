@@ -17,18 +17,18 @@ use std::sync::Wait;
 /// How many modes the one session takes.
 pub const MANY: u32 = 300;
 
-/// The object has its own mode, none of which is in the way of another.
+/// The tag of the object numbered `number`, which has a mode of its own, none of which is in the way of another.
 fn object(number: u32) -> (Tag, Mode) {
     let mode = Mode::ALL[(number % 8) as usize];
     (Tag::object(5, 1_259, number, 0), mode)
 }
 
-/// Whether there was no memory.
+/// Whether `answer` says that there was no memory.
 pub fn is_out_of_memory(answer: &Answer) -> bool {
     *answer == Err(Refusal::NoMemory)
 }
 
-/// Asks for the mode, and again where there was no memory. A refusal for that leaves what the session had.
+/// Asks for `tag` in `mode`, and again where there was no memory. A refusal for that leaves what `session` had.
 fn try_at_last<T: PartTable, B: Board<T>, R: Abort + Wait>(
     rt: &R,
     session: &mut OwnSession<T, B>,
@@ -46,7 +46,7 @@ fn try_at_last<T: PartTable, B: Board<T>, R: Abort + Wait>(
     session.try_lock(rt, tag, mode, Owner::Session)
 }
 
-/// Takes it so.
+/// Takes `tag` in `mode` with `session`, at the second attempt where there was no memory.
 fn take_at_last<T: PartTable, B: Board<T>, R: Abort + Wait>(
     rt: &R,
     session: &mut OwnSession<T, B>,
@@ -68,7 +68,7 @@ fn take_many<T: PartTable, B: Board<T>, R: Abort + Wait>(rt: &R, session: &mut O
     }
 }
 
-/// A listing, at the second attempt where there was no memory.
+/// A listing by `session`, at the second attempt where there was no memory.
 fn list_at_last<T: PartTable, B: Board<T>, R: Abort + Wait>(
     rt: &R,
     session: &mut OwnSession<T, B>,
@@ -82,7 +82,7 @@ fn list_at_last<T: PartTable, B: Board<T>, R: Abort + Wait>(
     listing.expect(rt, "one want of memory at most")
 }
 
-/// Gives the mode back.
+/// Gives `tag` in `mode` back.
 fn give_back<T: PartTable, B: Board<T>, R: Abort + Wait>(
     rt: &R,
     session: &mut OwnSession<T, B>,
@@ -95,7 +95,7 @@ fn give_back<T: PartTable, B: Board<T>, R: Abort + Wait>(
     expect_released(rt, released, tag, mode);
 }
 
-/// All that were taken are held, each is listed, and each goes.
+/// Sees that all that `session` took are held and listed, and gives each back.
 fn give_many_back<T: PartTable, B: Board<T>, R: Abort + Wait>(
     rt: &R,
     session: &mut OwnSession<T, B>,
@@ -110,7 +110,7 @@ fn give_many_back<T: PartTable, B: Board<T>, R: Abort + Wait>(
     }
 }
 
-/// A session of a desk takes many modes and gives them back.
+/// Has a session of `desk` take many modes and give them back.
 pub fn go_on<T: PartTable, B: Board<T>, D: Desk<OwnSession<T, B>>, R: Abort + Wait>(
     rt: &R,
     desk: &mut D,
@@ -140,7 +140,7 @@ const BESIDE: u32 = 3;
 /// How many entries the second session has at the end.
 pub const MOVED: u32 = TRANSFERS * BESIDE + 1;
 
-/// How many rows of slots show the table in this mode.
+/// How many rows of slots show the table in `mode`.
 fn count_in_slots(rows: &[SlotRow], mode: Mode) -> u32 {
     let mut shown = 0u32;
     for row in rows {
@@ -151,7 +151,7 @@ fn count_in_slots(rows: &[SlotRow], mode: Mode) -> u32 {
     shown
 }
 
-/// How many of the table's rows do.
+/// How many of the table's `rows` show the table in `mode`.
 fn count_in_table(rows: &[TableRow], mode: Mode) -> u32 {
     let mut shown = 0u32;
     for row in rows {
@@ -162,14 +162,15 @@ fn count_in_table(rows: &[TableRow], mode: Mode) -> u32 {
     shown
 }
 
-/// Each weak mode of the table is listed once, in a slot or in the table.
+/// Ends the test unless `listing` has the weak `mode` of the table once, in a slot or in the table.
 fn expect_once<R: Abort>(rt: &R, listing: &Listing, mode: Mode) {
     let in_slots = count_in_slots(listing.fast.as_slice(), mode);
     let in_table = count_in_table(listing.table.as_slice(), mode);
     assert_eq!(rt; in_slots.saturating_add(in_table), 1, "{mode}");
 }
 
-/// Nothing of a strong mode is left that was refused, and the weak ones are where they may be.
+/// Sees with `session` that nothing of a strong mode is left that was refused, and that the weak ones are where they
+/// may be.
 fn see_no_trace<T: PartTable, B: Board<T>, R: Abort + Wait>(rt: &R, session: &mut OwnSession<T, B>)
     ensures seat { B.seat session.new.board ≡ B.seat session.old.board }
 {
@@ -179,7 +180,7 @@ fn see_no_trace<T: PartTable, B: Board<T>, R: Abort + Wait>(rt: &R, session: &mu
     expect_once(rt, &listing, Mode::RowExclusive);
 }
 
-/// Asks for the strong mode, and again where there was no memory.
+/// Asks for the strong mode with `session`, and again where there was no memory.
 fn try_strong_at_last<T: PartTable, B: Board<T>, R: Abort + Wait>(
     rt: &R,
     session: &mut OwnSession<T, B>,
@@ -194,7 +195,7 @@ fn try_strong_at_last<T: PartTable, B: Board<T>, R: Abort + Wait>(
     session.try_lock(rt, TABLE, Mode::AccessExclusive, Owner::Session)
 }
 
-/// Asks for it, which another session's weak ones are in the way of.
+/// Asks for the strong mode with `session`, which the weak ones of `other` are in the way of.
 fn ask_for_strong<T: PartTable, B: Board<T>, R: Abort + Wait>(
     rt: &R,
     session: &mut OwnSession<T, B>,
@@ -212,7 +213,8 @@ fn ask_for_strong<T: PartTable, B: Board<T>, R: Abort + Wait>(
     see_no_trace(rt, session);
 }
 
-/// The first session has two weak modes in a slot, the second one asks for a strong one, and the first one gives back.
+/// Has the first session of `pair` take two weak modes in a slot, the second one ask for a strong one, and the first
+/// one give back.
 fn move_once<T: PartTable, B: Board<T>, R: Abort + Wait>(rt: &R, pair: &mut Pair<T, B>)
     ensures first { B.seat pair.new.first.board ≡ B.seat pair.old.first.board }
     ensures second { B.seat pair.new.second.board ≡ B.seat pair.old.second.board }
@@ -226,7 +228,7 @@ fn move_once<T: PartTable, B: Board<T>, R: Abort + Wait>(rt: &R, pair: &mut Pair
     give_back(rt, first, TABLE, Mode::RowExclusive);
 }
 
-/// Takes further locks in the partition of the table.
+/// Takes further locks in the partition of the table with `session`, others for each `transfer`.
 fn take_beside<T: PartTable, B: Board<T>, R: Abort + Wait>(
     rt: &R,
     session: &mut OwnSession<T, B>,
@@ -241,7 +243,8 @@ fn take_beside<T: PartTable, B: Board<T>, R: Abort + Wait>(
     }
 }
 
-/// Again and again, while the table's partition fills. At the end nobody has the table, and the second one takes it.
+/// Moves modes of `pair` out of their slots again and again, while the table's partition fills. At the end nobody
+/// has the table, and the second one takes it.
 pub fn move_often<T: PartTable, B: Board<T>, R: Abort + Wait>(rt: &R, pair: &mut Pair<T, B>)
     ensures first { B.seat pair.new.first.board ≡ B.seat pair.old.first.board }
     ensures second { B.seat pair.new.second.board ≡ B.seat pair.old.second.board }

@@ -18,7 +18,7 @@ pub struct Pair<T: PartTable, B: Board<T>> {
 }
 
 impl<T: PartTable, B: Board<T>> Pair<T, B> {
-    /// Two sessions from a desk.
+    /// Opens two sessions at `desk`.
     pub fn open<D: Desk<OwnSession<T, B>>, R: Abort>(rt: &R, desk: &mut D) -> Self
         requires seats { SeatsAre B.seat D.seat }
         ensures manager { D.manager desk.new ≡ D.manager desk.old }
@@ -31,7 +31,7 @@ impl<T: PartTable, B: Board<T>> Pair<T, B> {
         Pair { first, second }
     }
 
-    /// The two meet: none of their holds conflict.
+    /// Has the two sessions meet at `desk`: none of their holds conflict.
     pub fn meet<D: Desk<OwnSession<T, B>>>(self, desk: &D) -> Self
         requires seats { SeatsAre B.seat D.seat }
         requires same_manager { (B.seat self.second.board).table ≡ (B.seat self.first.board).table }
@@ -43,7 +43,7 @@ impl<T: PartTable, B: Board<T>> Pair<T, B> {
         Pair { first, second }
     }
 
-    /// An audit counts what both have, and they are closed. No other session is open.
+    /// Closes both sessions, after an audit that counts what they have. No other session is open.
     pub fn close<D: Desk<OwnSession<T, B>>, R: Abort + Wait>(
         self,
         rt: &R,

@@ -33,8 +33,8 @@ struct Tally {
 }
 
 impl Tally {
-    /// One more was woken. Where each is woken by the one before it, so many were as its number says: the holder's
-    /// is 0, and those in the queue follow in its order.
+    /// Counts that one more was woken, the session numbered `number`. Where each is woken by the one before it, as
+    /// many were as that number says: the holder's is 0, and those in the queue follow in its order.
     fn wake<R: Abort>(&self, rt: &R, number: SessionId) {
         let before = self.woken.fetch_add(1, Ordering::SeqCst);
         if self.mode == Mode::AccessExclusive {
@@ -52,14 +52,14 @@ impl Tally {
         }
     }
 
-    /// So many were woken.
+    /// Ends the test unless `number` sessions were woken.
     fn expect<R: Abort>(&self, rt: &R, number: u32) {
         assert_eq!(rt; self.woken.load(Ordering::SeqCst), u64::from(number));
     }
 }
 
-/// Lets those go before whose numbers are lower: it is time once the one before stands in the queue. The first of
-/// them stands behind the holder.
+/// Lets those go before `session` whose numbers are lower: it is time once the one before stands in the queue. The
+/// first of them stands behind the holder.
 fn see_turn<T: PartTable, B: Board<T>, R: Wait>(
     rt: &R,
     tally: &Tally,
@@ -77,8 +77,8 @@ fn see_turn<T: PartTable, B: Board<T>, R: Wait>(
     }
 }
 
-/// Stands in the queue in its turn, sleeps until the wait is granted, and gives the mode back, to the next one if
-/// that waits still.
+/// Has `session` stand in the queue in its turn, sleep until the wait is granted, and give the mode back, to the
+/// next one if that waits still.
 fn sleep_and_pass_on<T: PartTable, B: Board<T>, R: Abort + Wait>(
     rt: &R,
     tally: &Tally,
@@ -93,7 +93,8 @@ fn sleep_and_pass_on<T: PartTable, B: Board<T>, R: Abort + Wait>(
     give_back(rt, session, tally.mode);
 }
 
-/// Takes the table first, and gives it back, which lets them go, once all sleep, none of whom is woken.
+/// Takes the table first with `session`, and gives it back, which lets the others go, once all sleep, none of whom
+/// is woken.
 fn release_once_asleep<T: PartTable, B: Board<T>, R: Abort + Wait>(
     rt: &R,
     tally: &Tally,
@@ -111,7 +112,7 @@ fn release_once_asleep<T: PartTable, B: Board<T>, R: Abort + Wait>(
     give_back(rt, session, Mode::AccessExclusive);
 }
 
-/// Plays the part of the holder, or of one that sleeps.
+/// Plays with `session` the part of the holder, or of one that sleeps.
 fn play_part<T: PartTable, B: Board<T>, R: Abort + Wait>(
     rt: &R,
     tally: &Tally,
@@ -126,7 +127,7 @@ fn play_part<T: PartTable, B: Board<T>, R: Abort + Wait>(
     }
 }
 
-/// Each does its part in a thread of its own.
+/// Has each of `sleepers` do its part in a thread of its own.
 fn sleep_side_by_side<B: Board<Part> + Send, R: Abort + Threads + Wait + Sync>(
     rt: &R,
     tally: &Tally,
@@ -143,8 +144,9 @@ fn sleep_side_by_side<B: Board<Part> + Send, R: Abort + Threads + Wait + Sync>(
     );
 }
 
-/// One session has the table and all others wait for it. Where they wait for `AccessExclusiveLock` they are woken
-/// one by one, in the order of their queue, and where for `AccessShareLock` all by one release.
+/// Has one session of `desk` take the table and all others wait for it in `mode`. Where that is
+/// `AccessExclusiveLock` they are woken one by one, in the order of their queue, and where it is `AccessShareLock`
+/// all by one release.
 pub fn wake_sleepers<
     B: Board<Part> + Send,
     D: Desk<OwnSession<Part, B>>,

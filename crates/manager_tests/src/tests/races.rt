@@ -54,13 +54,13 @@ struct Round<'a> {
     wins: &'a Wins,
 }
 
-/// A strong mode was refused, since the session holds this mode.
+/// Ends the test unless a strong mode was refused since `session` holds `mode`.
 fn expect_in_the_way<R: Abort>(rt: &R, answer: Option<Answer>, session: SessionId, mode: Mode) {
     let how = How::Held;
     expect_acted(rt, answer, Err(Refusal::Conflict { session, mode, how }));
 }
 
-/// Whether a weak mode was granted. Else a strong one was counted, or the slots were busy.
+/// Whether `answer` says that a weak mode was granted. Otherwise a strong one was counted, or the slots were busy.
 fn is_granted<R: Abort>(rt: &R, answer: Option<Answer>) -> bool {
     match answer {
         Some(Ok(Acquired::Granted)) => true,
@@ -69,7 +69,8 @@ fn is_granted<R: Abort>(rt: &R, answer: Option<Answer>) -> bool {
     }
 }
 
-/// One of the two is granted and the other one refused, since only what is granted stands in another's way.
+/// Ends the test unless one of the two answers, `weak` and `strong`, is a grant and the other one a refusal, since
+/// only what is granted is in another's way. Notes in `wins` which.
 fn expect_one<R: Abort>(
     rt: &R,
     weak: Option<Answer>,
@@ -87,7 +88,7 @@ fn expect_one<R: Abort>(
     }
 }
 
-/// One tries a weak mode by a slot, and the other one a strong one.
+/// Has one session of `pair` try `weak` by a slot, and the other one `strong`.
 fn try_weak_against_strong<B: Board<Part> + Send, R: Abort + Threads + Wait + Sync>(
     rt: &R,
     pair: Pair<Part, B>,
@@ -118,8 +119,8 @@ fn try_weak_against_strong<B: Board<Part> + Send, R: Abort + Threads + Wait + Sy
     try_beside_release(rt, pair, weak, strong, round)
 }
 
-/// The first one takes the weak mode by a slot, and gives it back from there while the second one asks for the
-/// strong mode.
+/// Has the first session of `pair` take `weak` by a slot, and give it back from there while the second one asks for
+/// `strong`.
 fn try_beside_release<B: Board<Part> + Send, R: Abort + Threads + Wait + Sync>(
     rt: &R,
     pair: Pair<Part, B>,
@@ -143,7 +144,7 @@ fn try_beside_release<B: Board<Part> + Send, R: Abort + Threads + Wait + Sync>(
     pair
 }
 
-/// Takes a weak mode by a slot.
+/// Takes the weak `mode` by a slot with `session`.
 fn take_fast<T: PartTable, B: Board<T>, R: Abort>(
     rt: &R,
     session: &mut OwnSession<T, B>,
@@ -155,7 +156,7 @@ fn take_fast<T: PartTable, B: Board<T>, R: Abort>(
     expect_granted(rt, answer, TABLE, mode);
 }
 
-/// Both have a weak mode, and ask for a strong one.
+/// Has both sessions of `pair` take `weak`, and ask for `strong`.
 fn try_strong_over_weak<B: Board<Part> + Send, R: Abort + Threads + Wait + Sync>(
     rt: &R,
     pair: Pair<Part, B>,
@@ -184,7 +185,7 @@ fn try_strong_over_weak<B: Board<Part> + Send, R: Abort + Threads + Wait + Sync>
     pair
 }
 
-/// Gives a mode back that was granted.
+/// Gives `mode` back with `session`, if it `was_granted`.
 fn give_back_if<T: PartTable, B: Board<T>, R: Abort + Wait>(
     rt: &R,
     session: &mut OwnSession<T, B>,
@@ -198,7 +199,7 @@ fn give_back_if<T: PartTable, B: Board<T>, R: Abort + Wait>(
     }
 }
 
-/// Cancels the wait. Where it was granted the mode is given back.
+/// Cancels `waiting`. Where it was granted `mode` is given back.
 fn cancel<T: PartTable, B: Board<T>, R: Abort + Wait>(
     rt: &R,
     round: &Round<'_>,
@@ -214,7 +215,7 @@ fn cancel<T: PartTable, B: Board<T>, R: Abort + Wait>(
     session
 }
 
-/// Cancels the wait that is lent.
+/// Cancels `waiting`, which is lent.
 fn cancel_lent<T: PartTable, B: Board<T>, R: Abort + Wait>(
     rt: &R,
     round: &Round<'_>,
@@ -230,7 +231,7 @@ fn cancel_lent<T: PartTable, B: Board<T>, R: Abort + Wait>(
     }
 }
 
-/// Gives a mode back.
+/// Gives `mode` back with `session`.
 fn release<T: PartTable, B: Board<T>, R: Abort + Wait>(
     rt: &R,
     round: &Round<'_>,
@@ -243,7 +244,7 @@ fn release<T: PartTable, B: Board<T>, R: Abort + Wait>(
     give_back(rt, session, mode);
 }
 
-/// The wait is over.
+/// Shows that the wait is over: `waiting` is empty.
 pub fn end_wait<T: PartTable, B: Board<T>>(waiting: Option<OwnWaiting<T, B>>)
     requires { waiting ≡ None }
 {
@@ -253,12 +254,12 @@ pub fn end_wait<T: PartTable, B: Board<T>>(waiting: Option<OwnWaiting<T, B>>)
     }
 }
 
-/// The session hasn't the table.
+/// Ends the test where `session` has the table.
 fn expect_none<T: PartTable, B: Board<T>, R: Abort>(rt: &R, session: &OwnSession<T, B>) {
     assert_eq!(rt; session.held(TABLE).mask(), 0);
 }
 
-/// The one that waits cancels its wait for the first mode while the other one gives back the second one.
+/// Has the session that waits cancel its wait for the first of `modes` while `session` gives back the second one.
 fn cancel_on_loan<B: Board<Part> + Send, R: Abort + Threads + Wait + Sync>(
     rt: &R,
     round: &Round<'_>,
@@ -278,7 +279,8 @@ fn cancel_on_loan<B: Board<Part> + Send, R: Abort + Threads + Wait + Sync>(
     cancelled
 }
 
-/// The second one waits for a mode that the first one's is in the way of.
+/// Has the second session of `pair` wait for `awaited`, which `held` of the first one is in the way of, and cancel
+/// as that is given back.
 fn cancel_as_released<B: Board<Part> + Send, R: Abort + Threads + Wait + Sync>(
     rt: &R,
     pair: Pair<Part, B>,
@@ -299,7 +301,7 @@ fn cancel_as_released<B: Board<Part> + Send, R: Abort + Threads + Wait + Sync>(
     Pair { first, second }
 }
 
-/// The second one waits, and the first one asks it to cancel as soon as it does.
+/// Has the second session of `pair` wait, and the first one ask it to cancel as soon as it does.
 fn ask_before_sleep<B: Board<Part> + Send, R: Abort + Threads + Wait + Sync>(
     rt: &R,
     pair: Pair<Part, B>,
@@ -316,7 +318,7 @@ fn ask_before_sleep<B: Board<Part> + Send, R: Abort + Threads + Wait + Sync>(
     pair
 }
 
-/// One round of a race, after which both hold what they held.
+/// Plays one round of `race` with `pair`, after which both hold what they held.
 fn race_once<B: Board<Part> + Send, R: Abort + Threads + Wait + Sync>(
     rt: &R,
     pair: Pair<Part, B>,
@@ -338,7 +340,7 @@ fn race_once<B: Board<Part> + Send, R: Abort + Threads + Wait + Sync>(
     }
 }
 
-/// A session sees that nothing is held or awaited, and no strong mode counted.
+/// Sees with `session` that nothing is held or awaited, and no strong mode counted.
 pub fn see_nothing<T: PartTable, B: Board<T>, R: Abort + Wait>(
     rt: &R,
     session: &mut OwnSession<T, B>,
@@ -350,7 +352,7 @@ pub fn see_nothing<T: PartTable, B: Board<T>, R: Abort + Wait>(
     assert_eq!(rt; session.strong_count(TABLE.strong_index()), 0);
 }
 
-/// Round after round, at the end of which nothing stands, and each side has won.
+/// Plays `rounds` rounds of `race` with `pair`, at the end of which nothing stands, and each side has won.
 pub fn race_often<B: Board<Part> + Send, R: Abort + Threads + Wait + Sync + Print>(
     rt: &R,
     pair: Pair<Part, B>,

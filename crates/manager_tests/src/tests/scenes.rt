@@ -35,7 +35,7 @@ pub enum Scene<'a> {
     MovesAtLast,
 }
 
-/// Plays a scene.
+/// Plays `scene` with `pair`.
 pub fn perform<B: Board<Part> + Send, R: Abort + Threads + Wait + Sync + Print>(
     rt: &R,
     mut pair: Pair<Part, B>,

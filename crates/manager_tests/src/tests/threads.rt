@@ -36,7 +36,7 @@ pub struct Plan {
 }
 
 impl Plan {
-    /// So many rounds on so many relations or other objects.
+    /// A plan of `rounds` rounds on `objects` relations, or other objects unless `relations`.
     pub fn of(rounds: u32, objects: u32, relations: bool) -> Plan
         requires some { 1 ≤ objects }
         requires few { objects ≤ 4 }
@@ -109,7 +109,8 @@ fn expect_conflict<R: Abort>(rt: &R, refusal: Refusal, own: SessionId, place: us
     expect_in_the_way(rt, mode, place);
 }
 
-/// Asks for a mode on an object, and gives it back where it is granted.
+/// Asks for a mode on an object in round `round` of `plan`, and gives it back where it is granted. `holders` has who
+/// was granted what.
 fn ask<T: PartTable, B: Board<T>, R: Abort + Wait>(
     rt: &R,
     holders: &Mutex<Holders>,
@@ -136,7 +137,7 @@ fn ask<T: PartTable, B: Board<T>, R: Abort + Wait>(
     expect_released(rt, released, tag, mode);
 }
 
-/// Asks for one mode after another, on one object after another.
+/// Asks with `session` for one mode after another, on one object after another, as `plan` says.
 fn ask_often<T: PartTable, B: Board<T>, R: Abort + Wait>(
     rt: &R,
     holders: &Mutex<Holders>,
@@ -150,7 +151,7 @@ fn ask_often<T: PartTable, B: Board<T>, R: Abort + Wait>(
     }
 }
 
-/// Each session does so in a thread of its own.
+/// Has each of `sessions` ask as `plan` says, in a thread of its own.
 fn ask_side_by_side<B: Board<Part> + Send, R: Abort + Threads + Wait + Sync>(
     rt: &R,
     holders: &Mutex<Holders>,
@@ -168,7 +169,7 @@ fn ask_side_by_side<B: Board<Part> + Send, R: Abort + Threads + Wait + Sync>(
     );
 }
 
-/// So many sessions from a desk do as the plan says, and at the end nobody has anything.
+/// Has `number` sessions from `desk` do as `plan` says, and at the end nobody has anything.
 pub fn ask_in_threads<
     B: Board<Part> + Send,
     D: Desk<OwnSession<Part, B>>,

@@ -58,7 +58,7 @@ pub enum Who {
     Second,
 }
 
-/// A refusal, which may name a hold in the way.
+/// What is told of `refusal`, which may name a hold in the way.
 fn refused(refusal: Refusal) -> Answer {
     let Refusal::Conflict { session, mode, how } = refusal else {
         return Answer::Refused(refusal.number());
@@ -70,7 +70,7 @@ fn refused(refusal: Refusal) -> Answer {
     }
 }
 
-/// What a request for a mode is answered.
+/// What is told of `answer`, to a request for a mode.
 fn taken(answer: Result<Acquired, Refusal>) -> Answer {
     match answer {
         Ok(Acquired::Granted) => Answer::Granted,
@@ -79,7 +79,7 @@ fn taken(answer: Result<Acquired, Refusal>) -> Answer {
     }
 }
 
-/// What a release is answered.
+/// What is told of `answer`, to a release.
 fn given_back(answer: Result<Unlocked, Refusal>) -> Answer {
     match answer {
         Ok(Unlocked::Released) => Answer::Released,
@@ -88,7 +88,7 @@ fn given_back(answer: Result<Unlocked, Refusal>) -> Answer {
     }
 }
 
-/// How many rows a listing has.
+/// What is told of `answer`, a listing: how many rows it has.
 fn listed(answer: Result<Listing, Refusal>) -> Answer {
     match answer {
         Ok(listing) => Answer::Rows {
@@ -99,12 +99,12 @@ fn listed(answer: Result<Listing, Refusal>) -> Answer {
     }
 }
 
-/// The relation that is asked for this time.
+/// The tag of the relation that is asked for the time `time`.
 fn relation(time: u32) -> Tag {
     Tag::relation(5, 16_384 | time)
 }
 
-/// A call, and its answer.
+/// Makes `call` with `session` the time `time`, and answers what is told of it.
 fn make<T: PartTable, B: Board<T>, R: Wait>(
     rt: &R,
     session: &mut OwnSession<T, B>,
@@ -135,7 +135,7 @@ fn make<T: PartTable, B: Board<T>, R: Wait>(
     }
 }
 
-/// A session's turn, the one at this place of its list.
+/// Plays the turn of `session` at `place` of its list: `call`, `times` times, which is to be answered `answer`.
 pub fn take_turn<T: PartTable, B: Board<T>, R: Abort + Wait>(
     rt: &R,
     session: &mut OwnSession<T, B>,
@@ -152,7 +152,7 @@ pub fn take_turn<T: PartTable, B: Board<T>, R: Abort + Wait>(
     }
 }
 
-/// All turns, in order.
+/// Plays all `turns` with `pair`, in order.
 pub fn play<T: PartTable, B: Board<T>, R: Abort + Wait>(
     rt: &R,
     pair: &mut Pair<T, B>,
@@ -170,7 +170,7 @@ pub fn play<T: PartTable, B: Board<T>, R: Abort + Wait>(
     }
 }
 
-/// All turns, over and over.
+/// Plays all `turns` with `pair`, `rounds` times.
 pub fn play_often<T: PartTable, B: Board<T>, R: Abort + Wait>(
     rt: &R,
     pair: &mut Pair<T, B>,

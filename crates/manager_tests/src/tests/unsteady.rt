@@ -43,14 +43,14 @@ struct Pauses {
 }
 
 impl Pauses {
-    /// Those of the session with this number.
+    /// The pauses of the session numbered `number`.
     fn of(number: SessionId) -> Self {
         Pauses {
             turn: AtomicU64::new(u64::from(number.number()) << 32),
         }
     }
 
-    /// Looks so often at a number.
+    /// Looks `looks` times at a number.
     fn spin(&self, looks: u64) {
         for _ in 0..looks {
             self.turn.load(Ordering::SeqCst);
@@ -114,7 +114,7 @@ fn empty_slots(alloc: Global) -> Result<Vec<Kept<Part>>, Fail>
     Ok(in_slots(alloc, empty_parts(alloc, Part::new)?)?)
 }
 
-/// A table for so many sessions, and who gives their numbers out.
+/// A table for `sessions` sessions, and the opener that gives their numbers out.
 fn open_table(alloc: Global, sessions: u8) -> Result<(SharedTable<Part>, Opener<Part>), Fail>
     requires few { sessions ≤ 64 }
     ensures table { IfOk result (λ opened. opened.1.table ≡ opened.0.shared.table_id) }
@@ -132,7 +132,7 @@ fn open_table(alloc: Global, sessions: u8) -> Result<(SharedTable<Part>, Opener<
     }
 }
 
-/// The next session.
+/// Opens the next session of `table`, on a board that pauses.
 fn open_next<'a, R: Abort>(
     rt: &R,
     alloc: Global,
@@ -160,7 +160,7 @@ fn open_next<'a, R: Abort>(
     }
 }
 
-/// So many sessions, in the order of their numbers.
+/// Opens `number` sessions of `table`, in the order of their numbers.
 fn open_all<'a, R: Abort>(
     rt: &R,
     alloc: Global,
@@ -183,7 +183,7 @@ fn open_all<'a, R: Abort>(
     sessions
 }
 
-/// Ends a session: all that it holds is released, and its number is that of a closed one.
+/// Closes `session`: all that it holds is released, and its number is that of a closed one.
 fn close<'a, R: Wait>(rt: &R, opener: &mut Opener<Part>, session: Unsteady<'a>)
     requires own { let B = ⟦<WatchedBoard<SeatBoard<'a, Part>, Pauses> as Board<Part>>⟧ in
         (B.seat session.board).table ≡ opener.old.table }
@@ -192,7 +192,7 @@ fn close<'a, R: Wait>(rt: &R, opener: &mut Opener<Part>, session: Unsteady<'a>)
     opener.close(session.into_board(rt).into_watched());
 }
 
-/// Ends them all.
+/// Closes all of `sessions`.
 fn close_all<'a, R: Wait>(rt: &R, opener: &mut Opener<Part>, mut sessions: Vec<Unsteady<'a>>)
     requires own { let B = ⟦<WatchedBoard<SeatBoard<'a, Part>, Pauses> as Board<Part>>⟧ in
         All (λ session. (B.seat session.board).table ≡ opener.old.table) sessions.items }
@@ -203,7 +203,7 @@ fn close_all<'a, R: Wait>(rt: &R, opener: &mut Opener<Part>, mut sessions: Vec<U
     sessions.destroy_empty();
 }
 
-/// These sessions do so.
+/// Has `sessions` do what `crew` does.
 fn act<B: Board<Part> + Send, R: Abort + Clock + Threads + Wait + Sync + Print>(
     rt: &R,
     sessions: &mut [OwnSession<Part, B>],
@@ -218,7 +218,7 @@ fn act<B: Board<Part> + Send, R: Abort + Clock + Threads + Wait + Sync + Print>(
     }
 }
 
-/// Those of a list do, which comes back.
+/// Has the list `sessions` do what `crew` does, which comes back.
 fn act_all<B: Board<Part> + Send, R: Abort + Clock + Threads + Wait + Sync + Print>(
     rt: &R,
     mut sessions: Vec<OwnSession<Part, B>>,
@@ -230,7 +230,7 @@ fn act_all<B: Board<Part> + Send, R: Abort + Clock + Threads + Wait + Sync + Pri
     sessions
 }
 
-/// As many sessions as there are to be do so at a table of their own, on boards that pause.
+/// Has as many sessions as `crew` has do what it does at a table of their own, on boards that pause.
 pub fn act_with_pauses<R: Abort + Clock + Threads + Wait + Sync + Print>(
     rt: &R,
     alloc: Global,
@@ -244,7 +244,7 @@ pub fn act_with_pauses<R: Abort + Clock + Threads + Wait + Sync + Print>(
     Ok(())
 }
 
-/// Two sessions race at a table of their own, on boards that pause.
+/// Has two sessions play `rounds` rounds of `race` at a table of their own, on boards that pause.
 pub fn race_with_pauses<R: Abort + Threads + Wait + Sync + Print>(
     rt: &R,
     alloc: Global,

@@ -25,7 +25,7 @@ pub const TABLE: Tag = Tag::Relation {
 
 pub const OWNER: Owner = Owner::Transaction;
 
-/// Takes a mode on the table at once.
+/// Takes the table in `mode` at once with `session`.
 pub fn take<T: PartTable, B: Board<T>, R: Abort + Wait>(
     rt: &R,
     session: &mut OwnSession<T, B>,
@@ -37,7 +37,7 @@ pub fn take<T: PartTable, B: Board<T>, R: Abort + Wait>(
     expect_granted(rt, answer, TABLE, mode);
 }
 
-/// Gives it back.
+/// Gives `mode` on the table back with `session`.
 pub fn give_back<T: PartTable, B: Board<T>, R: Abort + Wait>(
     rt: &R,
     session: &mut OwnSession<T, B>,
@@ -49,7 +49,7 @@ pub fn give_back<T: PartTable, B: Board<T>, R: Abort + Wait>(
     expect_released(rt, answer, TABLE, mode);
 }
 
-/// Begins to wait for a mode on the table.
+/// Begins to wait with `session` for `mode` on the table.
 pub fn queue<T: PartTable, B: Board<T>, R: Abort + Wait>(
     rt: &R,
     session: OwnSession<T, B>,
@@ -63,7 +63,8 @@ pub fn queue<T: PartTable, B: Board<T>, R: Abort + Wait>(
     }
 }
 
-/// Takes a mode on the table, or is refused it, with no wait for it, and is answered this.
+/// Takes the table in `mode` with `session`, or is refused it, with no wait for it. Ends the test where that isn't
+/// answered `expected`.
 fn start_as<T: PartTable, B: Board<T>, R: Abort + Wait>(
     rt: &R,
     session: OwnSession<T, B>,
@@ -82,7 +83,8 @@ fn start_as<T: PartTable, B: Board<T>, R: Abort + Wait>(
     session
 }
 
-/// Takes a mode on the table, and waits for it where it must. It is answered this.
+/// Takes the table in `mode` with `session`, and waits for it where it must. Ends the test where that isn't answered
+/// `expected`.
 fn lock_as<T: PartTable, B: Board<T>, R: Abort + Wait>(
     rt: &R,
     session: OwnSession<T, B>,
@@ -96,7 +98,7 @@ fn lock_as<T: PartTable, B: Board<T>, R: Abort + Wait>(
     session
 }
 
-/// Waits until the wait is over, and is answered this.
+/// Waits until `waiting` is over. Ends the test where that isn't answered `expected`.
 fn wait_as<T: PartTable, B: Board<T>, R: Abort + Wait>(
     rt: &R,
     waiting: OwnWaiting<T, B>,
@@ -109,7 +111,7 @@ fn wait_as<T: PartTable, B: Board<T>, R: Abort + Wait>(
     session
 }
 
-/// Finds the wait granted.
+/// Finds `waiting` granted.
 fn find_granted<T: PartTable, B: Board<T>, R: Abort>(
     rt: &R,
     waiting: OwnWaiting<T, B>,
@@ -122,7 +124,7 @@ fn find_granted<T: PartTable, B: Board<T>, R: Abort>(
     }
 }
 
-/// Finds that the wait goes on, and whether another session asked to cancel it.
+/// Finds that `waiting` goes on, and whether another session asked to cancel it, as `is_asked` says.
 fn find_still<T: PartTable, B: Board<T>, R: Abort>(
     rt: &R,
     waiting: OwnWaiting<T, B>,
@@ -139,7 +141,7 @@ fn find_still<T: PartTable, B: Board<T>, R: Abort>(
     waiting
 }
 
-/// A wait is seen by the holder, asked to cancel, and left; what was asked before it stands for nothing.
+/// Has a wait be seen by the holder, asked to cancel, and left; what was asked before it stands for nothing.
 pub fn leave_as_asked<T: PartTable, B: Board<T>, R: Abort + Wait>(
     rt: &R,
     pair: Pair<T, B>,
@@ -159,7 +161,7 @@ pub fn leave_as_asked<T: PartTable, B: Board<T>, R: Abort + Wait>(
     Pair { first, second }
 }
 
-/// Asks a session to cancel.
+/// Asks the session numbered `number` to cancel, with `session`. Ends the test where that isn't answered `asked`.
 pub fn ask<T: PartTable, B: Board<T>, R: Abort>(
     rt: &R,
     session: &mut OwnSession<T, B>,
@@ -171,14 +173,14 @@ pub fn ask<T: PartTable, B: Board<T>, R: Abort>(
     assert!(rt; session.ask_cancel(number) == asked);
 }
 
-/// Whether the session waits, which is asked to cancel then.
+/// Whether the session numbered `number` waits, which `session` asks to cancel then.
 fn is_heard<T: PartTable, B: Board<T>>(session: &mut OwnSession<T, B>, number: SessionId) -> bool
     ensures seat { B.seat session.new.board ≡ B.seat session.old.board }
 {
     session.ask_cancel(number) == Asked::Waiting
 }
 
-/// Asks it until it is heard.
+/// Asks the session numbered `number` to cancel, with `session`, until it is heard.
 pub fn ask_until_heard<T: PartTable, B: Board<T>, R: Wait>(
     rt: &R,
     session: &mut OwnSession<T, B>,
@@ -193,7 +195,7 @@ pub fn ask_until_heard<T: PartTable, B: Board<T>, R: Wait>(
     }
 }
 
-/// Sees that somebody waits for the table, in a mode that conflicts with the one that the session has.
+/// Sees that somebody waits for the table, in a mode that conflicts with `mode`, which `session` has.
 fn see_waiters<T: PartTable, B: Board<T>, R: Abort + Wait>(
     rt: &R,
     session: &mut OwnSession<T, B>,
@@ -206,7 +208,7 @@ fn see_waiters<T: PartTable, B: Board<T>, R: Abort + Wait>(
     expect_seen(rt, not_held, Err(Refusal::NotHeld));
 }
 
-/// Takes the wait out of the queue.
+/// Takes `waiting` out of the queue.
 pub fn leave<T: PartTable, B: Board<T>, R: Abort + Wait>(
     rt: &R,
     waiting: OwnWaiting<T, B>,
@@ -218,7 +220,7 @@ pub fn leave<T: PartTable, B: Board<T>, R: Abort + Wait>(
     session
 }
 
-/// A wait that is cancelled after it was granted has the mode.
+/// Has a wait be cancelled after it was granted: it has the mode.
 pub fn cancel_too_late<T: PartTable, B: Board<T>, R: Abort + Wait>(
     rt: &R,
     pair: Pair<T, B>,
@@ -238,7 +240,7 @@ pub fn cancel_too_late<T: PartTable, B: Board<T>, R: Abort + Wait>(
     Pair { first, second }
 }
 
-/// A wait that was granted before it looks is found granted.
+/// Has a wait be granted before it looks: it is found granted.
 pub fn look_too_late<T: PartTable, B: Board<T>, R: Abort + Wait>(
     rt: &R,
     pair: Pair<T, B>,
@@ -255,7 +257,7 @@ pub fn look_too_late<T: PartTable, B: Board<T>, R: Abort + Wait>(
     Pair { first, second }
 }
 
-/// A wait that was asked to cancel is over at once.
+/// Has a wait be asked to cancel before it sleeps: it is over at once.
 pub fn wait_as_asked<T: PartTable, B: Board<T>, R: Abort + Wait>(
     rt: &R,
     pair: Pair<T, B>,
@@ -273,7 +275,7 @@ pub fn wait_as_asked<T: PartTable, B: Board<T>, R: Abort + Wait>(
     Pair { first, second }
 }
 
-/// So is one that was granted.
+/// Has a wait be granted before it sleeps: it is over at once.
 pub fn wait_for_nothing<T: PartTable, B: Board<T>, R: Abort + Wait>(
     rt: &R,
     pair: Pair<T, B>,
@@ -290,7 +292,7 @@ pub fn wait_for_nothing<T: PartTable, B: Board<T>, R: Abort + Wait>(
     Pair { first, second }
 }
 
-/// What needs no wait is answered at once.
+/// Asks with `pair` for what needs no wait, which is answered at once.
 pub fn answer_at_once<T: PartTable, B: Board<T>, R: Abort + Wait>(
     rt: &R,
     pair: Pair<T, B>,
@@ -309,7 +311,8 @@ pub fn answer_at_once<T: PartTable, B: Board<T>, R: Abort + Wait>(
     Pair { first, second }
 }
 
-/// Two that have a mode and want a higher one: the second that asks is refused, and the first one is granted.
+/// Has both sessions of `pair` take a mode and want a higher one: the second that asks is refused, and the first one
+/// is granted.
 pub fn refuse_a_simple_deadlock<T: PartTable, B: Board<T>, R: Abort + Wait>(
     rt: &R,
     pair: Pair<T, B>,
@@ -333,7 +336,7 @@ pub fn refuse_a_simple_deadlock<T: PartTable, B: Board<T>, R: Abort + Wait>(
     Pair { first, second }
 }
 
-/// Whether the session's wait for the table is among the rows.
+/// Whether the wait for the table of the session numbered `number` is among `rows`.
 fn is_awaited(rows: &[TableRow], number: SessionId) -> bool {
     let mut shown = false;
     for row in rows {
@@ -344,7 +347,7 @@ fn is_awaited(rows: &[TableRow], number: SessionId) -> bool {
     shown
 }
 
-/// Whether it shows in a listing.
+/// Whether a listing by `session` shows the wait of the session numbered `number`.
 fn shows_wait<T: PartTable, B: Board<T>, R: Wait>(
     rt: &R,
     session: &mut OwnSession<T, B>,
@@ -358,7 +361,7 @@ fn shows_wait<T: PartTable, B: Board<T>, R: Wait>(
     }
 }
 
-/// Lists until the session's wait shows.
+/// Lists with `session` until the wait of the session numbered `number` shows.
 pub fn see_wait<T: PartTable, B: Board<T>, R: Wait>(
     rt: &R,
     session: &mut OwnSession<T, B>,
@@ -374,7 +377,8 @@ pub fn see_wait<T: PartTable, B: Board<T>, R: Wait>(
     }
 }
 
-/// A session sleeps in its thread until the other one, in another thread, gives back or asks it to cancel.
+/// Has a session sleep in its thread until the other one of `pair`, in another thread, gives back, or asks it to
+/// cancel where `asks`.
 pub fn sleep_in_a_thread<B: Board<Part> + Send, R: Abort + Threads + Wait + Sync>(
     rt: &R,
     pair: Pair<Part, B>,

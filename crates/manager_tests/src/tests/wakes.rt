@@ -27,7 +27,7 @@ pub fn pause() {
     }
 }
 
-/// Sees that the session of this number waits, and gives it the time to sleep.
+/// Sees with `session` that the one numbered `number` waits, and gives it the time to sleep.
 fn see_asleep<T: PartTable, B: Board<T>, R: Wait>(
     rt: &R,
     session: &mut OwnSession<T, B>,
@@ -39,7 +39,7 @@ fn see_asleep<T: PartTable, B: Board<T>, R: Wait>(
     pause();
 }
 
-/// Asks for the table, and sleeps until it has it.
+/// Asks for the table with `session`, and sleeps until it has it.
 fn sleep_until_granted<T: PartTable, B: Board<T>, R: Abort + Wait>(
     rt: &R,
     session: &mut OwnSession<T, B>,
@@ -50,7 +50,7 @@ fn sleep_until_granted<T: PartTable, B: Board<T>, R: Abort + Wait>(
     expect_answer(rt, answer, Ok(Acquired::Granted));
 }
 
-/// Asks for the table, and sleeps until it is asked to cancel.
+/// Asks for the table with `session`, and sleeps until it is asked to cancel.
 fn sleep_until_asked<T: PartTable, B: Board<T>, R: Abort + Wait>(
     rt: &R,
     session: &mut OwnSession<T, B>,
@@ -61,7 +61,7 @@ fn sleep_until_asked<T: PartTable, B: Board<T>, R: Abort + Wait>(
     expect_answer(rt, answer, Err(Refusal::Cancelled));
 }
 
-/// Takes the wait that is lent out of the queue, once the session of this number sleeps behind it.
+/// Takes the wait `ahead`, which is lent, out of the queue, once the session numbered `number` sleeps behind it.
 fn leave_once_asleep<T: PartTable, B: Board<T>, R: Abort + Wait>(
     rt: &R,
     holder: &mut OwnSession<T, B>,
@@ -79,7 +79,8 @@ fn leave_once_asleep<T: PartTable, B: Board<T>, R: Abort + Wait>(
     }
 }
 
-/// The one ahead in the queue leaves it, and the one behind it, who sleeps in a thread of its own, is granted.
+/// Has the session `ahead` in the queue leave it, and the one `behind` it, who sleeps in a thread of its own, be
+/// granted.
 fn leave_side_by_side<B: Board<Part> + Send, R: Abort + Threads + Wait + Sync>(
     rt: &R,
     holder: &mut OwnSession<Part, B>,
@@ -100,8 +101,8 @@ fn leave_side_by_side<B: Board<Part> + Send, R: Abort + Threads + Wait + Sync>(
     left
 }
 
-/// A session has the table, one waits for it in a mode that conflicts, and one sleeps behind that, which only the wait
-/// ahead of it stops. That wait is cancelled, and lets it go.
+/// Has a session take the table, one wait for it in a mode that conflicts, and one sleep behind that, which only the
+/// wait ahead of it stops. That wait is cancelled, and lets it go.
 pub fn let_go_by_a_cancel<
     B: Board<Part> + Send,
     D: Desk<OwnSession<Part, B>>,
@@ -127,7 +128,7 @@ pub fn let_go_by_a_cancel<
     close_counted(rt, desk, sessions);
 }
 
-/// Asks the session of this number to cancel once it sleeps.
+/// Asks the session numbered `number`, with `session`, to cancel once it sleeps.
 fn ask_once_asleep<T: PartTable, B: Board<T>, R: Abort + Wait>(
     rt: &R,
     session: &mut OwnSession<T, B>,
@@ -139,7 +140,7 @@ fn ask_once_asleep<T: PartTable, B: Board<T>, R: Abort + Wait>(
     ask(rt, session, number, Asked::Waiting);
 }
 
-/// The one asks the other, who sleeps in a thread of its own, to cancel, and so its wait is over.
+/// Has `holder` ask `sleeper`, who sleeps in a thread of its own, to cancel, and so its wait is over.
 fn ask_side_by_side<B: Board<Part> + Send, R: Abort + Threads + Wait + Sync>(
     rt: &R,
     holder: &mut OwnSession<Part, B>,
@@ -156,7 +157,7 @@ fn ask_side_by_side<B: Board<Part> + Send, R: Abort + Threads + Wait + Sync>(
     );
 }
 
-/// A session has the table, and one that sleeps in the queue for it is asked to cancel.
+/// Has a session of `desk` take the table, and one that sleeps in the queue for it be asked to cancel.
 pub fn woken_as_asked<
     B: Board<Part> + Send,
     D: Desk<OwnSession<Part, B>>,

@@ -49,6 +49,8 @@ impl<T: PartTable, B: Board<T>, W: Watch> Board<T> for WatchedBoard<B, W> {
 
     ghost stack = { λ watched. B.stack watched.board };
 
+    ghost quiet = { λ watched. B.quiet watched.board };
+
     fn number(&self) -> SessionId {
         self.board.number()
     }

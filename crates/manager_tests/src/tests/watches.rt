@@ -56,27 +56,28 @@ impl Words {
     }
 }
 
-/// Whether a word was odd, or even, all the while between two looks.
+/// Whether a word stayed as it was between two looks that showed `before` and `after`, at an odd number where `odd`,
+/// otherwise at an even one.
 fn stayed(before: u64, after: u64, odd: bool) -> bool {
     before == after && (before % 2 == 1) == odd
 }
 
-/// Sessions have their numbers from 0 on, so this is the place of each.
+/// The place of the session numbered `number`: sessions have their numbers from 0 on.
 fn place_of(number: SessionId) -> usize
     ensures { result < 4 }
 {
     usize::from(number.number() % 4)
 }
 
-/// The relation of the session at this place.
+/// The tag of the relation of the session at `place`.
 fn relation(place: usize) -> Tag
     requires place { place < 4 }
 {
     Tag::relation(5, 20_000 | (place as u32))
 }
 
-/// Asks for the strongest mode on the next session's relation, so that its hold is moved to the table, and gives
-/// back what it got.
+/// Asks with `session` for the strongest mode on the relation of the session at `next`, so that its hold is moved to
+/// the table, and gives back what it got.
 fn disturb<T: PartTable, B: Board<T>, R: Abort + Wait>(
     rt: &R,
     session: &mut OwnSession<T, B>,
@@ -93,7 +94,7 @@ fn disturb<T: PartTable, B: Board<T>, R: Abort + Wait>(
     }
 }
 
-/// The same over and over.
+/// Disturbs the session at `next` with `session`, over and over.
 fn disturb_often<T: PartTable, B: Board<T>, R: Abort + Wait>(
     rt: &R,
     session: &mut OwnSession<T, B>,
@@ -107,7 +108,7 @@ fn disturb_often<T: PartTable, B: Board<T>, R: Abort + Wait>(
     }
 }
 
-/// Holds its own relation for a while, if nobody is in the way, and disturbs the next session meanwhile.
+/// Holds the relation of `session` for a while, if nobody is in the way, and disturbs the next session meanwhile.
 fn hold_once<T: PartTable, B: Board<T>, R: Abort + Wait>(
     rt: &R,
     words: &Words,
@@ -129,7 +130,7 @@ fn hold_once<T: PartTable, B: Board<T>, R: Abort + Wait>(
     words.may_hold[place].fetch_add(1, Ordering::SeqCst);
 }
 
-/// How many rows the hold of the session at this place has.
+/// How many rows of `listing` are of the hold of the session at `place`.
 fn rows_of(listing: &Listing, place: usize) -> u32
     requires place { place < 4 }
 {
@@ -153,7 +154,8 @@ fn rows_of(listing: &Listing, place: usize) -> u32
     rows
 }
 
-/// As many rows as there can be of a hold of which these two are known.
+/// Ends the test unless `rows` is how many rows there can be of a hold that `never` stood meanwhile, or stood
+/// `throughout`.
 fn expect_rows_of<R: Abort>(rt: &R, rows: u32, never: bool, throughout: bool) {
     assert!(rt; rows <= 2, "{rows} rows of one hold");
     assert!(rt; !never || rows == 0, "a row of a hold that nobody had");
@@ -163,7 +165,7 @@ fn expect_rows_of<R: Abort>(rt: &R, rows: u32, never: bool, throughout: bool) {
     );
 }
 
-/// What all words of a kind show.
+/// What all of `words` show.
 fn look(words: &[AtomicU64; 4]) -> [u64; 4] {
     [
         words[0].load(Ordering::SeqCst),
@@ -173,7 +175,7 @@ fn look(words: &[AtomicU64; 4]) -> [u64; 4] {
     ]
 }
 
-/// Lists once, and looks at what was so before and after.
+/// Lists once with `session`, and looks at what was so before and after, by `words`.
 fn list_once<T: PartTable, B: Board<T>, R: Abort + Wait>(
     rt: &R,
     words: &Words,
@@ -195,7 +197,7 @@ fn list_once<T: PartTable, B: Board<T>, R: Abort + Wait>(
     assert!(rt; own == 1 || own == 2, "{own} rows of the own hold");
 }
 
-/// The first session has its relation all the while, and lists over and over.
+/// Has `session`, the first one, have its relation all the while, and list over and over.
 fn list_often<T: PartTable, B: Board<T>, R: Abort + Wait>(
     rt: &R,
     words: &Words,
@@ -209,7 +211,7 @@ fn list_often<T: PartTable, B: Board<T>, R: Abort + Wait>(
     words.is_over.store(true, Ordering::SeqCst);
 }
 
-/// Each other one holds its own over and over, until the listings are over.
+/// Has `session` hold its own relation over and over, until the listings are over.
 fn hold_often<T: PartTable, B: Board<T>, R: Abort + Wait>(
     rt: &R,
     words: &Words,
@@ -225,7 +227,7 @@ fn hold_often<T: PartTable, B: Board<T>, R: Abort + Wait>(
     }
 }
 
-/// Does what the session at its place is to do.
+/// Does what `session` at its place is to do.
 fn play<T: PartTable, B: Board<T>, R: Abort + Wait>(
     rt: &R,
     words: &Words,
@@ -246,7 +248,7 @@ fn play<T: PartTable, B: Board<T>, R: Abort + Wait>(
     expect_released(rt, released, tag, mode);
 }
 
-/// Each session does so in a thread of its own.
+/// Has each of `sessions` do its part in a thread of its own.
 fn play_side_by_side<B: Board<Part> + Send, R: Abort + Threads + Wait + Sync>(
     rt: &R,
     words: &Words,
@@ -263,7 +265,7 @@ fn play_side_by_side<B: Board<Part> + Send, R: Abort + Threads + Wait + Sync>(
     );
 }
 
-/// A session lists while three others lock and unlock.
+/// Has one of `sessions` list while three others lock and unlock.
 pub fn list_beside<B: Board<Part> + Send, R: Abort + Threads + Wait + Sync>(
     rt: &R,
     sessions: &mut [OwnSession<Part, B>],
@@ -274,7 +276,7 @@ pub fn list_beside<B: Board<Part> + Send, R: Abort + Threads + Wait + Sync>(
     play_side_by_side(rt, &words, sessions);
 }
 
-/// Those of a desk do.
+/// Has a session of `desk` list while three others lock and unlock.
 pub fn watch_at<
     B: Board<Part> + Send,
     D: Desk<OwnSession<Part, B>>,

@@ -82,7 +82,11 @@ listed-same words list (Sleep k) = refl
 pub listed-shown : (groups : ℕ) (table : List ℕ) (words : Words) (list : ℕ → List LwWaiter) → WordsAreShown groups table words
     → WordsAreShown groups table (record words { list = list })
 listed-shown groups table words list shown =
-    record { as_many = shown.as_many; word = λ word there. shown.word word there ∙ sym (listed-same words list word) }
+    record {
+      as_many = shown.as_many;
+      word = λ word there. shown.word word there ∙ sym (listed-same words list word);
+      gap = shown.gap;
+    }
 
 -- What a session knows of a word is so.
 word-known : (w : World) → SafeWorld w → (s : ℕ) (word : Word) → KnowsWord s (account w s) word (word_in w.words word)

@@ -1,13 +1,18 @@
-use Rattle.std.proofs.Common.{◌≡◌, ◌∙◌, ℕ, ◌+◌, ◌<◌, IfNone, ap, subst, arith, rules}
+use Rattle.std.proofs.Common.{◌≡◌, ◌∙◌, ◌∷◌, ℕ, ◌+◌, ◌<◌, IfNone, ap, subst, arith, rules}
 use Rattle.lock_world.specs.SlotHolds.{most_groups, relation_of}
 use Rattle.lock_world.proofs.Slots.Used.{relation-group}
 use Rattle.shared_rule.specs.Boards.{Seated}
+use Rattle.shared_rule.specs.Quiet.{SetsSlot}
 use Rattle.fast_path.specs.Slots.{IsAllInUse, group_of_tag, count_in, counting, one_more_in}
 use Rattle.fast_path.proofs.Granting.{looked-enough, looked-sights, some-unused, may_put-granted, done-its, done-unused}
 use Rattle.fast_path.proofs.grants.grant_with_slots.Goals as goal
 
-pub look_from_top-of_relation-requires-clause-enough : goal.look_from_top-of_relation-requires-clause-enough
-look_from_top-of_relation-requires-clause-enough g c =
+pub returns-then-load_strong-ne0-clause-quiet : goal.returns-then-load_strong-ne0-clause-quiet
+returns-then-load_strong-ne0-clause-quiet g c = λ number before has.
+    c.put_fast.ensures.quiet ∙ c.load_strong.ensures.quiet ∙ has
+
+pub look_for_grant-of_relation-requires-clause-enough : goal.look_for_grant-of_relation-requires-clause-enough
+look_for_grant-of_relation-requires-clause-enough g c =
     let seat = g.B.Board.seat c.args.board.now in
     let has = c.requires.in_hand in
     let reads = c.load_strong in
@@ -21,7 +26,7 @@ pub put_fast-requires-in-Some-clause-lawful : goal.put_fast-requires-in-Some-cla
 put_fast-requires-in-Some-clause-lawful g c =
     let seat = g.B.Board.seat c.args.board.now in
     let reads = c.load_strong in
-    let looks = c.look_from_top-of_relation in
+    let looks = c.look_for_grant-of_relation in
     let set = c.set_slot in
     may_put-granted seat.groups seat.number (g.B.Board.view c.args.board.now) c.args.uses.now c.args.tag.now c.args.mode
     c.requires.in_hand c.number-own.result c.strong_index.result c.args.group reads.result _ looks.ensures.loaded.0 c.in-Some.slot (g.B.Board.view reads.new.self)
@@ -34,7 +39,7 @@ returns-in-Some g c =
     let seat = g.B.Board.seat c.args.board.now in
     let reads = c.load_strong in
     let relation = c.relation_number in
-    let looks = c.look_from_top-of_relation in
+    let looks = c.look_for_grant-of_relation in
     let set = c.set_slot in
     let both = done-its seat.groups seat.number (g.B.Board.view c.args.board.now) c.args.uses.now c.args.tag.now c.args.mode
     c.requires.in_hand c.number-own.result c.strong_index.result c.args.group reads.result _ looks.ensures.loaded.0 c.in-Some.slot
@@ -46,14 +51,22 @@ returns-in-Some g c =
     c.requires.has_room looks.ensures.loaded.1
     looks.result looks.ensures.sighted (g.B.Board.view c.put_fast-in-Some.new.self) _
     (ap (λ (s : Seated). s.number) set.ensures.seat) c.put_fast-in-Some.ensures.view c.in-Some.is in
-    record { granted = both.0; ready = both.1; seat = search rules; stack = search rules }
+    record {
+      granted = both.0;
+      ready = both.1;
+      seat = search rules;
+      stack = search rules;
+      quiet = λ number before has.
+          c.put_fast-in-Some.ensures.quiet ∙ set.ensures.quiet
+          ∙ ap (λ its. SetsSlot c.args.tag.now c.args.mode ∷ its) (looks.ensures.quiet ∙ reads.ensures.quiet ∙ has);
+    }
 
 pub unwrap-slot-requires : goal.unwrap-slot-requires
 unwrap-slot-requires g c =
     let seat = g.B.Board.seat c.args.board.now in
     let has = c.requires.in_hand in
     let reads = c.load_strong in
-    let looks = c.look_from_top-of_relation in
+    let looks = c.look_for_grant-of_relation in
     let sights = looked-sights seat.groups seat.number (g.B.Board.view c.args.board.now) c.args.tag.now has.slots has.in_hand 0
     (g.B.Board.view reads.new.self)
     c.number-own.result c.strong_index.result c.args.group reads.result c.number-own.ensures.value c.strong_index.ensures.value
@@ -70,7 +83,7 @@ pub put_fast-requires-2-clause-lawful : goal.put_fast-requires-2-clause-lawful
 put_fast-requires-2-clause-lawful g c =
     let seat = g.B.Board.seat c.args.board.now in
     let reads = c.load_strong in
-    let looks = c.look_from_top-of_relation in
+    let looks = c.look_for_grant-of_relation in
     let set = c.set_slot-2 in
     may_put-granted seat.groups seat.number (g.B.Board.view c.args.board.now) c.args.uses.now c.args.tag.now c.args.mode
     c.requires.in_hand c.number-own.result c.strong_index.result c.args.group reads.result _ looks.ensures.loaded.0 c.unwrap-slot.result
@@ -84,7 +97,7 @@ returns g c =
     let seat = g.B.Board.seat c.args.board.now in
     let reads = c.load_strong in
     let relation = c.relation_number in
-    let looks = c.look_from_top-of_relation in
+    let looks = c.look_for_grant-of_relation in
     let set = c.set_slot-2 in
     let raised : count_in c.set.new.self ≡ one_more_in c.args.uses.now (group_of_tag seat.groups c.args.tag.now) =
     c.set.ensures ∙ ap (λ (k : ℕ). counting c.args.uses.now c.args.group (k + 1)) c.of-use_count.ensures
@@ -99,4 +112,12 @@ returns g c =
     c.requires.has_room looks.ensures.loaded.1
     looks.result looks.ensures.sighted (g.B.Board.view c.put_fast-2.new.self) _
     (ap (λ (s : Seated). s.number) set.ensures.seat) c.put_fast-2.ensures.view c.set.new.self raised c.in_default.is c.unwrap-slot.ensures in
-    record { granted = both.0; ready = both.1; seat = search rules; stack = search rules }
+    record {
+      granted = both.0;
+      ready = both.1;
+      seat = search rules;
+      stack = search rules;
+      quiet = λ number before has.
+          c.put_fast-2.ensures.quiet ∙ set.ensures.quiet
+          ∙ ap (λ its. SetsSlot c.args.tag.now c.args.mode ∷ its) (looks.ensures.quiet ∙ reads.ensures.quiet ∙ has);
+    }

@@ -26,3 +26,7 @@ grant_with_slots-requires-clause-in_hand g c =
       within = ready.within;
     })
     tried.takes)
+
+pub returns-in-Ok-clause-quiet : goal.returns-in-Ok-clause-quiet
+returns-in-Ok-clause-quiet g c =
+    c.grant_with_slots.ensures.quiet (g.B.Board.seat c.args.board.now).number (g.B.Board.quiet c.args.board.now) c.in-Ok.ensures.quiet

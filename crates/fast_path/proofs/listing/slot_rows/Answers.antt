@@ -1,6 +1,7 @@
-use Rattle.std.proofs.Common.{◌≡◌, ◌∙◌, ℕ, Ok, Err, refl, subst, arith}
+use Rattle.std.proofs.Common.{◌≡◌, ◌∙◌, ◌+◌, ℕ, Ok, Err, refl, subst, arith}
 use Rattle.std.specs.Prelude.{IfSome}
 use Rattle.shared_rule.specs.Boards.{Seated}
+use Rattle.fast_path.proofs.Quiet.{sharing-next}
 use Rattle.fast_path.specs.Rows.{ListsSession, rows_of_all}
 use Rattle.fast_path.proofs.SlotRows.{listing-begun, listing-next, listing-stops, behind-more, behind-cut}
 use Rattle.fast_path.proofs.listing.slot_rows.Goals as goal
@@ -10,6 +11,7 @@ loop-number-init g c = record {
   lists = listing-begun (g.B.Board.seat c.args.board.now).groups (g.B.Board.seat c.args.board.now).number (g.B.Board.view c.args.board.now) c.args.rows.now.items;
   end = c.sessions-number-end.ensures;
   stack = refl;
+  quiet = refl;
   seat = refl;
 }
 
@@ -30,6 +32,8 @@ loop-number-preserved g c =
           c.in-Ok.ensures.listed));
       end = c.loop-number.invariant.end;
       stack = c.session_rows.ensures.stack ∙ c.loop-number.invariant.stack;
+      quiet = sharing-next c.unwrap-owner.result c.loop-number.number (g.B.Board.quiet c.args.board.now)
+          (g.B.Board.quiet c.loop-number.board) (g.B.Board.quiet c.session_rows.new.board) owner c.loop-number.invariant.quiet c.session_rows.ensures.quiet;
       seat = c.session_rows.ensures.seat ∙ c.loop-number.invariant.seat;
     }
 
@@ -56,3 +60,26 @@ returns-in-Err-clause-listed g c =
     (behind-more old mid new (rows_of_all c.loop-number.number so_far.database so_far.word, so_far.listed)
     c.session_rows.ensures.behind)
     (c.len-before.ensures ∙ c.args.rows.now.ok.0) c.truncate.ensures.items)
+
+pub returns-in-Err-clause-quiet : goal.returns-in-Err-clause-quiet
+returns-in-Err-clause-quiet g c =
+    let owner : c.unwrap-owner.result ≡ c.loop-number.number =
+    subst (λ found. IfSome found (λ id. id ≡ c.loop-number.number)) c.unwrap-owner.ensures c.new.ensures.value in
+    record {
+      reached = c.loop-number.number + 1;
+      within = omega (arith, c.loop-number-test.true, c.loop-number.invariant.end);
+      all = tt;
+      quiet = sharing-next c.unwrap-owner.result c.loop-number.number (g.B.Board.quiet c.args.board.now)
+          (g.B.Board.quiet c.loop-number.board) (g.B.Board.quiet c.session_rows.new.board) owner c.loop-number.invariant.quiet c.session_rows.ensures.quiet;
+    }
+
+pub returns-clause-quiet : goal.returns-clause-quiet
+returns-clause-quiet g c =
+    let last : c.loop-number.number ≡ (g.B.Board.seat c.args.board.now).limit =
+    omega (arith, c.loop-number-test.false, c.loop-number.auto.number-end, c.loop-number.invariant.end) in
+    record {
+      reached = c.loop-number.number;
+      within = omega (arith, last);
+      all = last;
+      quiet = c.loop-number.invariant.quiet;
+    }

@@ -1,8 +1,11 @@
-use Rattle.std.proofs.Common.{◌≡◌, ◌∙◌, ℕ, false, sym, ap, inr, rules}
+use Rattle.std.proofs.Common.{◌≡◌, ◌∙◌, ◌∷◌, ℕ, false, sym, ap, inr, rules}
 use Rattle.lw_word.specs.SlotWord.{in_use, word_without}
 use Rattle.lock_table.specs.Put.{set_at}
 use Rattle.lock_world.specs.SlotHolds.{group_of_relation, slot_holds, used_in}
 use Rattle.shared_rule.specs.Boards.{Seated}
+use Rattle.shared_rule.specs.Quiet.{TakesSlots}
+use Rattle.fast_path.specs.Quiet.{quiet_ungranting}
+use Rattle.fast_path.proofs.Quiet.{quiet-some}
 use Rattle.fast_path.specs.Slots.{group_of_tag, count_in}
 use Rattle.fast_path.proofs.Releasing.{none-used, no-its, no-mode, some-used, may_put-cleared, clears, finds_none}
 use Rattle.fast_path.proofs.Releasing.{recounted-kept, recounted-less}
@@ -19,6 +22,15 @@ returns-then-of-eq0-clause-in_no_slot g c =
     let none = ap (count_in c.args.uses.now) (sym of_tag) ∙ sym c.of.ensures ∙ c.if-of-eq0.true in
     λ no. none-used (g.B.Board.seat c.args.board.now).groups a c.args.uses.now c.args.tag.now c.args.mode
     c.groups.ensures.some c.groups.ensures.few c.requires.ready none
+
+pub returns-then-of-eq0-clause-quiet : goal.returns-then-of-eq0-clause-quiet
+returns-then-of-eq0-clause-quiet g c =
+    let groups = (g.B.Board.seat c.args.board.now).groups in
+    let of_tag : c.group_of-group.result ≡ group_of_tag groups c.args.tag.now = c.group_of-group.ensures.value
+    ∙ ap (λ (k : ℕ). group_of_relation k c.relation_number-relation.result) c.groups.ensures.value
+    ∙ ap (group_of_relation groups) c.relation_number-relation.ensures in
+    let none = ap (count_in c.args.uses.now) (sym of_tag) ∙ sym c.of.ensures ∙ c.if-of-eq0.true in
+    sym (ap (λ (count : ℕ). quiet_ungranting (g.B.Board.seat c.args.board.now).number count (g.B.Board.quiet c.args.board.now)) none)
 
 pub put_fast-requires-clause-lawful : goal.put_fast-requires-clause-lawful
 put_fast-requires-clause-lawful g c =
@@ -86,6 +98,10 @@ returns-then-has g c =
       ready = both.1;
       seat = search rules;
       stack = search rules;
+      quiet = c.put_fast.ensures.quiet ∙ cleared.ensures.quiet ∙ looks.ensures.quiet ∙ took.ensures.quiet
+          ∙ ap (λ owner. TakesSlots owner ∷ g.B.Board.quiet c.args.board.now) c.number-own.ensures.value
+          ∙ sym (quiet-some number (count_in c.args.uses.now (group_of_tag groups c.args.tag.now)) (g.B.Board.quiet c.args.board.now)
+          (λ unused. c.if-of-eq0.false (c.of.ensures ∙ ap (count_in c.args.uses.now) of_tag ∙ unused)));
     }
 
 pub returns : goal.returns
@@ -125,4 +141,8 @@ returns g c =
       ready = all.1;
       seat = search rules;
       stack = search rules;
+      quiet = c.put_fast-2.ensures.quiet ∙ looks.ensures.quiet ∙ took.ensures.quiet
+          ∙ ap (λ owner. TakesSlots owner ∷ g.B.Board.quiet c.args.board.now) c.number-own.ensures.value
+          ∙ sym (quiet-some number (count_in c.args.uses.now (group_of_tag groups c.args.tag.now)) (g.B.Board.quiet c.args.board.now)
+          (λ unused. c.if-of-eq0.false (c.of.ensures ∙ ap (count_in c.args.uses.now) of_tag ∙ unused)));
     }

@@ -13,6 +13,7 @@ loop-place-init g c =
       words = search rules;
       seat = search rules;
       stack = search rules;
+      quiet = search rules;
     }
 
 pub loop-place-preserved : goal.loop-place-preserved
@@ -34,4 +35,5 @@ loop-place-preserved g c =
           c.loop-place.invariant.words shown);
       seat = c.load_slot.ensures.seat ∙ c.loop-place.invariant.seat;
       stack = c.load_slot.ensures.stack ∙ c.loop-place.invariant.stack;
+      quiet = c.load_slot.ensures.quiet ∙ c.loop-place.invariant.quiet;
     }

@@ -12,4 +12,5 @@ invariant-loop-place g l = record {
       → word_of l.words k ≡ (slots_here ((g.B.Board.view l.fn.board).fast.shared_slots l.owner)).word k;
   seat : g.B.Board.seat l.board ≡ g.B.Board.seat l.fn.board;
   stack : g.B.Board.stack l.board ≡ g.B.Board.stack l.fn.board;
+  quiet : g.B.Board.quiet l.board ≡ g.B.Board.quiet l.fn.board;
 }

@@ -20,6 +20,7 @@ loop-step-init g c =
       few = omega arith;
       seat = search rules;
       stack = search rules;
+      quiet = search rules;
     }
 
 pub returns-then-relation : goal.returns-then-relation
@@ -43,6 +44,7 @@ returns-then-relation g c =
           (sym c.in_use.ensures ∙ c.if-in_use.true) (sym c.relation.ensures ∙ c.if-relation.true);
       seat = c.load_slot-word.ensures.seat ∙ so_far.seat;
       stack = c.load_slot-word.ensures.stack ∙ so_far.stack;
+      quiet = c.load_slot-word.ensures.quiet ∙ so_far.quiet;
     }
 
 pub returns-then-used_count-use_count : goal.returns-then-used_count-use_count
@@ -85,6 +87,7 @@ returns-then-used_count-use_count g c =
           sees (omega (arith, c.loop-step-test.true)) enough some;
       seat = c.load_slot-word.ensures.seat ∙ so_far.seat;
       stack = c.load_slot-word.ensures.stack ∙ so_far.stack;
+      quiet = c.load_slot-word.ensures.quiet ∙ so_far.quiet;
     }
 
 pub loop-step-preserved : goal.loop-step-preserved
@@ -134,6 +137,7 @@ loop-step-preserved g c =
       ];
       seat = c.load_slot-word.ensures.seat ∙ so_far.seat;
       stack = c.load_slot-word.ensures.stack ∙ so_far.stack;
+      quiet = c.load_slot-word.ensures.quiet ∙ so_far.quiet;
     }
 
 pub returns : goal.returns
@@ -150,4 +154,5 @@ returns g c =
           last;
       seat = so_far.seat;
       stack = so_far.stack;
+      quiet = so_far.quiet;
     }

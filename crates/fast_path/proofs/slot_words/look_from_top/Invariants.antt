@@ -14,4 +14,5 @@ invariant-loop-step g l = record {
   few : l.used_count ≤ l.step;
   seat : g.B.Board.seat l.board ≡ g.B.Board.seat l.fn.board;
   stack : g.B.Board.stack l.board ≡ g.B.Board.stack l.fn.board;
+  quiet : g.B.Board.quiet l.board ≡ g.B.Board.quiet l.fn.board;
 }

@@ -17,6 +17,7 @@ loop-index-init g c =
       few = omega arith;
       seat = search rules;
       stack = search rules;
+      quiet = search rules;
     }
 
 pub loop-index-preserved : goal.loop-index-preserved
@@ -56,6 +57,7 @@ loop-index-preserved g c =
       ];
       seat = c.load_slot-word.ensures.seat ∙ so_far.seat;
       stack = c.load_slot-word.ensures.stack ∙ so_far.stack;
+      quiet = c.load_slot-word.ensures.quiet ∙ so_far.quiet;
     }
 
 pub returns-clause-sighted : goal.returns-clause-sighted

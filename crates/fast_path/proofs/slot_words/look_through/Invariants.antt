@@ -15,4 +15,5 @@ invariant-loop-index g l = record {
   few : l.used_count ≤ l.index;
   seat : g.B.Board.seat l.board ≡ g.B.Board.seat l.fn.board;
   stack : g.B.Board.stack l.board ≡ g.B.Board.stack l.fn.board;
+  quiet : g.B.Board.quiet l.board ≡ g.B.Board.quiet l.fn.board;
 }

@@ -20,6 +20,7 @@ loop-number-init g c = record {
       (g.T.PartTable.content c.args.content.now) c.requires.in_hand;
   begun = c.requires.none_begun;
   stack = refl;
+  quiet = refl;
   seat = refl;
 }
 
@@ -102,6 +103,7 @@ loop-number-preserved g c =
             (ap g.B.Board.view w.board-is ∙ w.transfer_slot.ensures.view) (w.left-is ∙ w.without-left.ensures.number);
         begun = ap g.T.PartTable.begun w.content-is ∙ w.grant.ensures.ended;
         stack = ap g.B.Board.stack w.board-is ∙ w.transfer_slot.ensures.stack ∙ c.loop-number.invariant.stack;
+        quiet = ap g.B.Board.quiet w.board-is ∙ w.transfer_slot.ensures.quiet ∙ c.loop-number.invariant.quiet;
         seat = ap g.B.Board.seat w.board-is ∙ w.transfer_slot.ensures.seat ∙ c.loop-number.invariant.seat;
       }
       | else-has w ↦ record {
@@ -115,6 +117,7 @@ loop-number-preserved g c =
             (sym c.has.ensures ∙ w.if-has.false));
         begun = ap g.T.PartTable.begun w.content-is ∙ c.loop-number.invariant.begun;
         stack = ap g.B.Board.stack w.board-is ∙ c.loop-number.invariant.stack;
+        quiet = ap g.B.Board.quiet w.board-is ∙ c.loop-number.invariant.quiet;
         seat = ap g.B.Board.seat w.board-is ∙ c.loop-number.invariant.seat;
       }
     ]

@@ -9,5 +9,6 @@ invariant-loop-number g l = record {
       (g.B.Board.view l.board);
   begun : g.T.PartTable.begun l.content ≡ None;
   stack : g.B.Board.stack l.board ≡ g.B.Board.stack l.fn.board;
+  quiet : g.B.Board.quiet l.board ≡ g.B.Board.quiet l.fn.board;
   seat : g.B.Board.seat l.board ≡ g.B.Board.seat l.fn.board;
 }

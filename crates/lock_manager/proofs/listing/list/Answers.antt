@@ -89,3 +89,25 @@ returns-in-Ok-clause-listed g c =
       misses_none = misses-none seat.groups seat.limit seat.number a.trace (g.B.Board.view c.list_table.new.board).trace slots.database slots.word
           table.contents listing table.sixteen trace fast table.table;
     })
+
+-- Its quiet steps are those of the slot rows.
+
+pub returns-then-is_err-clause-quiet : goal.returns-then-is_err-clause-quiet
+returns-then-is_err-clause-quiet g c =
+    let its = c.slot_rows.ensures.quiet in
+    record { reached = its.reached; within = its.within; all = tt; quiet = its.quiet }
+
+pub returns-in-Ok-clause-quiet : goal.returns-in-Ok-clause-quiet
+returns-in-Ok-clause-quiet g c =
+    let its = c.slot_rows.ensures.quiet in
+    record {
+      reached = its.reached;
+      within = its.within;
+      all = rows-ok c.slot_rows.result _ (sym c.if-is_err.ensures.value) its.all;
+      quiet = c.list_table.ensures.quiet ∙ its.quiet;
+    }
+
+pub returns-in-Err-clause-quiet : goal.returns-in-Err-clause-quiet
+returns-in-Err-clause-quiet g c =
+    let its = c.slot_rows.ensures.quiet in
+    record { reached = its.reached; within = its.within; all = tt; quiet = c.list_table.ensures.quiet ∙ its.quiet }

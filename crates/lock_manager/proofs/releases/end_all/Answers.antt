@@ -7,6 +7,7 @@ use Rattle.shared_rule.specs.Boards.{Seated}
 use Rattle.lock_manager.specs.Rest.{IsUseCount}
 use Rattle.lock_manager.proofs.Lemmas.Rest.Acquires.{rest-database}
 use Rattle.lock_manager.proofs.Lemmas.Rest.Ends.{rest-held, rest-counted, rest-next, rest-left, rest-found, releases-next}
+use Rattle.lock_manager.proofs.Lemmas.Quiet.{quiet-next, quiet-over}
 use Rattle.lock_manager.proofs.releases.end_all.Goals as goal
 
 pub entries-init : goal.entries-init
@@ -15,6 +16,7 @@ entries-init g c = record {
       rest-found (g.B.Board.seat c.args.board.now).groups (g.B.Board.seat c.args.board.now).limit c.args.own.now.database c.args.own.now.uses c.args.end (g.B.Board.view c.args.board.now) (g.B.Board.stack c.args.board.now)
       c.args.own.now.locals c.requires.rest;
   steps = λ last left others. others;
+  quiet = λ last left after others. others;
   none_ended = λ none. (none, refl);
   entries = refl;
   level = refl;
@@ -56,6 +58,11 @@ entries-preserved g c = record {
       (g.B.Board.view c.release_hold.new.board) last c.entries.own.uses c.release_hold.new.uses left (found_by c.args.end c.entries.own.locals) (found_by c.args.end c.end_next.new.self)
       (c.in-Some.tag, c.in-Some.mode)
       c.entries.invariant.kept.seat_ c.in-Some.ensures.next c.release_hold.ensures.steps others);
+  quiet = λ last left after others. c.entries.invariant.quiet last left after
+      (quiet-next (g.B.Board.seat c.args.board.now) (g.B.Board.seat c.entries.board) c.args.end (g.B.Board.view c.entries.board)
+      (g.B.Board.view c.release_hold.new.board) last c.entries.own.uses c.release_hold.new.uses left (found_by c.args.end c.entries.own.locals) (found_by c.args.end c.end_next.new.self)
+      (c.in-Some.tag, c.in-Some.mode) (g.B.Board.quiet c.entries.board) (g.B.Board.quiet c.release_hold.new.board) after
+      c.entries.invariant.kept.seat_ c.in-Some.ensures.next c.release_hold.ensures.steps c.release_hold.ensures.quiet others);
   none_ended = λ none. let some = c.in-Some.ensures.next in let no_more = (c.entries.invariant.none_ended none).0 in absurd (cc);
   entries = c.in-Some.ensures.outlives refl ∙ c.entries.invariant.entries;
   level = c.in-Some.ensures.level refl ∙ c.entries.invariant.level;
@@ -84,3 +91,10 @@ returns-clause-levels g c = c.in_default.ensures.ended ∙ go c.args.end c.entri
 
 pub returns-clause-none_ended : goal.returns-clause-none_ended
 returns-clause-none_ended g c = λ none. (c.entries.invariant.none_ended none).1
+
+pub returns-clause-quiet : goal.returns-clause-quiet
+returns-clause-quiet g c =
+    let seat = g.B.Board.seat c.args.board.now in
+    c.entries.invariant.quiet (g.B.Board.view c.entries.board) c.entries.own.uses (g.B.Board.quiet c.entries.board)
+    (quiet-over seat.groups seat.number (g.B.Board.view c.entries.board) c.entries.own.uses (ended_by c.args.end (found_by c.args.end c.entries.own.locals))
+    (g.B.Board.quiet c.entries.board) c.in_default.ensures.last)

@@ -10,6 +10,7 @@ loop-other-init g c = record {
   telling = telling-begins (g.B.Board.seat c.args.board.now) (g.B.Board.view c.args.board.now) c.args.part c.args.done.now c.args.woken.now.items
       c.as_slice-other-items.result.now (g.T.PartTable.content c.args.content) c.requires.lawful c.as_slice-other-items.ensures.value;
   seat = refl;
+  quiet = refl;
   stack = owed-none (g.B.Board.stack c.args.board.now) c.as_slice-other-items.result.now c.requires.none_owed;
 }
 
@@ -37,6 +38,7 @@ loop-other-preserved g c =
             c.as_slice-other-items.ensures.value c.loop-other-test.true c.loop-other-item.is telling.left c.mark_granted.ensures.view;
       };
       seat = c.mark_granted.ensures.seat ∙ c.loop-other.invariant.seat;
+      quiet = c.mark_granted.ensures.quiet ∙ c.loop-other.invariant.quiet;
       stack = owed-next (g.B.Board.stack c.args.board.now) (g.B.Board.stack c.loop-other.board) (g.B.Board.stack c.mark_granted.new.self)
           c.as_slice-other-items.result.now c.loop-other.other-index c.loop-other-item.result c.loop-other-test.true c.loop-other-item.is
           c.loop-other.invariant.stack c.mark_granted.ensures.stack;
@@ -66,6 +68,7 @@ pub loop-session-init : goal.loop-session-init
 loop-session-init g c = record {
   view = refl;
   seat = refl;
+  quiet = refl;
   stack = owed-all (g.B.Board.stack c.args.board.now) (g.B.Board.stack c.loop-other.board) (g.B.Board.stack c.put_part.new.self)
       c.as_slice-other-items.result.now c.as_slice-session-items.result.now c.loop-other.other-index (omega arith)
       (c.as_slice-other-items.ensures.value ∙ sym c.as_slice-session-items.ensures.value)
@@ -76,6 +79,7 @@ pub loop-session-preserved : goal.loop-session-preserved
 loop-session-preserved g c = record {
   view = c.wake.ensures.view ∙ c.loop-session.invariant.view;
   seat = c.wake.ensures.seat ∙ c.loop-session.invariant.seat;
+  quiet = c.wake.ensures.quiet ∙ c.loop-session.invariant.quiet;
   stack = woken-next (stack_putting (g.B.Board.stack c.args.board.now)) (g.B.Board.stack c.loop-session.board) (g.B.Board.stack c.wake.new.self)
       c.as_slice-session-items.result.now c.loop-session.session-index c.loop-session-item.result c.loop-session-test.true c.loop-session-item.is
       c.loop-session.invariant.stack c.wake.ensures.stack;
@@ -98,3 +102,6 @@ returns-clause-stack g c =
 
 pub returns-clause-seat : goal.returns-clause-seat
 returns-clause-seat g c = c.loop-session.invariant.seat ∙ c.put_part.ensures.seat ∙ c.loop-other.invariant.seat
+
+pub returns-clause-quiet : goal.returns-clause-quiet
+returns-clause-quiet g c = c.loop-session.invariant.quiet ∙ c.put_part.ensures.quiet ∙ c.loop-other.invariant.quiet

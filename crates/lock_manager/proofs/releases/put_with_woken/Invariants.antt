@@ -10,6 +10,7 @@ invariant-loop-other g l = record {
   telling : IsTelling (g.B.Board.seat l.fn.board) (g.B.Board.view l.fn.board) l.part l.done l.woken.items (g.T.PartTable.content l.content)
       (drop l.other-index l.other-items) (g.B.Board.view l.board);
   seat : g.B.Board.seat l.board ≡ g.B.Board.seat l.fn.board;
+  quiet : g.B.Board.quiet l.board ≡ g.B.Board.quiet l.fn.board;
   stack : g.B.Board.stack l.board ≡ with_owed (g.B.Board.stack l.fn.board) (sessions_told (take l.other-index l.other-items));
 }
 
@@ -17,6 +18,7 @@ abbrev pub invariant-loop-session : goal.invariant-loop-session
 invariant-loop-session g l = record {
   view : g.B.Board.view l.board ≡ g.B.Board.view l.initial.board;
   seat : g.B.Board.seat l.board ≡ g.B.Board.seat l.initial.board;
+  quiet : g.B.Board.quiet l.board ≡ g.B.Board.quiet l.initial.board;
   stack : g.B.Board.stack l.board
       ≡ with_owed (stack_putting (g.B.Board.stack l.fn.board)) (sessions_told (drop l.session-index l.session-items));
 }

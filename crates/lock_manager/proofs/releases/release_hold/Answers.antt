@@ -3,6 +3,7 @@ use Rattle.modes_core.specs.Tag.{is_eligible_for}
 use Rattle.shared_rule.specs.Boards.{Seated}
 use Rattle.lock_manager.specs.Releases.{ReleasesHold}
 use Rattle.lock_manager.proofs.Lemmas.Releases.InPart.{looks-nowhere, looks-found, table-released}
+use Rattle.lock_manager.proofs.Lemmas.Quiet.{releasing-looks, releasing-nowhere}
 use Rattle.lock_manager.proofs.releases.release_hold.Goals as goal
 
 pub returns-then-not-is_eligible-clause-steps : goal.returns-then-not-is_eligible-clause-steps
@@ -23,3 +24,26 @@ returns-then-not-ungrant-clause-steps g c =
     (ap (λ database. is_eligible_for database c.args.tag.now c.args.mode) c.requires.database ∙ sym c.if-not-is_eligible.ensures) c.if-not-ungrant.ensures.ungranted)
     (subst (λ (s : Seated). ReleasesHold s.number between c.args.tag.now c.args.mode (g.B.Board.view c.release_in_table-then-not-ungrant.new.board))
     c.ungrant.ensures.seat c.release_in_table-then-not-ungrant.ensures.released)
+
+-- Its quiet steps.
+
+pub returns-then-not-is_eligible-clause-quiet : goal.returns-then-not-is_eligible-clause-quiet
+returns-then-not-is_eligible-clause-quiet g c =
+    let seat = g.B.Board.seat c.args.board.now in
+    c.release_in_table.ensures.quiet
+    ∙ sym (releasing-nowhere seat.groups seat.number (g.B.Board.view c.args.board.now) c.args.uses.now c.args.tag.now c.args.mode (g.B.Board.quiet c.args.board.now)
+    (ap (λ database. is_eligible_for database c.args.tag.now c.args.mode) c.requires.database ∙ sym c.if-not-is_eligible.ensures))
+
+pub returns-then-not-ungrant-clause-quiet : goal.returns-then-not-ungrant-clause-quiet
+returns-then-not-ungrant-clause-quiet g c =
+    let seat = g.B.Board.seat c.args.board.now in
+    c.release_in_table-then-not-ungrant.ensures.quiet ∙ c.ungrant.ensures.quiet
+    ∙ sym (releasing-looks seat.groups seat.number (g.B.Board.view c.args.board.now) c.args.uses.now c.args.tag.now c.args.mode (g.B.Board.quiet c.args.board.now)
+    (ap (λ database. is_eligible_for database c.args.tag.now c.args.mode) c.requires.database ∙ sym c.if-not-is_eligible.ensures))
+
+pub returns-else-not-ungrant-clause-quiet : goal.returns-else-not-ungrant-clause-quiet
+returns-else-not-ungrant-clause-quiet g c =
+    let seat = g.B.Board.seat c.args.board.now in
+    c.ungrant.ensures.quiet
+    ∙ sym (releasing-looks seat.groups seat.number (g.B.Board.view c.args.board.now) c.args.uses.now c.args.tag.now c.args.mode (g.B.Board.quiet c.args.board.now)
+    (ap (λ database. is_eligible_for database c.args.tag.now c.args.mode) c.requires.database ∙ sym c.if-not-is_eligible.ensures))

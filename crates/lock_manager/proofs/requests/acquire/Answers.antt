@@ -1,11 +1,14 @@
-use Rattle.std.proofs.Common.{◌≡◌, ◌<◌, List, Ok, Err, length, arith, ap, ◌∙◌, subst, inr}
+use Rattle.std.proofs.Common.{◌≡◌, ◌<◌, List, Ok, Err, length, arith, sym, ap, ◌∙◌, refl, subst, inr}
+use Rattle.modes_core.specs.declared.refusals.Refusal.TheVariants.{CountFull}
 use Rattle.local_locks.specs.declared.records.Entry.{Entry}
 use Rattle.local_locks.specs.Owned.{has_entry, with_one_more}
 use Rattle.lock_world.specs.Happens.Counters.{most_counted}
 use Rattle.lock_manager.specs.Requests.{Requests, IsRequested}
+use Rattle.lock_manager.specs.Quiet.{MakesNone, OfRequest}
 use Rattle.local_locks.proofs.NewLaws.{reserved-new}
 use Rattle.lock_manager.proofs.Lemmas.Rest.Acquires.{held_again, not_held_yet, rest-not_counted, rest-few, rest-granted, rest-held_again}
 use Rattle.lock_manager.proofs.Lemmas.Requests.Whole.{never-queued, requested-not_own}
+use Rattle.lock_manager.proofs.Lemmas.Requests.Answered.{begins-refused, answers-refused}
 use Rattle.lock_manager.proofs.requests.acquire.Goals as goal
 
 pub returns-then-branch-clause-rest : goal.returns-then-branch-clause-rest
@@ -68,3 +71,36 @@ pub returns-in-Err-clause-no_memory : goal.returns-in-Err-clause-no_memory
 returns-in-Err-clause-no_memory g c is = inr
     (subst (λ refusal. Requests c.args.kind (g.B.Board.seat c.args.board.now) (g.B.Board.view c.args.board.now) c.args.own.now.uses c.args.tag c.args.mode (Err refusal) (g.B.Board.view c.request.new.board) c.request.new.uses)
     is c.in-Err.ensures.steps)
+
+pub returns-in-Err-clause-steps : goal.returns-in-Err-clause-steps
+returns-in-Err-clause-steps g c =
+    begins-refused c.args.kind (g.B.Board.seat c.args.board.now) c.args.own.now.locals (g.B.Board.view c.args.board.now) (g.B.Board.view c.request.new.board) c.args.own.now.uses c.request.new.uses
+    c.args.tag c.args.mode c.in-Err.refusal c.in-Err.ensures.steps
+
+pub returns-in-Err-clause-answers : goal.returns-in-Err-clause-answers
+returns-in-Err-clause-answers g c =
+    let owned = c.args.own.now.locals in
+    let yet = not_held_yet owned c.add_held.new.self c.args.tag c.args.mode c.add_held.result c.in_ok-add_held.field-0 (c.in_ok-add_held.was {u = tt}) c.if-branch.false c.add_held.ensures.not_held.0 c.add_held.ensures.same in
+    let room : length c.reserve_new.new.self.entries < c.reserve_new.new.self.max_local = c.in_ok-reserve_new.ensures.allowed in
+    let number : length c.reserve_new.new.self.entries ≡ length owned.entries = ap (λ (es : List Entry). length es) (c.reserve_new.ensures.entries ∙ yet.1) in
+    let most : c.reserve_new.new.self.max_local ≡ owned.max_local = c.reserve_new.ensures.max_local ∙ c.add_held.ensures.max_local in
+    answers-refused c.args.kind (g.B.Board.seat c.args.board.now) owned (g.B.Board.view c.args.board.now) (g.B.Board.view c.request.new.board) c.args.own.now.uses c.request.new.uses
+    c.args.tag c.args.mode c.args.owner c.in-Err.refusal c.in-Err.ensures.steps yet.0
+    (λ full.
+    let refused : Ok c.in_ok-add_held.field-0 ≡ Err CountFull = sym (c.in_ok-add_held.was {u = tt}) ∙ c.add_held.ensures.count_full.1 full in
+    cc (refused))
+    (λ all. omega (arith, all, number, most, room))
+
+-- Its quiet steps.
+
+pub returns-then-branch-clause-quiet : goal.returns-then-branch-clause-quiet
+returns-then-branch-clause-quiet g c = MakesNone refl
+
+pub returns-in-Ok-Granted-clause-quiet : goal.returns-in-Ok-Granted-clause-quiet
+returns-in-Ok-Granted-clause-quiet g c = OfRequest c.request.ensures.quiet
+
+pub returns-in-Ok-Queued-clause-quiet : goal.returns-in-Ok-Queued-clause-quiet
+returns-in-Ok-Queued-clause-quiet g c = OfRequest c.request.ensures.quiet
+
+pub returns-in-Err-clause-quiet : goal.returns-in-Err-clause-quiet
+returns-in-Err-clause-quiet g c = OfRequest c.request.ensures.quiet

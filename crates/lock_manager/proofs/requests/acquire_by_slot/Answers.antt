@@ -1,9 +1,10 @@
-use Rattle.std.proofs.Common.{List, ap, sym, ◌∙◌}
+use Rattle.std.proofs.Common.{List, refl, ap, sym, ◌∙◌, inl, inr}
 use Rattle.modes_core.specs.Tag.{is_eligible_for}
 use Rattle.local_locks.specs.declared.records.Entry.{Entry}
 use Rattle.local_locks.specs.Owned.{has_entry, with_one_more}
 use Rattle.lock_manager.proofs.Lemmas.Rest.Acquires.{rest-database, held_again, not_held_yet, rest-granted, rest-held_again}
 use Rattle.lock_manager.proofs.Lemmas.Requests.BySlot.{by_slot-account, tried-untouched}
+use Rattle.lock_manager.proofs.Lemmas.Quiet.{quiet-tried}
 use Rattle.lock_manager.proofs.requests.acquire_by_slot.Goals as goal
 
 pub returns-then-branch-clause-rest : goal.returns-then-branch-clause-rest
@@ -42,3 +43,19 @@ pub returns-in-Err-clause-untouched : goal.returns-in-Err-clause-untouched
 returns-in-Err-clause-untouched g c own =
     tried-untouched _ (g.B.Board.seat c.args.board.now).groups (g.B.Board.seat c.args.board.now).number (g.B.Board.view c.args.board.now) (g.B.Board.view c.try_grant.new.board)
     c.args.own.now.uses c.try_grant.new.uses c.args.tag c.args.mode c.in-Err.refusal c.in-Err.ensures.granted own c.in-Err.ensures.untouched
+
+-- Its quiet steps.
+
+pub returns-then-branch-clause-quiet : goal.returns-then-branch-clause-quiet
+returns-then-branch-clause-quiet g c = inl refl
+
+pub returns-then-not-is_eligible-clause-quiet : goal.returns-then-not-is_eligible-clause-quiet
+returns-then-not-is_eligible-clause-quiet g c = inl refl
+
+pub returns-in-Ok-clause-quiet : goal.returns-in-Ok-clause-quiet
+returns-in-Ok-clause-quiet g c = inr (inr c.in-Ok.ensures.quiet)
+
+pub returns-in-Err-clause-quiet : goal.returns-in-Err-clause-quiet
+returns-in-Err-clause-quiet g c =
+    quiet-tried (g.B.Board.seat c.args.board.now).number c.args.tag c.args.mode c.in-Err.refusal (g.B.Board.quiet c.args.board.now)
+    (g.B.Board.quiet c.try_grant.new.board) c.in-Err.ensures.quiet

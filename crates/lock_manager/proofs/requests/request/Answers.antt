@@ -1,8 +1,11 @@
-use Rattle.std.proofs.Common.{◌∙◌, sym, ap, subst, inl}
+use Rattle.std.proofs.Common.{◌∙◌, sym, ap, subst, inl, inr}
 use Rattle.modes_core.specs.Tag.{is_eligible_for}
 use Rattle.shared_rule.specs.Boards.{Seated}
+use Rattle.lock_manager.specs.Quiet.{OfStrong, OfTry, OfTable}
 use Rattle.lock_manager.specs.Requests.{DecidesInPart}
 use Rattle.lock_manager.proofs.Lemmas.Requests.Whole.{led-by_table, led-refused, led-decides, led-weak_account, requests-decided}
+use Rattle.lock_manager.proofs.Lemmas.Requests.Whole.{eligible-weak}
+use Rattle.lock_manager.proofs.Lemmas.Quiet.{quiet-refused}
 use Rattle.lock_manager.proofs.requests.request.Goals as goal
 
 pub returns-then-is_strong-clause-use_count : goal.returns-then-is_strong-clause-use_count
@@ -51,3 +54,28 @@ returns-in-Err-clause-account g c =
     (sym c.if-is_strong.ensures) c.decide_in_part-in-Err.result
     (subst (λ (s : Seated). DecidesInPart c.args.kind s.number between c.args.tag.now c.args.mode c.decide_in_part-in-Err.result (g.B.Board.view c.decide_in_part-in-Err.new.board))
     c.in-Err.ensures.seat c.decide_in_part-in-Err.ensures.decided)
+
+-- Its quiet steps.
+
+pub returns-then-is_strong-clause-quiet : goal.returns-then-is_strong-clause-quiet
+returns-then-is_strong-clause-quiet g c = OfStrong c.request_strong.ensures.quiet
+
+pub returns-then-not-is_eligible-clause-quiet : goal.returns-then-not-is_eligible-clause-quiet
+returns-then-not-is_eligible-clause-quiet g c = OfTable (record {
+  weak = sym c.if-is_strong.ensures;
+  not_tried = inl (ap (λ database. is_eligible_for database c.args.tag.now c.args.mode) c.requires.database ∙ sym c.if-not-is_eligible.ensures);
+  quiet = c.decide_in_part.ensures.quiet;
+})
+
+pub returns-in-Ok-clause-quiet : goal.returns-in-Ok-clause-quiet
+returns-in-Ok-clause-quiet g c =
+    let eligible = ap (λ database. is_eligible_for database c.args.tag.now c.args.mode) c.requires.database ∙ sym c.if-not-is_eligible.ensures in
+    OfTry (record { eligible = eligible; room = c.in-Ok.ensures.granted.0 }) (inr c.in-Ok.ensures.quiet)
+
+pub returns-in-Err-clause-quiet : goal.returns-in-Err-clause-quiet
+returns-in-Err-clause-quiet g c =
+    let seat = g.B.Board.seat c.args.board.now in
+    quiet-refused seat (g.B.Board.view c.args.board.now) (g.B.Board.view c.grant.new.board) c.args.uses.now c.grant.new.uses c.args.tag.now c.args.mode c.in-Err.field-0
+    (g.B.Board.quiet c.args.board.now) (g.B.Board.quiet c.decide_in_part-in-Err.new.board)
+    (ap (λ database. is_eligible_for database c.args.tag.now c.args.mode) c.requires.database ∙ sym c.if-not-is_eligible.ensures)
+    c.in-Err.ensures.granted (c.decide_in_part-in-Err.ensures.quiet ∙ c.in-Err.ensures.quiet)

@@ -24,6 +24,7 @@ loop-preserved g c =
           ∙ ap (λ (s : Seated). (g.B.Board.view c.loop.board).trace ++ Loaded (Wait s.number) c.load_wait-shown.result ∷ []) c.loop.invariant.seat)
           (g.B.Board.view c.take_up.new.board).trace c.in-Still.ensures.no_step (sym c.in-Still.ensures.answer);
       own = own;
+      quiet = c.take_up.ensures.quiet ∙ c.load_wait-shown.ensures.quiet ∙ c.loop.invariant.quiet;
       seat = c.take_up.ensures.seat ∙ seat;
     }
 

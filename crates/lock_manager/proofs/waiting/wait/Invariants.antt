@@ -9,5 +9,6 @@ invariant-loop g l = record {
       l.fn.own.locals.entries l.tag l.mode;
   watching : IsWatching (g.B.Board.seat l.fn.board).number (g.B.Board.view l.fn.board).trace (g.B.Board.view l.board).trace;
   own : l.own ≡ l.fn.own;
+  quiet : g.B.Board.quiet l.board ≡ g.B.Board.quiet l.fn.board;
   seat : g.B.Board.seat l.board ≡ g.B.Board.seat l.fn.board;
 }

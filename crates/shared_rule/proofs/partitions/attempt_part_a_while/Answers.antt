@@ -3,10 +3,10 @@ use Rattle.shared_rule.proofs.partitions.attempt_part_a_while.Goals as goal
 
 pub returns-in-Some-clause-won : goal.returns-in-Some-clause-won
 returns-in-Some-clause-won g c =
-    nothing-then_part g.T.PartTable.content c.args.place.now c.loop.place c.attempt_free_part.new.place c.loop.invariant
+    nothing-then_part g.T.PartTable.content c.args.place.now c.loop-attempt.place c.attempt_free_part.new.place c.loop-attempt.invariant
     g.T.PartTable.begun c.args.part c.in-Some.content (c.in-Some.ensures {u = tt}).won
 
-pub loop-preserved : goal.loop-preserved
-loop-preserved g c =
-    nothing-then g.T.PartTable.content c.args.place.now c.loop.place c.attempt_free_part.new.place c.loop.invariant
+pub loop-attempt-preserved : goal.loop-attempt-preserved
+loop-attempt-preserved g c =
+    nothing-then g.T.PartTable.content c.args.place.now c.loop-attempt.place c.attempt_free_part.new.place c.loop-attempt.invariant
     (c.in_default.ensures {u = tt}).lost

@@ -2,6 +2,7 @@ use Rattle.std.proofs.Common.{subst}
 use Rattle.wait_queue.specs.declared.requests.Kind.TheVariants.{Conditional}
 use Rattle.lock_manager.specs.declared.sessions.Own.{Own}
 use Rattle.lock_manager.specs.Acquires.{IsRefusedForMemory}
+use Rattle.lock_manager.specs.Quiet.{QuietOfAcquire}
 use Rattle.lock_manager.proofs.sessions.OwnSession.try_lock.Goals as goal
 use Rattle.lock_manager.proofs.sessions.OwnSession.try_lock.Goals.{in-Ok-AlreadyHeld, in-Ok-Granted, in-Err}
 
@@ -19,3 +20,12 @@ returns-clause-no_memory g c =
           c.deref_mut.ensures.value (w.in-Err.ensures.no_memory is) in
           subst (λ s. IsRefusedForMemory g.B.Board.view Conditional (g.B.Board.seat s.board) s.owned s.uses c.args.tag c.args.mode s.board board left) c.self.view_is own)
     ]
+
+-- Its quiet steps are those of the acquire.
+pub returns-clause-quiet : goal.returns-clause-quiet
+returns-clause-quiet g c =
+    let board = c.acquire.new.board in
+    let own = subst
+    (λ (own : Own). QuietOfAcquire (g.B.Board.seat c.self.inside.board) (g.B.Board.view c.self.inside.board) own.uses c.args.tag c.args.mode (g.B.Board.quiet c.self.inside.board) (g.B.Board.quiet board))
+    c.deref_mut.ensures.value c.acquire.ensures.quiet in
+    subst (λ s. QuietOfAcquire (g.B.Board.seat s.board) (g.B.Board.view s.board) s.uses c.args.tag c.args.mode (g.B.Board.quiet s.board) (g.B.Board.quiet board)) c.self.view_is own

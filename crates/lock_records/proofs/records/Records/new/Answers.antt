@@ -4,13 +4,12 @@ use Rattle.lock_table.specs.declared.request.Request.{Request}
 use Rattle.lock_table.specs.Queue.{awaits_mode}
 use Rattle.lock_records.specs.Queues.{queue_on, waiting_in}
 use Rattle.lock_records.proofs.QueueRecords.{total-none}
-use Rattle.lock_table.proofs.Options.{ForSome-none}
 use Rattle.lock_records.specs.declared.locks.LockRecord.{LockRecord}
 use Rattle.lock_records.specs.declared.holders.HolderRecord.{HolderRecord}
 use Rattle.lock_records.specs.Holders.{holds_in}
 use Rattle.lock_records.specs.Locks.{AreNoted}
 use Rattle.lock_records.specs.Objects.{HasRoom}
-use Rattle.lock_records.proofs.Parts.{objects-same, objects-none, noted-none}
+use Rattle.lock_records.proofs.Parts.{nothing-said, objects-same, objects-none, noted-none}
 use Rattle.lock_records.proofs.records.Records.new.Goals as goal
 
 pub invariant_of-result : goal.invariant_of-result
@@ -20,10 +19,11 @@ invariant_of-result c =
       objects = objects-same [] c.new-2.result.slots [] c.new-3.result.slots [] c.new-4.result.slots c.new-2.ensures.empty c.new-3.ensures.empty c.new-4.ensures objects-none;
       noted = subst (λ (slots : List (Option LockRecord)). AreNoted slots c.in_ok-index.index) (sym c.new-2.ensures.empty) (noted-none c.in_ok-index.index (c.in_ok-index.ensures {u = tt}).empty);
       room = omega (arith, ap waiting_in c.new-4.ensures, total-none);
-      begun_new = ForSome-none (λ (request : Request). holds_in c.new-3.result.slots request.session request.tag request.mode ≡ false);
-      begun_not_awaited = ForSome-none (λ (request : Request). awaits_mode (queue_on c.new-4.result.slots request.tag) request.session request.mode ≡ false);
-      begun_room = ForSome-none (λ (request : Request). HasRoom c.new-2.result c.new-3.result c.new-4.result c.in_ok-index.index);
-      begun_absent = λ absent request is. let no_way : ⊥ = cc in absurd no_way;
+      begun_new = nothing-said (λ (request : Request). holds_in c.new-3.result.slots request.session request.tag request.mode ≡ false) _ c.nothing.ensures;
+      begun_not_awaited = nothing-said (λ (request : Request). awaits_mode (queue_on c.new-4.result.slots request.tag) request.session request.mode ≡ false) _ c.nothing.ensures;
+      begun_room = nothing-said (λ (request : Request). HasRoom c.new-2.result c.new-3.result c.new-4.result c.in_ok-index.index) _ c.nothing.ensures;
+      absent = λ there. let no_way : ⊥ = cc in absurd no_way;
+      begun_absent = λ there. let no_way : ⊥ = cc in absurd no_way;
     }
 
 pub returns-clause-content : goal.returns-clause-content

@@ -6,20 +6,23 @@ use Rattle.lock_table.specs.declared.request.Request.{Request}
 use Rattle.lock_records.specs.declared.wait_queues.QueueRecord.{QueueRecord}
 use Rattle.lock_table.specs.Queue.{awaits_mode}
 use Rattle.lock_records.specs.Queues.{queue_on, waiting_in}
-use Rattle.lock_table.proofs.Options.{ForSome-some}
 use Rattle.lock_records.specs.declared.locks.LockRecord.{LockRecord}
 use Rattle.lock_records.specs.declared.holders.HolderRecord.{HolderRecord}
 use Rattle.lock_records.specs.Holders.{holds_in}
 use Rattle.lock_records.specs.Locks.{AreNoted, HasNoLock}
 use Rattle.lock_records.specs.Objects.{HasRoom, AreObjects}
 use Rattle.lock_records.specs.View.{RecordView, Capacity, GrowsWhereFull}
-use Rattle.lock_records.proofs.Parts.{objects-same, noted-grown}
+use Rattle.lock_records.proofs.Parts.{objects-same, noted-grown, one-said}
 use Rattle.lock_records.proofs.records.RecordsPartTable.begin.Goals as goal
 use Rattle.lock_records.proofs.records.RecordsPartTable.begin.Goals.{After-make_room}
 
 found-none : {X P : Type 0} (found : Option X) → is_some found ≡ false → IfNone found P → P
 found-none None none absent = absent
 found-none (Some x) none absent = absurd (true≢false none)
+
+none-there : {X : Type 0} (found : Option X) → is_some found ≡ false → found ≡ None
+none-there None none = refl
+none-there (Some x) none = absurd (true≢false none)
 
 locks : (c : After-make_room) → c.make_room.new.locks.slots ≡ c.self.inside.locks.slots
 locks c = ap (λ (slab : Slab LockRecord). slab.slots) c.make_room.ensures.locks
@@ -46,7 +49,7 @@ noted c =
 pub invariant_of-self : goal.invariant_of-self
 invariant_of-self c =
     let at = (goal.at.invariant_of-self c).After-make_room in
-    let none : c.self.inside.begun ≡ None = ap (λ (part : RecordView). part.begun) c.self.view_is ∙ c.requires.none_begun in
+    let none : c.self.inside.begun.request ≡ None = ap (λ (part : RecordView). part.begun) c.self.view_is ∙ c.requires.none_begun in
     record {
       objects = objects at;
       noted = noted at;
@@ -54,7 +57,8 @@ invariant_of-self c =
       begun_new = λ request is. let no_way : ⊥ = cc in absurd no_way;
       begun_not_awaited = λ request is. let no_way : ⊥ = cc in absurd no_way;
       begun_room = λ request is. let no_way : ⊥ = cc in absurd no_way;
-      begun_absent = λ absent request is. let no_way : ⊥ = cc in absurd no_way;
+      absent = λ there. subst (λ slots. HasNoLock slots c.self.inside.absent_tag) (sym (locks at)) (c.self.invariant.absent there);
+      begun_absent = λ there request begun. let no_way : ⊥ = cc in absurd no_way;
     }
 
 pub find_lock-found-requires : goal.find_lock-found-requires
@@ -69,18 +73,24 @@ invariant_of-self-2 c =
       noted = noted at;
       room = omega (arith, c.self.invariant.room, len at, total at, c.make_room.ensures.capacity);
       begun_new =
-          ForSome-some (λ (x : Request). holds_in c.make_room.new.holders.slots x.session x.tag x.mode ≡ false) request
+          one-said (λ (x : Request). holds_in c.make_room.new.holders.slots x.session x.tag x.mode ≡ false) c.of-self-inside.result.request request c.of-self-inside.ensures
           (ap (λ slots. holds_in slots c.args.session c.args.tag.now c.args.mode) (holders at)
           ∙ ap (λ (part : RecordView). holds_in part.holders c.args.session c.args.tag.now c.args.mode) c.self.view_is ∙ c.requires.new);
       begun_not_awaited =
-          ForSome-some (λ (x : Request). awaits_mode (queue_on c.make_room.new.queues.slots x.tag) x.session x.mode ≡ false) request
+          one-said (λ (x : Request). awaits_mode (queue_on c.make_room.new.queues.slots x.tag) x.session x.mode ≡ false) c.of-self-inside.result.request request c.of-self-inside.ensures
           (ap (λ (waits : List (Option QueueRecord)). awaits_mode (queue_on waits c.args.tag.now) c.args.session c.args.mode) c.make_room.ensures.queues
           ∙ ap (λ (part : RecordView). awaits_mode (queue_on part.queues c.args.tag.now) c.args.session c.args.mode) c.self.view_is ∙ c.requires.not_awaited);
       begun_room =
-          ForSome-some (λ (x : Request). HasRoom c.make_room.new.locks c.make_room.new.holders c.make_room.new.queues c.make_room.new.index) request
+          one-said (λ (x : Request). HasRoom c.make_room.new.locks c.make_room.new.holders c.make_room.new.queues c.make_room.new.index) c.of-self-inside.result.request request c.of-self-inside.ensures
           (c.in_ok-make_room.ensures {u = tt}).room;
-      begun_absent = λ absent.
-          ForSome-some (λ (x : Request). HasNoLock c.make_room.new.locks.slots x.tag) request (found-none c.find_lock-found.result (c.is_none-self-inside.ensures ∙ ap not absent) c.find_lock-found.ensures.absent);
+      absent = λ there.
+          let none = c.is_none-self-inside.ensures ∙ ap not there in
+          subst (λ it. HasNoLock c.make_room.new.locks.slots it) (sym (c.keep_absent.ensures (none-there c.find_lock-found.result none)))
+          (found-none c.find_lock-found.result none c.find_lock-found.ensures.absent);
+      begun_absent = λ there.
+          let none = c.is_none-self-inside.ensures ∙ ap not there in
+          one-said (λ (x : Request). x.tag ≡ c.keep_absent.new.kept) c.of-self-inside.result.request request c.of-self-inside.ensures
+          (sym (c.keep_absent.ensures (none-there c.find_lock-found.result none)));
     }
 
 -- each slab and the index grew only where it was full

@@ -6,7 +6,9 @@ use Rattle.lock_records.proofs.Parts.{nothing-held}
 use Rattle.lock_records.proofs.records.RecordsPartTable.conflict_of.Goals as goal
 
 pub holder_in_the_way-requires-clause-held : goal.holder_in_the_way-requires-clause-held
-holder_in_the_way-requires-clause-held c = λ i. ((c.self.invariant.objects c.args.tag.now).lock c.in-Some.place i).held
+holder_in_the_way-requires-clause-held c =
+    let its = (c.in-Some.ensures {u = tt}).found in
+    ((c.self.invariant.objects c.args.tag.now).lock its.place (record { lock = c.in-Some.lock.now; there = its.there; on = its.on })).held
 
 pub returns-in-None : goal.returns-in-None
 returns-in-None c = λ other n another has.

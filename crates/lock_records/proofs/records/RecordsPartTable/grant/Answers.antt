@@ -1,14 +1,14 @@
-use Rattle.std.proofs.Common.{◌≡◌, false, ap, ◌∙◌, arith}
+use Rattle.std.proofs.Common.{sym, subst, ◌≡◌, false, ap, ◌∙◌, arith}
 use Rattle.lock_table.specs.declared.request.Request.{Request}
 use Rattle.lock_table.specs.Queue.{awaits_mode}
 use Rattle.lock_records.specs.Queues.{queue_on}
-use Rattle.lock_table.proofs.Options.{ForSome-none}
 use Rattle.lock_records.specs.Holders.{holds_in}
+use Rattle.lock_records.specs.Locks.{HasNoLock}
 use Rattle.lock_records.specs.Objects.{HasRoom}
 use Rattle.lock_records.specs.View.{RecordView}
 use Rattle.lock_records.proofs.Changes.{objects-granted}
 use Rattle.lock_records.proofs.IndexLaws.{noted-relocked}
-use Rattle.lock_records.proofs.Parts.{made-held}
+use Rattle.lock_records.proofs.Parts.{nothing-said, made-held}
 use Rattle.lock_records.proofs.records.RecordsPartTable.grant.Goals as goal
 
 pub add_hold-requires-clause-held : goal.add_hold-requires-clause-held
@@ -32,11 +32,14 @@ invariant_of-self c =
       noted =
           noted-relocked c.find_or_make_lock-place.new.locks.slots c.add_hold.new.locks.slots c.find_or_make_lock-place.new.index c.args.tag.now c.find_or_make_lock-place.result lock.0 c.find_or_make_lock-place.ensures.noted;
       room = omega (arith, room.holder, c.add_hold.ensures.len, c.add_hold.ensures.capacity);
-      begun_new = ForSome-none (λ (request : Request). holds_in c.add_hold.new.holders.slots request.session request.tag request.mode ≡ false);
-      begun_not_awaited = ForSome-none (λ (request : Request). awaits_mode (queue_on c.self.inside.queues.slots request.tag) request.session request.mode ≡ false);
-      begun_room = ForSome-none (λ (request : Request). HasRoom c.add_hold.new.locks c.add_hold.new.holders c.self.inside.queues c.find_or_make_lock-place.new.index);
-      begun_absent = λ absent request is. let no_way : ⊥ = cc in absurd no_way;
+      begun_new = nothing-said (λ (request : Request). holds_in c.add_hold.new.holders.slots request.session request.tag request.mode ≡ false) _ c.nothing-self-inside.ensures;
+      begun_not_awaited = nothing-said (λ (request : Request). awaits_mode (queue_on c.self.inside.queues.slots request.tag) request.session request.mode ≡ false) _ c.nothing-self-inside.ensures;
+      begun_room = nothing-said (λ (request : Request). HasRoom c.add_hold.new.locks c.add_hold.new.holders c.self.inside.queues c.find_or_make_lock-place.new.index) _ c.nothing-self-inside.ensures;
+      absent = λ there. let no_way : ⊥ = cc in absurd no_way;
+      begun_absent = λ there. let no_way : ⊥ = cc in absurd no_way;
     }
 
 pub find_or_make_lock-place-requires-clause-absent : goal.find_or_make_lock-place-requires-clause-absent
-find_or_make_lock-place-requires-clause-absent c absent = c.self.invariant.begun_absent absent _ (ap (λ (part : RecordView). part.begun) c.self.view_is ∙ c.requires.begun)
+find_or_make_lock-place-requires-clause-absent c absent =
+    let begun = ap (λ (part : RecordView). part.begun) c.self.view_is ∙ c.requires.begun in
+    subst (λ tag. HasNoLock c.self.inside.locks.slots tag) (sym (c.self.invariant.begun_absent absent _ begun)) (c.self.invariant.absent absent)

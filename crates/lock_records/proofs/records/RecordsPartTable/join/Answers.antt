@@ -1,16 +1,16 @@
-use Rattle.std.proofs.Common.{◌≡◌, ◌<◌, false, ap, ◌∙◌, arith}
+use Rattle.std.proofs.Common.{sym, subst, ◌≡◌, ◌<◌, false, ap, ◌∙◌, arith}
 use Rattle.modes_core.specs.ModeSet.{set_has}
 use Rattle.lock_table.specs.Content.{Wait}
 use Rattle.lock_table.specs.Queue.{awaits_mode, waits_there}
 use Rattle.lock_table.specs.declared.request.Request.{Request}
-use Rattle.lock_table.proofs.Options.{ForSome-none}
 use Rattle.lock_records.specs.Holders.{holds_in}
+use Rattle.lock_records.specs.Locks.{HasNoLock}
 use Rattle.lock_records.specs.Objects.{HasRoom}
 use Rattle.lock_records.specs.Queues.{queue_on}
 use Rattle.lock_records.specs.View.{RecordView}
 use Rattle.lock_records.proofs.Changes.{objects-joined}
 use Rattle.lock_records.proofs.IndexLaws.{noted-relocked}
-use Rattle.lock_records.proofs.Parts.{counts-few}
+use Rattle.lock_records.proofs.Parts.{nothing-said, counts-few}
 use Rattle.lock_records.proofs.Queues.{queue-room}
 use Rattle.lock_records.proofs.records.RecordsPartTable.join.Goals as goal
 use Rattle.lock_records.proofs.records.RecordsPartTable.join.Goals.{After-capacity-most}
@@ -25,7 +25,9 @@ absent : (c : After-capacity-most) → waits_there (queue_on c.self.inside.queue
 absent c = ap (λ (part : RecordView). waits_there (queue_on part.queues c.args.tag.now) c.args.session) c.self.view_is ∙ c.requires.no_wait
 
 pub find_or_make_lock-at-requires-clause-absent : goal.find_or_make_lock-at-requires-clause-absent
-find_or_make_lock-at-requires-clause-absent c absent = c.self.invariant.begun_absent absent _ (ap (λ (part : RecordView). part.begun) c.self.view_is ∙ c.requires.begun)
+find_or_make_lock-at-requires-clause-absent c absent =
+    let begun = ap (λ (part : RecordView). part.begun) c.self.view_is ∙ c.requires.begun in
+    subst (λ tag. HasNoLock c.self.inside.locks.slots tag) (sym (c.self.invariant.begun_absent absent _ begun)) (c.self.invariant.absent absent)
 
 pub queue_up-queue-requires-clause-few : goal.queue_up-queue-requires-clause-few
 queue_up-queue-requires-clause-few c =
@@ -52,8 +54,9 @@ invariant_of-self c =
       noted =
           noted-relocked c.find_or_make_lock-at.new.locks.slots c.raise_awaited.new.locks.slots c.find_or_make_lock-at.new.index c.args.tag.now c.find_or_make_lock-at.result lock.0 c.find_or_make_lock-at.ensures.noted;
       room = omega (arith, room.holder, c.queue_up-queue.ensures.one_more);
-      begun_new = ForSome-none (λ (request : Request). holds_in c.self.inside.holders.slots request.session request.tag request.mode ≡ false);
-      begun_not_awaited = ForSome-none (λ (request : Request). awaits_mode (queue_on c.queue_up-queue.new.queues.slots request.tag) request.session request.mode ≡ false);
-      begun_room = ForSome-none (λ (request : Request). HasRoom c.raise_awaited.new.locks c.self.inside.holders c.queue_up-queue.new.queues c.find_or_make_lock-at.new.index);
-      begun_absent = λ absent request is. let no_way : ⊥ = cc in absurd no_way;
+      begun_new = nothing-said (λ (request : Request). holds_in c.self.inside.holders.slots request.session request.tag request.mode ≡ false) _ c.nothing-self-inside.ensures;
+      begun_not_awaited = nothing-said (λ (request : Request). awaits_mode (queue_on c.queue_up-queue.new.queues.slots request.tag) request.session request.mode ≡ false) _ c.nothing-self-inside.ensures;
+      begun_room = nothing-said (λ (request : Request). HasRoom c.raise_awaited.new.locks c.self.inside.holders c.queue_up-queue.new.queues c.find_or_make_lock-at.new.index) _ c.nothing-self-inside.ensures;
+      absent = λ there. let no_way : ⊥ = cc in absurd no_way;
+      begun_absent = λ there. let no_way : ⊥ = cc in absurd no_way;
     }

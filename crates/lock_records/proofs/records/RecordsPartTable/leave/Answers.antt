@@ -65,7 +65,8 @@ invariant_of-self c =
             holder = omega (arith, room.holder, c.leave.ensures.one_less);
             queue = c.leave.ensures.room room.queue;
           };
-      begun_absent = λ absent. let no_way : ⊥ = cc in absurd no_way;
+      absent = λ there. let no_way : ⊥ = cc in absurd no_way;
+      begun_absent = λ there. let no_way : ⊥ = cc in absurd no_way;
     }
 
 pub returns-clause-mode : goal.returns-clause-mode

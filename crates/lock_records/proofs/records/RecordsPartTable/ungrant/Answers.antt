@@ -49,7 +49,8 @@ invariant_of-self c =
             holder = omega (arith, room.holder, c.remove_hold.ensures.len, c.remove_hold.ensures.capacity);
             queue = room.queue;
           };
-      begun_absent = λ absent. let no_way : ⊥ = cc in absurd no_way;
+      absent = λ there. let no_way : ⊥ = cc in absurd no_way;
+      begun_absent = λ there. let no_way : ⊥ = cc in absurd no_way;
     }
 
 pub returns-clause-awaited : goal.returns-clause-awaited

@@ -1,6 +1,8 @@
-use Rattle.std.proofs.Common.{◌≡◌, ◌∙◌, ap, arith, sym}
+use Rattle.std.proofs.Common.{◌≡◌, ◌∙◌, ℕ, ap, arith, inl, inr, refl, sym}
 use Rattle.shared_rule.specs.Boards.{Seated}
 use Rattle.lock_script.proofs.SessionLemmas.{All-put, length-put}
+use Rattle.scenario.specs.declared.answers.Answer.TheVariants as answer
+use Rattle.scenario.specs.declared.answers.Said.TheVariants as said
 use Rattle.scenario.proofs.sessions.Stage.open.Goals as goal
 
 pub invariant_of-self-clause-counted : goal.invariant_of-self-clause-counted
@@ -17,3 +19,22 @@ invariant_of-self-clause-resting g c =
 
 pub invariant_of-self-clause-waiting : goal.invariant_of-self-clause-waiting
 invariant_of-self-clause-waiting g c = rw c.open.ensures.manager c.args.self.now.waiting
+
+pub returns-in-Ok-clause-opened : goal.returns-in-Ok-clause-opened
+returns-in-Ok-clause-opened g c = inl (record {
+  session = c.in-Ok.opened;
+  of_database = c.in-Ok.ensures.database;
+  nothing = c.in-Ok.ensures.nothing;
+  answered = ap (λ (number : ℕ). answer.Said c.args.name (said.Opened number c.args.database)) c.id-session.ensures;
+  joins = c.put.ensures;
+  waiting = refl;
+  names = c.push.ensures;
+})
+
+pub returns-in-Err-clause-opened : goal.returns-in-Err-clause-opened
+returns-in-Err-clause-opened g c = inr (record {
+  refusal = c.in-Err.refusal;
+  why = c.in-Err.ensures.no_other;
+  answered = refl;
+  same = refl;
+})

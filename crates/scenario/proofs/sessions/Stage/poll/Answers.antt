@@ -1,6 +1,8 @@
-use Rattle.std.proofs.Common.{◌≡◌, ℕ, ◌+◌, ◌∙◌, ap, arith, length, sym}
+use Rattle.std.proofs.Common.{◌≡◌, ℕ, ◌+◌, ◌∙◌, ap, arith, length, refl, subst, sym}
 use Rattle.shared_rule.specs.Boards.{Seated}
-use Rattle.lock_script.proofs.SessionLemmas.{All-put_back, length-put_back, All-left, length-left, All-put, length-put, taken}
+use Rattle.lock_script.proofs.Lending.{All-with_session, length-with_session, put_back-in_order, put_back-there}
+use Rattle.lock_script.proofs.SessionLemmas.{All-left, length-left, All-put, length-put, taken}
+use Rattle.scenario.specs.Waits.{GoesOn, LooksOn}
 use Rattle.scenario.proofs.sessions.Stage.poll.Goals as goal
 
 pub invariant_of-self-clause-counted : goal.invariant_of-self-clause-counted
@@ -20,14 +22,49 @@ pub invariant_of-self-clause-waiting : goal.invariant_of-self-clause-waiting
 invariant_of-self-clause-waiting g c =
     All-left c.args.self.now.sessions.waiting c.take-name.new.self c.args.place c.requires c.take-name.ensures.left (λ one. (g.B.Board.seat one.session.board).table ≡ (g.D.Desk.manager c.args.self.now.desk).table) c.args.self.now.waiting
 
+pub put_at-requires-clause-within : goal.put_at-requires-clause-within
+put_at-requires-clause-within g c =
+    let left = length-left c.args.self.now.sessions.waiting c.take-name.new.self c.args.place c.requires c.take-name.ensures.left in
+    omega (arith, left, c.requires)
+
+pub put_at-requires-clause-in_order : goal.put_at-requires-clause-in_order
+put_at-requires-clause-in_order g c =
+    put_back-in_order c.args.self.now.sessions.waiting c.take-name.new.self c.args.place c.take-name.result c.in-Err.waiting c.requires c.take-name.ensures.taken
+    c.take-name.ensures.left c.take-name.ensures.in_order
+
 pub invariant_of-self-in-Err-clause-counted : goal.invariant_of-self-in-Err-clause-counted
 invariant_of-self-in-Err-clause-counted g c =
+    let there = put_back-there c.args.self.now.sessions.waiting c.take-name.new.self c.put_at.new.self c.args.place c.take-name.result c.in-Err.waiting c.requires
+    c.take-name.ensures.taken c.take-name.ensures.left c.put_at.ensures in
     c.args.self.now.counted ∙ ap (λ (n : ℕ). length c.args.self.now.sessions.resting + n)
-    (sym (length-put_back c.args.self.now.sessions.waiting c.take-name.new.self c.put-in-Err.new.self c.args.place
-    (record { name = c.take-name.result.name; session = c.in-Err.waiting }) c.requires c.take-name.ensures.left c.put-in-Err.ensures))
+    (sym (ap length there ∙ length-with_session c.args.self.now.sessions.waiting c.args.place c.in-Err.waiting))
 
 pub invariant_of-self-in-Err-clause-waiting : goal.invariant_of-self-in-Err-clause-waiting
 invariant_of-self-in-Err-clause-waiting g c =
-    All-put_back c.args.self.now.sessions.waiting c.take-name.new.self c.put-in-Err.new.self c.args.place c.take-name.result
-    (record { name = c.take-name.result.name; session = c.in-Err.waiting }) c.requires c.take-name.ensures.taken c.take-name.ensures.left c.put-in-Err.ensures
-    (λ one. (g.B.Board.seat one.session.board).table ≡ (g.D.Desk.manager c.args.self.now.desk).table) c.args.self.now.waiting (λ h. ap (λ (seat : Seated). seat.table) c.in-Err.ensures.waits ∙ h)
+    let there = put_back-there c.args.self.now.sessions.waiting c.take-name.new.self c.put_at.new.self c.args.place c.take-name.result c.in-Err.waiting c.requires
+    c.take-name.ensures.taken c.take-name.ensures.left c.put_at.ensures in
+    rw there
+    (All-with_session c.args.self.now.sessions.waiting c.args.place c.in-Err.waiting
+    (λ session. (g.B.Board.seat session.board).table ≡ (g.D.Desk.manager c.args.self.now.desk).table) c.args.self.now.waiting
+    (ap (λ (seat : Seated). seat.table) c.in-Err.ensures.waits ∙
+    taken (λ one. (g.B.Board.seat one.session.board).table ≡ (g.D.Desk.manager c.args.self.now.desk).table) c.args.self.now.sessions.waiting c.args.place c.take-name.result c.requires
+    c.args.self.now.waiting c.take-name.ensures.taken))
+
+pub returns-in-Ok-clause-polled : goal.returns-in-Ok-clause-polled
+returns-in-Ok-clause-polled g c = record {
+  after = c.in-Ok.session;
+  goes_on = λ d. subst (λ one. GoesOn g.B.Board.seat g.B.Board.view g.B.Board.stack one.session c.in-Ok.said c.in-Ok.session)
+      (c.take-name.ensures.taken d) c.in-Ok.ensures.goes_on;
+  called = λ d. ap (λ one. one.name) (c.take-name.ensures.taken d);
+  rests = c.put.ensures;
+  waiting = c.take-name.ensures.left;
+}
+
+pub returns-in-Err-clause-polled : goal.returns-in-Err-clause-polled
+returns-in-Err-clause-polled g c = record {
+  after = c.in-Err.waiting;
+  looks = λ d. subst (λ one. LooksOn g.B.Board.seat g.B.Board.view g.B.Board.stack one.session c.in-Err.waiting) (c.take-name.ensures.taken d) c.in-Err.ensures.looks_on;
+  there = put_back-there c.args.self.now.sessions.waiting c.take-name.new.self c.put_at.new.self c.args.place c.take-name.result c.in-Err.waiting c.requires
+      c.take-name.ensures.taken c.take-name.ensures.left c.put_at.ensures;
+  resting = refl;
+}

@@ -1,4 +1,4 @@
-use Rattle.std.proofs.Common.{◌≡◌, ◌∷◌, ◌++◌, refl, sym, ap, ◌∙◌}
+use Rattle.std.proofs.Common.{◌≡◌, List, ◌∷◌, ◌++◌, refl, sym, ap, ◌∙◌}
 use Rattle.shared_rule.specs.declared.history.History.{History}
 use Rattle.shared_rule.specs.declared.history.View.{View}
 use Rattle.shared_rule.specs.Boards.{first_marks}
@@ -6,6 +6,7 @@ use Rattle.shared_rule.specs.History.{first_account}
 use Rattle.shared_rule.specs.Openers.{OpenerState}
 use Rattle.shared_rule.specs.Plays.{Side}
 use Rattle.shared_rule.specs.Seats.{first_of}
+use Rattle.shared_rule.specs.Quiet.{first_quiet}
 use Rattle.shared_rule.proofs.opener.Opener.close.Goals as goal
 
 pub tell_closed-requires-clause-opener : goal.tell_closed-requires-clause-opener
@@ -33,3 +34,13 @@ returns-clause-closed g c =
       opener = (λ i. record { table = table i; issued = c.self.inside.issued; limit = c.self.inside.sizes.sessions; groups = c.self.inside.sizes.groups; closed = closed i; gathered = gathered i })
           ∙ ap (λ (old : OpenerState g.row.T.Denot). record old { closed = last ∷ old.closed }) c.self.view_is;
     }
+
+-- The history that came last is the session's.
+pub returns-clause-quiet : goal.returns-clause-quiet
+returns-clause-quiet g c = λ its others is.
+    let board = c.args.board in
+    let came : c.into_place-place.result.1.me.0 ≡ board.place.me.0 = ap (λ place. place.me.0) c.into_place-place.ensures.1 in
+    sym (ap (λ (histories : List (History g.row.T.Denot)). first_quiet histories) is)
+    ∙ ap (λ (side : Side g.row.T.Denot). first_quiet side.0.closed) (c.tell_closed.ensures.side ∙ c.close.ensures.side)
+    ∙ ap (λ (view : View g.row.T.Denot). first_quiet (first_of view.sessions ++ c.self.inside.place.me.0.closed)) (came ∙ board.lone)
+    ∙ ap (λ (view : View g.row.T.Denot). first_quiet view.sessions) (sym board.lone)

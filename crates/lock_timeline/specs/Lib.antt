@@ -1,0 +1,2 @@
+-- what a timeline's bars say
+pub mod Bars

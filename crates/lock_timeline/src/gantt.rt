@@ -1,0 +1,95 @@
+//! A timeline as a Gantt chart of Mermaid's, which code hosts draw.
+
+use crate::bars::Bar;
+use crate::timeline::Timeline;
+use std::alloc::AllocError;
+use std::fmt::Write;
+
+impl Timeline {
+    /// The timeline as Mermaid's Gantt chart, whose time is the number of the script's line: a section for each session that
+    /// has a lock or waits for one, with a task for each lock and for each wait, which names those in its way.
+    pub fn gantt(&self) -> Result<String, AllocError> {
+        let mut text = String::new(self.alloc);
+        writeln!(text, "gantt")?;
+        writeln!(text, "  dateFormat X")?;
+        writeln!(text, "  axisFormat %s")?;
+        if let Some(line) = self.left_out {
+            writeln!(text, "  title Left out is line {line} and what comes later")?;
+        }
+        let mut number = 0_u32;
+        for lane in &self.lanes {
+            if lane.has_bars {
+                let name = lane.name.as_str();
+                writeln!(text, "  section {name}")?;
+                self.write_tasks(number, &mut text)?;
+            }
+            number = number.saturating_add(1);
+        }
+        Ok(text)
+    }
+
+    /// The tasks of a lane.
+    fn write_tasks(&self, lane: u32, text: &mut String) -> Result<(), AllocError> {
+        let mut number = 0_u32;
+        for bar in &self.bars {
+            if bar.lane == lane {
+                self.write_wait(number, bar, text)?;
+                self.write_hold(bar, text)?;
+            }
+            number = number.saturating_add(1);
+        }
+        Ok(())
+    }
+
+    /// The wait that a bar begins with, if it does.
+    fn write_wait(&self, number: u32, bar: &Bar, text: &mut String) -> Result<(), AllocError> {
+        let until = bar.got.or(bar.ended).unwrap_or(self.last_step());
+        if until <= bar.asked && bar.got.is_some() {
+            return Ok(());
+        }
+        let (from, to) = (self.line_of(bar.asked), self.line_of(until));
+        let label = bar.label.as_str();
+        write!(text, "  waits for {label}")?;
+        let mut word = " behind ";
+        for arrow in &self.arrows {
+            if arrow.from == number {
+                text.push_str(word)?;
+                text.push_str(self.name_of(arrow.to))?;
+                word = " and ";
+            }
+        }
+        writeln!(text, " :crit, {from}, {to}")
+    }
+
+    /// The hold of a bar, if its session got the lock.
+    fn write_hold(&self, bar: &Bar, text: &mut String) -> Result<(), AllocError> {
+        let Some(got) = bar.got else {
+            return Ok(());
+        };
+        let ended = bar.ended.unwrap_or(self.last_step());
+        let (from, to) = (self.line_of(got), self.line_of(ended));
+        let label = bar.label.as_str();
+        writeln!(text, "  {label} :done, {from}, {to}")
+    }
+
+    /// The name of the session whose bar has this number.
+    fn name_of(&self, number: u32) -> &str {
+        let lane = match self.bars.get(number as usize) {
+            Some(bar) => bar.lane,
+            None => return "",
+        };
+        match self.lanes.get(lane as usize) {
+            Some(it) => it.name.as_str(),
+            None => "",
+        }
+    }
+
+    /// The number of the script's line of a step; behind the last one, that of the line behind it.
+    fn line_of(&self, step: u32) -> u32 {
+        match (self.steps.get(step as usize), self.steps.last()) {
+            (Some(line), _) => *line,
+            (None, Some(last)) => last.saturating_add(1),
+            (None, None) => 0,
+        }
+    }
+}

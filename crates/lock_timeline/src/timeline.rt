@@ -1,0 +1,402 @@
+//! What is told of a script, kept as bars.
+ghost use Rattle.std.specs.Prelude.{◌≡◌, ◌==◌};
+ghost use Rattle.std.specs.List.{list_any};
+
+use crate::bars::{Arrow, Bar, Way, held_on, is_in_the_way};
+use crate::lanes::{Lane, Name};
+use modes_core::{LockMethod, Mode, Owner, Tag, conflicts};
+use std::alloc::{AllocError, Global};
+
+/// How many lines a timeline shows. What comes later is left out, and the picture says so.
+pub const MOST_STEPS: usize = 2000;
+
+/// How often an owner has a lock: the session itself, or its transaction at one level.
+#[derive(Clone, Copy, Debug, PartialEq, Eq)]
+struct Claim {
+    lane: u32,
+    /// The number of the lock's bar.
+    bar: u32,
+    /// The level of the transaction, or 0 where the session itself is the owner.
+    level: u32,
+    count: u32,
+}
+
+/// What was told of a script so far. A step is a line with a command.
+#[derive(Drop)]
+pub struct Timeline {
+    pub(crate) alloc: Global,
+    /// The number of the script's line for each step.
+    pub(crate) steps: Vec<u32>,
+    pub(crate) lanes: Vec<Lane>,
+    pub(crate) bars: Vec<Bar>,
+    pub(crate) arrows: Vec<Arrow>,
+    /// The first line that is left out, if one is.
+    pub(crate) left_out: Option<u32>,
+    claims: Vec<Claim>,
+    /// The numbers of the bars that wait, those of one object in the order of its queue.
+    queue: Vec<u32>,
+}
+
+/// The number of the next one to be added to as many.
+fn next_of(length: usize) -> u32 {
+    u32::try_from(length).unwrap_or(u32::MAX)
+}
+
+impl Timeline {
+    /// A timeline of which nothing was told yet.
+    pub fn new(alloc: Global) -> Self {
+        Timeline {
+            alloc,
+            steps: Vec::new(alloc),
+            lanes: Vec::new(alloc),
+            bars: Vec::new(alloc),
+            arrows: Vec::new(alloc),
+            left_out: None,
+            claims: Vec::new(alloc),
+            queue: Vec::new(alloc),
+        }
+    }
+
+    /// The line with this number is played. What is told next comes of it.
+    pub fn begin_line(&mut self, number: u32) -> Result<(), AllocError> {
+        if self.steps.len() < MOST_STEPS {
+            self.steps.push(number)?;
+        } else if self.left_out.is_none() {
+            self.left_out = Some(number);
+        }
+        Ok(())
+    }
+
+    /// The session of this name was opened.
+    pub fn open(&mut self, name: Name) -> Result<(), AllocError> {
+        if self.left_out.is_some() {
+            return Ok(());
+        }
+        let lane = Lane::new(self.alloc, name);
+        self.lanes.push(lane)?;
+        Ok(())
+    }
+
+    /// A session has this lock once more for this owner.
+    pub fn grant(
+        &mut self,
+        name: &Name,
+        tag: Tag,
+        mode: Mode,
+        owner: Owner,
+    ) -> Result<(), AllocError> {
+        let Some(lane) = self.lane_of(name) else {
+            return Ok(());
+        };
+        let bar = match self.held_bar(lane, tag, mode) {
+            Some(bar) => bar,
+            None => {
+                let got = Some(self.step());
+                self.add_bar(lane, tag, mode, got)?
+            }
+        };
+        self.claim(lane, bar, owner)
+    }
+
+    /// A session waits for this lock, for this owner.
+    pub fn wait(
+        &mut self,
+        name: &Name,
+        tag: Tag,
+        mode: Mode,
+        owner: Owner,
+    ) -> Result<(), AllocError> {
+        let Some(lane) = self.lane_of(name) else {
+            return Ok(());
+        };
+        let bar = self.add_bar(lane, tag, mode, None)?;
+        self.claim(lane, bar, owner)?;
+        self.add_holders(lane, bar, tag, mode)?;
+        self.join_queue(lane, bar, tag, mode)
+    }
+
+    /// A session that waited has its lock.
+    pub fn go_on(&mut self, name: &Name) {
+        let step = self.step();
+        if let Some(bar) = self.leave_queue(name) {
+            if let Some(it) = self.bars.get_mut(bar as usize) {
+                it.got = Some(step);
+            }
+        }
+    }
+
+    /// A session that waited gave up.
+    pub fn give_up(&mut self, name: &Name) {
+        if let Some(bar) = self.leave_queue(name) {
+            self.claims.retain(|claim| claim.bar != bar);
+            self.end_unclaimed();
+        }
+    }
+
+    /// A session gave back one count of this lock for this owner.
+    pub fn release(&mut self, name: &Name, tag: Tag, mode: Mode, owner: Owner) {
+        let Some(lane) = self.lane_of(name) else {
+            return;
+        };
+        let Some(bar) = self.held_bar(lane, tag, mode) else {
+            return;
+        };
+        let level = self.level_of(lane, owner);
+        for claim in &mut self.claims {
+            if claim.bar == bar && claim.level == level {
+                claim.count = claim.count.saturating_sub(1);
+            }
+        }
+        self.claims.retain(|claim| claim.count > 0);
+        self.end_unclaimed();
+    }
+
+    /// A session began a level of its transaction.
+    pub fn begin_level(&mut self, name: &Name) {
+        let Some(lane) = self.lane_of(name) else {
+            return;
+        };
+        if let Some(it) = self.lanes.get_mut(lane as usize) {
+            it.level = it.level.saturating_add(1);
+        }
+    }
+
+    /// A session ended the innermost level of its transaction. Its locks go to the level outside, or are dropped.
+    pub fn end_level(&mut self, name: &Name, keeps: bool) {
+        let Some(lane) = self.lane_of(name) else {
+            return;
+        };
+        let level = self.level_of(lane, Owner::Transaction);
+        if keeps {
+            for claim in &mut self.claims {
+                if claim.lane == lane && claim.level == level {
+                    claim.level = level.saturating_sub(1);
+                }
+            }
+        } else {
+            self.claims
+                .retain(|claim| claim.lane != lane || claim.level != level);
+        }
+        if let Some(it) = self.lanes.get_mut(lane as usize) {
+            it.level = level.saturating_sub(1);
+        }
+        self.end_unclaimed();
+    }
+
+    /// A session committed: the locks of its transaction are dropped.
+    pub fn commit(&mut self, name: &Name) {
+        let Some(lane) = self.lane_of(name) else {
+            return;
+        };
+        self.claims
+            .retain(|claim| claim.lane != lane || claim.level == 0);
+        self.end_transaction(lane);
+    }
+
+    /// A session aborted: its locks are dropped, but for the session's own advisory locks.
+    pub fn abort(&mut self, name: &Name) {
+        let Some(lane) = self.lane_of(name) else {
+            return;
+        };
+        let bars = &self.bars;
+        self.claims.retain(|claim| {
+            claim.lane != lane || claim.level == 0 && is_advisory(bars.as_slice(), claim.bar)
+        });
+        self.end_transaction(lane);
+    }
+
+    /// A session was closed.
+    pub fn close(&mut self, name: &Name) {
+        let Some(lane) = self.lane_of(name) else {
+            return;
+        };
+        self.claims.retain(|claim| claim.lane != lane);
+        self.end_transaction(lane);
+        if let Some(it) = self.lanes.get_mut(lane as usize) {
+            it.is_closed = true;
+        }
+    }
+
+    /// The step that is told of.
+    fn step(&self) -> u32 {
+        next_of(self.steps.len()).saturating_sub(1)
+    }
+
+    /// The number of the lane of the open session of this name. None is looked for where lines are left out.
+    fn lane_of(&self, name: &Name) -> Option<u32> {
+        if self.left_out.is_some() {
+            return None;
+        }
+        let mut number = 0_u32;
+        for lane in &self.lanes {
+            if !lane.is_closed && lane.name == *name {
+                return Some(number);
+            }
+            number = number.saturating_add(1);
+        }
+        None
+    }
+
+    /// The level of an owner: 0 of the session, or that of its transaction.
+    fn level_of(&self, lane: u32, owner: Owner) -> u32 {
+        match (owner, self.lanes.get(lane as usize)) {
+            (Owner::Transaction, Some(it)) => it.level,
+            _ => 0,
+        }
+    }
+
+    /// The number of the bar of a lock that a session has.
+    fn held_bar(&self, lane: u32, tag: Tag, mode: Mode) -> Option<u32> {
+        let mut number = 0_u32;
+        for bar in &self.bars {
+            if bar.lane == lane && bar.tag == tag && bar.mode == mode && bar.is_held() {
+                return Some(number);
+            }
+            number = number.saturating_add(1);
+        }
+        None
+    }
+
+    /// Adds a bar that begins now, in the first row of its lane that is free.
+    fn add_bar(
+        &mut self,
+        lane: u32,
+        tag: Tag,
+        mode: Mode,
+        got: Option<u32>,
+    ) -> Result<u32, AllocError> {
+        let asked = self.step();
+        let row = match self.lanes.get_mut(lane as usize) {
+            Some(it) => it.take_row(asked)?,
+            None => 0,
+        };
+        let number = next_of(self.bars.len());
+        let label = format!(in self.alloc; "{tag} {mode}")?;
+        self.bars.push(Bar {
+            lane,
+            row,
+            tag,
+            mode,
+            label,
+            asked,
+            got,
+            ended: None,
+        })?;
+        Ok(number)
+    }
+
+    /// Counts a lock once more for an owner.
+    fn claim(&mut self, lane: u32, bar: u32, owner: Owner) -> Result<(), AllocError> {
+        let level = self.level_of(lane, owner);
+        for claim in &mut self.claims {
+            if claim.bar == bar && claim.level == level {
+                claim.count = claim.count.saturating_add(1);
+                return Ok(());
+            }
+        }
+        self.claims.push(Claim {
+            lane,
+            bar,
+            level,
+            count: 1,
+        })?;
+        Ok(())
+    }
+
+    /// Adds an arrow to each lock that is held in the way of a session that begins to wait.
+    fn add_holders(
+        &mut self,
+        lane: u32,
+        from: u32,
+        tag: Tag,
+        mode: Mode,
+    ) -> Result<(), AllocError> {
+        let mut to = 0_u32;
+        for bar in &self.bars {
+            if bar.is_held() && is_in_the_way(bar, lane, tag, mode) {
+                let way = Way::Holds;
+                self.arrows.push(Arrow { from, to, way })?;
+            }
+            to = to.saturating_add(1);
+        }
+        Ok(())
+    }
+
+    /// Has a session join the queue of an object: at its end, or before the first one that waits for what this session
+    /// holds (`ProcSleep` in proc.c). Adds an arrow to each one that is in its way and stands before.
+    fn join_queue(&mut self, lane: u32, from: u32, tag: Tag, mode: Mode) -> Result<(), AllocError> {
+        let held = held_on(self.bars.as_slice(), lane, tag);
+        let mut joined = Vec::new(self.alloc);
+        let mut is_in = false;
+        for to in &self.queue {
+            if let Some(bar) = self.bars.get(*to as usize) {
+                if !is_in && bar.tag == tag && conflicts(bar.mode).meets(held) {
+                    joined.push(from)?;
+                    is_in = true;
+                }
+                if !is_in && is_in_the_way(bar, lane, tag, mode) {
+                    let (to, way) = (*to, Way::StandsBefore);
+                    self.arrows.push(Arrow { from, to, way })?;
+                }
+            }
+            joined.push(*to)?;
+        }
+        if !is_in {
+            joined.push(from)?;
+        }
+        self.queue = joined;
+        Ok(())
+    }
+
+    /// Takes the wait of a session out of its queue. Answers the number of its bar.
+    fn leave_queue(&mut self, name: &Name) -> Option<u32> {
+        let lane = self.lane_of(name)?;
+        let mut number = 0_u32;
+        for bar in &self.bars {
+            if bar.lane == lane && bar.is_awaited() {
+                self.queue.retain(|waiting| *waiting != number);
+                return Some(number);
+            }
+            number = number.saturating_add(1);
+        }
+        None
+    }
+
+    /// Ends the levels of a session's transaction, with the locks that no owner has any more.
+    fn end_transaction(&mut self, lane: u32) {
+        if let Some(it) = self.lanes.get_mut(lane as usize) {
+            it.level = 1;
+        }
+        self.end_unclaimed();
+    }
+
+    /// Ends the bars that no owner claims any more.
+    fn end_unclaimed(&mut self) {
+        let step = self.step();
+        let mut number = 0_u32;
+        for bar in &mut self.bars {
+            if bar.ended.is_none() && !is_claimed(self.claims.as_slice(), number) {
+                bar.ended = Some(step);
+                if let Some(lane) = self.lanes.get_mut(bar.lane as usize) {
+                    lane.free_row(bar.row, step.max(bar.label_end()));
+                }
+            }
+            number = number.saturating_add(1);
+        }
+    }
+}
+
+/// Whether an owner has the lock of this bar.
+fn is_claimed(claims: &[Claim], bar: u32) -> bool
+    ensures { result ≡ list_any (λ claim. claim.bar == bar) claims.now }
+{
+    claims.iter().any(|claim| claim.bar == bar)
+}
+
+/// Whether the bar of this number is an advisory lock's.
+fn is_advisory(bars: &[Bar], number: u32) -> bool {
+    match bars.get(number as usize) {
+        Some(bar) => bar.tag.method() == LockMethod::User,
+        None => false,
+    }
+}

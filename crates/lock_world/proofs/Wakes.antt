@@ -1,0 +1,16 @@
+pub mod Readings
+pub mod Taking
+pub mod Hands
+pub mod Standing
+pub mod Lists
+pub mod Sleepers
+pub mod Rows
+pub mod Shown
+pub mod Steps
+pub mod Order
+pub mod Steppers
+pub mod Live
+pub mod Calls
+pub mod Runs
+pub mod Reasons
+pub mod Example

@@ -1,0 +1,121 @@
+pub mod Waking
+pub mod Events
+pub mod Calling
+pub mod Owing
+pub mod Reasons
+use Rattle.std.specs.Prelude.{◌≡◌, ◌≢◌, ◌⊎◌, ◌<◌, ◌^◌, ℕ, true, false, List, [], ◌∷◌, Some, None}
+use Rattle.lw_word.specs.LightweightWord.{IsHeldByNobody, IsListLocked}
+use Rattle.lock_world.specs.declared.events.Event.{Event}
+use Rattle.lock_world.specs.World.{World, Numbers, MakesSteps, opening}
+use Rattle.lock_world.specs.WaitLists.{lock_word}
+use Rattle.lock_world.specs.Happens.{Happens}
+use Rattle.lw_word.specs.WaitList.{stands_in}
+use Rattle.lock_world.specs.Wakes.Waking.{HasLock, NoneOr, Owes, IsAsleep}
+use Rattle.lock_world.specs.Wakes.Calling.{Calls, EachIsCalled, IsParked, calling, wait_calls_after, sleep_calls_after, no_calls}
+use Rattle.lock_world.specs.Wakes.Owing.{Duties, waking, no_duties, duties_after, after_attempt, after_looking, HasNothingToDo, Asks, AsksInOrder}
+
+-- No sleeper is forgotten, no call is lost, and no circle of sleepers comes: of every run whose steps keep to what their sessions
+-- have to do for those who wait. What that is stands beside the World, and each step makes a next one of it.
+
+-- What stands beside the World: duties for those who wait for lightweight locks, and calls on wait words and on sleep words.
+pub record Beside : Type 0 where
+  pub duties : Duties
+  pub waits : Calls
+  pub sleeps : Calls
+
+abbrev pub nothing_beside : Beside
+nothing_beside = record { duties = no_duties; waits = no_calls; sleeps = no_calls }
+
+-- A turn of a run: an event of the World; a look at a word, which tells its session that another has the list or the lock; or a call.
+pub data Turn : Type 0 where
+  happened : (event : Event) → Turn
+  saw_list_locked : (session lock : ℕ) → Turn
+  saw_held : (session lock : ℕ) → Turn
+  called_waiter : (session other : ℕ) → Turn
+  called_sleeper : (session other : ℕ) → Turn
+
+-- The turn is lawful in the World w and keeps to what its session has to do, and v is the World after it.
+abbrev pub Keeps : World → Beside → Turn → World → Type 0
+Keeps w b (happened event) v = Happens w event v × Asks w b.duties b.waits b.sleeps event.session event.step
+Keeps w b (saw_list_locked session lock) v =
+    IsListLocked (lock_word w.words.partition w.words.fast lock) × NoneOr (b.duties.due session) lock × (v ≡ w)
+Keeps w b (saw_held session lock) v =
+    (IsHeldByNobody (lock_word w.words.partition w.words.fast lock) → ⊥) × NoneOr (b.duties.tries session) lock × (v ≡ w)
+Keeps w b (called_waiter session other) v = v ≡ w
+Keeps w b (called_sleeper session other) v = v ≡ w
+
+-- The turn keeps to the order of lightweight locks as well.
+abbrev pub IsInOrder : World → Turn → Type 0
+IsInOrder w (happened event) = AsksInOrder w event.session event.step
+IsInOrder w turn = Unit {0}
+
+abbrev pub KeepsInOrder : World → Beside → Turn → World → Type 0
+KeepsInOrder w b turn v = Keeps w b turn v × IsInOrder w turn
+
+-- what stands beside the next World
+abbrev pub beside_after : World → Beside → Turn → Beside
+beside_after w b (happened event) = record {
+  duties = duties_after w b.duties event.session event.step;
+  waits = wait_calls_after b.waits event.session event.step;
+  sleeps = sleep_calls_after b.sleeps event.session event.step;
+}
+beside_after w b (saw_list_locked session lock) = record b { duties = after_looking b.duties session }
+beside_after w b (saw_held session lock) = record b { duties = after_attempt b.duties session }
+beside_after w b (called_waiter session other) = record b { waits = calling b.waits session other }
+beside_after w b (called_sleeper session other) = record b { sleeps = calling b.sleeps session other }
+
+-- The turns lead from the World w, with b beside it, to v with d, each turn being one of these.
+abbrev pub RunsBy : (World → Beside → Turn → World → Type 0) → World → Beside → List Turn → World → Beside → Type 0
+RunsBy each w b [] v d = (v ≡ w) × (d ≡ b)
+RunsBy each w b (turn ∷ turns) v d = (u : World) × each w b turn u × RunsBy each u (beside_after w b turn) turns v d
+
+-- A run from the opening World, of so many sessions with so many groups of slots, whose turns keep to what their sessions have to do;
+-- and one whose turns take lightweight locks in their order, too.
+abbrev pub RunKeeps : ℕ → ℕ → List Turn → World → Beside → Type 0
+RunKeeps limit groups turns v d = (limit < 2 ^ 24) × RunsBy Keeps (opening limit groups) nothing_beside turns v d
+
+abbrev pub RunKeepsInOrder : ℕ → ℕ → List Turn → World → Beside → Type 0
+RunKeepsInOrder limit groups turns v d = (limit < 2 ^ 24) × RunsBy KeepsInOrder (opening limit groups) nothing_beside turns v d
+
+-- A number makes no step where it is not live, or its session is kept apart. Only those who make steps have a lightweight lock, or
+-- something to do.
+abbrev pub MakesNoStep : Numbers → ℕ → Type 0
+MakesNoStep numbers session = (numbers.live session ≡ false) ⊎ ((joiner : ℕ) × (numbers.kept_by session ≡ Some joiner))
+
+abbrev pub OnlyLiveOwe : World → Beside → Type 0
+OnlyLiveOwe w b =
+    (session : ℕ) → MakesNoStep w.numbers session → HasNothingToDo w b.duties b.waits b.sleeps session
+
+-- A sleeper stands in its list, and a session that makes steps has that lock or something to do for it; or the sleeper was taken off, and
+-- a session that makes steps has it to tell.
+abbrev pub IsLookedAfter : World → Beside → ℕ → ℕ → Type 0
+IsLookedAfter w b session lock =
+    ((stands_in session (w.words.list lock) ≡ true)
+    × ((other : ℕ) × Owes (waking w b.duties) lock other × MakesSteps w.numbers other))
+    ⊎ ((other : ℕ) × (w.sessions.off other session ≡ true) × MakesSteps w.numbers other)
+
+-- A session that is parked on what its word does not show any more is owed a call, by a session that makes steps and is not parked
+-- itself.
+abbrev pub NoCallIsLost : World → (ℕ → ℕ) → Calls → Type 0
+NoCallIsLost w word c =
+    (session shown : ℕ) → IsParked c session shown → word session ≢ shown
+    → (other : ℕ) × (c.owed other session ≡ true) × MakesSteps w.numbers other × ((its : ℕ) → IsParked c other its → ⊥)
+
+-- A run that keeps to all of this, in which a session falls asleep for a lightweight lock, and one that goes on from there until the
+-- session has it. So what is asked of a run can be met.
+pub record SleepAndWakeup : Type 0 where
+  pub limit : ℕ
+  pub groups : ℕ
+  pub session : ℕ
+  pub lock : ℕ
+  pub to_sleep : List Turn
+  pub asleep : World
+  pub beside : Beside
+  pub falls_asleep : RunKeepsInOrder limit groups to_sleep asleep beside
+  pub sleeps : IsAsleep (waking asleep beside.duties) session lock
+  pub parked : IsParked beside.sleeps session 1
+  pub to_wake : List Turn
+  pub awake : World
+  pub beside_awake : Beside
+  pub wakes_up : RunsBy KeepsInOrder asleep beside to_wake awake beside_awake
+  pub has_it : HasLock (waking awake beside_awake.duties) session lock

@@ -1,0 +1,68 @@
+use Rattle.std.specs.Prelude.{◌≡◌, ℕ, Bool, true, false, Option, Some, None, ◌⊎◌}
+use Rattle.lock_table.specs.Put.{set_at}
+use Rattle.lock_world.specs.declared.events.Step.{Step}
+use Rattle.lock_world.specs.declared.events.Step.TheVariants.{AskCancel, LoadWait, SetWaiting, MarkGranted, ClearWait, JoinList, LeaveList, TakeOff, Tell, LoadSleep}
+
+-- Calls: a session parks on a word of its own, wait word or sleep word, and a session that changes that word calls it.
+
+-- What is known of calls on words of one kind, where each session has one word.
+pub record Calls : Type 0 where
+  -- what each session's word showed when the session loaded it last, since when it has changed no such word: on this it may park
+  pub looked : ℕ → Option ℕ
+  -- whether it was called since it loaded that
+  pub called : ℕ → Bool
+  -- whom each session has still to call
+  pub owed : ℕ → ℕ → Bool
+
+-- Where a session's word is not what the session loaded any more, it was called since, or somebody has it to call.
+abbrev pub EachIsCalled : (ℕ → ℕ) → Calls → Type 0
+EachIsCalled word c =
+    (session shown : ℕ) → c.looked session ≡ Some shown
+    → (word session ≡ shown) ⊎ ((c.called session ≡ true) ⊎ ((other : ℕ) × (c.owed other session ≡ true)))
+
+-- The session is parked: the kernel found its word as the session had loaded it, and nobody has called it since. The session has nobody
+-- to call.
+pub record IsParked (c : Calls) (session shown : ℕ) : Type 0 where
+  pub looked : c.looked session ≡ Some shown
+  pub uncalled : c.called session ≡ false
+  pub owes_none : (other : ℕ) → c.owed session other ≡ false
+
+-- A session loads its word, stores in it, changes another's word, and calls another.
+abbrev pub looking : Calls → ℕ → ℕ → Calls
+looking c session shown = record c { looked = set_at c.looked session (Some shown); called = set_at c.called session false }
+
+abbrev pub storing : Calls → ℕ → Calls
+storing c session = record c { looked = set_at c.looked session None }
+
+abbrev pub changing : Calls → ℕ → ℕ → Calls
+changing c session other = record c {
+  looked = set_at c.looked session None;
+  owed = set_at c.owed session (set_at (c.owed session) other true);
+}
+
+abbrev pub calling : Calls → ℕ → ℕ → Calls
+calling c session other = record c {
+  called = set_at c.called other true;
+  owed = set_at c.owed session (set_at (c.owed session) other false);
+}
+
+-- What a step makes of the calls on wait words, and on sleep words.
+abbrev pub wait_calls_after : Calls → ℕ → Step → Calls
+wait_calls_after c session (LoadWait shown) = looking c session shown
+wait_calls_after c session (SetWaiting tag mode) = storing c session
+wait_calls_after c session (ClearWait leaving) = storing c session
+wait_calls_after c session (AskCancel other) = changing c session other
+wait_calls_after c session (MarkGranted other done) = changing c session other
+wait_calls_after c session step = c
+
+abbrev pub sleep_calls_after : Calls → ℕ → Step → Calls
+sleep_calls_after c session (LoadSleep shown) = looking c session shown
+sleep_calls_after c session (JoinList mode) = storing c session
+sleep_calls_after c session LeaveList = storing c session
+sleep_calls_after c session (TakeOff other) = changing c session other
+sleep_calls_after c session (Tell other) = changing c session other
+sleep_calls_after c session step = c
+
+-- nobody has looked, was called or is owed a call
+abbrev pub no_calls : Calls
+no_calls = record { looked = λ _. None; called = λ _. false; owed = λ _ _. false }

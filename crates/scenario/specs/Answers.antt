@@ -1,0 +1,81 @@
+use Rattle.std.specs.Prelude.{◌≡◌, ◌⊎◌, ℕ, ⊤, List, [], ◌∷◌, ◌++◌}
+use Rattle.std.specs.List.{HoldsAt}
+use Rattle.arrayvec.specs.declared.array_string.ArrayString.{ArrayString}
+use Rattle.local_locks.specs.declared.records.Entry.{Entry}
+use Rattle.lock_world.specs.Account.{Account}
+use Rattle.modes_core.specs.declared.refusals.Refusal.{Refusal}
+use Rattle.modes_core.specs.declared.refusals.Refusal.TheVariants.{NoMemory, NoMoreSessions}
+use Rattle.shared_rule.specs.Boards.{Seated, Stack}
+use Rattle.lock_manager.specs.Sessions.{SessionView}
+use Rattle.lock_manager.specs.WaitingSessions.{WaitingView}
+use Rattle.lock_script.specs.declared.command.Command.{Command}
+use Rattle.lock_script.specs.declared.command.Command.TheVariants as command
+use Rattle.lock_script.specs.declared.sessions.OpenSessions.{OpenSessions}
+use Rattle.lock_script.specs.declared.sessions.Place.{Place}
+use Rattle.lock_script.specs.declared.sessions.Place.TheVariants as place
+use Rattle.lock_script.specs.Names.{PutsIn}
+use Rattle.scenario.specs.declared.answers.Answer.{Answer}
+use Rattle.scenario.specs.declared.answers.Answer.TheVariants as answer
+use Rattle.scenario.specs.declared.answers.Row.TheVariants as row
+use Rattle.scenario.specs.declared.answers.Said.TheVariants as said
+use Rattle.scenario.specs.declared.sessions.Deed.{Deed}
+use Rattle.scenario.specs.declared.sessions.Deed.TheVariants as deed
+use Rattle.scenario.specs.Answered.{AcquiresAt, CallsAt, ClosesAt, WaitsAt}
+use Rattle.scenario.specs.Calls.{IsDeedOf}
+
+-- What a command is answered, and what it leaves of a script's sessions.
+
+-- The sessions of a script: those that are open, and the names of all that were opened, in the order of their numbers.
+pub record Cast (B : Type 0) : Type 0 where
+  pub sessions : OpenSessions (SessionView B) (WaitingView B)
+  pub names : List (ArrayString 16)
+
+-- the number of the session that stands there
+abbrev pub IsNumberAt : {B : Type 0} → (B → Seated) → OpenSessions (SessionView B) (WaitingView B) → Place → ℕ → Type 0
+IsNumberAt seat sessions (place.Resting at) number = HoldsAt (λ one. number ≡ (seat one.session.board).number) sessions.resting at
+IsNumberAt seat sessions (place.Waiting at) number = HoldsAt (λ one. number ≡ (seat one.session.board).number) sessions.waiting at
+
+-- the number of the other session that a command names, if it names one
+abbrev pub IsOtherOf : {B : Type 0} → (B → Seated) → OpenSessions (SessionView B) (WaitingView B) → Command → ℕ → Type 0
+IsOtherOf seat sessions (command.Blockers by other tag) number = IsNumberAt seat sessions other.place number
+IsOtherOf seat sessions (command.Cancel by other) number = IsNumberAt seat sessions other.place number
+IsOtherOf seat sessions _ number = ⊤
+
+-- A session was opened: it holds nothing, is told its number, and stands among those that don't wait.
+pub record Opens {B : Type 0} (seat : B → Seated) (database_of : SessionView B → ℕ) (entries : SessionView B → List Entry) (old new : Cast B)
+    (name : ArrayString 16) (database : ℕ) (it : Answer) : Type 0 where
+  pub session : SessionView B
+  pub of_database : database_of session ≡ database
+  pub nothing : entries session ≡ []
+  pub answered : it ≡ answer.Said name (said.Opened (seat session.board).number database)
+  pub joins : PutsIn old.sessions.resting (record { name = name; session = session }) new.sessions.resting
+  pub waiting : new.sessions.waiting ≡ old.sessions.waiting
+  pub names : new.names ≡ old.names ++ name ∷ []
+
+-- None was opened.
+pub record OpensNone {B : Type 0} (old new : Cast B) (name : ArrayString 16) (it : Answer) : Type 0 where
+  pub refusal : Refusal
+  pub why : (refusal ≡ NoMoreSessions) ⊎ (refusal ≡ NoMemory)
+  pub answered : it ≡ answer.Said name (said.Refused refusal)
+  pub same : new ≡ old
+
+module _
+    {B : Type 0} (seat : B → Seated) (view : B → Account) (stack : B → Stack) (database_of : SessionView B → ℕ) (entries : SessionView B → List Entry)
+    (old new : Cast B) where
+  -- The sessions are left as the library's call leaves them, and its answer is told.
+  abbrev pub IsDone : Deed → Answer → Type 0
+  IsDone (deed.Open name database) it = Opens seat database_of entries old new name database it ⊎ OpensNone old new name it
+  IsDone (deed.Close caller) it = ClosesAt seat view stack old.sessions new.sessions caller it × (new.names ≡ old.names)
+  IsDone (deed.Lock target owner) it =
+      (AcquiresAt seat view stack old.sessions new.sessions target owner it ⊎ WaitsAt seat view stack old.sessions new.sessions target owner it)
+      × (new.names ≡ old.names)
+  IsDone (deed.Make caller call) it = CallsAt seat view stack old.sessions new.sessions caller call it × (new.names ≡ old.names)
+  IsDone (deed.Hash tag) it = (it ≡ answer.Row (row.Hash tag)) × (new ≡ old)
+
+  -- The command was carried out by the call that it is, and this is its answer.
+  pub record Answers (command : Command) (it : Answer) : Type 0 where
+    pub number : ℕ
+    pub other : IsOtherOf seat old.sessions command number
+    pub deed : Deed
+    pub which : IsDeedOf command number deed
+    pub done : IsDone deed it

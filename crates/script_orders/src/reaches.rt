@@ -1,0 +1,280 @@
+//! Which lines of different sessions have to do with one another.
+//!
+//! Two that have not can change places where they stand side by side: each session is answered alike, and all stands as
+//! it did. A line has to do with the objects that it names, and where it ends a transaction or closes its session with
+//! all that the session asked for before. Objects of one strong lock counter count as one. A strong lock moves other
+//! sessions' fast-path slots, so it has to do with each line that asks for a lock, of a session that asked for a lock
+//! on its object before. A line that lists all locks or names another session has to do with every line.
+
+use crate::stories::{Actor, Story};
+use lock_script::{parse_strong_index, parse_tag, split_words};
+use modes_core::{Mode, Tag, is_strong};
+use std::alloc::{AllocError, Global};
+
+/// Beyond so many lines it is not told which lines are left that have to do with one.
+const MOST_LINES: usize = 1000;
+
+/// Objects, by their strong lock counters: bit `i % 64` of word `i / 64` is counter `i`.
+#[derive(Clone, Copy, Debug, PartialEq, Eq)]
+struct Objects([u64; 16]);
+
+impl Objects {
+    const NONE: Objects = Objects([0; 16]);
+
+    /// The objects of the strong lock counter at `index`.
+    fn of_counter(index: u16) -> Self {
+        let mut words = [0; 16];
+        if let Some(word) = words.get_mut((index / 64) as usize) {
+            *word = 1u64 << u32::from(index % 64);
+        }
+        Objects(words)
+    }
+
+    /// The objects of this set and of `other`.
+    fn and(self, other: Objects) -> Self {
+        let mut words = self.0;
+        for (word, more) in words.iter_mut().zip(&other.0) {
+            *word |= *more;
+        }
+        Objects(words)
+    }
+
+    /// Whether some are among both.
+    fn meet(&self, other: &Objects) -> bool {
+        for (word, its) in self.0.iter().zip(&other.0) {
+            if *word & *its != 0 {
+                return true;
+            }
+        }
+        false
+    }
+}
+
+/// What a line has to do with.
+#[derive(Clone, Copy, Debug, PartialEq, Eq)]
+struct Reach {
+    /// Whether that is every line.
+    is_all: bool,
+    /// Whether it opens a session, whose number depends on who opened one before.
+    opens: bool,
+    /// What it asks for, looks at or lets go.
+    objects: Objects,
+    /// What it asks for in a strong mode.
+    strong: Objects,
+    /// What its session asked for before, where it asks for a lock: of these, slots may have been moved.
+    in_slots: Objects,
+}
+
+impl Reach {
+    /// Nothing.
+    const NONE: Reach = Reach {
+        is_all: false,
+        opens: false,
+        objects: Objects::NONE,
+        strong: Objects::NONE,
+        in_slots: Objects::NONE,
+    };
+
+    /// Every line.
+    const ALL: Reach = Reach {
+        is_all: true,
+        ..Reach::NONE
+    };
+
+    /// What a line reaches that has to do with `objects` alone.
+    const fn of(objects: Objects) -> Self {
+        Reach {
+            objects,
+            ..Reach::NONE
+        }
+    }
+
+    /// Whether two lines of different sessions have to do with one another.
+    fn meets(&self, other: &Reach) -> bool {
+        self.is_all
+            || other.is_all
+            || (self.opens && other.opens)
+            || self.objects.meet(&other.objects)
+            || self.strong.meet(&other.in_slots)
+            || other.strong.meet(&self.in_slots)
+    }
+}
+
+/// What a line has to do with, where its session asked for these objects before. With `ends` the answers to looks at
+/// locks are left out, so that most have to do with no line.
+fn reach_of(story: &Story, line: &str, asked: Objects, ends: bool) -> Reach {
+    let words = split_words(line);
+    let Some((verb, words)) = words.as_slice().split_first() else {
+        return Reach::NONE;
+    };
+    match *verb {
+        "begin" | "subcommit" | "owned" => Reach::NONE,
+        "list" | "queue" | "waiters" | "count" if ends => Reach::NONE,
+        "session" => Reach {
+            opens: true,
+            ..Reach::NONE
+        },
+        "commit" | "abort" | "subabort" | "close" => Reach::of(asked),
+        "count" => match counter_of(words) {
+            Some(index) => Reach::of(Objects::of_counter(index)),
+            None => Reach::ALL,
+        },
+        "queue" | "waiters" | "unlock" => match object_of(story, words) {
+            Some(tag) => Reach::of(Objects::of_counter(tag.strong_index())),
+            None => Reach::ALL,
+        },
+        "lock" | "try" | "fast" => reach_of_request(story, words, asked),
+        _ => Reach::ALL,
+    }
+}
+
+/// The object that the second of these words names.
+fn object_of(story: &Story, words: &[&str]) -> Option<Tag> {
+    let word = words.get(1)?;
+    match parse_tag(*word) {
+        Some(tag) => Some(tag),
+        None => story.object_named(*word),
+    }
+}
+
+/// The strong lock counter that the second of these words names.
+fn counter_of(words: &[&str]) -> Option<u16> {
+    parse_strong_index(*words.get(1)?)
+}
+
+/// What a request for a lock has to do with.
+fn reach_of_request(story: &Story, words: &[&str], asked: Objects) -> Reach {
+    let Some(tag) = object_of(story, words) else {
+        return Reach::ALL;
+    };
+    let Some(mode) = words.get(2).copied().and_then(Mode::from_name) else {
+        return Reach::ALL;
+    };
+    let objects = Objects::of_counter(tag.strong_index());
+    let strong = if is_strong(tag, mode) {
+        objects
+    } else {
+        Objects::NONE
+    };
+    Reach {
+        objects,
+        strong,
+        in_slots: asked,
+        ..Reach::NONE
+    }
+}
+
+/// What each line of a session has to do with.
+fn reaches_of(
+    alloc: Global,
+    story: &Story,
+    actor: &Actor,
+    ends: bool,
+) -> Result<Vec<Reach>, AllocError> {
+    let mut reaches = Vec::new(alloc);
+    let mut asked = Objects::NONE;
+    for line in &actor.lines {
+        let reach = reach_of(story, line.text.as_str(), asked, ends);
+        asked = asked.and(reach.objects);
+        reaches.push(reach)?;
+    }
+    Ok(reaches)
+}
+
+/// Which lines of a story have to do with one another.
+#[derive(Drop)]
+pub struct Ties {
+    /// What each line of each session has to do with.
+    reaches: Vec<Vec<Reach>>,
+    /// For each line of each session, how many lines of each session there are up to the last one that has to do with
+    /// it. Empty where the story is large.
+    last: Vec<Vec<Vec<usize>>>,
+}
+
+impl Ties {
+    /// What each line of `story` reaches. With `ends` the answers to looks at locks are left out. Refused only where memory,
+    /// by `alloc`, ran out.
+    pub fn new(alloc: Global, story: &Story, ends: bool) -> Result<Self, AllocError> {
+        let mut reaches = Vec::new(alloc);
+        for actor in &story.actors {
+            reaches.push(reaches_of(alloc, story, actor, ends)?)?;
+        }
+        let mut ties = Ties {
+            reaches,
+            last: Vec::new(alloc),
+        };
+        if story.own_merge.len() <= MOST_LINES {
+            for session in 0..ties.reaches.len() {
+                let last = ties.last_of_session(alloc, session)?;
+                ties.last.push(last)?;
+            }
+        }
+        Ok(ties)
+    }
+
+    /// For each line of a session, how many lines of each other session there are up to the last one that has to do
+    /// with it.
+    fn last_of_session(
+        &self,
+        alloc: Global,
+        session: usize,
+    ) -> Result<Vec<Vec<usize>>, AllocError> {
+        let mut lines = Vec::new(alloc);
+        if let Some(reaches) = self.reaches.get(session) {
+            for reach in reaches {
+                lines.push(self.last_of(alloc, session, reach)?)?;
+            }
+        }
+        Ok(lines)
+    }
+
+    /// How many lines of each other session there are up to the last one that has to do with this one.
+    fn last_of(
+        &self,
+        alloc: Global,
+        session: usize,
+        reach: &Reach,
+    ) -> Result<Vec<usize>, AllocError> {
+        let mut last = Vec::new(alloc);
+        for (other, reaches) in self.reaches.iter().enumerate() {
+            let mut lines = 0;
+            if other != session {
+                for (line, its) in reaches.iter().enumerate() {
+                    if its.meets(reach) {
+                        lines = line.saturating_add(1);
+                    }
+                }
+            }
+            last.push(lines)?;
+        }
+        Ok(last)
+    }
+
+    /// Whether these lines, `line` of one session and `other_line` of `other`, have to do with one another.
+    pub fn meet(&self, session: usize, line: usize, other: usize, other_line: usize) -> bool {
+        let reach = self.reaches.get(session).and_then(|lines| lines.get(line));
+        let its = self
+            .reaches
+            .get(other)
+            .and_then(|lines| lines.get(other_line));
+        match (reach, its) {
+            (Some(reach), Some(its)) => reach.meets(its),
+            _ => true,
+        }
+    }
+
+    /// Whether a line is left, of another session than its own, that has to do with this line of `session`, where so
+    /// many lines of each session were run. It answers yes where the story is large.
+    pub fn meets_one_left(&self, session: usize, line: usize, taken: &[usize]) -> bool {
+        let last = self.last.get(session).and_then(|lines| lines.get(line));
+        let Some(last) = last else {
+            return true;
+        };
+        for (lines, run) in last.iter().zip(taken) {
+            if run < lines {
+                return true;
+            }
+        }
+        false
+    }
+}

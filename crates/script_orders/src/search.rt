@@ -1,0 +1,57 @@
+//! The way through all orders: at each place of an order the sessions whose line may come there are tried one after the
+//! other.
+
+use std::alloc::{AllocError, Global};
+
+/// A place of an order: whose line comes there now, and whose are still to be tried there, the next one last.
+#[derive(Drop)]
+struct Fork {
+    session: usize,
+    to_try: Vec<usize>,
+}
+
+/// The places of the order that is run, as far as they were looked at.
+#[derive(Drop)]
+pub struct Search {
+    forks: Vec<Fork>,
+}
+
+impl Search {
+    /// No place was looked at.
+    pub fn new(alloc: Global) -> Self {
+        Search {
+            forks: Vec::new(alloc),
+        }
+    }
+
+    /// Whose line comes at this place, if that was looked at.
+    pub fn session_at(&self, place: usize) -> Option<usize> {
+        Some(self.forks.get(place)?.session)
+    }
+
+    /// Looks at the next place, where the lines of these sessions may come, and answers whose comes first: the last
+    /// one's. None where there is none.
+    pub fn add(&mut self, sessions: Vec<usize>) -> Result<Option<usize>, AllocError> {
+        let mut to_try = sessions;
+        let Some(session) = to_try.pop() else {
+            return Ok(None);
+        };
+        self.forks.push(Fork { session, to_try })?;
+        Ok(Some(session))
+    }
+
+    /// Goes to the next order: at the last place at which sessions are still to be tried the next one's line comes.
+    /// Answers whether there is one.
+    pub fn next_order(&mut self) -> bool {
+        for _ in 0..self.forks.len() {
+            if let Some(fork) = self.forks.last_mut() {
+                if let Some(session) = fork.to_try.pop() {
+                    fork.session = session;
+                    return true;
+                }
+            }
+            let _ = self.forks.pop();
+        }
+        false
+    }
+}

@@ -1,0 +1,4 @@
+pub mod Classes
+pub mod FollowLemmas
+pub mod LockLemmas
+pub mod WordLemmas

@@ -1,0 +1,6 @@
+pub mod Catalog
+pub mod Faults
+pub mod Follow
+pub mod Reach
+pub mod Text
+pub mod Words

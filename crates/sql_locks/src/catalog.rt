@@ -1,0 +1,216 @@
+//! The relations that statements made, and how they hang together.
+ghost use Rattle.std.specs.Prelude.{◌≡◌, ℕ, ◌∷◌, ◌++◌, [], List, IfOk, OnOk, Some, None, filter, false, vec_len, ◌<◌};
+ghost use Rattle.std.specs.Str.{bytes_eq};
+ghost use Rattle.std.specs.BTreeMap.{get_by_text};
+ghost use Rattle.sql_locks.specs.Catalog.{SameNames, is_other_link, is_apart};
+
+use std::alloc::{AllocError, Global};
+use std::collections::BTreeMap;
+
+/// What a relation is.
+#[derive(Clone, Copy, Debug, PartialEq, Eq)]
+pub enum RelationKind {
+    Table,
+    Index,
+    Sequence,
+    View,
+    MaterializedView,
+}
+
+/// A relation.
+#[derive(Debug, Drop)]
+pub struct Relation {
+    pub name: String,
+    pub kind: RelationKind,
+    /// Whether the transaction made it that has not ended, so that nobody else knows it.
+    pub is_own: bool,
+}
+
+/// How two relations hang together.
+#[derive(Clone, Copy, Debug, PartialEq, Eq)]
+pub enum LinkKind {
+    /// From a parent to a child or a partition.
+    Child,
+    /// From a partitioned table to a partition, which is a child too.
+    Partition,
+    /// From a partitioned table to its default partition.
+    Default,
+    /// From a table to an index.
+    Index,
+    /// From a table to the index of its primary key, which is an index too.
+    Key,
+    /// From a table with a foreign key to the table that it refers to.
+    Refers,
+    /// From a view to a relation that it reads.
+    Reads,
+    /// From a materialized view to a relation that it is made of.
+    Stores,
+    /// From a table to a sequence of one of its columns.
+    Owns,
+}
+
+/// A link from one relation to another.
+#[derive(Clone, Copy, Debug, PartialEq, Eq)]
+pub struct Link {
+    pub kind: LinkKind,
+    pub from: usize,
+    pub to: usize,
+}
+
+impl Link {
+    /// Whether it is another link than the one of this kind between these two.
+    fn is_other(&self, kind: LinkKind, from: usize, to: usize) -> bool
+        ensures { result ≡ is_other_link kind from to self.now }
+    {
+        self.kind != kind || self.from != from || self.to != to
+    }
+
+    /// Whether it neither begins nor ends at this relation.
+    fn is_apart(&self, number: usize) -> bool
+        ensures { result ≡ is_apart number self.now }
+    {
+        self.from != number && self.to != number
+    }
+}
+
+/// A foreign key.
+#[derive(Debug, Drop)]
+pub struct ForeignKey {
+    pub name: String,
+    /// The table that has it, and the table that it refers to.
+    pub table: usize,
+    pub referred: usize,
+    /// The columns of both, where they were named.
+    pub columns: Vec<String>,
+    pub referred_columns: Vec<String>,
+    /// Whether a change of the table referred to changes rows of this one: `CASCADE`, `SET NULL` or `SET DEFAULT`.
+    pub cascades: bool,
+}
+
+/// The relations that statements made, by their numbers, their names, and their links. The name of a relation that was
+/// dropped stands for nothing, and its number is given to no other.
+#[derive(Debug, Drop)]
+pub struct Catalog {
+    pub relations: Vec<Relation>,
+    pub names: BTreeMap<String, usize>,
+    pub links: Vec<Link>,
+    pub foreign_keys: Vec<ForeignKey>,
+}
+
+impl Catalog {
+    /// A catalog of nothing.
+    pub fn new(alloc: Global) -> Self
+        ensures names { (name : List ℕ) → get_by_text result.names name ≡ None }
+        ensures links { result.links.items ≡ [] }
+    {
+        Catalog {
+            relations: Vec::new(alloc),
+            names: BTreeMap::new(alloc),
+            links: Vec::new(alloc),
+            foreign_keys: Vec::new(alloc),
+        }
+    }
+
+    /// The number of the relation of this name.
+    pub fn find(&self, name: &str) -> Option<usize>
+        ensures { result ≡ get_by_text self.now.names name.now }
+    {
+        self.names.get(name).copied()
+    }
+
+    /// Adds a relation, which takes this name from another one that has it.
+    pub fn add(
+        &mut self,
+        alloc: Global,
+        name: &str,
+        kind: RelationKind,
+    ) -> Result<usize, AllocError>
+        ensures named { IfOk result (λ number. get_by_text self.new.names name.now ≡ Some number) }
+        ensures number { IfOk result (λ number. number ≡ vec_len self.old.relations) }
+        ensures others { OnOk result ((other : List ℕ) → bytes_eq other name.now ≡ false →
+            get_by_text self.new.names other ≡ get_by_text self.old.names other) }
+        ensures links { self.new.links.items ≡ self.old.links.items }
+    {
+        let number = self.relations.len();
+        let own = String::from_str(alloc, name)?;
+        let key = String::from_str(alloc, name)?;
+        self.relations.push(Relation {
+            name: own,
+            kind,
+            is_own: true,
+        })?;
+        match self.names.insert(key, number) {
+            Ok(_) => Ok(number),
+            Err(_) => Err(AllocError),
+        }
+    }
+
+    /// Adds a link.
+    pub fn link(&mut self, kind: LinkKind, from: usize, to: usize) -> Result<(), AllocError>
+        ensures added { OnOk result (self.new.links.items ≡
+            self.old.links.items ++ record { kind = kind; from = from; to = to } ∷ []) }
+        ensures names { SameNames self.old.names self.new.names }
+    {
+        self.links.push(Link { kind, from, to })?;
+        Ok(())
+    }
+
+    /// Takes a link away.
+    pub fn unlink(&mut self, kind: LinkKind, from: usize, to: usize)
+        ensures links { self.new.links.items ≡ filter (is_other_link kind from to) self.old.links.items }
+        ensures names { SameNames self.old.names self.new.names }
+    {
+        self.links.retain(|link| link.is_other(kind, from, to));
+    }
+
+    /// Gives a relation another name.
+    pub fn rename(&mut self, alloc: Global, number: usize, name: &str) -> Result<(), AllocError>
+        ensures links { self.new.links.items ≡ self.old.links.items }
+        ensures named { OnOk result (number < vec_len self.old.relations →
+            get_by_text self.new.names name.now ≡ Some number) }
+    {
+        let Some(relation) = self.relations.get_mut(number) else {
+            return Ok(());
+        };
+        let kept = String::from_str(alloc, name)?;
+        let key = String::from_str(alloc, name)?;
+        let _ = self.names.remove(relation.name.as_str());
+        relation.name = kept;
+        match self.names.insert(key, number) {
+            Ok(_) => Ok(()),
+            Err(_) => Err(AllocError),
+        }
+    }
+
+    /// Adds a foreign key.
+    pub fn add_foreign_key(&mut self, key: ForeignKey) -> Result<(), AllocError>
+        ensures added { OnOk result (self.new.foreign_keys.items ≡ self.old.foreign_keys.items ++ key ∷ []) }
+        ensures names { SameNames self.old.names self.new.names }
+        ensures links { self.new.links.items ≡ self.old.links.items }
+    {
+        match self.foreign_keys.push(key) {
+            Ok(()) => Ok(()),
+            Err(_) => Err(AllocError),
+        }
+    }
+
+    /// Takes the foreign key away that has this name at this table.
+    pub fn drop_foreign_key(&mut self, table: usize, name: &str)
+        ensures names { SameNames self.old.names self.new.names }
+        ensures links { self.new.links.items ≡ self.old.links.items }
+    {
+        self.foreign_keys
+            .retain(|key| key.table != table || key.name.as_str() != name);
+    }
+
+    /// Takes the relation away that has this name and number, with its links.
+    pub fn drop_relation(&mut self, name: &str, number: usize)
+        ensures gone { get_by_text self.new.names name.now ≡ None }
+        ensures others { (other : List ℕ) → bytes_eq other name.now ≡ false →
+            get_by_text self.new.names other ≡ get_by_text self.old.names other }
+        ensures links { self.new.links.items ≡ filter (is_apart number) self.old.links.items }
+    {
+        let _ = self.names.remove(name);
+        self.links.retain(|link| link.is_apart(number));
+    }
+}

@@ -1,0 +1,230 @@
+//! The table of the forms of SQL statements: which relations each reaches, and in which lock modes.
+
+use modes_core::Mode;
+
+/// From which relation of a statement a path begins.
+#[derive(Clone, Copy, Debug, PartialEq, Eq)]
+pub enum Start {
+    /// The relation that the form is about.
+    Target,
+    /// The other relation that it names.
+    Other,
+}
+
+/// Along which links a path goes, as far as they lead.
+#[derive(Clone, Copy, Debug, PartialEq, Eq)]
+pub enum Along {
+    /// Along none: it stays where it is.
+    Nothing,
+    /// To children and partitions, unless the statement says `ONLY`.
+    Family,
+    /// To the relations that views read, and to children and partitions.
+    Sources,
+    /// To the relations that a materialized view is made of, and on as `Sources`.
+    Stored,
+    /// To the tables that refer to a table by a foreign key, and to children and partitions.
+    Referring,
+}
+
+/// The last step of a path.
+#[derive(Clone, Copy, Debug, PartialEq, Eq)]
+pub enum Hop {
+    /// None.
+    Stay,
+    /// To the indexes of a table.
+    Indexes,
+    /// To the table of an index.
+    Table,
+    /// To the index of a table's primary key.
+    Key,
+    /// To the default partition of a table.
+    Default,
+    /// To the tables that a table refers to.
+    Referred,
+    /// To the tables that refer to a table.
+    Referring,
+    /// To the sequences of a table's columns.
+    Owned,
+}
+
+/// How relations are reached from those that a statement names.
+#[derive(Clone, Copy, Debug, PartialEq, Eq)]
+pub struct Path {
+    pub start: Start,
+    pub along: Along,
+    pub hop: Hop,
+}
+
+/// A mode on each relation at the end of a path.
+#[derive(Clone, Copy, Debug)]
+pub struct Part {
+    pub path: Path,
+    pub mode: Mode,
+}
+
+/// How long the work takes that is done under the locks.
+#[derive(Clone, Copy, Debug, PartialEq, Eq)]
+pub enum Work {
+    /// As long for a large table as for a small one.
+    Moment,
+    /// As many rows as the statement reads or changes.
+    Rows,
+    /// The rows are read.
+    Scan,
+    /// The rows are read, and an index is made of them.
+    Build,
+    /// The table is written anew, with its indexes.
+    Rewrite,
+}
+
+/// Until when locks are held.
+#[derive(Clone, Copy, Debug, PartialEq, Eq)]
+pub enum Until {
+    /// The transaction's end.
+    Commit,
+    /// The statement's own end: no transaction may be open around it.
+    OwnEnd,
+}
+
+/// For whom a statement waits beside its locks.
+#[derive(Clone, Copy, Debug, PartialEq, Eq)]
+pub enum Awaits {
+    Nobody,
+    /// Each transaction that has written the table.
+    Writers,
+    /// Each transaction that has used the table, and be it to read.
+    Users,
+}
+
+/// A form of a statement. What each is, its row says.
+#[derive(Clone, Copy, Debug, PartialEq, Eq)]
+pub enum Form {
+    Select,
+    SelectForUpdate,
+    ReadDefinition,
+    CopyTo,
+    Insert,
+    CopyFrom,
+    CheckReferred,
+    CheckReferring,
+    CascadeToReferring,
+    Update,
+    Delete,
+    Merge,
+    Nextval,
+    Truncate,
+    TruncateCascade,
+    RestartIdentity,
+    LockAccessShare,
+    LockRowShare,
+    LockRowExclusive,
+    LockShareUpdateExclusive,
+    LockShare,
+    LockShareRowExclusive,
+    LockExclusive,
+    LockAccessExclusive,
+    CreateTable,
+    CreateTableLike,
+    CreateTableInherits,
+    CreateTablePartitionOf,
+    CreateTableReferences,
+    CreateTableKey,
+    CreateTableAs,
+    CreateView,
+    DropTable,
+    DropPartition,
+    DropView,
+    AlterView,
+    DropMaterializedView,
+    RefreshMaterializedView,
+    RefreshConcurrently,
+    CreateSequence,
+    SequenceOwnedBy,
+    AlterSequence,
+    AlterSequenceName,
+    DropSequence,
+    CreateIndex,
+    CreateIndexThatExists,
+    CreateIndexConcurrently,
+    DropIndex,
+    DropIndexConcurrently,
+    ReindexTable,
+    ReindexIndex,
+    ReindexTableConcurrently,
+    ReindexIndexConcurrently,
+    AlterIndex,
+    AlterIndexTablespace,
+    AddColumn,
+    AddColumnRewrite,
+    AddColumnCheck,
+    AddColumnReferences,
+    NewIndex,
+    NewSequence,
+    DropColumn,
+    DropForeignKey,
+    AlterType,
+    AlterTypeOfKey,
+    AlterColumn,
+    SetNotNull,
+    SetStatistics,
+    AddCheck,
+    AddCheckNotValid,
+    AddForeignKey,
+    AddForeignKeyNotValid,
+    AddUnique,
+    AddUsingIndex,
+    AddRenamedIndex,
+    ValidateConstraint,
+    ValidateForeignKey,
+    DropConstraint,
+    DropUnique,
+    RenameTable,
+    RenameColumn,
+    OwnerTo,
+    SetSchema,
+    SetParameters,
+    SetUserCatalogTable,
+    ClusterOn,
+    SetLogged,
+    SetTablespace,
+    EnableTrigger,
+    EnableRule,
+    RowLevelSecurity,
+    ReplicaIdentity,
+    ReplicaIdentityIndex,
+    Inherit,
+    NoInherit,
+    AttachPartition,
+    DetachPartition,
+    DetachConcurrently,
+    CreateTrigger,
+    AlterTrigger,
+    DropTrigger,
+    CreateRule,
+    AlterRule,
+    DropRule,
+    CreatePolicy,
+    AlterPolicy,
+    DropPolicy,
+    CreateStatistics,
+    PublishTable,
+    CommentOnTable,
+    CommentOnConstraint,
+    Vacuum,
+    VacuumFull,
+    Analyze,
+    Cluster,
+}
+
+/// What a form of a statement locks.
+#[derive(Clone, Copy, Debug)]
+pub struct FormRow {
+    pub form: Form,
+    /// The form as it is written.
+    pub sql: &'static str,
+    /// What it locks, in the order of the server.
+    pub parts: &'static [Part],
+    pub work: Work,
+    pub until: Until,
+    pub awaits: Awaits,
+}

@@ -1,0 +1,116 @@
+//! Whom lock modes keep waiting, and for whom they wait.
+
+use modes_core::{Mode, ModeSet, conflicts};
+use std::alloc::AllocError;
+
+/// Sessions of a kind, the mode that they take, and what they are called where they wait, and where one of them is waited for.
+struct Others {
+    mode: Mode,
+    wait: &'static str,
+    before: &'static str,
+}
+
+/// All kinds of sessions.
+static OTHERS: [Others; 5] = [
+    Others {
+        mode: Mode::AccessShare,
+        wait: "reads",
+        before: "a long read",
+    },
+    Others {
+        mode: Mode::RowShare,
+        wait: "row locks and foreign keys' checks",
+        before: "a transaction that locked rows",
+    },
+    Others {
+        mode: Mode::RowExclusive,
+        wait: "writes",
+        before: "a busy writer",
+    },
+    Others {
+        mode: Mode::ShareUpdateExclusive,
+        wait: "VACUUM and DDL",
+        before: "an autovacuum (which gives way after deadlock_timeout)",
+    },
+    Others {
+        mode: Mode::Share,
+        wait: "index builds",
+        before: "an index build",
+    },
+];
+
+/// What modes on one relation, or on several, keep waiting: the modes with which they conflict.
+pub fn conflicts_of(modes: ModeSet) -> ModeSet {
+    let mut all = ModeSet::empty();
+    for mode in Mode::ALL {
+        if modes.has(mode) {
+            for other in Mode::ALL {
+                if conflicts(mode).has(other) {
+                    all = all.with(other);
+                }
+            }
+        }
+    }
+    all
+}
+
+/// Adds who waits, or that only `DROP TABLE` and its like do.
+pub fn push_waiting(text: &mut String, stopped: ModeSet) -> Result<(), AllocError> {
+    let mut is_first = true;
+    for others in &OTHERS {
+        if stopped.has(others.mode) {
+            text.push_str(if is_first { "" } else { ", " })?;
+            text.push_str(others.wait)?;
+            is_first = false;
+        }
+    }
+    if is_first {
+        text.push_str("only DDL that shuts all out, as DROP TABLE")?;
+    }
+    Ok(())
+}
+
+/// Adds behind whom the statement waits, where somebody is there before it.
+pub fn push_before(text: &mut String, stopped: ModeSet) -> Result<(), AllocError> {
+    let mut is_first = true;
+    for others in &OTHERS {
+        if stopped.has(others.mode) {
+            text.push_str(if is_first { "" } else { ", " })?;
+            text.push_str(others.before)?;
+            is_first = false;
+        }
+    }
+    if is_first {
+        text.push_str("only DDL that shuts all out")?;
+    }
+    Ok(())
+}
+
+/// Adds the modes that say all: without those that keep nobody waiting whom another one doesn't.
+pub fn push_modes(text: &mut String, modes: ModeSet) -> Result<(), AllocError> {
+    let mut shown = ModeSet::empty();
+    let mut is_first = true;
+    for number in 0..8u8 {
+        let Some(mode) = Mode::from_number(8 - number) else {
+            continue;
+        };
+        if modes.has(mode) && !adds_nothing(mode, shown) {
+            text.push_str(if is_first { "" } else { ", " })?;
+            text.push_str(mode.name())?;
+            shown = shown.with(mode);
+            is_first = false;
+        }
+    }
+    Ok(())
+}
+
+/// Whether a mode keeps nobody waiting whom these modes don't.
+fn adds_nothing(mode: Mode, shown: ModeSet) -> bool {
+    let stopped = conflicts_of(shown);
+    for other in Mode::ALL {
+        if conflicts(mode).has(other) && !stopped.has(other) {
+            return false;
+        }
+    }
+    true
+}

@@ -1,0 +1,118 @@
+//! The words of the subcommand `sql`.
+
+use clap::error::ErrorKind;
+use clap::{Arg, ArgAction, ArgMatches, Command, Error};
+use std::alloc::{AllocError, Global};
+
+/// What the program fails on.
+#[derive(Clone, Copy, Debug, PartialEq, Eq)]
+pub enum FailOn {
+    Nothing,
+    /// A statement that keeps reads waiting.
+    Reads,
+    /// A statement that keeps writes waiting.
+    Writes,
+}
+
+/// What the words ask for.
+#[derive(Debug, Drop)]
+pub struct SqlOptions {
+    /// The file of the statements that were run before.
+    pub schema: Option<String>,
+    pub fail_on: FailOn,
+    /// Whether all statements are one transaction.
+    pub is_single: bool,
+}
+
+/// What words come to.
+#[derive(Debug, Drop)]
+pub enum SqlTask {
+    Report(SqlOptions),
+    /// They ask for this text.
+    Text(String),
+    /// They are refused, and this says why.
+    Refused(String),
+    NoMemory,
+}
+
+/// What `--fail-on` may name.
+static KINDS: [&str; 2] = ["reads", "writes"];
+
+/// What `lock_sql --help` shows beside its options.
+const SQL_HELP: &str =
+    "Of each statement it says, with its line: which relations it locks, in which mode and
+order, how long it works and until when the locks are held, whom that keeps waiting,
+and behind whom it waits itself. A function's and a trigger's body are not looked into.
+
+Status:  0 all was said, 1 input, output or memory failed, 2 these words were refused,
+         3 a statement is bad or its locks are not known, 4 what --fail-on names
+
+Example:
+  lock_sql --schema schema.sql --fail-on writes < migration.sql";
+
+/// The command line `lock_sql [--schema FILE] [--fail-on KIND] [--single-transaction]`.
+fn sql_command<'a>(alloc: Global) -> Result<Command<'a>, AllocError> {
+    let schema = Arg::new(alloc, "schema")
+        .long("schema")
+        .value_name("FILE")
+        .help("Statements that made what the migration finds, as pg_dump --schema-only writes");
+    let fail_on = Arg::new(alloc, "fail-on")
+        .long("fail-on")
+        .value_name("KIND")
+        .help("End with status 4 where a statement keeps these waiting")
+        .value_parser(KINDS.as_slice());
+    let single = Arg::new(alloc, "single-transaction")
+        .long("single-transaction")
+        .help("Take all statements for one transaction")
+        .action(ArgAction::SetTrue);
+    Command::new(alloc, "lock_sql")
+        .about("Say what each SQL statement on standard input locks")
+        .override_usage("lock_sql [OPTIONS] < MIGRATION")
+        .after_help(SQL_HELP)
+        .arg(schema)?
+        .arg(fail_on)?
+        .arg(single)
+}
+
+/// What `words` ask for, of which the first one, a program's name or a subcommand's, is passed over.
+pub fn parse_options(alloc: Global, words: &[String]) -> SqlTask {
+    match options_of(alloc, words) {
+        Ok(options) => SqlTask::Report(options),
+        Err(error) => task_of_error(alloc, &error),
+    }
+}
+
+/// What `clap` has for words that ask for no report.
+fn task_of_error(alloc: Global, error: &Error) -> SqlTask {
+    if error.kind() == ErrorKind::OutOfMemory {
+        return SqlTask::NoMemory;
+    }
+    match format!(in alloc; "{error}") {
+        Ok(text) if error.use_stderr() => SqlTask::Refused(text),
+        Ok(text) => SqlTask::Text(text),
+        Err(_) => SqlTask::NoMemory,
+    }
+}
+
+/// The options that the words name.
+fn options_of(alloc: Global, words: &[String]) -> Result<SqlOptions, Error> {
+    let matches = sql_command(alloc)?.try_get_matches_from(words)?;
+    let schema = match matches.get_str("schema") {
+        Some(path) => Some(String::from_str(alloc, path)?),
+        None => None,
+    };
+    Ok(SqlOptions {
+        schema,
+        fail_on: fail_on(&matches),
+        is_single: matches.get_flag("single-transaction"),
+    })
+}
+
+/// What the words have the program fail on.
+fn fail_on(matches: &ArgMatches) -> FailOn {
+    match matches.get_str("fail-on") {
+        Some("reads") => FailOn::Reads,
+        Some("writes") => FailOn::Writes,
+        _ => FailOn::Nothing,
+    }
+}

@@ -1,0 +1,234 @@
+//! The words of one statement, read from left to right.
+
+use sql_locks::WordKind;
+
+/// A word of a statement.
+#[derive(Debug, Drop)]
+pub struct SqlWord {
+    pub kind: WordKind,
+    /// The word as it stands.
+    pub text: String,
+    /// The line on which it begins, from 1.
+    pub line: usize,
+    /// How many bytes of the text stand before it.
+    pub from: usize,
+}
+
+impl SqlWord {
+    /// Whether the word is this key word, which is no name in quotes.
+    pub fn is_key_word(&self, key_word: &str) -> bool {
+        self.kind == WordKind::Name
+            && self
+                .text
+                .as_bytes()
+                .eq_ignore_ascii_case(key_word.as_bytes())
+    }
+
+    /// Whether the word is this mark.
+    pub fn is_mark(&self, mark: &str) -> bool {
+        self.kind == WordKind::Mark && self.text.as_str() == mark
+    }
+
+    /// Whether the word can be a name.
+    pub fn is_name(&self) -> bool {
+        self.kind == WordKind::Name || self.kind == WordKind::QuotedName
+    }
+}
+
+/// Where a name stands among the words: from the first word on, to before the last one.
+#[derive(Clone, Copy, Debug, PartialEq, Eq)]
+pub struct NamePlace {
+    pub begin: usize,
+    pub end: usize,
+}
+
+/// A place among the words of a statement, of which blanks and comments are left out.
+#[derive(Debug, Drop)]
+pub struct Cursor {
+    pub words: Vec<SqlWord>,
+    pub place: usize,
+}
+
+impl Cursor {
+    /// The word that comes `ahead` words behind the next one.
+    pub fn ahead(&self, ahead: usize) -> Option<&SqlWord> {
+        self.words.get(self.place.saturating_add(ahead))
+    }
+
+    /// Whether no word is left.
+    pub fn is_at_end(&self) -> bool {
+        self.place >= self.words.len()
+    }
+
+    /// Goes on behind the next word.
+    pub fn advance(&mut self) {
+        self.place = self.place.saturating_add(1);
+    }
+
+    /// Whether the word that comes `ahead` words behind the next one is this key word.
+    pub fn is_ahead(&self, ahead: usize, key_word: &str) -> bool {
+        match self.ahead(ahead) {
+            Some(word) => word.is_key_word(key_word),
+            None => false,
+        }
+    }
+
+    /// Whether the next word is this key word.
+    pub fn is_at(&self, key_word: &str) -> bool {
+        self.is_ahead(0, key_word)
+    }
+
+    /// Whether the next word is one of these key words.
+    pub fn is_at_one(&self, key_words: &[&str]) -> bool {
+        for key_word in key_words {
+            if self.is_at(key_word) {
+                return true;
+            }
+        }
+        false
+    }
+
+    /// Whether the word behind which the next one stands is this key word.
+    pub fn is_behind(&self, key_word: &str) -> bool {
+        match self.words.get(self.place.saturating_sub(1)) {
+            Some(word) => self.place > 0 && word.is_key_word(key_word),
+            None => false,
+        }
+    }
+
+    /// Goes on behind the next word where it is this key word, and tells whether it is.
+    pub fn eat(&mut self, key_word: &str) -> bool {
+        let found = self.is_at(key_word);
+        if found {
+            self.advance();
+        }
+        found
+    }
+
+    /// Goes on behind these key words where they come next, and tells whether they do.
+    pub fn eat_all(&mut self, key_words: &[&str]) -> bool {
+        for (ahead, key_word) in key_words.iter().enumerate() {
+            if !self.is_ahead(ahead, key_word) {
+                return false;
+            }
+        }
+        self.place = self.place.saturating_add(key_words.len());
+        true
+    }
+
+    /// Whether the word that comes `ahead` words behind the next one is this mark.
+    pub fn is_mark_ahead(&self, ahead: usize, mark: &str) -> bool {
+        match self.ahead(ahead) {
+            Some(word) => word.is_mark(mark),
+            None => false,
+        }
+    }
+
+    /// Whether the next word is this mark.
+    pub fn is_mark(&self, mark: &str) -> bool {
+        self.is_mark_ahead(0, mark)
+    }
+
+    /// Goes on behind the next word where it is this mark, and tells whether it is.
+    pub fn eat_mark(&mut self, mark: &str) -> bool {
+        let found = self.is_mark(mark);
+        if found {
+            self.advance();
+        }
+        found
+    }
+
+    /// Goes on behind a star, where one comes next.
+    pub fn eat_star(&mut self) {
+        if let Some(word) = self.ahead(0) {
+            if word.text.as_str() == "*" {
+                self.advance();
+            }
+        }
+    }
+
+    /// Whether what stands here ends before the next word: by a comma, a parenthesis, or the statement's end.
+    pub fn is_at_element_end(&self) -> bool {
+        self.is_at_end() || self.is_mark(",") || self.is_mark(")")
+    }
+
+    /// Goes on behind this key word, where it stands outside all parentheses, and tells whether it does. Where it doesn't, it goes on
+    /// to the statement's end.
+    pub fn skip_to(&mut self, key_word: &str) -> bool {
+        for _ in 0..self.words.len() {
+            if self.eat(key_word) {
+                return true;
+            }
+            if self.is_at_end() {
+                return false;
+            }
+            self.skip();
+        }
+        self.eat(key_word)
+    }
+
+    /// Goes on behind the next word, or behind all that stands in parentheses where it opens some.
+    pub fn skip(&mut self) {
+        let mut depth = 0usize;
+        for _ in 0..self.words.len() {
+            if self.is_mark("(") {
+                depth = depth.saturating_add(1);
+            } else if self.is_mark(")") {
+                depth = depth.saturating_sub(1);
+            }
+            self.advance();
+            if depth == 0 {
+                return;
+            }
+        }
+    }
+
+    /// Whether one of the words that are left is this key word.
+    pub fn has(&self, key_word: &str) -> bool {
+        for place in self.place..self.words.len() {
+            if self.words[place].is_key_word(key_word) {
+                return true;
+            }
+        }
+        false
+    }
+
+    /// Where the name stands that comes next, and goes on behind it: names joined by points. None where no name comes.
+    pub fn name(&mut self) -> Option<NamePlace> {
+        let begin = self.place;
+        if !self.is_name_ahead(0) {
+            return None;
+        }
+        self.advance();
+        for _ in 0..self.words.len() {
+            if !self.is_mark(".") || !self.is_name_ahead(1) {
+                break;
+            }
+            self.advance();
+            self.advance();
+        }
+        Some(NamePlace {
+            begin,
+            end: self.place,
+        })
+    }
+
+    /// Whether the word that comes `ahead` words behind the next one can be a name.
+    pub fn is_name_ahead(&self, ahead: usize) -> bool {
+        match self.ahead(ahead) {
+            Some(word) => word.is_name(),
+            None => false,
+        }
+    }
+
+    /// Whether two words are the same name, where letters may be of either case.
+    pub fn is_same_name(&self, place: usize, other: usize) -> bool {
+        match (self.words.get(place), self.words.get(other)) {
+            (Some(word), Some(other)) => word
+                .text
+                .as_bytes()
+                .eq_ignore_ascii_case(other.text.as_bytes()),
+            _ => false,
+        }
+    }
+}

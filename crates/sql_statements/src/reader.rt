@@ -1,0 +1,271 @@
+//! A statement as it is read: the relations that it names, with the form in which it reaches each, and what it changes.
+
+use crate::cursor::{Cursor, NamePlace, SqlWord};
+use crate::names::name_of;
+use sql_locks::{Act, Catalog, Defect, ForeignKey, Form, LinkKind, RelationKind, SqlFault};
+use std::alloc::{AllocError, Global};
+
+/// What a statement changes in the catalog once its locks are held.
+#[derive(Debug, Drop)]
+pub enum Change {
+    /// A relation goes.
+    Drop(usize),
+    /// A relation gets another name.
+    Rename(usize, String),
+    /// Two relations are linked.
+    Link(LinkKind, usize, usize),
+    /// Two relations are linked no more.
+    Unlink(LinkKind, usize, usize),
+    /// A foreign key of a table goes.
+    DropForeignKey(usize, String),
+    /// A table gets a foreign key.
+    AddForeignKey(ForeignKey),
+}
+
+/// What a statement does to the transaction.
+#[derive(Clone, Copy, Debug, PartialEq, Eq)]
+pub enum Control {
+    /// Nothing.
+    Stay,
+    Begin,
+    Commit,
+    Rollback,
+    /// A savepoint is set, released or gone back to.
+    Savepoint,
+}
+
+/// An advisory lock that a statement takes: the places of the function and of its keys among the words.
+#[derive(Clone, Copy, Debug)]
+pub struct Advisory {
+    pub function: usize,
+    pub first: usize,
+    pub second: Option<usize>,
+}
+
+/// A reader of statements, which keeps the catalog that they made, and the last statement that was read.
+#[derive(Drop)]
+pub struct StatementReader {
+    pub alloc: Global,
+    pub catalog: Catalog,
+    pub cursor: Cursor,
+    pub acts: Vec<Act>,
+    pub changes: Vec<Change>,
+    pub advisory: Vec<Advisory>,
+    pub control: Control,
+}
+
+impl StatementReader {
+    /// A reader that has read nothing.
+    pub fn new(alloc: Global) -> Self {
+        StatementReader {
+            alloc,
+            catalog: Catalog::new(alloc),
+            cursor: Cursor {
+                words: Vec::new(alloc),
+                place: 0,
+            },
+            acts: Vec::new(alloc),
+            changes: Vec::new(alloc),
+            advisory: Vec::new(alloc),
+            control: Control::Stay,
+        }
+    }
+
+    /// Reads a statement of these words, of which blanks, comments and the semicolon are left out. What the statement before
+    /// changes is to be settled first.
+    pub fn read_statement(&mut self, words: Vec<SqlWord>) -> Result<(), SqlFault> {
+        self.cursor = Cursor { words, place: 0 };
+        self.acts = Vec::new(self.alloc);
+        self.changes = Vec::new(self.alloc);
+        self.advisory = Vec::new(self.alloc);
+        self.control = Control::Stay;
+        self.read()
+    }
+
+    /// A fault of the word at this place, or of the last one.
+    pub fn fault_at(&self, place: usize, what: Defect) -> SqlFault {
+        let word = match self.cursor.words.get(place) {
+            Some(word) => Some(word),
+            None => self.cursor.words.last(),
+        };
+        match word {
+            Some(word) => SqlFault::BadWord {
+                line: word.line,
+                what,
+                from: word.from,
+            },
+            None => SqlFault::BadWord {
+                line: 1,
+                what,
+                from: 0,
+            },
+        }
+    }
+
+    /// A fault of the next word.
+    pub fn fault(&self, what: Defect) -> SqlFault {
+        self.fault_at(self.cursor.place, what)
+    }
+
+    /// The name that stands at this place.
+    pub fn name_at(&self, place: NamePlace) -> Result<String, AllocError> {
+        match self.cursor.words.get(place.begin..place.end) {
+            Some(parts) => name_of(self.alloc, parts),
+            None => Ok(String::new(self.alloc)),
+        }
+    }
+
+    /// The name that comes next.
+    pub fn name(&mut self) -> Result<String, SqlFault> {
+        match self.cursor.name() {
+            Some(place) => Ok(self.name_at(place)?),
+            None => Err(self.fault(Defect::NoName)),
+        }
+    }
+
+    /// The number of the relation whose name comes next, or none where it is one of the server's own catalogs.
+    pub fn relation(&mut self) -> Result<Option<usize>, SqlFault> {
+        let begin = self.cursor.place;
+        let name = self.name()?;
+        if let Some(number) = self.catalog.find(name.as_str()) {
+            return Ok(Some(number));
+        }
+        if is_of_server(name.as_str()) {
+            return Ok(None);
+        }
+        Err(self.fault_at(begin, Defect::UnknownRelation))
+    }
+
+    /// The number of the relation of the column whose name comes next.
+    pub fn relation_of_column(&mut self) -> Result<Option<usize>, SqlFault> {
+        let begin = self.cursor.place;
+        let Some(column) = self.cursor.name() else {
+            return Err(self.fault(Defect::NoName));
+        };
+        let name = self.name_at(NamePlace {
+            begin: column.begin,
+            end: column.end.saturating_sub(2),
+        })?;
+        if let Some(number) = self.catalog.find(name.as_str()) {
+            return Ok(Some(number));
+        }
+        if is_of_server(name.as_str()) {
+            return Ok(None);
+        }
+        Err(self.fault_at(begin, Defect::UnknownRelation))
+    }
+
+    /// Adds a form that reaches a relation.
+    pub fn act(&mut self, form: Form, target: usize) -> Result<(), AllocError> {
+        self.act_on(form, target, None, false)
+    }
+
+    /// Adds a form that reaches two relations.
+    pub fn act_with(&mut self, form: Form, target: usize, other: usize) -> Result<(), AllocError> {
+        self.act_on(form, target, Some(other), false)
+    }
+
+    /// Adds a form.
+    pub fn act_on(
+        &mut self,
+        form: Form,
+        target: usize,
+        other: Option<usize>,
+        is_only: bool,
+    ) -> Result<(), AllocError> {
+        self.acts.push(Act {
+            form,
+            target,
+            other,
+            is_only,
+        })?;
+        Ok(())
+    }
+
+    /// Adds a change.
+    pub fn change(&mut self, change: Change) -> Result<(), AllocError> {
+        match self.changes.push(change) {
+            Ok(()) => Ok(()),
+            Err(_) => Err(AllocError),
+        }
+    }
+
+    /// Makes a relation of this name, unless there is one.
+    pub fn make(&mut self, name: &str, kind: RelationKind) -> Result<usize, AllocError> {
+        match self.catalog.find(name) {
+            Some(number) => Ok(number),
+            None => self.catalog.add(self.alloc, name, kind),
+        }
+    }
+
+    /// What a relation is.
+    pub fn kind(&self, number: usize) -> RelationKind {
+        match self.catalog.relations.get(number) {
+            Some(relation) => relation.kind,
+            None => RelationKind::Table,
+        }
+    }
+
+    /// The table of which a relation is a partition.
+    pub fn partitioned_table(&self, number: usize) -> Option<usize> {
+        for link in &self.catalog.links {
+            if link.kind == LinkKind::Partition && link.to == number {
+                return Some(link.from);
+            }
+        }
+        None
+    }
+
+    /// A copy of the name of a relation.
+    pub fn name_of_relation(&self, number: usize) -> Result<String, AllocError> {
+        match self.catalog.relations.get(number) {
+            Some(relation) => String::from_str(self.alloc, relation.name.as_str()),
+            None => Ok(String::new(self.alloc)),
+        }
+    }
+
+    /// Goes on behind `IF EXISTS` or `IF NOT EXISTS`, and tells whether it comes next.
+    pub fn eat_if_exists(&mut self) -> bool {
+        self.cursor.eat_all(&["if", "exists"]) || self.cursor.eat_all(&["if", "not", "exists"])
+    }
+
+    /// Has the catalog be as the statement leaves it. The transaction's own relations are known to others where it has ended.
+    pub fn settle(&mut self, is_ended: bool) -> Result<(), AllocError> {
+        let mut changes = Vec::new(self.alloc);
+        std::mem::swap(&mut changes, &mut self.changes);
+        for change in changes {
+            self.settle_change(change)?;
+        }
+        if is_ended {
+            for relation in self.catalog.relations.iter_mut() {
+                relation.is_own = false;
+            }
+        }
+        Ok(())
+    }
+
+    /// Makes one change.
+    fn settle_change(&mut self, change: Change) -> Result<(), AllocError> {
+        match change {
+            Change::Drop(number) => {
+                let name = self.name_of_relation(number)?;
+                self.catalog.drop_relation(name.as_str(), number);
+            }
+            Change::Rename(number, name) => {
+                self.catalog.rename(self.alloc, number, name.as_str())?;
+            }
+            Change::Link(kind, from, to) => self.catalog.link(kind, from, to)?,
+            Change::Unlink(kind, from, to) => self.catalog.unlink(kind, from, to),
+            Change::DropForeignKey(table, name) => {
+                self.catalog.drop_foreign_key(table, name.as_str());
+            }
+            Change::AddForeignKey(key) => self.catalog.add_foreign_key(key)?,
+        }
+        Ok(())
+    }
+}
+
+/// Whether a name is that of one of the server's own catalogs.
+fn is_of_server(name: &str) -> bool {
+    name.starts_with("pg_") || name.starts_with("information_schema.")
+}
