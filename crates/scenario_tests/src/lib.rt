@@ -45,6 +45,7 @@ mod streams;
 mod styles;
 #[cfg(test)]
 mod texts;
+#[cfg(test)]
 mod timelines;
 #[cfg(test)]
 mod waiting;
