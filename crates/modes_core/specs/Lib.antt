@@ -4,3 +4,4 @@ pub mod ModeSet
 pub mod Tag
 pub mod Refusal
 pub mod TagOrder
+pub mod TagText

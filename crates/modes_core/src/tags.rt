@@ -1,10 +1,11 @@
-ghost use Rattle.std.specs.Prelude.{◌≡◌, ◌<◌, refl};
+ghost use Rattle.std.specs.Prelude.{◌≡◌, ◌<◌, Some, refl};
 ghost use Rattle.std.proofs.Common.{rules};
 ghost use Rattle.std.specs.Cmp.{partial_order_from_agreeing_total};
 ghost use Rattle.std.specs.Cmp.Rules.{comparing};
 ghost use Rattle.std.specs.Ordering.{nat_cmp, on, as_partial_cmp};
 ghost use Rattle.std.specs.Cmp.Lexicographic.{slice_cmp, on_texts};
 ghost use Rattle.modes_core.specs.Tag.{numbers_of, database_of, relation_of, own_number_of, method_of, hash_of, partition_of, index_of, is_eligible_for, is_strong_on, tag_eq};
+ghost use Rattle.modes_core.specs.TagText.{tag_text};
 ghost use Rattle.modes_core.specs.TagOrder.{same_tag-by_numbers};
 
 use crate::Mode;
@@ -261,6 +262,8 @@ impl PartialOrd for Tag {
 
 /// A tag is written as scripts write it: `DB/REL`, `DB/CLASS/OBJ/SUB`, or `adv/DB/K1/K2/SUB`.
 impl fmt::Display for Tag {
+    ghost output = { λ tag. Some (tag_text tag) };
+
     fn fmt<W: fmt::Write>(&self, f: &mut fmt::Formatter<W>) -> fmt::Result {
         match self {
             Tag::Relation { database, relation } => write!(f, "{database}/{relation}"),
