@@ -13,6 +13,7 @@ use Rattle.shared_rule.specs.Boards.{Seated, Stack}
 use Rattle.shared_rule.specs.Gatherings.{Gathered, NoneWaits, gathered_in}
 use Rattle.shared_rule.specs.History.{told, first_account, first_number}
 use Rattle.shared_rule.specs.Openers.{OpenerState}
+use Rattle.shared_rule.specs.Quiet.{Quiet, quiet_told, first_quiet}
 use Rattle.shared_rule.specs.Seats.{MayBeKeptApartBy, behind_of}
 use Rattle.lock_manager.specs.Sessions.{SessionView, IsResting, IsUnchanged}
 
@@ -36,25 +37,26 @@ module _ {S : Type 0} (entries : S → List Entry) where
   abbrev pub strong_owned : List S → ℕ
   strong_owned sessions = sum_by (λ session. length (filter (λ entry. is_strong_on entry.tag entry.mode) (entries session))) sessions
 
-module _ {B : Type 0} (seat : B → Seated) (view : B → Account) (stack : B → Stack) where
-  -- The session is as it was but for its trace.
+module _ {B : Type 0} (seat : B → Seated) (view : B → Account) (stack : B → Stack) (quiet : B → List Quiet) where
+  -- The session is as it was but for its trace, and has made no quiet step.
   pub record HasTraced (old new : SessionView B) : Type 0 where
     pub seat_ : seat new.board ≡ seat old.board
     pub view_ : view new.board ≡ record (view old.board) { trace = (view new.board).trace }
     pub stack_ : stack new.board ≡ stack old.board
+    pub quiet_ : quiet new.board ≡ quiet old.board
     pub database : new.database ≡ old.database
     pub uses : new.uses ≡ old.uses
     pub owned : new.owned ≡ old.owned
 
-  -- An audit by the first session. All else of it is as before, and the others are as before altogether. It counts what its own
-  -- loads and the contents taken together show. Modes in slots and rows of holds are as many as all have local entries, and the
+  -- An audit by the first session. All else of it is as before, and the others are as before altogether; nobody makes a quiet step. It
+  -- counts what its own loads and the contents taken together show. Modes in slots and rows of holds are as many as all have local entries, and the
   -- counters' sum is how many of these are strong.
   pub record AuditsBy {E : Type 0} (limit groups : ℕ) (first : SessionView B) (others new : List (SessionView B)) (result : Result Audit E) : Type 0 where
     pub first_after : SessionView B
     pub others_after : List (SessionView B)
     pub sessions : new ≡ first_after ∷ others_after
     pub traced : HasTraced first first_after
-    pub unchanged : AllZip (IsUnchanged seat view stack) others others_after
+    pub unchanged : AllZip (IsUnchanged seat view stack quiet) others others_after
     pub counts : Counts limit groups (view first.board).trace result (view first_after.board).trace
     pub holds : IfOk result (λ audit. audit.fast + audit.table ≡ entries_owned (λ session. session.owned.entries) (first ∷ others))
     pub strong : IfOk result (λ audit. audit.strong ≡ strong_owned (λ session. session.owned.entries) (first ∷ others))
@@ -82,8 +84,9 @@ module _ {B : Type 0} (seat : B → Seated) (view : B → Account) (stack : B �
     pub first : History PartView
     pub gathered : new.gathered ≡ first ∷ behind_of old.gathered
     pub number : first.number ≡ first_number old.gathered
+    pub first_quiet_ : quiet_told first.marks ≡ first_quiet old.gathered
     pub account :
         told content_of first.number first.marks
         ≡ record (first_account content_of old.gathered) { trace = (first_account content_of new.gathered).trace }
-    pub unchanged : AllZip (IsUnchanged seat view stack) sessions after
+    pub unchanged : AllZip (IsUnchanged seat view stack quiet) sessions after
     pub owners : AreOwners sessions

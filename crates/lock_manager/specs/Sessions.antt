@@ -6,6 +6,7 @@ use Rattle.local_locks.specs.declared.records.Entry.{Entry}
 use Rattle.local_locks.specs.Owned.{Owned, has_entry, IsWellOwned}
 use Rattle.lock_world.specs.Account.{Account}
 use Rattle.shared_rule.specs.Boards.{Seated, Stack}
+use Rattle.shared_rule.specs.Quiet.{Quiet}
 use Rattle.fast_path.specs.declared.use_counts.UseCounts.{UseCounts}
 use Rattle.lock_manager.specs.declared.sessions.Own.{Own}
 use Rattle.lock_manager.specs.Rest.{IsAtRest}
@@ -45,11 +46,13 @@ module _ {B : Type 0} (seat : B → Seated) (view : B → Account) (stack : B �
     pub max_local : new.owned.max_local ≡ old.owned.max_local
     pub rest : IsResting new
 
-  -- The session is as it was: nothing of it has changed, nor has it made a step.
-  pub record IsUnchanged (old new : SessionView B) : Type 0 where
-    pub seat_ : seat new.board ≡ seat old.board
-    pub view_ : view new.board ≡ view old.board
-    pub stack_ : stack new.board ≡ stack old.board
-    pub database : new.database ≡ old.database
-    pub uses : new.uses ≡ old.uses
-    pub owned : new.owned ≡ old.owned
+-- The session is as it was: nothing of it has changed, nor has it made a step, be it a quiet one.
+pub record IsUnchanged {B : Type 0} (seat : B → Seated) (view : B → Account) (stack : B → Stack) (quiet : B → List Quiet)
+    (old new : SessionView B) : Type 0 where
+  pub seat_ : seat new.board ≡ seat old.board
+  pub view_ : view new.board ≡ view old.board
+  pub stack_ : stack new.board ≡ stack old.board
+  pub quiet_ : quiet new.board ≡ quiet old.board
+  pub database : new.database ≡ old.database
+  pub uses : new.uses ≡ old.uses
+  pub owned : new.owned ≡ old.owned

@@ -43,7 +43,7 @@ impl Manager {
             All (λ session. (B.seat session.board).table ≡ self.now.table) sessions.old.items }
         requires all { length sessions.old.items ≡ opener.old.live }
         ensures counted { let B = ⟦<SeatBoard<'a, Part> as Board<Part>>⟧ in
-            Audits B.seat B.view B.stack opener.old.limit opener.old.groups sessions.old.items
+            Audits B.seat B.view B.stack B.quiet opener.old.limit opener.old.groups sessions.old.items
             sessions.new.items result }
         ensures opener { opener.new ≡ opener.old }
         ensures same_manager_still { let B = ⟦<SeatBoard<'a, Part> as Board<Part>>⟧ in
@@ -84,7 +84,7 @@ fn audit_all<'a, R: Wait>(
     requires all { length sessions.old.items + length numbers.old.closed ≡ numbers.old.issued }
     requires empty { rows.old.items ≡ [] }
     ensures audited { let B = ⟦<SeatBoard<'a, Part> as Board<Part>>⟧ in
-        Audits B.seat B.view B.stack numbers.old.limit numbers.old.groups (reverse sessions.old.items)
+        Audits B.seat B.view B.stack B.quiet numbers.old.limit numbers.old.groups (reverse sessions.old.items)
         (reverse sessions.new.items) result }
     ensures numbers { numbers.new ≡ numbers.old }
 {
@@ -121,7 +121,8 @@ fn gather_next<'a>(
     requires ready { MayCount (length left.now.items + 1) numbers.old }
     ensures absent { result ≡ ⟦<SeatBoard<'a, Part> as Board<Part>>⟧.seat board.entry }
     ensures gathered { let B = ⟦<SeatBoard<'a, Part> as Board<Part>>⟧ in
-        HasGathered content_of (B.seat board.entry).number (B.view board.entry) numbers.old numbers.new }
+        HasGathered content_of (B.seat board.entry).number (B.view board.entry) (B.quiet board.entry)
+        numbers.old numbers.new }
     ensures table { (numbers.new.table ≡ table.now.table_id) × (numbers.new.limit ≡ table.now.key.sessions)
         × (numbers.new.groups ≡ table.now.key.groups) }
     ensures left_own { let B = ⟦<SeatBoard<'a, Part> as Board<Part>>⟧ in
@@ -146,7 +147,7 @@ fn audit_others<'a, R: Wait>(
     requires ready { MayCount (length sessions.old.items) numbers.old }
     requires empty { rows.old.items ≡ [] }
     ensures counts { let B = ⟦<SeatBoard<'a, Part> as Board<Part>>⟧ in
-        CountsWith B.seat B.view B.stack numbers.old sessions.old.items result numbers.new sessions.new.items }
+        CountsWith B.seat B.view B.stack B.quiet numbers.old sessions.old.items result numbers.new sessions.new.items }
     ensures len { vec_len sessions.new ≡ vec_len sessions.old }
     ensures capacity { vec_capacity sessions.new ≡ vec_capacity sessions.old }
 {

@@ -459,11 +459,9 @@ impl<'a> OwnSession<Part, SeatBoard<'a, Part>> {
             (B.seat other.board).table ≡ (B.seat self.old.board).table }
         ensures told { DontConflict self.old.owned.entries other.entry.owned.entries }
         ensures unchanged { let B = ⟦<SeatBoard<'a, Part> as Board<Part>>⟧ in
-            IsUnchanged B.seat B.view B.stack self.old self.new }
+            IsUnchanged B.seat B.view B.stack B.quiet self.old self.new }
         ensures its_unchanged { let B = ⟦<SeatBoard<'a, Part> as Board<Part>>⟧ in
-            IsUnchanged B.seat B.view B.stack other.entry result }
-        ensures quiet { let B = ⟦<SeatBoard<'a, Part> as Board<Part>>⟧ in
-            (B.quiet self.new.board ≡ B.quiet self.old.board) × (B.quiet result.board ≡ B.quiet other.entry.board) }
+            IsUnchanged B.seat B.view B.stack B.quiet other.entry result }
     {
         let OwnSession { board, own, parts } = other;
         let board = self.board.meet(board);

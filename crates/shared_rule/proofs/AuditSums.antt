@@ -28,6 +28,7 @@ use Rattle.shared_rule.specs.declared.history.History.{History}
 use Rattle.shared_rule.specs.declared.history.View.{View}
 use Rattle.shared_rule.specs.History.{first_account, first_number}
 use Rattle.shared_rule.specs.Openers.{OpenerState}
+use Rattle.shared_rule.specs.Quiet.{first_quiet}
 use Rattle.shared_rule.specs.Plays.{HasSession}
 use Rattle.shared_rule.proofs.Auditing.{after-both, further-then, further-all, sessions-split, finds-traced}
 use Rattle.shared_rule.specs.Gatherings.{Gathered, account_among, IsNone, AreDistinct, NoneWaits, AreAll, counted_at, gathered_in}
@@ -159,6 +160,7 @@ module _ {T : Type 0} (content : T → Content) (table later : TableId) (limit g
     first = further.some.history;
     gathered = sessions-split v2 further.some ∙ ap (λ xs. further.some.history ∷ xs) further.behind;
     number = sym (ap first_number further.some.sessions) ∙ further.number;
+    quiet = sym (ap first_quiet further.some.sessions) ∙ further.quiet;
     account =
         sym (ap (first_account content) further.some.sessions) ∙ account
         ∙ (λ i. record (first_account content v0.sessions) { trace = sym (ap (λ (a : Account). a.trace) account) i });

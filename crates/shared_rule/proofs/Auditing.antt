@@ -35,6 +35,7 @@ use Rattle.shared_rule.specs.Marks.{LoadedSlot, LoadedStrong, TookPart, PutPart}
 use Rattle.shared_rule.specs.Plays.{HasSession, IsSameSeat}
 use Rattle.shared_rule.specs.Lawful.{IsAboveHand}
 use Rattle.shared_rule.specs.Seats.{behind_of}
+use Rattle.shared_rule.specs.Quiet.{Quiet, first_quiet, quiet_told, quiet_noted}
 use Rattle.shared_rule.specs.Gatherings.{Gathered, account_among, AreDistinct, NoneWaits, counted_at, HasAllInHand, AreAll, gathered_in, KnowsOfAll, KnowsAll}
 use Rattle.shared_rule.specs.Audits.{account_after, counter_loads, CountersSeen, slot_loads_of, all_slot_loads, IsFurther, HasPartInHand, holding_steps, SeesSlots, SeesAllSlots, Finds, CountsFrom}
 use Rattle.shared_rule.proofs.Episodes.{fresh_hand, taken-in_hand, kept-since}
@@ -51,19 +52,29 @@ pub same-seat_then : {T : Type 0} (a b c : Seat (Kept T) (View T)) → IsSameSea
 same-seat_then a b c first second = record { table_id = second.table_id ∙ first.table_id; id = second.id ∙ first.id }
 
 module _ {T : Type 0} where
-  pub noting-further : (view : View T) (mark : Mark T) → HasSession view → IsFurther view (noting view mark)
-  noting-further view mark has =
+  -- There is a session still after one made a step,
+  abbrev noting-some : (view : View T) (mark : Mark T) → HasSession view → HasSession (noting view mark)
+  noting-some view mark has = record {
+    history = record { number = has.history.number; marks = mark ∷ has.history.marks };
+    others = has.others;
+    sessions = ap (λ xs. noting_first xs mark) has.sessions;
+  }
+
+  -- and it is the same seat where that step isn't a quiet one.
+  pub noting-further : (view : View T) (mark : Mark T) → ((before : List Quiet) → quiet_noted before mark ≡ before) → HasSession view → IsFurther view (noting view mark)
+  noting-further view mark silent has =
       let is : (noting view mark).sessions ≡ record { number = has.history.number; marks = mark ∷ has.history.marks } ∷ has.others = ap (λ xs. noting_first xs mark) has.sessions in
       record {
         next = refl;
         closed = refl;
         behind = ap behind_of is ∙ sym (ap behind_of has.sessions);
         number = ap first_number is ∙ sym (ap first_number has.sessions);
-        some = record { history = record { number = has.history.number; marks = mark ∷ has.history.marks }; others = has.others; sessions = is };
+        quiet = ap first_quiet is ∙ silent (quiet_told has.history.marks) ∙ sym (ap first_quiet has.sessions);
+        some = noting-some view mark has;
       }
 
   pub further-itself : (view : View T) → HasSession view → IsFurther view view
-  further-itself view has = record { next = refl; closed = refl; behind = refl; number = refl; some = has }
+  further-itself view has = record { next = refl; closed = refl; behind = refl; number = refl; quiet = refl; some = has }
 
   pub further-then : (a b c : View T) → IsFurther a b → IsFurther b c → IsFurther a c
   further-then a b c first second = record {
@@ -71,6 +82,7 @@ module _ {T : Type 0} where
     closed = second.closed ∙ first.closed;
     behind = second.behind ∙ first.behind;
     number = second.number ∙ first.number;
+    quiet = second.quiet ∙ first.quiet;
     some = second.some;
   }
 
@@ -262,7 +274,7 @@ module _ {T : Type 0} (content : T → Content) where
       → more ≡ sum + modes_shown shown → SeesSlots content owner (count + 1) before after more
   sees-load owner count before mid after sum more shown has so_far is knows added =
       sees-more owner count before mid after sum more shown has so_far
-      (subst (IsFurther mid) (sym is) (noting-further mid (LoadedSlot owner count shown) so_far.further.some))
+      (subst (IsFurther mid) (sym is) (noting-further mid (LoadedSlot owner count shown) (λ before. refl) so_far.further.some))
       (ap (λ (v : View T). first_account content v.sessions) is ∙ account-noting content mid (LoadedSlot owner count shown) so_far.further.some)
       knows added
 
@@ -371,7 +383,7 @@ module _ {T : Type 0} (content : T → Content) where
       → ((issued : ℕ) → AreAll issued mid → KnowsOfAll content mid (Strong count) shown) → CountersSeen content (count + 1) before after (sum + shown)
   counters-load count issued before mid after sum shown has so_far are no_slots is knows =
       counters-more count issued before mid after sum (sum + shown) shown has so_far are no_slots
-      (subst (IsFurther mid) (sym is) (noting-further mid (LoadedStrong count shown) so_far.further.some))
+      (subst (IsFurther mid) (sym is) (noting-further mid (LoadedStrong count shown) (λ before. refl) so_far.further.some))
       (ap (λ (v : View T). first_account content v.sessions) is ∙ account-noting content mid (LoadedStrong count shown) so_far.further.some)
       knows refl
 
@@ -417,7 +429,7 @@ module _ {T : Type 0} (content : T → Content) (groups issued limit p : ℕ) (b
 
 -- After a step there is a session still, and after a partition was taken it has none above in hand.
 pub took-session : {T : Type 0} (before after : View T) (mark : Mark T) → HasSession before → after ≡ noting before mark → HasSession after
-took-session before after mark has is = subst HasSession (sym is) (noting-further before mark has).some
+took-session before after mark has is = subst HasSession (sym is) (noting-some before mark has)
 
 pub took-above : {T : Type 0} (content : T → Content) (p : ℕ) (before after : View T) (part : T) → HasSession before → after ≡ noting before (TookPart p part)
     → IsAboveHand (first_account content before.sessions) p → IsAboveHand (first_account content after.sessions) (p + 1)
@@ -434,7 +446,7 @@ module _ {T : Type 0} (content : T → Content) (limit p : ℕ) (before mid : Vi
   taken = content part
 
   mid-further : IsFurther before mid
-  mid-further = subst (IsFurther before) (sym took) (noting-further before (TookPart p part) has)
+  mid-further = subst (IsFurther before) (sym took) (noting-further before (TookPart p part) (λ before. refl) has)
 
   pub mid-account : first_account content mid.sessions ≡ account_taking (first_account content before.sessions) p taken
   mid-account = ap (λ (v : View T). first_account content v.sessions) took ∙ account-noting content before (TookPart p part) has
@@ -457,7 +469,7 @@ module _ {T : Type 0} (content : T → Content) (groups limit p : ℕ) (before m
     word = counts.word;
     further =
         further-then before mid after (mid-further content limit p before mid has part took)
-        (further-then mid later after counts.further (subst (IsFurther later) (sym put) (noting-further later (PutPart p Keep part) counts.further.some)));
+        (further-then mid later after counts.further (subst (IsFurther later) (sym put) (noting-further later (PutPart p Keep part) (λ before. refl) counts.further.some)));
     account =
         kept-since (first_account content before.sessions) (first_account content mid.sessions) (first_account content later.sessions) (first_account content after.sessions) p (content part)
         (holding_steps (p + 1) counts.contents (all_slot_loads limit groups counts.word)) none (mid-account content limit p before mid has part took) counts.account last-account;

@@ -15,6 +15,7 @@ use Rattle.shared_rule.specs.declared.history.View.{View}
 use Rattle.shared_rule.specs.declared.history.History.{History}
 use Rattle.shared_rule.specs.History.{told, first_account, first_number}
 use Rattle.shared_rule.specs.Openers.{OpenerState}
+use Rattle.shared_rule.specs.Quiet.{first_quiet, quiet_told}
 use Rattle.shared_rule.specs.Seats.{behind_of}
 use Rattle.shared_rule.specs.Plays.{HasSession}
 use Rattle.shared_rule.specs.Gatherings.{Gathered, counted_at, account_among, AreDistinct, NoneWaits, HasAllInHand, AreAll, gathered_in}
@@ -48,13 +49,14 @@ holding_steps partition (content ∷ contents) inner =
 abbrev pub audit_steps : ℕ → ℕ → (ℕ → ℕ) → (ℕ → ℕ → ℕ) → List Content → List TraceEntry
 audit_steps limit groups counters word contents = counter_loads 1024 counters ++ holding_steps 0 contents (all_slot_loads limit groups word)
 
--- It is the same seat after steps of its first session.
+-- It is the same seat after steps of its first session, none of which is quiet.
 module _ {T : Type 0} where
   pub record IsFurther (before after : View T) : Type 0 where
     pub next : after.next ≡ before.next
     pub closed : after.closed ≡ before.closed
     pub behind : behind_of after.sessions ≡ behind_of before.sessions
     pub number : first_number after.sessions ≡ first_number before.sessions
+    pub quiet : first_quiet after.sessions ≡ first_quiet before.sessions
     pub some : HasSession after
 
 -- The session has this partition in hand, with this content.
@@ -160,7 +162,8 @@ pub record AddsUp (gathered : List Gathered) (audit : Audit) : Type 0 where
   pub held : (many : List ℕ) → OwnSoMany gathered many → audit.fast + audit.table ≡ sum many
   pub strong : audit.strong ≡ sum_by (λ one. length one.account.fast.counted) gathered
 
--- The opener's seat counts what stands, with all sessions gathered there: the first one makes the steps, and all else is as before.
+-- The opener's seat counts what stands, with all sessions gathered there: the first one makes the steps, none of which is quiet, and all
+-- else is as before.
 pub record CountsAll {T : Type 0} (content : T → Content) (old new : OpenerState T) (result : Result Audit NoMemory) : Type 0 where
   pub counts : Counts old.limit old.groups (first_account content old.gathered).trace result (first_account content new.gathered).trace
   pub adds_up : IfOk result (AddsUp (gathered_in content old.gathered))
@@ -168,6 +171,7 @@ pub record CountsAll {T : Type 0} (content : T → Content) (old new : OpenerSta
   pub first : History T
   pub gathered : new.gathered ≡ first ∷ behind_of old.gathered
   pub number : first.number ≡ first_number old.gathered
+  pub quiet : quiet_told first.marks ≡ first_quiet old.gathered
   pub account :
       told content first.number first.marks
       ≡ record (first_account content old.gathered) { trace = (first_account content new.gathered).trace }

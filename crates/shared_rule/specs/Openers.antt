@@ -4,6 +4,7 @@ use Rattle.lock_table.specs.Content.{Content}
 use Rattle.lock_world.specs.World.{TraceEntry}
 use Rattle.shared_rule.specs.declared.history.History.{History}
 use Rattle.shared_rule.specs.History.{told}
+use Rattle.shared_rule.specs.Quiet.{Quiet, quiet_told}
 use Rattle.lock_world.specs.Account.{Account}
 
 -- The opener, and the sessions that have closed.
@@ -40,11 +41,13 @@ pub record HasTakenBack {T : Type 0} (content : T → Content) (number : ℕ) (t
   pub trace_ : trace_told content last ≡ trace
   pub opener : new ≡ record old { closed = last ∷ old.closed }
 
--- It has gathered a session of this number, with this account, behind those that came before.
-pub record HasGathered {T : Type 0} (content : T → Content) (number : ℕ) (account : Account) (old new : OpenerState T) : Type 0 where
+-- It has gathered a session of this number, with this account and these quiet steps, behind those that came before.
+pub record HasGathered {T : Type 0} (content : T → Content) (number : ℕ) (account : Account) (quiet : List Quiet)
+    (old new : OpenerState T) : Type 0 where
   pub last : History T
   pub number_ : last.number ≡ number
   pub account_ : told content last.number last.marks ≡ account
+  pub quiet_ : quiet_told last.marks ≡ quiet
   pub opener : new ≡ record old { gathered = old.gathered ++ last ∷ [] }
 
 -- The session that came last has this number.

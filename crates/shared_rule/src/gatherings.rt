@@ -6,6 +6,7 @@ ghost use Rattle.shared_rule.specs.Boards.{nothing_due, Seated};
 ghost use Rattle.shared_rule.specs.declared.history.History.{History};
 ghost use Rattle.shared_rule.specs.History.{told};
 ghost use Rattle.shared_rule.specs.Openers.{HasGathered, HasLastOf};
+ghost use Rattle.shared_rule.specs.Quiet.{quiet_told};
 ghost use Rattle.shared_rule.specs.Seats.{MayBeKeptApartBy};
 
 use crate::board::Board;
@@ -52,7 +53,8 @@ impl<T: PartTable> Opener<T> {
         requires no_word { MayBeKeptApartBy (⟦<SeatBoard<'a, T> as Board<T>>⟧.view board) }
         ensures absent { result ≡ ⟦<SeatBoard<'a, T> as Board<T>>⟧.seat board.entry }
         ensures gathered { let B = ⟦<SeatBoard<'a, T> as Board<T>>⟧ in
-            HasGathered T.content (B.seat board.entry).number (B.view board.entry) self.old self.new }
+            HasGathered T.content (B.seat board.entry).number (B.view board.entry) (B.quiet board.entry)
+            self.old self.new }
     {
         let number = board.number();
         let sizes = board.sizes();
@@ -74,6 +76,8 @@ impl<T: PartTable> Opener<T> {
         ensures left { (before : List (History T)) (last : History T) → self.old.gathered ≡ before ++ last ∷ []
             → (self.new ≡ record (self.old) { gathered = before })
             × (⟦<SeatBoard<'a, T> as Board<T>>⟧.view result ≡ told T.content last.number last.marks) }
+        ensures quiet { (before : List (History T)) (last : History T) → self.old.gathered ≡ before ++ last ∷ []
+            → ⟦<SeatBoard<'a, T> as Board<T>>⟧.quiet result ≡ quiet_told last.marks }
     {
         let Absent {
             table,

@@ -29,6 +29,7 @@ use Rattle.shared_rule.specs.Gatherings.{Gathered, NoneWaits, gathered_in}
 use Rattle.shared_rule.specs.History.{told, first_account, first_number}
 use Rattle.shared_rule.specs.Openers.{OpenerState, HasGathered, HasLastOf}
 use Rattle.shared_rule.specs.Seats.{MayBeKeptApartBy, behind_of}
+use Rattle.shared_rule.specs.Quiet.{Quiet, quiet_told, first_quiet}
 use Rattle.lock_manager.specs.Rest.{IsAtRest, counted_for}
 use Rattle.lock_manager.proofs.Lemmas.Rest.Reads.{rest-read}
 use Rattle.lock_manager.specs.Sessions.{SessionView, IsResting, IsUnchanged}
@@ -157,8 +158,8 @@ rest-unchanged database uses s t a b x y entries same is stack rest =
 
 -- ---- the opener
 
-pub may_count-more : (left : ℕ) (old new : OpenerState PartView) (number : ℕ) (a : Account) → MayCount (left + 1) old → HasGathered content_of number a old new → a.awaited ≡ None → MayCount left new
-may_count-more left old new number a may gathers no_wait =
+pub may_count-more : (left : ℕ) (old new : OpenerState PartView) (number : ℕ) (a : Account) (q : List Quiet) → MayCount (left + 1) old → HasGathered content_of number a q old new → a.awaited ≡ None → MayCount left new
+may_count-more left old new number a q may gathers no_wait =
     let h = gathers.last in
     let more : new.gathered ≡ may.first ∷ (may.others ++ h ∷ []) = ap (λ (o : OpenerState PartView). o.gathered) gathers.opener ∙ ap (λ xs. xs ++ h ∷ []) may.gathered in
     record {
@@ -188,9 +189,9 @@ may_count-more left old new number a may gathers no_wait =
       none_waits-push (y ∷ xs) x none its = (none.0, none_waits-push xs x none.1 its)
 
 -- the first of an empty seat
-pub may_count-first : (left : ℕ) (old new : OpenerState PartView) (number : ℕ) (a : Account) → old.gathered ≡ [] → left + 1 + length old.closed ≡ old.issued
-    → HasGathered content_of number a old new → a.awaited ≡ None → MayBeKeptApartBy a → MayCount left new
-may_count-first left old new number a none all gathers no_wait may =
+pub may_count-first : (left : ℕ) (old new : OpenerState PartView) (number : ℕ) (a : Account) (q : List Quiet) → old.gathered ≡ [] → left + 1 + length old.closed ≡ old.issued
+    → HasGathered content_of number a q old new → a.awaited ≡ None → MayBeKeptApartBy a → MayCount left new
+may_count-first left old new number a q none all gathers no_wait may =
     let h = gathers.last in
     let one : new.gathered ≡ h ∷ [] = ap (λ (o : OpenerState PartView). o.gathered) gathers.opener ∙ ap (λ xs. xs ++ h ∷ []) none in
     record {
@@ -207,23 +208,23 @@ may_count-first left old new number a none all gathers no_wait may =
     }
 
 -- The one that came last is sent back after the first has counted.
-pub last-of : (old old1 new1 : OpenerState PartView) (number : ℕ) (a : Account) (g : History PartView) (gs : List (History PartView)) → old.gathered ≡ g ∷ gs → (gathers : HasGathered content_of number a old old1)
+pub last-of : (old old1 new1 : OpenerState PartView) (number : ℕ) (a : Account) (q : List Quiet) (g : History PartView) (gs : List (History PartView)) → old.gathered ≡ g ∷ gs → (gathers : HasGathered content_of number a q old old1)
     → (first : History PartView) → new1.gathered ≡ first ∷ behind_of old1.gathered → new1.gathered ≡ (first ∷ gs) ++ gathers.last ∷ []
-last-of old old1 new1 number a g gs some gathers first is =
+last-of old old1 new1 number a q g gs some gathers first is =
     is ∙ ap (λ xs. first ∷ behind_of xs) (ap (λ (o : OpenerState PartView). o.gathered) gathers.opener ∙ ap (λ xs. xs ++ gathers.last ∷ []) some)
 
-pub has-last : (old old1 new1 : OpenerState PartView) (number absent : ℕ) (a : Account) (g : History PartView) (gs : List (History PartView)) → old.gathered ≡ g ∷ gs
-    → (gathers : HasGathered content_of number a old old1) → (first : History PartView) → new1.gathered ≡ first ∷ behind_of old1.gathered → absent ≡ number → HasLastOf absent new1
-has-last old old1 new1 number absent a g gs some gathers first is same = record {
+pub has-last : (old old1 new1 : OpenerState PartView) (number absent : ℕ) (a : Account) (q : List Quiet) (g : History PartView) (gs : List (History PartView)) → old.gathered ≡ g ∷ gs
+    → (gathers : HasGathered content_of number a q old old1) → (first : History PartView) → new1.gathered ≡ first ∷ behind_of old1.gathered → absent ≡ number → HasLastOf absent new1
+has-last old old1 new1 number absent a q g gs some gathers first is same = record {
   before = first ∷ gs;
   last = gathers.last;
-  gathered = last-of old old1 new1 number a g gs some gathers first is;
+  gathered = last-of old old1 new1 number a q g gs some gathers first is;
   number_ = gathers.number_ ∙ sym same;
 }
 
-last-only : (old old1 new1 : OpenerState PartView) (number : ℕ) (a : Account) → old.gathered ≡ [] → (gathers : HasGathered content_of number a old old1)
+last-only : (old old1 new1 : OpenerState PartView) (number : ℕ) (a : Account) (q : List Quiet) → old.gathered ≡ [] → (gathers : HasGathered content_of number a q old old1)
     → (first : History PartView) → new1.gathered ≡ first ∷ behind_of old1.gathered → new1.gathered ≡ [] ++ first ∷ []
-last-only old old1 new1 number a none gathers first is =
+last-only old old1 new1 number a q none gathers first is =
     is ∙ ap (λ xs. first ∷ behind_of xs) (ap (λ (o : OpenerState PartView). o.gathered) gathers.opener ∙ ap (λ xs. xs ++ gathers.last ∷ []) none)
 
 -- ---- sessions
@@ -231,8 +232,8 @@ last-only old old1 new1 number a none gathers first is =
 abbrev owned-entries : {B : Type 0} → SessionView B → List Entry
 owned-entries session = session.owned.entries
 
-module _ {B : Type 0} (seat : B → Seated) (view : B → Account) (stack : B → Stack) where
-  own-lists : (sessions : List (SessionView B)) → AreOwners seat view stack sessions → OwnSoMany (map (gathered_of seat view stack) sessions) (map (λ session. length session.owned.entries) sessions)
+module _ {B : Type 0} (seat : B → Seated) (view : B → Account) (stack : B → Stack) (quiet : B → List Quiet) where
+  own-lists : (sessions : List (SessionView B)) → AreOwners seat view stack quiet sessions → OwnSoMany (map (gathered_of seat view stack quiet) sessions) (map (λ session. length session.owned.entries) sessions)
   own-lists [] own = tt
   own-lists (s ∷ sessions) own = (
     subst (λ (a : Account). AreSoMany a.own (length s.owned.entries)) (sym own.0.0.account) (entries-so_many s.owned.entries own.0.1.once),
@@ -247,12 +248,12 @@ module _ {B : Type 0} (seat : B → Seated) (view : B → Account) (stack : B �
       let whole = sum_by-cons (λ (session : SessionView B). length session.owned.entries) s sessions in
       omega (arith, rest, one, whole)
 
-  sum-strong : (sessions : List (SessionView B)) → AreOwners seat view stack sessions
-      → sum_by (λ (one : Gathered). length one.account.fast.counted) (map (gathered_of seat view stack) sessions) ≡ strong_owned owned-entries sessions
+  sum-strong : (sessions : List (SessionView B)) → AreOwners seat view stack quiet sessions
+      → sum_by (λ (one : Gathered). length one.account.fast.counted) (map (gathered_of seat view stack quiet) sessions) ≡ strong_owned owned-entries sessions
   sum-strong [] own = refl
   sum-strong (s ∷ sessions) own =
       let rest = sum-strong sessions own.1 in
-      let one = sum_by-cons (λ (g : Gathered). length g.account.fast.counted) (gathered_of seat view stack s) (map (gathered_of seat view stack) sessions) in
+      let one = sum_by-cons (λ (g : Gathered). length g.account.fast.counted) (gathered_of seat view stack quiet s) (map (gathered_of seat view stack quiet) sessions) in
       let whole = sum_by-cons (λ (session : SessionView B). length (filter (λ entry. is_strong_on entry.tag entry.mode) session.owned.entries)) s sessions in
       let here : length (view s.board).fast.counted ≡ length (filter (λ entry. is_strong_on entry.tag entry.mode) s.owned.entries) =
       ap (λ (a : Account). length a.fast.counted) own.0.0.account ∙ length-counted (seat s.board).limit s.owned.entries in
@@ -261,13 +262,17 @@ module _ {B : Type 0} (seat : B → Seated) (view : B → Account) (stack : B �
   -- One more was gathered, and is sent back as it was.
   module _ (old old1 new1 new2 : OpenerState PartView) (result : Result Audit NoMemory) (s s2 : SessionView B) (rest sessions after1 after : List (SessionView B))
       (is : sessions ≡ rest ++ s ∷ []) (is_after : after ≡ after1 ++ s2 ∷ []) (g : History PartView) (gs : List (History PartView)) (some : old.gathered ≡ g ∷ gs)
-      (gathers : HasGathered content_of (seat s.board).number (view s.board) old old1) (counts : CountsWith seat view stack old1 rest result new1 after1)
+      (gathers : HasGathered content_of (seat s.board).number (view s.board) (quiet s.board) old old1) (counts : CountsWith seat view stack quiet old1 rest result new1 after1)
       (left : (before : List (History PartView)) (last : History PartView) → new1.gathered ≡ before ++ last ∷ []
       → (new2 ≡ record new1 { gathered = before }) × (view s2.board ≡ told content_of last.number last.marks))
+      (left_quiet : (before : List (History PartView)) (last : History PartView) → new1.gathered ≡ before ++ last ∷ [] → quiet s2.board ≡ quiet_told last.marks)
       (same_seat : seat s2.board ≡ seat s.board) (nothing : stack s2.board ≡ nothing_due) (rests : IsResting seat view stack s) (well : IsWellOwned s.owned)
       (database : s2.database ≡ s.database) (uses : s2.uses ≡ s.uses) (owned : s2.owned ≡ s.owned) where
     back : (new2 ≡ record new1 { gathered = counts.first ∷ gs }) × (view s2.board ≡ told content_of gathers.last.number gathers.last.marks)
-    back = left (counts.first ∷ gs) gathers.last (last-of old old1 new1 (seat s.board).number (view s.board) g gs some gathers counts.first counts.gathered)
+    back = left (counts.first ∷ gs) gathers.last (last-of old old1 new1 (seat s.board).number (view s.board) (quiet s.board) g gs some gathers counts.first counts.gathered)
+
+    back-quiet : quiet s2.board ≡ quiet_told gathers.last.marks
+    back-quiet = left_quiet (counts.first ∷ gs) gathers.last (last-of old old1 new1 (seat s.board).number (view s.board) (quiet s.board) g gs some gathers counts.first counts.gathered)
 
     more : old1.gathered ≡ old.gathered ++ gathers.last ∷ []
     more = ap (λ (o : OpenerState PartView). o.gathered) gathers.opener
@@ -278,33 +283,37 @@ module _ {B : Type 0} (seat : B → Seated) (view : B → Account) (stack : B �
     number-same : first_number old1.gathered ≡ first_number old.gathered
     number-same = ap first_number more ∙ ap (λ xs. first_number (xs ++ gathers.last ∷ [])) some ∙ sym (ap first_number some)
 
+    quiet-same : first_quiet old1.gathered ≡ first_quiet old.gathered
+    quiet-same = ap first_quiet more ∙ ap (λ xs. first_quiet (xs ++ gathers.last ∷ [])) some ∙ sym (ap first_quiet some)
+
     new-first : first_account content_of new2.gathered ≡ first_account content_of new1.gathered
     new-first = ap (λ (o : OpenerState PartView). first_account content_of o.gathered) back.0 ∙ sym (ap (first_account content_of) counts.gathered)
 
-    all : gathered_in content_of old1.gathered ++ map (gathered_of seat view stack) (reverse rest) ≡ gathered_in content_of old.gathered ++ map (gathered_of seat view stack) (reverse sessions)
+    all : gathered_in content_of old1.gathered ++ map (gathered_of seat view stack quiet) (reverse rest) ≡ gathered_in content_of old.gathered ++ map (gathered_of seat view stack quiet) (reverse sessions)
     all =
-        ap (λ xs. gathered_in content_of xs ++ map (gathered_of seat view stack) (reverse rest)) more
-        ∙ ap (λ xs. xs ++ map (gathered_of seat view stack) (reverse rest)) (map-append (λ (h : History PartView). record { number = h.number; account = told content_of h.number h.marks }) old.gathered (gathers.last ∷ []))
-        ∙ append_assoc (gathered_in content_of old.gathered) (gathered_in content_of (gathers.last ∷ [])) (map (gathered_of seat view stack) (reverse rest))
-        ∙ (λ i. gathered_in content_of old.gathered ++ record { number = gathers.number_ i; account = gathers.account_ i } ∷ map (gathered_of seat view stack) (reverse rest))
-        ∙ ap (λ xs. gathered_in content_of old.gathered ++ map (gathered_of seat view stack) xs) (sym (ap reverse is ∙ reverse-last rest s))
+        ap (λ xs. gathered_in content_of xs ++ map (gathered_of seat view stack quiet) (reverse rest)) more
+        ∙ ap (λ xs. xs ++ map (gathered_of seat view stack quiet) (reverse rest)) (map-append (λ (h : History PartView). record { number = h.number; account = told content_of h.number h.marks }) old.gathered (gathers.last ∷ []))
+        ∙ append_assoc (gathered_in content_of old.gathered) (gathered_in content_of (gathers.last ∷ [])) (map (gathered_of seat view stack quiet) (reverse rest))
+        ∙ (λ i. gathered_in content_of old.gathered ++ record { number = gathers.number_ i; account = gathers.account_ i } ∷ map (gathered_of seat view stack quiet) (reverse rest))
+        ∙ ap (λ xs. gathered_in content_of old.gathered ++ map (gathered_of seat view stack quiet) xs) (sym (ap reverse is ∙ reverse-last rest s))
 
-    adds : (r : Result Audit NoMemory) → IfOk r (AddsUp (gathered_in content_of old1.gathered ++ map (gathered_of seat view stack) (reverse rest)))
-        → IfOk r (AddsUp (gathered_in content_of old.gathered ++ map (gathered_of seat view stack) (reverse sessions)))
+    adds : (r : Result Audit NoMemory) → IfOk r (AddsUp (gathered_in content_of old1.gathered ++ map (gathered_of seat view stack quiet) (reverse rest)))
+        → IfOk r (AddsUp (gathered_in content_of old.gathered ++ map (gathered_of seat view stack quiet) (reverse sessions)))
     adds (Ok audit) up = subst (λ xs. AddsUp xs audit) all up
     adds (Err e) up = tt
 
-    pub unchanged-last : IsUnchanged seat view stack s s2
+    pub unchanged-last : IsUnchanged seat view stack quiet s s2
     unchanged-last = record {
       seat_ = same_seat;
       view_ = back.1 ∙ gathers.account_;
       stack_ = nothing ∙ sym rests.nothing_left;
+      quiet_ = back-quiet ∙ gathers.quiet_;
       database = database;
       uses = uses;
       owned = owned;
     }
 
-    pub counts-one : CountsWith seat view stack old sessions result new2 after
+    pub counts-one : CountsWith seat view stack quiet old sessions result new2 after
     counts-one = record {
       counts =
           subst (λ (t : List TraceEntry). Counts old.limit old.groups (first_account content_of old.gathered).trace result t) (sym (ap (λ (a : Account). a.trace) new-first))
@@ -318,24 +327,29 @@ module _ {B : Type 0} (seat : B → Seated) (view : B → Account) (stack : B �
       first = counts.first;
       gathered = ap (λ (o : OpenerState PartView). o.gathered) back.0 ∙ ap (λ xs. counts.first ∷ xs) (sym (ap behind_of some));
       number = counts.number ∙ number-same;
+      first_quiet_ = counts.first_quiet_ ∙ quiet-same;
       account = counts.account ∙ (λ i. record (first-same i) { trace = sym (ap (λ (a : Account). a.trace) new-first) i });
       unchanged =
-          subst (λ xs. AllZip (IsUnchanged seat view stack) xs after) (sym is)
-          (subst (AllZip (IsUnchanged seat view stack) (rest ++ s ∷ [])) (sym is_after)
-          (AllZip-push (IsUnchanged seat view stack) rest after1 s s2 counts.unchanged unchanged-last));
-      owners = subst (AreOwners seat view stack) (sym is) (all-push _ rest s counts.owners (rests, well));
+          subst (λ xs. AllZip (IsUnchanged seat view stack quiet) xs after) (sym is)
+          (subst (AllZip (IsUnchanged seat view stack quiet) (rest ++ s ∷ [])) (sym is_after)
+          (AllZip-push (IsUnchanged seat view stack quiet) rest after1 s s2 counts.unchanged unchanged-last));
+      owners = subst (AreOwners seat view stack quiet) (sym is) (all-push _ rest s counts.owners (rests, well));
     }
 
   -- The first one was gathered, and is sent back last.
   module _ (old old1 new1 new2 : OpenerState PartView) (result : Result Audit NoMemory) (s s2 : SessionView B) (rest sessions after1 after : List (SessionView B))
       (is : sessions ≡ rest ++ s ∷ []) (is_after : after ≡ after1 ++ s2 ∷ []) (none : old.gathered ≡ [])
-      (gathers : HasGathered content_of (seat s.board).number (view s.board) old old1) (counts : CountsWith seat view stack old1 rest result new1 after1)
+      (gathers : HasGathered content_of (seat s.board).number (view s.board) (quiet s.board) old old1) (counts : CountsWith seat view stack quiet old1 rest result new1 after1)
       (left : (before : List (History PartView)) (last : History PartView) → new1.gathered ≡ before ++ last ∷ []
       → (new2 ≡ record new1 { gathered = before }) × (view s2.board ≡ told content_of last.number last.marks))
+      (left_quiet : (before : List (History PartView)) (last : History PartView) → new1.gathered ≡ before ++ last ∷ [] → quiet s2.board ≡ quiet_told last.marks)
       (same_seat : seat s2.board ≡ seat s.board) (nothing : stack s2.board ≡ nothing_due) (rests : IsResting seat view stack s) (well : IsWellOwned s.owned)
       (database : s2.database ≡ s.database) (uses : s2.uses ≡ s.uses) (owned : s2.owned ≡ s.owned) where
     back_first : (new2 ≡ record new1 { gathered = [] }) × (view s2.board ≡ told content_of counts.first.number counts.first.marks)
-    back_first = left [] counts.first (last-only old old1 new1 (seat s.board).number (view s.board) none gathers counts.first counts.gathered)
+    back_first = left [] counts.first (last-only old old1 new1 (seat s.board).number (view s.board) (quiet s.board) none gathers counts.first counts.gathered)
+
+    back_first-quiet : quiet s2.board ≡ quiet_told counts.first.marks
+    back_first-quiet = left_quiet [] counts.first (last-only old old1 new1 (seat s.board).number (view s.board) (quiet s.board) none gathers counts.first counts.gathered)
 
     only : old1.gathered ≡ gathers.last ∷ []
     only = ap (λ (o : OpenerState PartView). o.gathered) gathers.opener ∙ ap (λ xs. xs ++ gathers.last ∷ []) none
@@ -346,25 +360,26 @@ module _ {B : Type 0} (seat : B → Seated) (view : B → Account) (stack : B �
     last-is : first_account content_of new1.gathered ≡ view s2.board
     last-is = ap (first_account content_of) counts.gathered ∙ sym back_first.1
 
-    pub traced-first : HasTraced seat view stack s s2
+    pub traced-first : HasTraced seat view stack quiet s s2
     traced-first = record {
       seat_ = same_seat;
       view_ = back_first.1 ∙ counts.account ∙ (λ i. record (first-is i) { trace = ap (λ (a : Account). a.trace) last-is i });
       stack_ = nothing ∙ sym rests.nothing_left;
+      quiet_ = back_first-quiet ∙ counts.first_quiet_ ∙ ap first_quiet only ∙ gathers.quiet_;
       database = database;
       uses = uses;
       owned = owned;
     }
 
-    owners : AreOwners seat view stack (s ∷ reverse rest)
+    owners : AreOwners seat view stack quiet (s ∷ reverse rest)
     owners = ((rests, well), all-reverse _ rest counts.owners)
 
-    all-are : gathered_in content_of old1.gathered ++ map (gathered_of seat view stack) (reverse rest) ≡ map (gathered_of seat view stack) (s ∷ reverse rest)
+    all-are : gathered_in content_of old1.gathered ++ map (gathered_of seat view stack quiet) (reverse rest) ≡ map (gathered_of seat view stack quiet) (s ∷ reverse rest)
     all-are =
-        ap (λ xs. gathered_in content_of xs ++ map (gathered_of seat view stack) (reverse rest)) only
-        ∙ (λ i. record { number = gathers.number_ i; account = gathers.account_ i } ∷ map (gathered_of seat view stack) (reverse rest))
+        ap (λ xs. gathered_in content_of xs ++ map (gathered_of seat view stack quiet) (reverse rest)) only
+        ∙ (λ i. record { number = gathers.number_ i; account = gathers.account_ i } ∷ map (gathered_of seat view stack quiet) (reverse rest))
 
-    holds-of : (r : Result Audit NoMemory) → IfOk r (AddsUp (gathered_in content_of old1.gathered ++ map (gathered_of seat view stack) (reverse rest)))
+    holds-of : (r : Result Audit NoMemory) → IfOk r (AddsUp (gathered_in content_of old1.gathered ++ map (gathered_of seat view stack quiet) (reverse rest)))
         → IfOk r (λ audit. audit.fast + audit.table ≡ entries_owned owned-entries (s ∷ reverse rest))
     holds-of (Ok audit) up =
         up.held (map (λ session. length session.owned.entries) (s ∷ reverse rest))
@@ -372,20 +387,20 @@ module _ {B : Type 0} (seat : B → Seated) (view : B → Account) (stack : B �
         ∙ sum-entries (s ∷ reverse rest)
     holds-of (Err e) up = tt
 
-    strong-of : (r : Result Audit NoMemory) → IfOk r (AddsUp (gathered_in content_of old1.gathered ++ map (gathered_of seat view stack) (reverse rest)))
+    strong-of : (r : Result Audit NoMemory) → IfOk r (AddsUp (gathered_in content_of old1.gathered ++ map (gathered_of seat view stack quiet) (reverse rest)))
         → IfOk r (λ audit. audit.strong ≡ strong_owned owned-entries (s ∷ reverse rest))
     strong-of (Ok audit) up =
         up.strong ∙ ap (sum_by (λ (one : Gathered). length one.account.fast.counted)) all-are ∙ sum-strong (s ∷ reverse rest) owners
     strong-of (Err e) up = tt
 
-    pub audits-first : Audits seat view stack old.limit old.groups (reverse sessions) (reverse after) result
+    pub audits-first : Audits seat view stack quiet old.limit old.groups (reverse sessions) (reverse after) result
     audits-first =
-        subst (λ xs. Audits seat view stack old.limit old.groups xs (reverse after) result) (sym (ap reverse is ∙ reverse-last rest s)) (record {
+        subst (λ xs. Audits seat view stack quiet old.limit old.groups xs (reverse after) result) (sym (ap reverse is ∙ reverse-last rest s)) (record {
           first_after = s2;
           others_after = reverse after1;
           sessions = ap reverse is_after ∙ reverse-last after1 s2;
           traced = traced-first;
-          unchanged = zip-reverse (IsUnchanged seat view stack) rest after1 counts.unchanged;
+          unchanged = zip-reverse (IsUnchanged seat view stack quiet) rest after1 counts.unchanged;
           counts =
               subst (λ (t : List TraceEntry). Counts old.limit old.groups (view s.board).trace result t) (ap (λ (a : Account). a.trace) last-is)
               (subst (λ (t : List TraceEntry). Counts old.limit old.groups t result (first_account content_of new1.gathered).trace) (ap (λ (a : Account). a.trace) first-is)
@@ -402,15 +417,15 @@ module _ {B : Type 0} (seat : B → Seated) (view : B → Account) (stack : B �
   -- Of lists and a limit that are the same it says the same.
   pub audits-as : {E : Type 0} (limit limit' groups groups' : ℕ) (xs old ys new : List (SessionView B)) (result : Result Audit E)
       → limit ≡ limit' → groups ≡ groups' → xs ≡ old → ys ≡ new
-      → Audits seat view stack limit groups xs ys result → Audits seat view stack limit' groups' old new result
+      → Audits seat view stack quiet limit groups xs ys result → Audits seat view stack quiet limit' groups' old new result
   audits-as limit limit' groups groups' xs old ys new result same same_groups one two audits =
-      subst (λ n. Audits seat view stack n groups' old new result) same
-      (subst (λ n. Audits seat view stack limit n old new result) same_groups
-      (subst (λ zs. Audits seat view stack limit groups zs new result) one
-      (subst (λ zs. Audits seat view stack limit groups xs zs result) two audits)))
+      subst (λ n. Audits seat view stack quiet n groups' old new result) same
+      (subst (λ n. Audits seat view stack quiet limit n old new result) same_groups
+      (subst (λ zs. Audits seat view stack quiet limit groups zs new result) one
+      (subst (λ zs. Audits seat view stack quiet limit groups xs zs result) two audits)))
 
   -- The answer to the caller says the same.
-  pub audits-ok : (limit groups : ℕ) (old new : List (SessionView B)) (audit : Audit) → Audits seat view stack {E = NoMemory} limit groups old new (Ok audit) → Audits seat view stack {E = Refusal} limit groups old new (Ok audit)
+  pub audits-ok : (limit groups : ℕ) (old new : List (SessionView B)) (audit : Audit) → Audits seat view stack quiet {E = NoMemory} limit groups old new (Ok audit) → Audits seat view stack quiet {E = Refusal} limit groups old new (Ok audit)
   audits-ok limit groups [] new audit audits =
       let same : ◌≡◌ {A = Result Audit NoMemory} (Ok audit) (Ok (record { fast = 0; table = 0; strong = 0 })) = audits.1 in
       let is : audit ≡ record { fast = 0; table = 0; strong = 0 } = cc (same) in
@@ -433,8 +448,8 @@ module _ {B : Type 0} (seat : B → Seated) (view : B → Account) (stack : B �
     strong = audits.strong;
   }
 
-  pub audits-err : (limit groups : ℕ) (old new : List (SessionView B)) (e : NoMemory) (refusal : Refusal) → Audits seat view stack {E = NoMemory} limit groups old new (Err e)
-      → Audits seat view stack {E = Refusal} limit groups old new (Err refusal)
+  pub audits-err : (limit groups : ℕ) (old new : List (SessionView B)) (e : NoMemory) (refusal : Refusal) → Audits seat view stack quiet {E = NoMemory} limit groups old new (Err e)
+      → Audits seat view stack quiet {E = Refusal} limit groups old new (Err refusal)
   audits-err limit groups [] new e refusal audits =
       let never : ◌≡◌ {A = Result Audit NoMemory} (Err e) (Ok (record { fast = 0; table = 0; strong = 0 })) = audits.1 in absurd (cc (never))
   audits-err limit groups (s ∷ others) new e refusal audits = record {
@@ -456,7 +471,7 @@ module _ {B : Type 0} (seat : B → Seated) (view : B → Account) (stack : B �
   }
 
   -- They are at the same table, and as many.
-  zip-tables : (table : TableId) (old new : List (SessionView B)) → AllZip (IsUnchanged seat view stack) old new → AllByRecursion (λ s. (seat s.board).table ≡ table) old
+  zip-tables : (table : TableId) (old new : List (SessionView B)) → AllZip (IsUnchanged seat view stack quiet) old new → AllByRecursion (λ s. (seat s.board).table ≡ table) old
       → AllByRecursion (λ s. (seat s.board).table ≡ table) new × (length new ≡ length old)
   zip-tables table [] [] same at = (tt, refl)
   zip-tables table [] (t ∷ new) same at = absurd same
@@ -465,7 +480,7 @@ module _ {B : Type 0} (seat : B → Seated) (view : B → Account) (stack : B �
       let rest = zip-tables table old new same.1 at.1 in
       ((ap (λ (x : Seated). x.table) same.0.seat_ ∙ at.0, rest.0), ap suc rest.1)
 
-  pub audits-tables : {E : Type 0} (table : TableId) (limit groups : ℕ) (old new : List (SessionView B)) (result : Result Audit E) → Audits seat view stack limit groups old new result
+  pub audits-tables : {E : Type 0} (table : TableId) (limit groups : ℕ) (old new : List (SessionView B)) (result : Result Audit E) → Audits seat view stack quiet limit groups old new result
       → AllByRecursion (λ s. (seat s.board).table ≡ table) old → AllByRecursion (λ s. (seat s.board).table ≡ table) new × (length new ≡ length old)
   audits-tables table limit groups [] new result audits at = subst (λ xs. AllByRecursion (λ (s : SessionView B). (seat s.board).table ≡ table) xs × (length xs ≡ 0)) (sym audits.0) (tt, refl)
   audits-tables table limit groups (s ∷ others) new result audits at =
@@ -474,7 +489,7 @@ module _ {B : Type 0} (seat : B → Seated) (view : B → Account) (stack : B �
       ((ap (λ (x : Seated). x.table) audits.traced.seat_ ∙ at.0, rest.0), ap suc rest.1)
 
   -- Each of them owns after it what it owned.
-  zip-entries : (old new : List (SessionView B)) → AllZip (IsUnchanged seat view stack) old new → map owned-entries new ≡ map owned-entries old
+  zip-entries : (old new : List (SessionView B)) → AllZip (IsUnchanged seat view stack quiet) old new → map owned-entries new ≡ map owned-entries old
   zip-entries [] [] same = refl
   zip-entries [] (t ∷ new) same = absurd same
   zip-entries (s ∷ old) [] same = absurd same
@@ -483,7 +498,7 @@ module _ {B : Type 0} (seat : B → Seated) (view : B → Account) (stack : B �
       let one = ap (λ (o : Owned). o.entries) same.0.owned in
       λ i. one i ∷ rest i
 
-  pub audits-entries : {E : Type 0} (limit groups : ℕ) (old new : List (SessionView B)) (result : Result Audit E) → Audits seat view stack limit groups old new result
+  pub audits-entries : {E : Type 0} (limit groups : ℕ) (old new : List (SessionView B)) (result : Result Audit E) → Audits seat view stack quiet limit groups old new result
       → map owned-entries new ≡ map owned-entries old
   audits-entries limit groups [] new result audits = ap (map owned-entries) audits.0
   audits-entries limit groups (s ∷ others) new result audits =

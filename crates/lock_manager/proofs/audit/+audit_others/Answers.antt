@@ -31,7 +31,7 @@ gather_next-absent-requires-clause-ready g t c =
 
 pub send_back-board-requires-clause-last : goal.send_back-board-requires-clause-last
 send_back-board-requires-clause-last g t c =
-    has-last c.args.numbers.now c.gather_next-absent.new.numbers c.audit_others-counted.new.numbers _ _ _ c.requires.ready.first c.requires.ready.others c.requires.ready.gathered
+    has-last c.args.numbers.now c.gather_next-absent.new.numbers c.audit_others-counted.new.numbers _ _ _ _ c.requires.ready.first c.requires.ready.others c.requires.ready.gathered
     c.gather_next-absent.ensures.gathered c.audit_others-counted.ensures.counts.first c.audit_others-counted.ensures.counts.gathered
     (ap (λ (s : Seated). s.number) c.gather_next-absent.ensures.absent)
 
@@ -51,12 +51,12 @@ pub invariant_of-push_reserved : goal.invariant_of-push_reserved
 invariant_of-push_reserved g t c =
     let is = c.in-Some.ensures.items ∙ ap (λ x. c.pop.new.self.items ++ x ∷ []) (sym c.session.view_is) in
     let same_seat = c.send_back-board.ensures.seat ∙ c.gather_next-absent.ensures.absent in
-    let e = (unchanged-last _ _ _ c.args.numbers.now c.gather_next-absent.new.numbers c.audit_others-counted.new.numbers c.send_back-board.new.self c.audit_others-counted.result
+    let e = (unchanged-last _ _ _ _ c.args.numbers.now c.gather_next-absent.new.numbers c.audit_others-counted.new.numbers c.send_back-board.new.self c.audit_others-counted.result
     (record { board = c.session.inside.board; database = c.session.inside.own.value.database; uses = c.session.inside.own.value.uses; owned = c.session.inside.own.value.locals })
     (record { board = c.send_back-board.result; database = c.session.inside.own.value.database; uses = c.session.inside.own.value.uses; owned = c.session.inside.own.value.locals })
     c.pop.new.self.items c.args.sessions.now.items c.audit_others-counted.new.sessions.items
     (c.audit_others-counted.new.sessions.items ++ record { board = c.send_back-board.result; database = c.session.inside.own.value.database; uses = c.session.inside.own.value.uses; owned = c.session.inside.own.value.locals } ∷ [])
-    is refl c.requires.ready.first c.requires.ready.others c.requires.ready.gathered c.gather_next-absent.ensures.gathered c.audit_others-counted.ensures.counts c.send_back-board.ensures.left
+    is refl c.requires.ready.first c.requires.ready.others c.requires.ready.gathered c.gather_next-absent.ensures.gathered c.audit_others-counted.ensures.counts c.send_back-board.ensures.left c.send_back-board.ensures.quiet
     same_seat c.send_back-board.ensures.stack c.session.invariant.0 c.session.invariant.3 refl refl refl).view_ in (
       rest-unchanged _ _ _ _ _ _ _ _ _ same_seat e (c.send_back-board.ensures.stack ∙ sym c.session.invariant.0.nothing_left) c.session.invariant.0,
       subst (λ n. n ≤ 64) (sym (ap (λ (s : Seated). s.limit) same_seat)) c.session.invariant.1,
@@ -68,10 +68,10 @@ pub returns-clause-counts : goal.returns-clause-counts
 returns-clause-counts g t c =
     let is = c.in-Some.ensures.items ∙ ap (λ x. c.pop.new.self.items ++ x ∷ []) (sym c.session.view_is) in
     let same_seat = c.send_back-board.ensures.seat ∙ c.gather_next-absent.ensures.absent in
-    counts-one _ _ _ c.args.numbers.now c.gather_next-absent.new.numbers c.audit_others-counted.new.numbers c.send_back-board.new.self c.audit_others-counted.result
+    counts-one _ _ _ _ c.args.numbers.now c.gather_next-absent.new.numbers c.audit_others-counted.new.numbers c.send_back-board.new.self c.audit_others-counted.result
     (record { board = c.session.inside.board; database = c.session.inside.own.value.database; uses = c.session.inside.own.value.uses; owned = c.session.inside.own.value.locals })
     (record { board = c.send_back-board.result; database = c.session.inside.own.value.database; uses = c.session.inside.own.value.uses; owned = c.session.inside.own.value.locals })
     c.pop.new.self.items c.args.sessions.now.items c.audit_others-counted.new.sessions.items
     c.push_reserved.new.self.items
-    is c.push_reserved.ensures.items c.requires.ready.first c.requires.ready.others c.requires.ready.gathered c.gather_next-absent.ensures.gathered c.audit_others-counted.ensures.counts c.send_back-board.ensures.left
+    is c.push_reserved.ensures.items c.requires.ready.first c.requires.ready.others c.requires.ready.gathered c.gather_next-absent.ensures.gathered c.audit_others-counted.ensures.counts c.send_back-board.ensures.left c.send_back-board.ensures.quiet
     same_seat c.send_back-board.ensures.stack c.session.invariant.0 c.session.invariant.3 refl refl refl

@@ -12,7 +12,7 @@ audit_others-counted-requires-clause-ready g c =
     let long : length c.args.sessions.now.items ≡ length (c.pop.new.self.items ++ c.in-Some.session ∷ []) = ap length c.in-Some.ensures.items in
     let split = length-append c.pop.new.self.items (c.in-Some.session ∷ []) in
     let all = c.requires.all in
-    may_count-first (length c.pop.new.self.items) c.args.numbers.now c.gather-absent.new.self _ _ c.requires.none_gathered (omega (arith, long, split, all)) c.gather-absent.ensures.gathered
+    may_count-first (length c.pop.new.self.items) c.args.numbers.now c.gather-absent.new.self _ _ _ c.requires.none_gathered (omega (arith, long, split, all)) c.gather-absent.ensures.gathered
     (no_wait-rest _ _ _ _ _ _ _ c.session.invariant.0) (kept_apart-rest _ _ _ _ _ _ _ c.session.invariant.0)
 
 pub send_back-board-requires-clause-table : goal.send_back-board-requires-clause-table
@@ -31,12 +31,12 @@ pub invariant_of-push_reserved : goal.invariant_of-push_reserved
 invariant_of-push_reserved g c =
     let is = c.in-Some.ensures.items ∙ ap (λ x. c.pop.new.self.items ++ x ∷ []) (sym c.session.view_is) in
     let same_seat = c.send_back-board.ensures.seat ∙ c.gather-absent.ensures.absent in
-    let e = (traced-first _ _ _ c.args.numbers.now c.gather-absent.new.self c.audit_others-counted.new.numbers c.send_back-board.new.self c.audit_others-counted.result
+    let e = (traced-first _ _ _ _ c.args.numbers.now c.gather-absent.new.self c.audit_others-counted.new.numbers c.send_back-board.new.self c.audit_others-counted.result
     (record { board = c.session.inside.board; database = c.session.inside.own.value.database; uses = c.session.inside.own.value.uses; owned = c.session.inside.own.value.locals })
     (record { board = c.send_back-board.result; database = c.session.inside.own.value.database; uses = c.session.inside.own.value.uses; owned = c.session.inside.own.value.locals })
     c.pop.new.self.items c.args.sessions.now.items c.audit_others-counted.new.sessions.items
     (c.audit_others-counted.new.sessions.items ++ record { board = c.send_back-board.result; database = c.session.inside.own.value.database; uses = c.session.inside.own.value.uses; owned = c.session.inside.own.value.locals } ∷ [])
-    is refl c.requires.none_gathered c.gather-absent.ensures.gathered c.audit_others-counted.ensures.counts c.send_back-board.ensures.left
+    is refl c.requires.none_gathered c.gather-absent.ensures.gathered c.audit_others-counted.ensures.counts c.send_back-board.ensures.left c.send_back-board.ensures.quiet
     same_seat c.send_back-board.ensures.stack c.session.invariant.0 c.session.invariant.3 refl refl refl).view_ in (
       rest-traced _ _ _ _ _ _ _ _ _ same_seat e (c.send_back-board.ensures.stack ∙ sym c.session.invariant.0.nothing_left) c.session.invariant.0,
       subst (λ n. n ≤ 64) (sym (ap (λ (s : Seated). s.limit) same_seat)) c.session.invariant.1,
@@ -48,22 +48,22 @@ pub returns-clause-audited : goal.returns-clause-audited
 returns-clause-audited g c =
     let is = c.in-Some.ensures.items ∙ ap (λ x. c.pop.new.self.items ++ x ∷ []) (sym c.session.view_is) in
     let same_seat = c.send_back-board.ensures.seat ∙ c.gather-absent.ensures.absent in
-    audits-first _ _ _ c.args.numbers.now c.gather-absent.new.self c.audit_others-counted.new.numbers c.send_back-board.new.self c.audit_others-counted.result
+    audits-first _ _ _ _ c.args.numbers.now c.gather-absent.new.self c.audit_others-counted.new.numbers c.send_back-board.new.self c.audit_others-counted.result
     (record { board = c.session.inside.board; database = c.session.inside.own.value.database; uses = c.session.inside.own.value.uses; owned = c.session.inside.own.value.locals })
     (record { board = c.send_back-board.result; database = c.session.inside.own.value.database; uses = c.session.inside.own.value.uses; owned = c.session.inside.own.value.locals })
     c.pop.new.self.items c.args.sessions.now.items c.audit_others-counted.new.sessions.items
     c.push_reserved.new.self.items
-    is c.push_reserved.ensures.items c.requires.none_gathered c.gather-absent.ensures.gathered c.audit_others-counted.ensures.counts c.send_back-board.ensures.left
+    is c.push_reserved.ensures.items c.requires.none_gathered c.gather-absent.ensures.gathered c.audit_others-counted.ensures.counts c.send_back-board.ensures.left c.send_back-board.ensures.quiet
     same_seat c.send_back-board.ensures.stack c.session.invariant.0 c.session.invariant.3 refl refl refl
 
 pub returns-clause-numbers : goal.returns-clause-numbers
 returns-clause-numbers g c =
     let is = c.in-Some.ensures.items ∙ ap (λ x. c.pop.new.self.items ++ x ∷ []) (sym c.session.view_is) in
     let same_seat = c.send_back-board.ensures.seat ∙ c.gather-absent.ensures.absent in
-    opener-back _ _ _ c.args.numbers.now c.gather-absent.new.self c.audit_others-counted.new.numbers c.send_back-board.new.self c.audit_others-counted.result
+    opener-back _ _ _ _ c.args.numbers.now c.gather-absent.new.self c.audit_others-counted.new.numbers c.send_back-board.new.self c.audit_others-counted.result
     (record { board = c.session.inside.board; database = c.session.inside.own.value.database; uses = c.session.inside.own.value.uses; owned = c.session.inside.own.value.locals })
     (record { board = c.send_back-board.result; database = c.session.inside.own.value.database; uses = c.session.inside.own.value.uses; owned = c.session.inside.own.value.locals })
     c.pop.new.self.items c.args.sessions.now.items c.audit_others-counted.new.sessions.items
     c.push_reserved.new.self.items
-    is c.push_reserved.ensures.items c.requires.none_gathered c.gather-absent.ensures.gathered c.audit_others-counted.ensures.counts c.send_back-board.ensures.left
+    is c.push_reserved.ensures.items c.requires.none_gathered c.gather-absent.ensures.gathered c.audit_others-counted.ensures.counts c.send_back-board.ensures.left c.send_back-board.ensures.quiet
     same_seat c.send_back-board.ensures.stack c.session.invariant.0 c.session.invariant.3 refl refl refl

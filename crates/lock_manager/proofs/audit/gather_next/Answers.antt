@@ -24,4 +24,4 @@ returns-clause-left_own c =
     c.args.numbers.now.table c.gather.new.self.table c.args.left.now.items (sym (ap (λ (o : OpenerState PartView). o.table) c.gather.ensures.gathered.opener)) c.requires.left_own
 
 pub returns-clause-ready : goal.returns-clause-ready
-returns-clause-ready c = may_count-more _ c.args.numbers.now c.gather.new.self _ _ c.requires.ready c.gather.ensures.gathered c.requires.no_wait
+returns-clause-ready c = may_count-more _ c.args.numbers.now c.gather.new.self _ _ _ c.requires.ready c.gather.ensures.gathered c.requires.no_wait

@@ -6,6 +6,7 @@ use Rattle.shared_rule.specs.Boards.{first_marks, AreIdle}
 use Rattle.shared_rule.specs.History.{first_account}
 use Rattle.shared_rule.specs.Openers.{OpenerState}
 use Rattle.shared_rule.specs.Plays.{Side, HasGroups, IsSized}
+use Rattle.shared_rule.specs.Quiet.{first_quiet}
 use Rattle.shared_rule.proofs.Idle.{idle-with, idle-lone}
 use Rattle.shared_rule.proofs.opener.Opener.gather.Goals as goal
 
@@ -40,6 +41,7 @@ returns-clause-gathered g c =
       last = last;
       number_ = refl;
       account_ = ap (λ (view : View g.row.T.Denot). first_account g.T.PartTable.content view.sessions) (sym board.lone);
+      quiet_ = ap (λ (view : View g.row.T.Denot). first_quiet view.sessions) (sym board.lone);
       opener = (λ i. record { table = table i; issued = c.self.inside.issued; limit = c.self.inside.sizes.sessions; groups = c.self.inside.sizes.groups; closed = closed i; gathered = gathered i })
           ∙ ap (λ (old : OpenerState g.row.T.Denot). record old { gathered = old.gathered ++ last ∷ [] }) c.self.view_is;
     }

@@ -5,6 +5,7 @@ use Rattle.shared_rule.specs.Boards.{Seated, first_marks, IsIdle, AreIdle}
 use Rattle.shared_rule.specs.History.{lone, first_account}
 use Rattle.shared_rule.specs.Openers.{OpenerState}
 use Rattle.shared_rule.specs.Plays.{Side, HasGroups, IsSized}
+use Rattle.shared_rule.specs.Quiet.{first_quiet}
 use Rattle.shared_rule.specs.Seats.{all_but_last, last_of}
 use Rattle.shared_rule.proofs.Idle.{idle-one, idle-last, idle-left}
 use Rattle.shared_rule.proofs.Meetings.{all_but_last-of, last_of-of, lone-last}
@@ -32,6 +33,13 @@ returns-clause-left g c = λ before last gathered.
           ∙ ap (λ (o : OpenerState g.row.T.Denot). record o { gathered = before }) c.self.view_is,
       ap (λ place. first_account g.T.PartTable.content place.me.0.sessions) c.at.ensures.1 ∙ ap (first_account g.T.PartTable.content) there,
     )
+
+pub returns-clause-quiet : goal.returns-clause-quiet
+returns-clause-quiet g c = λ before last gathered.
+    let came = ap (λ (m : Side g.row.T.Denot). m.0) c.hand_back-place.ensures.other in
+    let is = ap (λ (o : OpenerState g.row.T.Denot). o.gathered) c.self.view_is ∙ gathered in
+    let there = ap (λ (v : View g.row.T.Denot). v.sessions) came ∙ ap last_of is ∙ last_of-of before last in
+    ap (λ place. first_quiet place.me.0.sessions) c.at.ensures.1 ∙ ap first_quiet there
 
 pub at-requires-clause-idle : goal.at-requires-clause-idle
 at-requires-clause-idle g c =
