@@ -7,4 +7,5 @@ pub mod Listings
 pub mod Audits
 pub mod Sessions
 pub mod Managers
+pub mod Desks
 pub mod Quiet

@@ -9,6 +9,7 @@ pub mod Listings
 pub mod Waiting
 pub mod WaitingSessions
 pub mod Crews
+pub mod Desks
 pub mod Audits
 pub mod Queues
 pub mod Quiet

@@ -41,6 +41,10 @@ is_in_range config =
     (nat_le 1 config.max_local && (nat_le config.max_local 65536 &&
     (nat_le 1 config.slot_groups && nat_le config.slot_groups most_groups))))
 
+-- The manager's size where nothing else is said.
+abbrev pub IsUsual : Config → Type 0
+IsUsual config = config ≡ record { sessions = 64; max_local = 1024; slot_groups = 1 }
+
 -- The opener is the manager's.
 pub record IsOpenerOf (opener : OpenerView) (manager : ManagerView) : Type 0 where
   pub table : opener.table ≡ manager.table

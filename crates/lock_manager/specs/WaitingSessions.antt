@@ -69,6 +69,13 @@ owned_started (started.AlreadyHeld session) = session.owned
 owned_started (started.Queued waiting) = waiting.owned
 owned_started (started.Refused session refusal) = session.owned
 
+-- the session with what its acquire is answered, or the session that waits
+abbrev pub parts_started : {S W : Type 0} → Started S W → Result (S × Result Acquired Refusal) W
+parts_started (started.Granted session) = Ok (session, Ok acquired.Granted)
+parts_started (started.AlreadyHeld session) = Ok (session, Ok acquired.AlreadyHeld)
+parts_started (started.Queued waiting) = Err waiting
+parts_started (started.Refused session refusal) = Ok (session, Err refusal)
+
 -- P of the session that comes back, where it doesn't wait
 abbrev pub UnlessQueued : {S W : Type 0} → Started S W → (S → Type 0) → Type 0
 UnlessQueued (started.Granted session) P = P session
@@ -94,6 +101,12 @@ abbrev pub board_polled : {B : Type 0} → Polled (SessionView B) (WaitingView B
 board_polled (polled.Granted session) = session.board
 board_polled (polled.Still waiting) = waiting.board
 board_polled (polled.CancelAsked waiting) = waiting.board
+
+-- the session whose wait was granted, or the one that waits still, with whether it was asked to cancel
+abbrev pub parts_polled : {S W : Type 0} → Polled S W → Result S (W × Bool)
+parts_polled (polled.Granted session) = Ok session
+parts_polled (polled.Still waiting) = Err (waiting, false)
+parts_polled (polled.CancelAsked waiting) = Err (waiting, true)
 
 -- P of the session that comes back, where its wait was granted
 abbrev pub IfGranted : {S W : Type 0} → Polled S W → (S → Type 0) → Type 0

@@ -1,5 +1,5 @@
 ghost use Rattle.std.specs.Prelude.{◌≡◌};
-ghost use Rattle.lock_manager.specs.Managers.{is_in_range};
+ghost use Rattle.lock_manager.specs.Managers.{is_in_range, IsUsual};
 
 use local_locks::MOST_LOCAL;
 use modes_core::SESSIONS;
@@ -20,6 +20,21 @@ pub struct Config {
     /// How many groups of sixteen fast-path slots each has, 1 to 8 (`FastPathLockGroupsPerBackend` in proc.h of
     /// version 18; version 16 has one).
     pub slot_groups: u32,
+}
+
+/// A manager for 64 sessions, with 1,024 local entries and one group of sixteen fast-path slots each, as version 16
+/// has them. A server's `max_connections` is 100 where nothing is set, more than there are numbers. Its
+/// `max_locks_per_transaction`, 64, is no limit of a session but an average by which the shared table is sized.
+impl Default for Config {
+    ghost is_default = { λ config. IsUsual config };
+
+    fn default() -> Self {
+        Config {
+            sessions: MOST_SESSIONS,
+            max_local: 1024,
+            slot_groups: 1,
+        }
+    }
 }
 
 impl Config {

@@ -1,15 +1,24 @@
 //! Desks, which open, count and close the sessions of a manager for a program that is written over any board.
 
-ghost use Rattle.std.specs.Prelude.{◌≡◌, ◌⊎◌, ◌↔◌, ◌<◌, ◌+◌, ◌-◌, [], All, length, map, IsErrOf, IfOk, IfErr, OnOk, OnErr};
-ghost use Rattle.lock_manager.specs.Audits.{entries_owned, strong_owned};
+ghost use Rattle.std.specs.Prelude.{◌≡◌, ◌⊎◌, ◌↔◌, ◌<◌, ◌+◌, ◌-◌, List, [], ◌∷◌, All, length, map, IsErrOf, IsOkUnless, IfOk, IfErr, OnOk, OnErr};
+ghost use Rattle.local_locks.specs.Owned.{ended_by};
+ghost use Rattle.lock_world.specs.Account.{Account};
+ghost use Rattle.fast_path.specs.declared.use_counts.UseCounts.{UseCounts};
+ghost use Rattle.lock_manager.specs.Audits.{Audits, entries_owned, strong_owned};
+ghost use Rattle.shared_rule.specs.Boards.{parts_in_hand};
+ghost use Rattle.shared_rule.specs.declared.history.History.{History};
 ghost use Rattle.shared_rule.specs.History.{first_account};
-ghost use Rattle.lock_manager.specs.Keeper.{content_of};
-ghost use Rattle.lock_manager.specs.Managers.{IsOpenerOf};
-ghost use Rattle.lock_manager.specs.Sessions.{DontConflict};
+ghost use Rattle.shared_rule.specs.Quiet.{first_quiet, quiet_told};
+ghost use Rattle.lock_manager.specs.Desks.{opener_at, session_at, shown};
+ghost use Rattle.lock_manager.specs.Keeper.{PartView, content_of};
+ghost use Rattle.lock_manager.specs.Managers.{IsOpenerOf, IsOpened, HasClosed};
+ghost use Rattle.lock_manager.specs.Quiet.{QuietOfReleases};
+ghost use Rattle.lock_manager.specs.Sessions.{DontConflict, IsUnchanged};
 
 use crate::keeper::Part;
 use crate::manager::{Manager, Opener};
 use crate::sessions::Session;
+use local_locks::End;
 use modes_core::Refusal;
 use shared_rule::{Audit, Board, SeatBoard};
 use std::sync::Wait;
@@ -20,31 +29,46 @@ use std::sync::Wait;
 pub trait Desk<S> {
     ghost use Rattle.std.specs.Prelude.{ℕ, List};
     ghost use Rattle.local_locks.specs.declared.records.Entry.{Entry};
+    ghost use Rattle.local_locks.specs.Owned.{Owned};
     ghost use Rattle.lock_world.specs.Account.{Account};
-    ghost use Rattle.shared_rule.specs.Boards.{Seated};
+    ghost use Rattle.shared_rule.specs.Boards.{Seated, Stack};
+    ghost use Rattle.shared_rule.specs.declared.history.History.{History};
+    ghost use Rattle.shared_rule.specs.Quiet.{Quiet};
+    ghost use Rattle.fast_path.specs.declared.use_counts.UseCounts.{UseCounts};
+    ghost use Rattle.lock_manager.specs.Keeper.{PartView};
     ghost use Rattle.lock_manager.specs.Managers.{ManagerView};
 
     // Whose sessions they are.
     ghost manager: { Self → ManagerView };
 
-    // How many of them were opened, and how many are open.
+    // How many of them were opened, how many are open, and the histories of those that have closed.
     ghost issued: { Self → ℕ };
 
     ghost live: { Self → ℕ };
 
+    ghost closed: { Self → List (History PartView) };
+
     // At which table a session is, and under which number.
     ghost seat: { S → Seated };
 
-    // What a session has and awaits by its own account, with its trace.
+    // What a session has and awaits by its own account, with its trace; what it has to do yet; and its quiet steps.
     ghost account: { S → Account };
 
-    // The database of a session, and its local entries.
+    ghost stack: { S → Stack };
+
+    ghost quiet: { S → List Quiet };
+
+    // The database of a session, its local entries, the use counts of its slots, and what it owns.
     ghost database_of: { S → ℕ };
 
     ghost entries: { S → List Entry };
 
-    /// Opens a session of `database`, which holds nothing. Refused where all numbers are given out, and then where
-    /// memory runs out.
+    ghost uses: { S → UseCounts };
+
+    ghost owned: { S → Owned };
+
+    /// Opens a session of `database` (`Opener::session`), which has the next number, holds nothing and has made no
+    /// step. Refused where all numbers are given out, and then where memory runs out. Nothing has changed then.
     fn open(&mut self, database: u32) -> Result<S, Refusal>
         ensures manager { manager self.new ≡ manager self.old }
         ensures own { IfOk result (λ session. (seat session).table ≡ (manager self.old).table) }
@@ -56,7 +80,12 @@ pub trait Desk<S> {
         ensures refused { OnErr result (live self.new ≡ live self.old) }
         ensures few { OnOk result (issued self.old < 64) }
         ensures issued { OnOk result (issued self.new ≡ issued self.old + 1) }
-        ensures none_issued { OnErr result (issued self.new ≡ issued self.old) };
+        ensures none_issued { OnErr result (issued self.new ≡ issued self.old) }
+        ensures opened { IfOk result (λ session. IsOpened seat account stack
+            (opener_at (manager self.old) (issued self.old) (live self.old) (closed self.old)) (manager self.old)
+            database (session_at database_of uses owned session)) }
+        ensures quiet { IfOk result (λ session. quiet session ≡ []) }
+        ensures none_closed { closed self.new ≡ closed self.old };
 
     /// How many are open.
     fn live(&self) -> u32
@@ -72,11 +101,15 @@ pub trait Desk<S> {
         ensures no_step { account session.new ≡ account session.old }
         ensures its_no_step { account result ≡ account other }
         ensures same_entries { entries session.new ≡ entries session.old }
-        ensures its_entries { entries result ≡ entries other };
+        ensures its_entries { entries result ≡ entries other }
+        ensures unchanged { IsUnchanged seat account stack quiet
+            (session_at database_of uses owned session.old) (session_at database_of uses owned session.new) }
+        ensures its_unchanged { IsUnchanged seat account stack quiet
+            (session_at database_of uses owned other) (session_at database_of uses owned result) };
 
     /// Counts what stands in the manager, all of whose open `sessions` are lent (`Manager::audit`): slots and table
-    /// have as many holds as the sessions have local entries, and the counters count the strong ones. Refused where
-    /// memory runs out.
+    /// have as many holds as the sessions have local entries, and the counters count the strong ones. The first one
+    /// makes the steps; all else of the sessions is as before. Refused where memory runs out, and so it is then too.
     fn audit<R: Wait>(&mut self, rt: &R, sessions: &mut Vec<S>) -> Result<Audit, Refusal>
         requires own { All (λ session. (seat session).table ≡ (manager self.old).table) sessions.old.items }
         requires all { length sessions.old.items ≡ live self.old }
@@ -87,14 +120,27 @@ pub trait Desk<S> {
         ensures strong { IfOk result (λ audit. audit.strong ≡ strong_owned entries sessions.old.items) }
         ensures kept { map entries sessions.new.items ≡ map entries sessions.old.items }
         ensures own { All (λ session. (seat session).table ≡ (manager self.old).table) sessions.new.items }
-        ensures as_many { length sessions.new.items ≡ length sessions.old.items };
+        ensures as_many { length sessions.new.items ≡ length sessions.old.items }
+        ensures counted { Audits seat account stack quiet (manager self.old).limit (manager self.old).groups
+            (map (session_at database_of uses owned) sessions.old.items)
+            (map (session_at database_of uses owned) sessions.new.items) result }
+        ensures none_closed { closed self.new ≡ closed self.old }
+        ensures no_memory { IsOkUnless result Refusal.NoMemory };
 
-    /// Closes `session`, one of the desk's own.
+    /// Closes `session`, one of the desk's own (`Session::close`): all that it holds is released, in the order of
+    /// making, and its history is among those of the closed ones.
     fn close<R: Wait>(&mut self, rt: &R, session: S)
         requires own { (seat session).table ≡ (manager self.old).table }
         ensures manager { manager self.new ≡ manager self.old }
         ensures live { live self.new ≡ live self.old - 1 }
-        ensures issued { issued self.new ≡ issued self.old };
+        ensures issued { issued self.new ≡ issued self.old }
+        ensures closed { HasClosed seat account stack (session_at database_of uses owned session)
+            (opener_at (manager self.old) (issued self.old) (live self.old) (closed self.old))
+            (opener_at (manager self.new) (issued self.new) (live self.new) (closed self.new)) }
+        ensures quiet { (history : History PartView) (others : List (History PartView)) → closed self.new ≡ history ∷ others
+            → (last : Account) × (left : UseCounts) × QuietOfReleases (seat session).groups (seat session).number
+            (account session) (uses session) (ended_by End.Close (owned session).entries) last left
+            (quiet session) (quiet_told history.marks) };
 }
 
 /// The desk of a manager: the manager with its opener.
@@ -133,6 +179,8 @@ impl<'a> Desk<Session<'a>> for ManagerDesk<'a> {
 
     ghost live = { λ desk. desk.opener.live };
 
+    ghost closed = { λ desk. desk.opener.closed };
+
     ghost seat = { λ session. record {
       number = session.board.number;
       limit = session.board.sizes.sessions;
@@ -142,9 +190,18 @@ impl<'a> Desk<Session<'a>> for ManagerDesk<'a> {
 
     ghost account = { λ session. first_account content_of session.board.place.me.0.sessions };
 
+    ghost stack = { λ session.
+        record { parts = parts_in_hand session.board.place.me.1; owed = session.board.owed.sessions } };
+
+    ghost quiet = { λ session. first_quiet session.board.place.me.0.sessions };
+
     ghost database_of = { λ session. session.database };
 
     ghost entries = { λ session. session.owned.entries };
+
+    ghost uses = { λ session. session.uses };
+
+    ghost owned = { λ session. session.owned };
 
     fn open(&mut self, database: u32) -> Result<Session<'a>, Refusal> {
         self.opener.session(self.manager, database)
@@ -168,6 +225,14 @@ impl<'a> Desk<Session<'a>> for ManagerDesk<'a> {
             B.view result.board ≡ B.view other.entry.board }
         ensures same_entries { session.new.owned.entries ≡ session.old.owned.entries }
         ensures its_entries { result.owned.entries ≡ other.entry.owned.entries }
+        ensures unchanged { let B = ⟦<SeatBoard<'a, Part> as Board<Part>>⟧ in
+            IsUnchanged (λ session. B.seat session.board) (λ session. B.view session.board)
+            (λ session. B.stack session.board) (λ session. B.quiet session.board)
+            (shown session.old) (shown session.new) }
+        ensures its_unchanged { let B = ⟦<SeatBoard<'a, Part> as Board<Part>>⟧ in
+            IsUnchanged (λ session. B.seat session.board) (λ session. B.view session.board)
+            (λ session. B.stack session.board) (λ session. B.quiet session.board)
+            (shown other.entry) (shown result) }
     {
         session.meet(other)
     }
@@ -187,6 +252,12 @@ impl<'a> Desk<Session<'a>> for ManagerDesk<'a> {
         ensures own { let B = ⟦<SeatBoard<'a, Part> as Board<Part>>⟧ in
             All (λ session. (B.seat session.board).table ≡ self.old.manager.now.table) sessions.new.items }
         ensures as_many { length sessions.new.items ≡ length sessions.old.items }
+        ensures counted { let B = ⟦<SeatBoard<'a, Part> as Board<Part>>⟧ in
+            Audits (λ session. B.seat session.board) (λ session. B.view session.board) (λ session. B.stack session.board)
+            (λ session. B.quiet session.board) self.old.manager.now.limit self.old.manager.now.groups
+            (map shown sessions.old.items) (map shown sessions.new.items) result }
+        ensures none_closed { self.new.opener.closed ≡ self.old.opener.closed }
+        ensures no_memory { IsOkUnless result Refusal.NoMemory }
     {
         self.manager.audit(rt, &mut self.opener, sessions)
     }
@@ -197,6 +268,16 @@ impl<'a> Desk<Session<'a>> for ManagerDesk<'a> {
         ensures manager { self.new.manager.now ≡ self.old.manager.now }
         ensures live { self.new.opener.live ≡ self.old.opener.live - 1 }
         ensures issued { self.new.opener.issued ≡ self.old.opener.issued }
+        ensures closed { let B = ⟦<SeatBoard<'a, Part> as Board<Part>>⟧ in
+            HasClosed (λ session. B.seat session.board) (λ session. B.view session.board) (λ session. B.stack session.board)
+            (shown session.entry)
+            (opener_at self.old.manager.now self.old.opener.issued self.old.opener.live self.old.opener.closed)
+            (opener_at self.new.manager.now self.new.opener.issued self.new.opener.live self.new.opener.closed) }
+        ensures quiet { let B = ⟦<SeatBoard<'a, Part> as Board<Part>>⟧ in
+            (history : History PartView) (others : List (History PartView)) → self.new.opener.closed ≡ history ∷ others →
+            (last : Account) × (left : UseCounts) × QuietOfReleases (B.seat session.entry.board).groups
+            (B.seat session.entry.board).number (B.view session.entry.board) session.entry.uses
+            (ended_by End.Close session.entry.owned.entries) last left (B.quiet session.entry.board) (quiet_told history.marks) }
     {
         session.close(rt, &mut self.opener);
     }

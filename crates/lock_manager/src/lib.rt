@@ -10,6 +10,7 @@ mod keeper;
 pub mod laws;
 mod listing;
 mod manager;
+mod parts;
 mod queues;
 mod releases;
 mod requests;

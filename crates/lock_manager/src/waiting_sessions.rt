@@ -12,8 +12,8 @@ ghost use Rattle.lock_manager.specs.Waiting.{Asks, LooksForWaiters, Polls, Cance
 ghost use Rattle.lock_manager.specs.WaitingSessions.{answer_started, board_started, uses_started, owned_started};
 ghost use Rattle.lock_manager.specs.WaitingSessions.{UnlessQueued, IfQueued};
 ghost use Rattle.lock_manager.specs.WaitingSessions.{answer_polled, board_polled, IfGranted, UnlessGranted};
-ghost use Rattle.lock_manager.specs.WaitingSessions.{was_granted, session_cancelled, acquired_despite};
-ghost use Rattle.lock_manager.specs.WaitingSessions.{answer_waited, session_waited, acquired_after};
+ghost use Rattle.lock_manager.specs.WaitingSessions.{was_granted, session_cancelled};
+ghost use Rattle.lock_manager.specs.WaitingSessions.{answer_waited, session_waited};
 ghost use Rattle.lock_manager.specs.WaitingSessions.{answer_locked, session_locked, Locks, HasBegun, WaitsOn, HasEnded};
 
 use crate::keeper::Part;
@@ -120,46 +120,6 @@ pub enum Waited<S> {
     Granted(S),
     /// It is out of the queue, and holds what it held.
     Refused(S, Refusal),
-}
-
-impl<S> Locked<S> {
-    /// The session, and what its acquire is answered.
-    pub fn into_parts(self) -> (S, Result<Acquired, Refusal>)
-        ensures session { result.0 ≡ session_locked self }
-        ensures answer { result.1 ≡ answer_locked self }
-    {
-        match self {
-            Locked::Granted(session) => (session, Ok(Acquired::Granted)),
-            Locked::AlreadyHeld(session) => (session, Ok(Acquired::AlreadyHeld)),
-            Locked::Refused(session, refusal) => (session, Err(refusal)),
-        }
-    }
-}
-
-impl<S> Waited<S> {
-    /// The session, and what the acquire is answered for which it waited.
-    pub fn into_parts(self) -> (S, Result<Acquired, Refusal>)
-        ensures session { result.0 ≡ session_waited self }
-        ensures answer { result.1 ≡ acquired_after (answer_waited self) }
-    {
-        match self {
-            Waited::Granted(session) => (session, Ok(Acquired::Granted)),
-            Waited::Refused(session, refusal) => (session, Err(refusal)),
-        }
-    }
-}
-
-impl<S> Cancelled<S> {
-    /// The session, and what the acquire is answered whose wait it cancelled: granted, where the grant was first.
-    pub fn into_parts(self) -> (S, Result<Acquired, Refusal>)
-        ensures session { result.0 ≡ session_cancelled self }
-        ensures answer { result.1 ≡ acquired_despite (was_granted self) }
-    {
-        match self {
-            Cancelled::Removed(session) => (session, Err(Refusal::Cancelled)),
-            Cancelled::WasGranted(session) => (session, Ok(Acquired::Granted)),
-        }
-    }
 }
 
 impl<T: PartTable, B: Board<T>> OwnSession<T, B> {
@@ -325,6 +285,27 @@ impl<T: PartTable, B: Board<T>> OwnWaiting<T, B> {
         ensures { result ≡ (B.seat self.now.board).number }
     {
         self.board.number()
+    }
+
+    /// The object that it waits for.
+    pub fn tag(&self) -> Tag
+        ensures { result ≡ self.now.tag }
+    {
+        self.tag
+    }
+
+    /// The mode that it waits for.
+    pub fn mode(&self) -> Mode
+        ensures { result ≡ self.now.mode }
+    {
+        self.mode
+    }
+
+    /// For whom it will have the mode: its transaction or the session.
+    pub fn owner(&self) -> Owner
+        ensures { result ≡ self.now.owner }
+    {
+        self.owner
     }
 
     /// Looks at the wait once (`ProcSleep` in proc.c where it reads `waitStatus`): it was granted, and has ended, or it

@@ -1,4 +1,4 @@
-use Rattle.std.proofs.Common.{◌≡◌, ℕ, ◌≤◌, List, [], ◌∷◌, ◌++◌, sym, ap, ◌∙◌, subst, append_assoc, arith}
+use Rattle.std.proofs.Common.{◌≡◌, ◌≤◌, List, [], ◌∷◌, ◌++◌, sym, ap, ◌∙◌, subst, append_assoc, arith}
 use Rattle.modes_core.specs.Tag.{partition_of}
 use Rattle.lock_world.specs.Account.{Account}
 use Rattle.lock_world.specs.World.{World, TraceEntry, Took, Episode, opening}

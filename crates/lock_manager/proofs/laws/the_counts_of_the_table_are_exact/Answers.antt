@@ -1,8 +1,7 @@
-use Rattle.std.proofs.Common.{◌≡◌, ℕ, ◌<◌, ◌≤◌, true, false, Option, Some, None, sym, ap, ◌∙◌, subst, inl, inr, arith}
+use Rattle.std.proofs.Common.{◌≡◌, ℕ, ◌<◌, ◌≤◌, true, Option, Some, None, subst, inl, inr, arith}
 use Rattle.std.proofs.lemmas.Bool.{cases_Bool}
 use lib.ListN.{get_elem?}
 use Rattle.lock_table.specs.Content.{Content}
-use Rattle.lock_table.specs.OwnWait.{OwnWait}
 use Rattle.lock_table.specs.Queue.{waits_there}
 use Rattle.lock_world.specs.World.{World, Hand}
 use Rattle.lock_world.specs.SafeWorld.{SafeWorld, tabled}

@@ -4,7 +4,6 @@ use Rattle.shared_rule.specs.Boards.{Seated}
 use Rattle.lock_manager.specs.Quiet.{OfStrong, OfTry, OfTable}
 use Rattle.lock_manager.specs.Requests.{DecidesInPart}
 use Rattle.lock_manager.proofs.Lemmas.Requests.Whole.{led-by_table, led-refused, led-decides, led-weak_account, requests-decided}
-use Rattle.lock_manager.proofs.Lemmas.Requests.Whole.{eligible-weak}
 use Rattle.lock_manager.proofs.Lemmas.Quiet.{quiet-refused}
 use Rattle.lock_manager.proofs.requests.request.Goals as goal
 
