@@ -4,7 +4,7 @@ ghost use Rattle.lock_timeline.specs.Bars.{bars_the_way, is_awaited, is_held};
 
 use modes_core::{Mode, ModeSet, Tag, conflicts};
 
-/// How many letters of a label stand beside one another from a step to the next.
+/// How many letters of a label fit between a step and the next one.
 const LETTERS_OF_A_STEP: usize = 6;
 
 /// A lock of a session, from the step in which it was asked for to the one in which it went.
@@ -12,7 +12,7 @@ const LETTERS_OF_A_STEP: usize = 6;
 pub struct Bar {
     /// The number of its session's lane.
     pub lane: u32,
-    /// The row of that lane in which it stands.
+    /// The row of that lane in which it is drawn.
     pub row: u32,
     pub tag: Tag,
     pub mode: Mode,
@@ -27,7 +27,7 @@ pub struct Bar {
 }
 
 impl Bar {
-    /// The step up to which its label reaches.
+    /// The step up to which the label reaches.
     pub fn label_end(&self) -> u32 {
         let steps = u32::try_from(self.label.len() / LETTERS_OF_A_STEP).unwrap_or(u32::MAX);
         self.asked.saturating_add(steps).saturating_add(1)
@@ -53,7 +53,7 @@ impl Bar {
 pub enum Way {
     /// Its session holds a conflicting mode.
     Holds,
-    /// Its session awaits one, and stands before in the queue.
+    /// Its session awaits a conflicting mode, and comes before it in the queue.
     StandsBefore,
 }
 
@@ -67,7 +67,7 @@ pub struct Arrow {
     pub way: Way,
 }
 
-/// The modes that the session of this lane holds on an object.
+/// The modes that the session of `lane` holds on `tag`, by `bars`.
 pub fn held_on(bars: &[Bar], lane: u32, tag: Tag) -> ModeSet {
     let mut modes = ModeSet::empty();
     for bar in bars {
@@ -78,8 +78,8 @@ pub fn held_on(bars: &[Bar], lane: u32, tag: Tag) -> ModeSet {
     modes
 }
 
-/// Whether a lock in this mode on this object, held or awaited by this lane's session, is none that another one may have
-/// beside it.
+/// Whether `bar`, held or awaited, is in the way of `mode` on `tag` for the session of `lane`: it is another session's,
+/// on this object, in a mode that conflicts with this one.
 pub fn is_in_the_way(bar: &Bar, lane: u32, tag: Tag, mode: Mode) -> bool
     ensures { result ≡ bars_the_way bar.now lane tag mode }
 {

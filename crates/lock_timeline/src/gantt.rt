@@ -6,8 +6,9 @@ use std::alloc::AllocError;
 use std::fmt::Write;
 
 impl Timeline {
-    /// The timeline as Mermaid's Gantt chart, whose time is the number of the script's line: a section for each session that
-    /// has a lock or waits for one, with a task for each lock and for each wait, which names those in its way.
+    /// Draws the timeline as Mermaid's Gantt chart, whose time is the number of the script's line: a section for each
+    /// session that has a lock or waits for one, with a task for each lock and for each wait, which names the sessions
+    /// in its way. Refused only where memory ran out.
     pub fn gantt(&self) -> Result<String, AllocError> {
         let mut text = String::new(self.alloc);
         writeln!(text, "gantt")?;
@@ -28,7 +29,7 @@ impl Timeline {
         Ok(text)
     }
 
-    /// The tasks of a lane.
+    /// Writes the tasks of the lane numbered `lane` to `text`.
     fn write_tasks(&self, lane: u32, text: &mut String) -> Result<(), AllocError> {
         let mut number = 0_u32;
         for bar in &self.bars {
@@ -41,7 +42,7 @@ impl Timeline {
         Ok(())
     }
 
-    /// The wait that a bar begins with, if it does.
+    /// Writes to `text` the wait with which `bar`, numbered `number`, begins, if there is one.
     fn write_wait(&self, number: u32, bar: &Bar, text: &mut String) -> Result<(), AllocError> {
         let until = bar.got.or(bar.ended).unwrap_or(self.last_step());
         if until <= bar.asked && bar.got.is_some() {
@@ -61,7 +62,7 @@ impl Timeline {
         writeln!(text, " :crit, {from}, {to}")
     }
 
-    /// The hold of a bar, if its session got the lock.
+    /// Writes to `text` the time for which the session of `bar` held the lock, if it got it.
     fn write_hold(&self, bar: &Bar, text: &mut String) -> Result<(), AllocError> {
         let Some(got) = bar.got else {
             return Ok(());
@@ -72,7 +73,7 @@ impl Timeline {
         writeln!(text, "  {label} :done, {from}, {to}")
     }
 
-    /// The name of the session whose bar has this number.
+    /// The name of the session of the bar numbered `number`.
     fn name_of(&self, number: u32) -> &str {
         let lane = match self.bars.get(number as usize) {
             Some(bar) => bar.lane,
@@ -84,7 +85,7 @@ impl Timeline {
         }
     }
 
-    /// The number of the script's line of a step; behind the last one, that of the line behind it.
+    /// The number of the script's line of the step `step`. After the last step, that of the line after its own.
     fn line_of(&self, step: u32) -> u32 {
         match (self.steps.get(step as usize), self.steps.last()) {
             (Some(line), _) => *line,

@@ -7,25 +7,25 @@ use std::alloc::{AllocError, Global};
 /// A session's name.
 pub type Name = ArrayString<16>;
 
-/// When a row is free again that a bar stands in.
+/// The step from which on a row is free while a bar is in it: none.
 const BUSY: u32 = u32::MAX;
 
-/// A session of a script, with the rows that its bars stand in.
+/// A session of a script, with the rows that its bars are in.
 #[derive(Drop)]
 pub struct Lane {
     pub name: Name,
-    /// Whether it was closed, so that its name may be another's.
+    /// Whether the session was closed, so that its name may be another's.
     pub is_closed: bool,
-    /// How deep its transaction is nested: 1 where it isn't.
+    /// How deep the session's transaction is nested: 1 where it isn't.
     pub level: u32,
-    /// Whether it has a bar.
+    /// Whether the lane has a bar.
     pub has_bars: bool,
     /// The step from which on each row is free.
     rows: Vec<u32>,
 }
 
 impl Lane {
-    /// The lane of a session that was opened under this name.
+    /// The lane of a session that was opened under `name`.
     pub fn new(alloc: Global, name: Name) -> Self
         ensures name { result.name ≡ name }
         ensures open { result.is_closed ≡ false }
@@ -40,7 +40,7 @@ impl Lane {
         }
     }
 
-    /// How many rows its bars need, and no less than one.
+    /// How many rows the lane's bars need, and no less than one.
     pub fn rows(&self) -> u32
         ensures { 1 ≤ result }
     {
@@ -50,7 +50,7 @@ impl Lane {
         }
     }
 
-    /// Takes the first row that is free at this step.
+    /// Takes the first row that is free at the step `step`, or adds one. Refused only where memory ran out.
     pub fn take_row(&mut self, step: u32) -> Result<u32, AllocError> {
         self.has_bars = true;
         let mut row = 0_u32;
@@ -65,7 +65,7 @@ impl Lane {
         Ok(row)
     }
 
-    /// Frees a row from this step on.
+    /// Frees the row numbered `row` from the step `step` on.
     pub fn free_row(&mut self, row: u32, step: u32) {
         if let Some(free) = self.rows.get_mut(row as usize) {
             *free = step.min(BUSY - 1);

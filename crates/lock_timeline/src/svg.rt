@@ -6,14 +6,16 @@ use modes_core::{Mode, is_strong};
 use std::alloc::AllocError;
 use std::fmt::Write;
 
-/// How wide the names of the sessions are, and how high the lines' numbers.
+/// How wide the column with the sessions' names is.
 const LEFT: u32 = 130;
 
+/// How high the line with the numbers of the script's lines is.
 const TOP: u32 = 34;
 
-/// How far a step is from the next one, and a row.
+/// How far a step is from the next one.
 const STEP: u32 = 40;
 
+/// How far a row is from the next one.
 const ROW: u32 = 18;
 
 /// How far a lane is from the next one, beside its rows.
@@ -25,7 +27,7 @@ const NARROWEST: u32 = 740;
 /// How high what is said below the lanes is.
 const BOTTOM: u32 = 40;
 
-/// What stands before the lanes: how lines, bars and arrows look.
+/// What comes before the lanes: how lines, bars and arrows look.
 const STYLE: &str = r##"<style>
 text { font: 10.5px ui-monospace, 'DejaVu Sans Mono', monospace; fill: #222 }
 .name { font-weight: bold; font-size: 12px }
@@ -41,14 +43,15 @@ text { font: 10.5px ui-monospace, 'DejaVu Sans Mono', monospace; fill: #222 }
 <defs><marker id="head" viewBox="0 0 8 8" refX="7" refY="4" markerWidth="7" markerHeight="7" orient="auto"><path d="M0 0 8 4 0 8z" fill="#c0392b"/></marker></defs>
 "##;
 
-/// Where a step is, from the left.
+/// Where the step `step` is, from the left.
 fn x_of(step: u32) -> u32 {
     step.saturating_mul(STEP).saturating_add(LEFT)
 }
 
 impl Timeline {
-    /// The timeline as SVG: a lane for each session, a line for each step with the number of the script's line, a bar for
-    /// each lock, which is red and dashed while it is awaited, and an arrow from each wait to those in its way.
+    /// Draws the timeline as SVG: a lane for each session, a line for each step with the number of the script's line, a
+    /// bar for each lock, which is red and dashed while it is awaited, and an arrow from each wait to the locks in its
+    /// way. Refused only where memory ran out.
     pub fn svg(&self) -> Result<String, AllocError> {
         let mut text = String::new(self.alloc);
         let width = self.width();
@@ -85,12 +88,12 @@ impl Timeline {
         x_of(last).saturating_add(GAP).max(NARROWEST)
     }
 
-    /// The step behind all that are told of.
+    /// The step after all others.
     pub(crate) fn last_step(&self) -> u32 {
         u32::try_from(self.steps.len()).unwrap_or(u32::MAX)
     }
 
-    /// Where the lane of this number begins, from the top; where it isn't there, the end of all.
+    /// Where the lane numbered `number` begins, from the top; where there is none, the end of all lanes.
     fn top_of(&self, number: u32) -> u32 {
         let mut top = TOP;
         let mut before = number;
@@ -105,12 +108,13 @@ impl Timeline {
         top
     }
 
-    /// Where a bar begins, from the top.
+    /// Where `bar` begins, from the top.
     fn y_of(&self, bar: &Bar) -> u32 {
         let rows = bar.row.saturating_mul(ROW).saturating_add(GAP / 2);
         self.top_of(bar.lane).saturating_add(rows)
     }
 
+    /// Writes to `text` a line for each step, down to `bottom`, with the number of the script's line.
     fn write_steps(&self, bottom: u32, text: &mut String) -> Result<(), AllocError> {
         let mut step = 0_u32;
         for line in &self.steps {
@@ -124,6 +128,7 @@ impl Timeline {
         Ok(())
     }
 
+    /// Writes to `text` a line above each lane, of the picture's `width`, with the session's name.
     fn write_lanes(&self, width: u32, text: &mut String) -> Result<(), AllocError> {
         let mut number = 0_u32;
         for lane in &self.lanes {
@@ -139,6 +144,7 @@ impl Timeline {
         Ok(())
     }
 
+    /// Writes `bar` to `text`: its wait in red, and then the time for which it was held.
     fn write_bar(&self, bar: &Bar, text: &mut String) -> Result<(), AllocError> {
         let y = self.y_of(bar);
         let asked = x_of(bar.asked);
@@ -165,7 +171,7 @@ impl Timeline {
         writeln!(text, "<text x=\"{x}\" y=\"{base}\">{label}</text>")
     }
 
-    /// An arrow down or up to the bar that is in the way, where the wait begins.
+    /// Writes `arrow` to `text`: down or up from the beginning of the wait to the bar that is in its way.
     fn write_arrow(&self, arrow: &Arrow, text: &mut String) -> Result<(), AllocError> {
         let (Some(from), Some(to)) = (
             self.bars.get(arrow.from as usize),
@@ -189,6 +195,8 @@ impl Timeline {
         )
     }
 
+    /// Writes to `text`, below `bottom`, what the colours and arrows mean, and from which line on the script is left
+    /// out.
     fn write_below(&self, width: u32, bottom: u32, text: &mut String) -> Result<(), AllocError> {
         let y = bottom.saturating_add(24);
         writeln!(
@@ -206,7 +214,8 @@ impl Timeline {
     }
 }
 
-/// A part of a bar, from one place to another one, with the label that is shown where it is pointed at.
+/// Writes to `text` a part of a bar, from the place `from` to the place `to`, in the way that `class` looks. `label` is
+/// shown where it is pointed at.
 fn write_rect(
     text: &mut String,
     class: &str,

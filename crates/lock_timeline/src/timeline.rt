@@ -1,10 +1,12 @@
-//! What is told of a script, kept as bars.
+//! What the sessions of a script were answered, kept as bars.
 ghost use Rattle.std.specs.Prelude.{◌≡◌, ◌==◌};
 ghost use Rattle.std.specs.List.{list_any};
 
-use crate::bars::{Arrow, Bar, Way, held_on, is_in_the_way};
+mod waits;
+
+use crate::bars::{Arrow, Bar};
 use crate::lanes::{Lane, Name};
-use modes_core::{LockMethod, Mode, Owner, Tag, conflicts};
+use modes_core::{LockMethod, Mode, Owner, Tag};
 use std::alloc::{AllocError, Global};
 
 /// How many lines a timeline shows. What comes later is left out, and the picture says so.
@@ -21,7 +23,7 @@ struct Claim {
     count: u32,
 }
 
-/// What was told of a script so far. A step is a line with a command.
+/// What the sessions of a script were answered so far. A step is a line with a command.
 #[derive(Drop)]
 pub struct Timeline {
     pub(crate) alloc: Global,
@@ -37,13 +39,13 @@ pub struct Timeline {
     queue: Vec<u32>,
 }
 
-/// The number of the next one to be added to as many.
+/// The number that the next one gets where there are `length`.
 fn next_of(length: usize) -> u32 {
     u32::try_from(length).unwrap_or(u32::MAX)
 }
 
 impl Timeline {
-    /// A timeline of which nothing was told yet.
+    /// A timeline with no step and no session.
     pub fn new(alloc: Global) -> Self {
         Timeline {
             alloc,
@@ -57,7 +59,8 @@ impl Timeline {
         }
     }
 
-    /// The line with this number is played. What is told next comes of it.
+    /// Begins the step of the script's line `number`: what comes next is of this step. After `MOST_STEPS` steps it only
+    /// keeps the first number that is left out. Refused only where memory ran out.
     pub fn begin_line(&mut self, number: u32) -> Result<(), AllocError> {
         if self.steps.len() < MOST_STEPS {
             self.steps.push(number)?;
@@ -67,7 +70,7 @@ impl Timeline {
         Ok(())
     }
 
-    /// The session of this name was opened.
+    /// Adds the session `name`, which was opened. Refused only where memory ran out.
     pub fn open(&mut self, name: Name) -> Result<(), AllocError> {
         if self.left_out.is_some() {
             return Ok(());
@@ -77,7 +80,8 @@ impl Timeline {
         Ok(())
     }
 
-    /// A session has this lock once more for this owner.
+    /// Notes that the session `name` was granted `mode` on `tag` for `owner`, once more if it had the lock. Refused
+    /// only where memory ran out.
     pub fn grant(
         &mut self,
         name: &Name,
@@ -98,7 +102,7 @@ impl Timeline {
         self.claim(lane, bar, owner)
     }
 
-    /// A session waits for this lock, for this owner.
+    /// Notes that the session `name` waits for `mode` on `tag`, for `owner`. Refused only where memory ran out.
     pub fn wait(
         &mut self,
         name: &Name,
@@ -115,7 +119,7 @@ impl Timeline {
         self.join_queue(lane, bar, tag, mode)
     }
 
-    /// A session that waited has its lock.
+    /// Notes that the session `name`, which waited, got its lock.
     pub fn go_on(&mut self, name: &Name) {
         let step = self.step();
         if let Some(bar) = self.leave_queue(name) {
@@ -125,7 +129,7 @@ impl Timeline {
         }
     }
 
-    /// A session that waited gave up.
+    /// Notes that the session `name`, which waited, gave up.
     pub fn give_up(&mut self, name: &Name) {
         if let Some(bar) = self.leave_queue(name) {
             self.claims.retain(|claim| claim.bar != bar);
@@ -133,7 +137,7 @@ impl Timeline {
         }
     }
 
-    /// A session gave back one count of this lock for this owner.
+    /// Notes that the session `name` gave back one count of `mode` on `tag` for `owner`.
     pub fn release(&mut self, name: &Name, tag: Tag, mode: Mode, owner: Owner) {
         let Some(lane) = self.lane_of(name) else {
             return;
@@ -151,7 +155,7 @@ impl Timeline {
         self.end_unclaimed();
     }
 
-    /// A session began a level of its transaction.
+    /// Notes that the session `name` began a level of its transaction.
     pub fn begin_level(&mut self, name: &Name) {
         let Some(lane) = self.lane_of(name) else {
             return;
@@ -161,7 +165,8 @@ impl Timeline {
         }
     }
 
-    /// A session ended the innermost level of its transaction. Its locks go to the level outside, or are dropped.
+    /// Notes that the session `name` ended the innermost level of its transaction, whose locks go to the level outside
+    /// if it `keeps` them, and else are dropped.
     pub fn end_level(&mut self, name: &Name, keeps: bool) {
         let Some(lane) = self.lane_of(name) else {
             return;
@@ -183,7 +188,7 @@ impl Timeline {
         self.end_unclaimed();
     }
 
-    /// A session committed: the locks of its transaction are dropped.
+    /// Notes that the session `name` committed: the locks of its transaction are dropped.
     pub fn commit(&mut self, name: &Name) {
         let Some(lane) = self.lane_of(name) else {
             return;
@@ -193,7 +198,7 @@ impl Timeline {
         self.end_transaction(lane);
     }
 
-    /// A session aborted: its locks are dropped, but for the session's own advisory locks.
+    /// Notes that the session `name` aborted: its locks are dropped, but for the session's own advisory locks.
     pub fn abort(&mut self, name: &Name) {
         let Some(lane) = self.lane_of(name) else {
             return;
@@ -205,7 +210,7 @@ impl Timeline {
         self.end_transaction(lane);
     }
 
-    /// A session was closed.
+    /// Notes that the session `name` was closed.
     pub fn close(&mut self, name: &Name) {
         let Some(lane) = self.lane_of(name) else {
             return;
@@ -217,12 +222,12 @@ impl Timeline {
         }
     }
 
-    /// The step that is told of.
+    /// The step that has begun.
     fn step(&self) -> u32 {
         next_of(self.steps.len()).saturating_sub(1)
     }
 
-    /// The number of the lane of the open session of this name. None is looked for where lines are left out.
+    /// The number of the lane of the open session `name`. None is looked for where lines are left out.
     fn lane_of(&self, name: &Name) -> Option<u32> {
         if self.left_out.is_some() {
             return None;
@@ -237,7 +242,7 @@ impl Timeline {
         None
     }
 
-    /// The level of an owner: 0 of the session, or that of its transaction.
+    /// The level of `owner`: 0 of the session, or that of the transaction of the session of `lane`.
     fn level_of(&self, lane: u32, owner: Owner) -> u32 {
         match (owner, self.lanes.get(lane as usize)) {
             (Owner::Transaction, Some(it)) => it.level,
@@ -245,7 +250,7 @@ impl Timeline {
         }
     }
 
-    /// The number of the bar of a lock that a session has.
+    /// The number of the bar of the lock in `mode` on `tag` that the session of `lane` has.
     fn held_bar(&self, lane: u32, tag: Tag, mode: Mode) -> Option<u32> {
         let mut number = 0_u32;
         for bar in &self.bars {
@@ -257,7 +262,8 @@ impl Timeline {
         None
     }
 
-    /// Adds a bar that begins now, in the first row of its lane that is free.
+    /// Adds a bar of `mode` on `tag` that begins now, in the first free row of `lane`, held from the step `got` on if
+    /// there is one. Answers its number.
     fn add_bar(
         &mut self,
         lane: u32,
@@ -285,7 +291,7 @@ impl Timeline {
         Ok(number)
     }
 
-    /// Counts a lock once more for an owner.
+    /// Counts the lock of the bar numbered `bar` once more for `owner`.
     fn claim(&mut self, lane: u32, bar: u32, owner: Owner) -> Result<(), AllocError> {
         let level = self.level_of(lane, owner);
         for claim in &mut self.claims {
@@ -303,66 +309,7 @@ impl Timeline {
         Ok(())
     }
 
-    /// Adds an arrow to each lock that is held in the way of a session that begins to wait.
-    fn add_holders(
-        &mut self,
-        lane: u32,
-        from: u32,
-        tag: Tag,
-        mode: Mode,
-    ) -> Result<(), AllocError> {
-        let mut to = 0_u32;
-        for bar in &self.bars {
-            if bar.is_held() && is_in_the_way(bar, lane, tag, mode) {
-                let way = Way::Holds;
-                self.arrows.push(Arrow { from, to, way })?;
-            }
-            to = to.saturating_add(1);
-        }
-        Ok(())
-    }
-
-    /// Has a session join the queue of an object: at its end, or before the first one that waits for what this session
-    /// holds (`ProcSleep` in proc.c). Adds an arrow to each one that is in its way and stands before.
-    fn join_queue(&mut self, lane: u32, from: u32, tag: Tag, mode: Mode) -> Result<(), AllocError> {
-        let held = held_on(self.bars.as_slice(), lane, tag);
-        let mut joined = Vec::new(self.alloc);
-        let mut is_in = false;
-        for to in &self.queue {
-            if let Some(bar) = self.bars.get(*to as usize) {
-                if !is_in && bar.tag == tag && conflicts(bar.mode).meets(held) {
-                    joined.push(from)?;
-                    is_in = true;
-                }
-                if !is_in && is_in_the_way(bar, lane, tag, mode) {
-                    let (to, way) = (*to, Way::StandsBefore);
-                    self.arrows.push(Arrow { from, to, way })?;
-                }
-            }
-            joined.push(*to)?;
-        }
-        if !is_in {
-            joined.push(from)?;
-        }
-        self.queue = joined;
-        Ok(())
-    }
-
-    /// Takes the wait of a session out of its queue. Answers the number of its bar.
-    fn leave_queue(&mut self, name: &Name) -> Option<u32> {
-        let lane = self.lane_of(name)?;
-        let mut number = 0_u32;
-        for bar in &self.bars {
-            if bar.lane == lane && bar.is_awaited() {
-                self.queue.retain(|waiting| *waiting != number);
-                return Some(number);
-            }
-            number = number.saturating_add(1);
-        }
-        None
-    }
-
-    /// Ends the levels of a session's transaction, with the locks that no owner has any more.
+    /// Ends the levels of the transaction of the session of `lane`, with the locks that no owner has any more.
     fn end_transaction(&mut self, lane: u32) {
         if let Some(it) = self.lanes.get_mut(lane as usize) {
             it.level = 1;
@@ -386,14 +333,14 @@ impl Timeline {
     }
 }
 
-/// Whether an owner has the lock of this bar.
+/// Whether one of `claims` is to the lock of the bar numbered `bar`.
 fn is_claimed(claims: &[Claim], bar: u32) -> bool
     ensures { result ≡ list_any (λ claim. claim.bar == bar) claims.now }
 {
     claims.iter().any(|claim| claim.bar == bar)
 }
 
-/// Whether the bar of this number is an advisory lock's.
+/// Whether the lock of the bar numbered `number` is an advisory one.
 fn is_advisory(bars: &[Bar], number: u32) -> bool {
     match bars.get(number as usize) {
         Some(bar) => bar.tag.method() == LockMethod::User,
