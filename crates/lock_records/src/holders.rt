@@ -166,6 +166,7 @@ fn take_holder(
 
 /// The session with the lowest number, other than `session`, that holds `tag` in one of the modes of `set`, with all
 /// the modes that it holds.
+#[inline(always)]
 pub(crate) fn lowest_holder(
     slots: &Slab<HolderRecord>,
     holders: Holders,

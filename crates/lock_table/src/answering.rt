@@ -1,13 +1,16 @@
 //! What a content answers a lock request: what the request clashes with, and where it goes in the
 //! object's queue. Each function here only reads, and works on any keeper of a partition's content.
 
-ghost use Rattle.lock_table.specs.Clash.{ClashIs};
+ghost use Rattle.std.specs.Prelude.{◌≡◌, option_map};
+ghost use Rattle.lock_table.specs.Clash.{ClashIs, first_waiter};
 ghost use Rattle.lock_table.specs.Queue.{WaitingAnswer};
+ghost use Rattle.lock_table.specs.Waiter.{shown_wait};
 
 mod place;
 mod walk;
 
 use crate::part_table::PartTable;
+use crate::waits::Waiter;
 use modes_core::{How, Mode, SessionId, Tag};
 pub use place::answer_by_place;
 pub use walk::{first_against, is_against};
@@ -35,10 +38,7 @@ pub fn clash_with<P: PartTable>(
 ) -> Option<Clash>
     ensures { ClashIs (P.content part.now) session tag.now mode result }
 {
-    if !part.may_conflict(tag, mode) {
-        return None;
-    }
-    if let Some(waiter) = first_against(part, tag, mode) {
+    if let Some(waiter) = waiter_against(part, tag, mode) {
         return Some(Clash {
             session: waiter.session,
             mode: waiter.mode,
@@ -51,6 +51,21 @@ pub fn clash_with<P: PartTable>(
         mode: its,
         how: How::Held,
     })
+}
+
+/// The first waiter in the queue of `tag` that awaits a mode in conflict with `mode`. Mostly nobody waits, which is asked
+/// first; and the queue is walked only where `PartTable::may_conflict` says that it may have one.
+#[inline(always)]
+fn waiter_against<P: PartTable>(part: &P, tag: &Tag, mode: Mode) -> Option<Waiter>
+    ensures { option_map shown_wait result ≡ first_waiter ((P.content part.now).waits tag.now) mode }
+{
+    if part.waiter(tag, 0).is_none() {
+        return None;
+    }
+    if !part.may_conflict(tag, mode) {
+        return None;
+    }
+    first_against(part, tag, mode)
 }
 
 /// What a request that may wait is answered.
