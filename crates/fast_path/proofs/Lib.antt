@@ -1,5 +1,4 @@
 mod Loading
-mod Words
 pub mod GroupCounts
 mod Looking
 mod LookingFromTop

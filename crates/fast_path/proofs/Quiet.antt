@@ -1,4 +1,4 @@
-use Rattle.std.proofs.Common.{◌≡◌, ◌≢◌, ℕ, zero, suc, ◌+◌, List, ◌∷◌, refl, sym, ap, ◌∙◌, arith}
+use Rattle.std.proofs.Common.{◌≡◌, ◌≢◌, ℕ, zero, suc, ◌+◌, List, ◌∷◌, refl, ap, ◌∙◌, arith}
 use Rattle.shared_rule.specs.Quiet.{Quiet, TakesSlots, SharesSlots}
 use Rattle.fast_path.specs.Quiet.{quiet_ungranting, quiet_turns, quiet_sharing}
 

@@ -1,8 +1,8 @@
-use Rattle.std.proofs.Common.{◌≡◌, ◌≢◌, ℕ, zero, suc, ◌+◌, ◌-◌, ◌*◌, ◌<◌, ◌≤◌, false, List, [], ◌∷◌, ◌++◌, length, take}
+use Rattle.std.proofs.Common.{◌≡◌, ◌≢◌, ℕ, zero, suc, ◌+◌, ◌-◌, ◌*◌, ◌<◌, ◌≤◌, true, false, List, [], ◌∷◌, ◌++◌, length, take}
 use Rattle.std.proofs.Common.{Result, Ok, Err, OnOk, refl, sym, ap, ◌∙◌, subst, arith, append_assoc}
 use Rattle.std.proofs.Common.{append-nil, inl, inr}
-use Rattle.std.specs.Prelude.{◌==◌}
-use Rattle.std.proofs.lemmas.Bool.{cases_eq, both_ways, false_from_ne_true, and_from, eq-eqb, cond-false}
+use Rattle.std.specs.Prelude.{◌==◌, is_ok}
+use Rattle.std.proofs.lemmas.Bool.{cases_eq, both_ways, false_from_ne_true, and_from, eq-eqb, cond-false, true≢false, false≢true}
 use Rattle.std.proofs.lemmas.List.{take_at}
 use Rattle.modes_core.specs.declared.modes.Mode.{Mode}
 use Rattle.modes_core.specs.declared.modes.Mode.TheVariants.{AccessShare, RowShare, RowExclusive}
@@ -18,7 +18,7 @@ use Rattle.lock_world.specs.World.{TraceEntry, Loaded}
 use Rattle.lock_world.specs.Account.{Account}
 use Rattle.lock_world.specs.AccountSteps.{account_unsharing_fast}
 use Rattle.shared_rule.specs.History.{slots_here}
-use Rattle.fast_path.specs.Slots.{word_of, AreWords, all_loads, account_loading}
+use Rattle.fast_path.specs.Slots.{all_loads, account_loading}
 use Rattle.fast_path.specs.Rows.{database_in, mode_row, rows_of_slot, rows_below, rows_of_session, rows_of_all, loads_of_all}
 use Rattle.fast_path.specs.Rows.{ReadsSlots, ListsSlots, ListsSession, BeginsWith}
 use Rattle.fast_path.specs.Turns.{IsUnlocked}
@@ -44,6 +44,25 @@ rows_below-more limit rows old before after so_far more =
     let one : suc limit ≡ limit + 1 = omega arith in
     more ∙ ap (λ xs. xs ++ rows limit) so_far ∙ append_assoc old (rows_below limit rows) (rows limit)
     ∙ ap (λ n. old ++ rows_below n rows) one
+
+-- One slot's rows more are listed, where those before it were.
+pub listed-next :
+    (limit : ℕ) (rows : ℕ → List SlotRow) (old before after : List SlotRow) (was now : Result (Unit {0}) NoMemory)
+    → is_ok was ≡ true → OnOk was (before ≡ old ++ rows_below limit rows) → OnOk now (after ≡ before ++ rows limit)
+    → OnOk now (after ≡ old ++ rows_below (limit + 1) rows)
+listed-next limit rows old before after (Ok a) (Ok b) there so_far more = rows_below-more limit rows old before after so_far more
+listed-next limit rows old before after (Ok a) (Err e) there so_far more = tt
+listed-next limit rows old before after (Err e) now there so_far more = absurd (false≢true there)
+
+-- The same of equal answers and lists.
+pub listed-same : (all : List SlotRow) (a b : Result (Unit {0}) NoMemory) (x y : List SlotRow) → a ≡ b → x ≡ y → OnOk b (y ≡ all) → OnOk a (x ≡ all)
+listed-same all a b x y same_answer same_list is =
+    subst (λ r. OnOk r (x ≡ all)) (sym same_answer) (subst (λ l. OnOk b (l ≡ all)) (sym same_list) is)
+
+-- Where memory ran out before, nothing more is said of the list.
+pub listed-out : (P : Type 0) (was : Result (Unit {0}) NoMemory) → is_ok was ≡ false → OnOk was P
+listed-out P (Ok a) none = absurd (true≢false none)
+listed-out P (Err e) none = tt
 
 rows_below-same : (limit : ℕ) (f g : ℕ → List SlotRow) → ((k : ℕ) → k < limit → f k ≡ g k)
     → rows_below limit f ≡ rows_below limit g
@@ -153,16 +172,17 @@ rows-of_groups groups session database slot some few in_groups =
     (none_past-groups groups slot in_groups some k from (omega (arith, below, few)))))
 
 pub lists-session :
-    (groups own : ℕ) (a b v c : Account) (owner shown database count : ℕ) (words : List ℕ) (old new : List SlotRow)
+    (groups own : ℕ) (a b v c : Account) (owner shown database count : ℕ) (old new : List SlotRow)
     (result : Result (Unit {0}) NoMemory)
     → IsUnlocked a → 0 < groups → groups ≤ most_groups → count ≡ group_size * groups
     → (read : Reads groups own a owner shown b)
     → v ≡ account_loading b owner (λ k. k) (slots_here (b.fast.shared_slots owner)).word count
-    → AreWords count words (slots_here (b.fast.shared_slots owner)).word → c ≡ account_unsharing_fast v owner
+    → c ≡ account_unsharing_fast v owner
     → database ≡ database_in shown
-    → OnOk result (new ≡ old ++ rows_below count (λ place. rows_of_slot owner database place (word_of words place)))
+    → OnOk result (new ≡ old ++ rows_below count
+    (λ place. rows_of_slot owner database place ((slots_here (b.fast.shared_slots owner)).word place)))
     → ListsSession groups own a owner old result new c
-lists-session groups own a b v c owner shown database count words old new result unlocked some few all read loaded are put
+lists-session groups own a b v c owner shown database count old new result unlocked some few all read loaded put
     same listed =
     record {
       shown = shown;
@@ -187,17 +207,19 @@ lists-session groups own a b v c owner shown database count words old new result
       after = after-from a c (remembered_then own a owner read.slots) a.fast.counted
           (its_loads groups own a b owner shown read) (remembered-no_more groups own a owner read.slots read.knows) is
 
-      rows : rows_below count (λ place. rows_of_slot owner database place (word_of words place))
-          ≡ rows_of_session owner (database_in shown) read.slots.word
-      rows = rows_below-same count (λ place. rows_of_slot owner database place (word_of words place))
-          (λ place. rows_of_slot owner (database_in shown) place (read.slots.word place))
+      its : ℕ → List SlotRow
+      its place = rows_of_slot owner database place ((slots_here (b.fast.shared_slots owner)).word place)
+
+      rows : rows_below count its ≡ rows_of_session owner (database_in shown) read.slots.word
+      rows = rows_below-same count its (λ place. rows_of_slot owner (database_in shown) place (read.slots.word place))
           (λ place within. (λ i. rows_of_slot owner (same i) place
-          ((are place within ∙ (λ j. (slots_here (slots-shared groups own a b owner shown read j)).word place)) i)))
+          ((slots_here (slots-shared groups own a b owner shown read i)).word place)))
           ∙ ap (λ n. rows_below n (λ place. rows_of_slot owner (database_in shown) place (read.slots.word place))) all
           ∙ rows-of_groups groups owner (database_in shown) read.slots.word some few read.knows.in_groups
 
       at : (r : Result (Unit {0}) NoMemory)
-          → OnOk r (new ≡ old ++ rows_below count (λ place. rows_of_slot owner database place (word_of words place)))
+          → OnOk r (new ≡ old ++ rows_below count
+          (λ place. rows_of_slot owner database place ((slots_here (b.fast.shared_slots owner)).word place)))
           → OnOk r (new ≡ old ++ rows_of_session owner (database_in shown) read.slots.word)
       at (Ok done) is = is ∙ (λ i. old ++ rows i)
       at (Err refusal) is = tt

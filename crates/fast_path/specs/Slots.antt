@@ -16,14 +16,6 @@ use Rattle.fast_path.specs.declared.use_counts.UseCounts.{UseCounts}
 
 -- A session's slots, as the fast path reads them.
 
--- the word at a place of these
-abbrev pub word_of : List ℕ → ℕ → ℕ
-word_of words place = slice_index_or words place 0
-
--- These are the words of the first so many slots.
-abbrev pub AreWords : ℕ → List ℕ → (ℕ → ℕ) → Type 0
-AreWords count words word = (place : ℕ) → place < count → word_of words place ≡ word place
-
 -- The slot at this place is one of the group.
 abbrev pub IsOfGroup : ℕ → ℕ → Type 0
 IsOfGroup group place = place / group_size ≡ group

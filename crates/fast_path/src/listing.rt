@@ -1,16 +1,18 @@
 //! What all sessions' slots show (the first part of `GetLockStatusData` in lock.c).
 
-ghost use Rattle.std.specs.Prelude.{◌≡◌, ◌<◌, ◌≤◌, ◌++◌, ◌∷◌, OnOk};
-ghost use Rattle.lock_world.specs.SlotHolds.{slot_count};
+ghost use Rattle.std.specs.Prelude.{◌≡◌, ◌*◌, ◌<◌, ◌≤◌, ◌++◌, ◌∷◌, OnOk, Some};
+ghost use Rattle.lock_world.specs.SlotHolds.{group_size};
+ghost use Rattle.lock_world.specs.Account.{SlotsInHand};
+ghost use Rattle.shared_rule.specs.History.{slots_here};
 ghost use Rattle.shared_rule.specs.Boards.{nothing_due};
-ghost use Rattle.fast_path.specs.Slots.{word_of};
+ghost use Rattle.fast_path.specs.Slots.{account_loading};
 ghost use Rattle.fast_path.specs.Turns.{IsUnlocked};
 ghost use Rattle.shared_rule.specs.Quiet.{SharesSlots};
 ghost use Rattle.fast_path.specs.Quiet.{QuietOfListing};
 ghost use Rattle.fast_path.specs.Rows.{ListsSlots, ListsSession, BeginsWith};
 ghost use Rattle.fast_path.specs.Rows.{mode_row, rows_of_slot, rows_below, database_in};
 
-use crate::slot_words::{SLOTS, load_slots};
+use crate::slot_words::SLOTS;
 use lock_table::{NoMemory, PartTable, SlotRow};
 use lw_word::SlotWord;
 use modes_core::{Mode, SessionId, Tag};
@@ -19,7 +21,8 @@ use std::sync::Wait;
 
 /// Appends to `rows` a row for each mode that a slot of any session shows: by session, by slot, by mode. The lock of
 /// each session's slots is shared while they are read, one session after another, so that other readers don't wait,
-/// and the rows are not of one moment. Only the list takes memory; where that is missing it has what it had.
+/// and the rows are not of one moment. Only the list takes memory, and it grows while that lock is shared, as the
+/// server's does; where memory is missing it has what it had.
 pub fn slot_rows<T: PartTable, B: Board<T>, R: Wait>(
     rt: &R,
     board: &mut B,
@@ -68,9 +71,9 @@ fn session_rows<T: PartTable, B: Board<T>, R: Wait>(
     let count = SLOTS * board.groups();
     board.share_fast(rt, owner);
     let shown = board.load_database(owner);
-    let words = load_slots(board, owner, count);
+    let listed = append_slots(board, owner, database_in(shown), count, rows);
     board.unshare_fast(owner);
-    append_session(owner, database_in(shown), &words, count, rows)
+    listed
 }
 
 /// The database that a session's database word shows as `shown`.
@@ -80,23 +83,34 @@ fn database_in(shown: u64) -> u32
     (shown & 0xFFFF_FFFF) as u32
 }
 
-/// Appends to `rows` those of the first `count` slots of `session`, whose words are `words`.
-fn append_session(
-    session: SessionId,
+/// Loads the words of the first `count` slots of `owner`, whose lock is shared, and appends to `rows` those of each as it
+/// is loaded. Where memory runs out the others are loaded all the same.
+fn append_slots<T: PartTable, B: Board<T>>(
+    board: &mut B,
+    owner: SessionId,
     database: u32,
-    words: &[SlotWord; 128],
     count: u8,
     rows: &mut Vec<SlotRow>,
 ) -> Result<(), NoMemory>
-    requires few { count ≤ slot_count }
-    ensures listed { OnOk result (rows.new.items ≡ rows.old.items
-        ++ rows_below count (λ place. rows_of_slot session database place (word_of words.now place))) }
+    requires there { count ≤ group_size * (B.seat board.old).groups }
+    requires shared { (slots : SlotsInHand) × ((B.view board.old).fast.shared_slots owner ≡ Some slots) }
+    ensures loaded { B.view board.new ≡ account_loading (B.view board.old) owner (λ place. place)
+        (slots_here ((B.view board.old).fast.shared_slots owner)).word count }
+    ensures listed { OnOk result (rows.new.items ≡ rows.old.items ++ rows_below count (λ place.
+        rows_of_slot owner database place ((slots_here ((B.view board.old).fast.shared_slots owner)).word place))) }
     ensures behind { BeginsWith rows.old.items rows.new.items }
+    ensures stack { B.stack board.new ≡ B.stack board.old }
+    ensures quiet { B.quiet board.new ≡ B.quiet board.old }
+    ensures seat { B.seat board.new ≡ B.seat board.old }
 {
+    let mut listed = Ok(());
     for place in 0..count {
-        append_slot(session, database, place, words[usize::from(place)], rows)?;
+        let word = board.load_slot(owner, place);
+        if listed.is_ok() {
+            listed = append_slot(owner, database, place, word, rows);
+        }
     }
-    Ok(())
+    listed
 }
 
 /// Appends to `rows` those of the slot of `session` at `place`, by mode.

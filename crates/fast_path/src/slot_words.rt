@@ -1,10 +1,10 @@
-//! The words of a session's slots, as one who has their lock in hand, or shares it, loads them.
+//! The words of a session's slots, as one who has their lock in hand loads them.
 
-ghost use Rattle.std.specs.Prelude.{◌≡◌, ℕ, ◌*◌, ◌<◌, ◌≤◌, Some};
-ghost use Rattle.lock_world.specs.SlotHolds.{group_size, most_groups, slot_count, place_in_group, used_in};
+ghost use Rattle.std.specs.Prelude.{◌≡◌, ℕ, ◌<◌, ◌≤◌, Some};
+ghost use Rattle.lock_world.specs.SlotHolds.{group_size, most_groups, place_in_group, used_in};
 ghost use Rattle.lock_world.specs.Account.{SlotsInHand};
 ghost use Rattle.shared_rule.specs.History.{slots_here};
-ghost use Rattle.fast_path.specs.Slots.{place_from_top, account_loading, AreWords, Sights, SightsForGrant};
+ghost use Rattle.fast_path.specs.Slots.{place_from_top, account_loading, Sights, SightsForGrant};
 
 use lock_table::PartTable;
 use lw_word::SlotWord;
@@ -14,29 +14,6 @@ use shared_rule::Board;
 /// How many fast-path slots a group has (`FP_LOCK_SLOTS_PER_BACKEND` in proc.h, in version 18
 /// `FP_LOCK_SLOTS_PER_GROUP`).
 pub const SLOTS: u8 = 16;
-
-/// Loads the words of the first `count` slots of `owner`, whose lock is shared.
-pub(crate) fn load_slots<T: PartTable, B: Board<T>>(
-    board: &mut B,
-    owner: SessionId,
-    count: u8,
-) -> [SlotWord; 128]
-    requires few { count ≤ slot_count }
-    requires there { count ≤ group_size * (B.seat board.old).groups }
-    requires shared { (slots : SlotsInHand) × ((B.view board.old).fast.shared_slots owner ≡ Some slots) }
-    ensures loaded { B.view board.new ≡ account_loading (B.view board.old) owner (λ place. place)
-        (slots_here ((B.view board.old).fast.shared_slots owner)).word count }
-    ensures words { AreWords count result (slots_here ((B.view board.old).fast.shared_slots owner)).word }
-    ensures seat { B.seat board.new ≡ B.seat board.old }
-    ensures stack { B.stack board.new ≡ B.stack board.old }
-    ensures quiet { B.quiet board.new ≡ B.quiet board.old }
-{
-    let mut words = [SlotWord::from_number(0); 128];
-    for place in 0..count {
-        words[usize::from(place)] = board.load_slot(owner, place);
-    }
-    words
-}
 
 /// A slot's place, and the word that it shows.
 #[derive(Clone, Copy)]

@@ -1,11 +1,11 @@
-use Rattle.std.proofs.Common.{◌∙◌, ◌*◌, ℕ, sym, ap, arith, rules}
+use Rattle.std.proofs.Common.{◌∙◌, ◌*◌, ℕ, sym, ap, rules}
 use Rattle.shared_rule.specs.Boards.{Seated}
 use Rattle.fast_path.proofs.Reading.{reads, slots-shared, may_unshare}
 use Rattle.fast_path.proofs.SlotRows.{lists-session}
 use Rattle.fast_path.proofs.listing.session_rows.Goals as goal
 
-pub load_slots-words-requires : goal.load_slots-words-requires
-load_slots-words-requires g c =
+pub append_slots-listed-requires : goal.append_slots-listed-requires
+append_slots-listed-requires g c =
     let groups = (g.B.Board.seat c.args.board.now).groups in
     let own = (g.B.Board.seat c.args.board.now).number in
     let a = g.B.Board.view c.args.board.now in
@@ -14,7 +14,6 @@ load_slots-words-requires g c =
     c.share_fast.ensures.shared c.load_database-shown.ensures.of_shared_slots (λ same. c.load_database-shown.ensures.own (same ∙ sym (ap (λ (s : Seated). s.number) c.share_fast.ensures.seat)))
     c.load_database-shown.ensures.view in
     record {
-      few = omega (arith, c.groups-count.ensures.value, c.groups-count.ensures.few);
       there = search rules;
       shared = (read.slots, slots-shared groups own a b c.args.owner c.load_database-shown.result read);
     }
@@ -28,9 +27,9 @@ unshare_fast-requires-clause-lawful g c =
     let read = reads groups own a (g.B.Board.view c.share_fast.new.self) b c.args.owner c.load_database-shown.result
     c.share_fast.ensures.shared c.load_database-shown.ensures.of_shared_slots (λ same. c.load_database-shown.ensures.own (same ∙ sym (ap (λ (s : Seated). s.number) c.share_fast.ensures.seat)))
     c.load_database-shown.ensures.view in
-    may_unshare groups own a b c.args.owner c.load_database-shown.result read (g.B.Board.view c.load_slots-words.new.board) _
+    may_unshare groups own a b c.args.owner c.load_database-shown.result read (g.B.Board.view c.append_slots-listed.new.board) _
     (ap (λ (k : ℕ). 16 * k) c.groups-count.ensures.value)
-    c.load_slots-words.ensures.loaded
+    c.append_slots-listed.ensures.loaded
 
 pub returns-clause-listed : goal.returns-clause-listed
 returns-clause-listed g c =
@@ -42,9 +41,9 @@ returns-clause-listed g c =
     let read = reads groups own a (g.B.Board.view c.share_fast.new.self) b c.args.owner shown c.share_fast.ensures.shared
     c.load_database-shown.ensures.of_shared_slots (λ same. c.load_database-shown.ensures.own (same ∙ sym (ap (λ (s : Seated). s.number) c.share_fast.ensures.seat)))
     c.load_database-shown.ensures.view in
-    lists-session groups own a b (g.B.Board.view c.load_slots-words.new.board)
-    (g.B.Board.view c.unshare_fast.new.self) c.args.owner shown c.database_in.result _ c.load_slots-words.result
-    c.args.rows.now.items c.append_session.new.rows.items c.append_session.result c.requires.unlocked
+    lists-session groups own a b (g.B.Board.view c.append_slots-listed.new.board)
+    (g.B.Board.view c.unshare_fast.new.self) c.args.owner shown c.database_in.result _
+    c.args.rows.now.items c.append_slots-listed.new.rows.items c.append_slots-listed.result c.requires.unlocked
     c.groups-count.ensures.some c.groups-count.ensures.few (ap (λ (k : ℕ). 16 * k) c.groups-count.ensures.value) read
-    c.load_slots-words.ensures.loaded c.load_slots-words.ensures.words c.unshare_fast.ensures.view c.database_in.ensures
-    c.append_session.ensures.listed
+    c.append_slots-listed.ensures.loaded c.unshare_fast.ensures.view c.database_in.ensures
+    c.append_slots-listed.ensures.listed

@@ -1,15 +1,17 @@
-use Rattle.std.proofs.Common.{◌≡◌, ◌<◌, ℕ}
+use Rattle.std.proofs.Common.{◌≡◌, ◌++◌, OnOk}
 use Rattle.shared_rule.specs.History.{slots_here}
-use Rattle.fast_path.specs.Slots.{account_loading, word_of}
-use Rattle.fast_path.proofs.slot_words.load_slots.Given as goal
+use Rattle.fast_path.specs.Slots.{account_loading}
+use Rattle.fast_path.specs.Rows.{rows_of_slot, rows_below, BeginsWith}
+use Rattle.fast_path.proofs.listing.append_slots.Given as goal
 
 abbrev pub invariant-loop-place : goal.invariant-loop-place
 invariant-loop-place g l = record {
   loaded : g.B.Board.view l.board
       ≡ account_loading (g.B.Board.view l.fn.board) l.owner (λ place. place)
       (slots_here ((g.B.Board.view l.fn.board).fast.shared_slots l.owner)).word l.place;
-  words : (k : ℕ) → k < l.place
-      → word_of l.words k ≡ (slots_here ((g.B.Board.view l.fn.board).fast.shared_slots l.owner)).word k;
+  listed : OnOk l.listed (l.rows.items ≡ l.fn.rows.items ++ rows_below l.place (λ place.
+      rows_of_slot l.owner l.database place ((slots_here ((g.B.Board.view l.fn.board).fast.shared_slots l.owner)).word place)));
+  behind : BeginsWith l.fn.rows.items l.rows.items;
   seat : g.B.Board.seat l.board ≡ g.B.Board.seat l.fn.board;
   stack : g.B.Board.stack l.board ≡ g.B.Board.stack l.fn.board;
   quiet : g.B.Board.quiet l.board ≡ g.B.Board.quiet l.fn.board;
