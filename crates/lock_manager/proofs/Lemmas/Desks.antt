@@ -1,5 +1,5 @@
 use Rattle.std.proofs.Common.{◌≡◌, ℕ, ◌+◌, List, [], ◌∷◌, map, length, refl, sym, ap, ◌∙◌, arith}
-use Rattle.std.specs.Prelude.{filter, Result, Ok, Err, IfOk, OnOk, OnErr}
+use Rattle.std.specs.Prelude.{filter, Result, Ok, Err, IfOk}
 use Rattle.std.specs.List.{AllZip}
 use Rattle.std.proofs.lemmas.List.Sums.{sum_by-cons}
 use Rattle.modes_core.specs.Tag.{is_strong_on}
@@ -8,11 +8,10 @@ use Rattle.shared_rule.specs.declared.audits.Audit.{Audit}
 use Rattle.shared_rule.specs.Boards.{Seated, Stack}
 use Rattle.shared_rule.specs.Quiet.{Quiet}
 use Rattle.lock_manager.specs.Audits.{HasTraced, Audits, entries_owned, strong_owned}
-use Rattle.lock_manager.specs.Desks.{opener_at, shown}
-use Rattle.lock_manager.specs.Managers.{ManagerView, OpenerView, IsOpenerOf, IsOpened, HasClosed}
+use Rattle.lock_manager.specs.Desks.{shown}
 use Rattle.lock_manager.specs.Sessions.{SessionView, IsUnchanged}
 
--- What calls of an opener and of its sessions say, as a desk shows these.
+-- What an audit says, as a desk shows the sessions.
 
 counts-as : {E : Type 0} (result : Result Audit E) (counted : Audit → ℕ) (a b : ℕ) → b ≡ a → IfOk result (λ audit. counted audit ≡ a) → IfOk result (λ audit. counted audit ≡ b)
 counts-as (Ok audit) counted a b same is = is ∙ sym same
@@ -40,47 +39,8 @@ strong-shown {B} (s ∷ sessions) =
 abbrev of_board : {B X : Type 0} → (B → X) → SessionView B → X
 of_board shows session = shows session.board
 
-module _ {B : Type 0} (seat : B → Seated) (view : B → Account) (stack : B → Stack) where
-  opened-shown : (opener : OpenerView) (manager : ManagerView) (database : ℕ) (session : SessionView B) → IsOpenerOf opener manager
-      → IsOpened seat view stack opener manager database session
-      → IsOpened (of_board seat) (of_board view) (of_board stack) (opener_at manager opener.issued opener.live opener.closed) manager database (shown session)
-  opened-shown opener manager database session its opened = record {
-    number = opened.number;
-    limit = opened.limit ∙ its.limit;
-    groups = opened.groups ∙ its.groups;
-    table = opened.table ∙ its.table;
-    database_ = opened.database_;
-    no_slot = opened.no_slot;
-    nothing = opened.nothing;
-    first_level = opened.first_level;
-    room = opened.room;
-    max_local = opened.max_local;
-    no_step = opened.no_step;
-    rest = opened.rest;
-  }
-
-  pub opened-ok : {E : Type 0} (opener : OpenerView) (manager : ManagerView) (database : ℕ) (result : Result (SessionView B) E) → IsOpenerOf opener manager
-      → IfOk result (λ session. IsOpened seat view stack opener manager database session)
-      → IfOk result (λ session. IsOpened (of_board seat) (of_board view) (of_board stack) (opener_at manager opener.issued opener.live opener.closed) manager database (shown session))
-  opened-ok opener manager database (Ok session) its opened = opened-shown opener manager database session its opened
-  opened-ok opener manager database (Err e) its opened = tt
-
-  pub closed-shown : (old new : OpenerView) (manager : ManagerView) (session : SessionView B) → HasClosed seat view stack session old new
-      → HasClosed (of_board seat) (of_board view) (of_board stack) (shown session) (opener_at manager old.issued old.live old.closed) (opener_at manager new.issued new.live new.closed)
-  closed-shown old new manager session closed = record {
-    last = closed.last;
-    left = closed.left;
-    released = closed.released;
-    opener = record {
-      history = closed.opener.history;
-      number_ = closed.opener.number_;
-      trace_ = closed.opener.trace_;
-      opener = λ i. opener_at manager (closed.opener.opener i).issued (closed.opener.opener i).live (closed.opener.opener i).closed;
-    };
-  }
-
 module _ {B : Type 0} (seat : B → Seated) (view : B → Account) (stack : B → Stack) (quiet : B → List Quiet) where
-  pub unchanged-shown : (old new : SessionView B) → IsUnchanged seat view stack quiet old new → IsUnchanged (of_board seat) (of_board view) (of_board stack) (of_board quiet) (shown old) (shown new)
+  unchanged-shown : (old new : SessionView B) → IsUnchanged seat view stack quiet old new → IsUnchanged (of_board seat) (of_board view) (of_board stack) (of_board quiet) (shown old) (shown new)
   unchanged-shown old new same = record {
     seat_ = same.seat_;
     view_ = same.view_;
@@ -121,9 +81,3 @@ module _ {B : Type 0} (seat : B → Seated) (view : B → Account) (stack : B �
     holds = counts-as result (λ audit. audit.fast + audit.table) _ _ (entries-shown (s ∷ others)) audits.holds;
     strong = counts-as result (λ audit. audit.strong) _ _ (strong-shown (s ∷ others)) audits.strong;
   }
-
--- After an opening, granted or refused, those that have closed are the same.
-pub none-closed : {A E : Type 0} (result : Result A E) (old new : OpenerView) → OnOk result (new ≡ record old { issued = old.issued + 1; live = old.live + 1 }) → OnErr result (new ≡ old)
-    → new.closed ≡ old.closed
-none-closed (Ok a) old new counted same = ap (λ (opener : OpenerView). opener.closed) counted
-none-closed (Err e) old new counted same = ap (λ (opener : OpenerView). opener.closed) same
