@@ -35,6 +35,8 @@ pub struct Figures {
     pub time: Spread,
     pub floor: Spread,
     pub map: Spread,
+    /// How many instructions a step takes, where a file of counts was named.
+    pub instructions: Option<u64>,
 }
 
 /// Tenths of a nanosecond, as nanoseconds.
@@ -116,17 +118,24 @@ fn print_figures<R: Print>(rt: &R, it: &Figures) -> io::Result<()> {
         ..
     } = *it;
     let (to_floor, to_map) = (it.to_floor(UNTOLD), it.to_map(UNTOLD));
-    println!(rt;
+    print!(rt;
         "        {name:<WIDTH$} {sessions:>2} sessions {time}, to the floor {to_floor}, to the map {to_map}"
-    )
+    )?;
+    match it.instructions {
+        Some(count) => println!(rt; ", {count} instructions"),
+        None => println!(rt; ""),
+    }
 }
 
-/// The figures as lines of values with commas between them, the first of which names them.
+/// The figures as lines of values with commas between them, the first of which names them. Instructions are the last of
+/// a line, where they are known.
 pub fn csv(alloc: Global, figures: &[Figures]) -> Result<String, AllocError> {
     let mut text = String::new(alloc);
     text.push_str(
-        "workload,sessions,held beside it,median ns,smallest ns,largest ns,floor ns,map ns,to the floor,to the map\n",
+        "workload,sessions,held beside it,median ns,smallest ns,largest ns,floor ns,map ns,to the floor,to the map",
     )?;
+    let are_counted = figures.iter().any(|it| it.instructions.is_some());
+    text.push_str(if are_counted { ",instructions\n" } else { "\n" })?;
     for it in figures {
         let line = values_of(alloc, it)?;
         text.push_str(line.as_str())?;
@@ -136,8 +145,8 @@ pub fn csv(alloc: Global, figures: &[Figures]) -> Result<String, AllocError> {
 
 /// The values of the workload `it`. Its name is in quotation marks, since it may have commas.
 fn values_of(alloc: Global, it: &Figures) -> Result<String, AllocError> {
-    format!(in alloc;
-        "\"{}\",{},{},{},{},{},{},{},{},{}\n",
+    let mut values = format!(in alloc;
+        "\"{}\",{},{},{},{},{},{},{},{},{}",
         it.name,
         it.sessions,
         it.crowd,
@@ -148,7 +157,13 @@ fn values_of(alloc: Global, it: &Figures) -> Result<String, AllocError> {
         Nanos(it.map.median),
         it.to_floor(NO_VALUE),
         it.to_map(NO_VALUE)
-    )
+    )?;
+    if let Some(count) = it.instructions {
+        let last = format!(in alloc; ",{count}")?;
+        values.push_str(last.as_str())?;
+    }
+    values.push_str("\n")?;
+    Ok(values)
 }
 
 /// The picture of `figures` in SVG: three bars for each workload, the longest of which is as wide as that of any

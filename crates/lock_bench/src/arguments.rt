@@ -87,6 +87,8 @@ pub struct Wanted<'a> {
     /// The files that the figures of the workloads are written to.
     pub csv: Option<&'a str>,
     pub svg: Option<&'a str>,
+    /// The file with the instructions of each workload.
+    pub counts: Option<&'a str>,
     /// The workload that is made alone in place of all pages.
     pub alone: Option<Alone<'a>>,
 }
@@ -101,9 +103,9 @@ pub struct Alone<'a> {
 
 impl Wanted<'_> {
     /// Whether this page is printed: none is named, or it is. That of the workloads is too where a file is to have
-    /// its figures.
+    /// its figures, or has its instructions.
     pub fn has(&self, page: Page) -> bool {
-        let is_for_file = self.csv.is_some() || self.svg.is_some();
+        let is_for_file = self.csv.is_some() || self.svg.is_some() || self.counts.is_some();
         match self.page {
             None => true,
             Some(name) => name == page.name() || (page == Page::Workloads && is_for_file),
@@ -119,6 +121,7 @@ pub fn parse<'a>(alloc: Global, words: &'a [String]) -> Result<Wanted<'a>, Error
         page: matches.get_str("page"),
         csv: matches.get_str("csv"),
         svg: matches.get_str("svg"),
+        counts: matches.get_str("counts"),
         alone: alone_of(&matches),
     })
 }
@@ -159,7 +162,8 @@ fn with_workload<'a>(alloc: Global, command: Command<'a>) -> Result<Command<'a>,
         .conflicts_with("page")?
         .conflicts_with("check")?
         .conflicts_with("csv")?
-        .conflicts_with("svg")?;
+        .conflicts_with("svg")?
+        .conflicts_with("counts")?;
     let steps = Arg::new(alloc, "steps")
         .long("steps")
         .value_name("N")
@@ -183,5 +187,12 @@ fn with_files<'a>(alloc: Global, command: Command<'a>) -> Result<Command<'a>, Al
         .value_name("FILE")
         .help("Also write a picture of them to this file")
         .conflicts_with("check")?;
-    command.arg(csv)?.arg(svg)
+    let counts = Arg::new(alloc, "counts")
+        .long("counts")
+        .value_name("FILE")
+        .help(
+            "Also print the instructions that this file has of each workload, as .ci/instructions.counts",
+        )
+        .conflicts_with("check")?;
+    command.arg(csv)?.arg(svg)?.arg(counts)
 }

@@ -5,6 +5,7 @@
 mod arguments;
 mod contended_page;
 mod contention;
+mod counts;
 mod crew;
 mod fast_page;
 mod figure_files;
@@ -21,6 +22,7 @@ mod turns;
 mod workloads;
 
 use crate::arguments::{Page, Wanted, parse};
+use crate::counts::Counts;
 use crate::figure_files::{open_files, write_files};
 use crate::progress::Progress;
 use crate::session_page::Asked;
@@ -109,11 +111,16 @@ fn print_pages<R: Threads + Wait + Clock + CpuClock + AllocGlobal + Print + Epri
     if let Some(alone) = wanted.alone {
         return workloads::make_alone(rt, asked, alone.workload, alone.steps);
     }
+    let counts = match wanted.counts {
+        Some(name) => Some(Counts::read(rt, name)?),
+        None => None,
+    };
+    workloads::see_counts(counts.as_ref())?;
     open_files(rt, wanted)?;
     print_on_one_thread(rt, wanted, asked, progress)?;
     print_in_threads(rt, wanted, asked, progress)?;
     if wanted.has(Page::Workloads) {
-        let figures = workloads::print(rt, asked, progress)?;
+        let figures = workloads::print(rt, asked, progress, counts.as_ref())?;
         write_files(rt, wanted, figures.as_slice())?;
     }
     Ok(())

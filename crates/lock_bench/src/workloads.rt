@@ -1,6 +1,7 @@
 //! The page of workloads: each beside its own floor and the same work on a map in a mutex, in one run. And one
 //! workload alone, with nothing timed, so that its instructions can be counted.
 
+use crate::counts::Counts;
 use crate::progress::Progress;
 use crate::session_bed::Work;
 use crate::session_page::{Asked, print_heading, run_lines};
@@ -186,8 +187,16 @@ impl Workload {
         ]
     }
 
+    /// How many instructions a step takes by the file of counts, if one is named.
+    fn instructions(&self, counts: Option<&Counts<'_>>) -> Result<Option<u64>> {
+        match counts {
+            Some(counts) => Ok(Some(counts.of(self.word)?)),
+            None => Ok(None),
+        }
+    }
+
     /// What its rows took.
-    fn figures(&self, lines: &[Line<Work>]) -> Figures {
+    fn figures(&self, lines: &[Line<Work>], instructions: Option<u64>) -> Figures {
         Figures {
             name: self.name,
             sessions: self.sessions,
@@ -195,6 +204,7 @@ impl Workload {
             time: time_of(lines, self.name),
             floor: time_of(lines, FLOOR),
             map: time_of(lines, MAP),
+            instructions,
         }
     }
 }
@@ -211,15 +221,24 @@ fn row(name: &'static str, work: Work, list: KeyList, empty: Option<&'static str
     }
 }
 
-/// Prints the times of each workload and a table of them all, and gives the figures; with a check what fewer of the
-/// same steps leave, and no figures.
+/// Sees that the file of counts has one of each workload, so that nothing is timed in vain.
+pub fn see_counts(counts: Option<&Counts<'_>>) -> Result<()> {
+    for workload in &WORKLOADS {
+        workload.instructions(counts)?;
+    }
+    Ok(())
+}
+
+/// Prints the times of each workload and a table of them all, with the instructions of a file of counts, and gives the
+/// figures; with a check what fewer of the same steps leave, and no figures.
 pub fn print<R: Wait + CpuClock + AllocGlobal + Print + Eprint>(
     rt: &R,
     asked: Asked,
     progress: Progress,
+    counts: Option<&Counts<'_>>,
 ) -> Result<Vec<Figures>> {
     print_heading(rt, "workloads", asked)?;
-    let figures = print_workloads(rt, asked, progress)?;
+    let figures = print_workloads(rt, asked, progress, counts)?;
     if !asked.check {
         print_table(rt, figures.as_slice())?;
     }
@@ -231,11 +250,12 @@ fn print_workloads<R: Wait + CpuClock + AllocGlobal + Print + Eprint>(
     rt: &R,
     asked: Asked,
     progress: Progress,
+    counts: Option<&Counts<'_>>,
 ) -> Result<Vec<Figures>> {
     let mut all = Vec::new(rt.alloc());
     for workload in &WORKLOADS {
         progress.note(rt, workload.name);
-        if let Some(figures) = print_workload(rt, workload, asked)? {
+        if let Some(figures) = print_workload(rt, workload, asked, counts)? {
             all.push(figures)?;
         }
     }
@@ -247,7 +267,9 @@ fn print_workload<R: Wait + CpuClock + AllocGlobal + Print>(
     rt: &R,
     workload: &Workload,
     asked: Asked,
+    counts: Option<&Counts<'_>>,
 ) -> Result<Option<Figures>> {
+    let instructions = workload.instructions(counts)?;
     let Workload { name, sessions, .. } = *workload;
     println!(rt; "{name}: {sessions} sessions")?;
     let size = workload.size();
@@ -264,7 +286,7 @@ fn print_workload<R: Wait + CpuClock + AllocGlobal + Print>(
         return Ok(None);
     }
     print_times(rt, WIDTH, lines.as_slice())?;
-    Ok(Some(workload.figures(lines.as_slice())))
+    Ok(Some(workload.figures(lines.as_slice(), instructions)))
 }
 
 /// The workload of this word.
