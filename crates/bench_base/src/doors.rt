@@ -86,6 +86,7 @@ fn release_looked_up(table: &mut LocalTable, tag: &Tag, mode: Mode, owner: Owner
     table.drop_held(tag, mode, owner).is_ok()
 }
 
+/// `LocalTable::end_next` of `end` on `table`, not inlined.
 #[inline(never)]
 pub fn end_next(table: &mut LocalTable, end: End) -> Option<(Tag, Mode)>
     requires { end ≢ End.Inner }
@@ -93,17 +94,20 @@ pub fn end_next(table: &mut LocalTable, end: End) -> Option<(Tag, Mode)>
     table.end_next(end)
 }
 
+/// Whether `map` has `tag` in `mode`, not inlined.
 #[inline(never)]
 pub fn look_up(map: &KeyMap, tag: &Tag, mode: Mode) -> bool {
     map.contains_key(&(*tag, mode))
 }
 
+/// Inserts `tag` in `mode` with `place` into `map`, not inlined. Refused only where memory ran out.
 #[inline(never)]
 pub fn insert(map: &mut KeyMap, tag: &Tag, mode: Mode, place: u32) -> Result<(), AllocError> {
     map.insert((*tag, mode), place)?;
     Ok(())
 }
 
+/// Removes `tag` in `mode` from `map`, not inlined, and answers whether it was there.
 #[inline(never)]
 pub fn remove(map: &mut KeyMap, tag: &Tag, mode: Mode) -> bool {
     map.remove(&(*tag, mode)).is_some()

@@ -54,7 +54,7 @@ impl fmt::Display for Nanos {
 struct Ratio {
     part: u64,
     whole: u64,
-    /// What stands for it then.
+    /// What is written in its place then.
     untold: &'static str,
 }
 
@@ -70,7 +70,7 @@ impl fmt::Display for Ratio {
 }
 
 impl Figures {
-    /// How many times its floor it took, by the medians; `untold` where there is no floor.
+    /// How many times its floor it took, by the medians; where there is no floor, `untold` is written.
     fn to_floor(&self, untold: &'static str) -> Ratio {
         Ratio {
             part: self.time.median,
@@ -79,7 +79,7 @@ impl Figures {
         }
     }
 
-    /// How many times the map it took, by the medians; `untold` where there is no map.
+    /// How many times the map it took, by the medians; where there is no map, `untold` is written.
     fn to_map(&self, untold: &'static str) -> Ratio {
         Ratio {
             part: self.time.median,
@@ -127,8 +127,8 @@ fn print_figures<R: Print>(rt: &R, it: &Figures) -> io::Result<()> {
     }
 }
 
-/// The figures as lines of values with commas between them, the first of which names them. Instructions are the last of
-/// a line, where they are known.
+/// Writes `figures` as lines of values with commas between them, the first of which names them. Instructions are the
+/// last of a line, where they are known.
 pub fn csv(alloc: Global, figures: &[Figures]) -> Result<String, AllocError> {
     let mut text = String::new(alloc);
     text.push_str(

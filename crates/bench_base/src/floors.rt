@@ -35,11 +35,13 @@ fn take(word: &AtomicU64) {
     );
 }
 
+/// Puts the lock whose word is `word` back.
 fn put(word: &AtomicU64) {
     word.fetch_sub(TAKEN, Ordering::SeqCst);
 }
 
 impl SessionWords {
+    /// The words of a session that has no slot in use.
     fn new() -> Self {
         SessionWords {
             fast: AtomicU64::new(0),

@@ -10,7 +10,7 @@ const NEW_KEYS: u32 = 1_000;
 /// How many locks a commit ends.
 const COMMITTED: u32 = 10;
 
-/// How many relations stand in slots where a session has eight groups of these.
+/// How many relations are locked by slots where a session has eight groups of these.
 const ALL_SLOTS: u32 = 128;
 
 static MODES: [Mode; 8] = [
@@ -61,29 +61,29 @@ pub enum KeyList {
     Objects,
     /// Relations that no session has, each in AccessShareLock.
     Weak,
-    /// The same relations, each in AccessExclusiveLock.
+    /// Relations that no session has, each in AccessExclusiveLock: those of `Weak`.
     Strong,
     /// A few other relations, each in AccessShareLock.
     Few,
-    /// The same few, each in AccessExclusiveLock.
+    /// A few other relations, each in AccessExclusiveLock: those of `Few`.
     FewStrong,
     /// Ten other relations, each in AccessShareLock.
     Ten,
-    /// A hundred of them.
+    /// A hundred other relations, each in AccessShareLock.
     Hundred,
-    /// As many of them as there can be slots.
+    /// As many other relations as there can be slots, each in AccessShareLock.
     AllSlots,
     /// The objects that the other session has, each in AccessShareLock.
     Refused,
-    /// The same objects, each in AccessExclusiveLock, as the other session has them.
+    /// The objects that the other session has, each in AccessExclusiveLock, as it has them.
     OfOther,
     /// Objects of one partition that nobody has, each in AccessShareLock.
     InPartition,
-    /// Objects of the same partition that the other session has, each in AccessExclusiveLock.
+    /// Objects of one partition that the other session has, each in AccessExclusiveLock.
     Crowd,
-    /// A few of these, each in AccessShareLock.
+    /// A few of the objects of `Crowd`, each in AccessShareLock.
     RefusedInCrowd,
-    /// The same few, each in AccessExclusiveLock.
+    /// A few of the objects of `Crowd`, each in AccessExclusiveLock.
     FewOfCrowd,
 }
 
@@ -120,6 +120,7 @@ impl KeyList {
     }
 }
 
+/// The key of `kind` in `database` with the number `number`.
 fn key(kind: Kind, database: u32, number: u32) -> Key {
     match kind {
         Kind::Relations(mode) => (Tag::relation(database, 16384u32.wrapping_add(number)), mode),

@@ -24,11 +24,11 @@ const WIDTH: usize = 40;
 /// What is done with ten locks.
 #[derive(Clone, Copy)]
 enum Work {
-    /// They are acquired and released in the first level.
+    /// The locks are acquired and released in the first level.
     Pairs,
-    /// They are acquired in a level that is handed up, and then released.
+    /// The locks are acquired in a level that is handed up, and then released.
     SubCommit,
-    /// They are acquired in a level that is dropped.
+    /// The locks are acquired in a level that is dropped.
     SubAbort,
 }
 

@@ -12,7 +12,7 @@ use modes_core::Owner;
 use std::alloc::{AllocError, Global};
 use std::collections::HashMap;
 
-/// What is told where a call is refused that should not be.
+/// The error where a call is refused that should not be.
 const REFUSED: &str = "a call of the local table was refused";
 
 /// What a row does with each key of its list.
@@ -22,17 +22,17 @@ pub enum Work {
     OneEmptyCall,
     /// Two of them.
     TwoEmptyCalls,
-    /// It is acquired and released.
+    /// The key is acquired and released.
     Pair,
-    /// It is acquired, and after all of them each is released, in the order of making.
+    /// The key is acquired. After all keys each is released, in the order of making.
     InOrder,
-    /// The same in the opposite order.
+    /// The key is acquired. After all keys each is released, the last one first.
     InOppositeOrder,
-    /// It is released, which is refused.
+    /// The key is released, which is refused.
     Refused,
-    /// It is looked up in the map.
+    /// The key is looked up in the map.
     MapLookUp,
-    /// It is inserted into the map and removed.
+    /// The key is inserted into the map and removed.
     MapPair,
 }
 

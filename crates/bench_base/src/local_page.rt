@@ -14,7 +14,7 @@ use std::time::CpuClock;
 /// How many entries are held.
 static SIZES: [u32; 4] = [10, 100, 1_000, 10_000];
 
-/// The same where nothing is timed.
+/// How many entries are held where nothing is timed.
 static CHECKED_SIZES: [u32; 2] = [10, 100];
 
 /// How many entries a round of commits takes away, at least.

@@ -19,6 +19,7 @@ pub fn wall_nanos(rt: &impl Clock) -> Result<u64> {
     Ok(nanos(rt.monotonic()?))
 }
 
+/// The nanoseconds of `time`.
 fn nanos(time: Duration) -> u64 {
     time.as_secs()
         .saturating_mul(1_000_000_000)
@@ -32,6 +33,7 @@ pub struct Times {
 }
 
 impl Times {
+    /// The times of rounds of which none was made yet.
     pub fn new() -> Self {
         Times {
             tenths: [0; ROUNDS],

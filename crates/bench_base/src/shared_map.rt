@@ -10,6 +10,7 @@ use std::time::CpuClock;
 
 pub type SharedMap = Mutex<HashMap<(Tag, Mode), u32>>;
 
+/// Counts `tag` in `mode` once more in `map`. Refused only where memory ran out.
 #[inline(never)]
 fn count<R: Wait>(rt: &R, map: &SharedMap, tag: Tag, mode: Mode) -> Result<(), AllocError> {
     let mut held = map.lock(rt);
@@ -21,6 +22,7 @@ fn count<R: Wait>(rt: &R, map: &SharedMap, tag: Tag, mode: Mode) -> Result<(), A
     Ok(())
 }
 
+/// Counts `tag` in `mode` once less in `map`, and takes it out with the last count.
 #[inline(never)]
 fn uncount<R: Wait>(rt: &R, map: &SharedMap, tag: Tag, mode: Mode) {
     let mut held = map.lock(rt);
@@ -33,6 +35,7 @@ fn uncount<R: Wait>(rt: &R, map: &SharedMap, tag: Tag, mode: Mode) {
     held.remove(&(tag, mode));
 }
 
+/// Whether `map` has `tag` in `mode`.
 #[inline(never)]
 fn is_held<R: Wait>(rt: &R, map: &SharedMap, tag: Tag, mode: Mode) -> bool {
     map.lock(rt).contains_key(&(tag, mode))

@@ -63,7 +63,7 @@ pub enum Page {
 }
 
 impl Page {
-    /// Its name.
+    /// The word that names the page on the command line.
     fn name(self) -> &'static str {
         match self {
             Page::Local => "local",
@@ -80,7 +80,7 @@ impl Page {
 /// What the words ask for.
 #[derive(Clone, Copy)]
 pub struct Wanted<'a> {
-    /// Whether only a small fixed run is made, and told without times.
+    /// Whether only a small fixed run is made, whose output has no times.
     pub check: bool,
     /// The one page that is named.
     page: Option<&'a str>,
@@ -93,7 +93,7 @@ pub struct Wanted<'a> {
     pub alone: Option<Alone<'a>>,
 }
 
-/// A workload that is made alone, with nothing timed.
+/// A workload that is made alone, without timing it.
 #[derive(Clone, Copy)]
 pub struct Alone<'a> {
     /// The word that names it.
@@ -102,8 +102,8 @@ pub struct Alone<'a> {
 }
 
 impl Wanted<'_> {
-    /// Whether this page is printed: none is named, or it is. That of the workloads is too where a file is to have
-    /// its figures, or has its instructions.
+    /// Whether `page` is printed: no page is named, or this one is. That of the workloads is printed too where a file
+    /// is to have its figures, or has its instructions.
     pub fn has(&self, page: Page) -> bool {
         let is_for_file = self.csv.is_some() || self.svg.is_some() || self.counts.is_some();
         match self.page {
@@ -113,7 +113,7 @@ impl Wanted<'_> {
     }
 }
 
-/// What the words ask for. Refused words and a call for help are an error.
+/// What `words`, those of the command line, ask for. Refused words and a call for help are an error.
 pub fn parse<'a>(alloc: Global, words: &'a [String]) -> Result<Wanted<'a>, Error> {
     let matches = command(alloc)?.try_get_matches_from(words)?;
     Ok(Wanted {
@@ -126,7 +126,7 @@ pub fn parse<'a>(alloc: Global, words: &'a [String]) -> Result<Wanted<'a>, Error
     })
 }
 
-/// The workload that is made alone, if one is named.
+/// The workload that `matches` names with its steps, if they name one.
 fn alone_of<'a>(matches: &ArgMatches<'a>) -> Option<Alone<'a>> {
     let workload = matches.get_str("workload")?;
     let steps = matches.get_one::<u32>("steps")?;
@@ -151,7 +151,7 @@ fn command<'a>(alloc: Global) -> Result<Command<'a>, AllocError> {
     with_workload(alloc, with_files(alloc, command)?)
 }
 
-/// The command with a workload that is made alone.
+/// The `command` with the words for a workload that is made alone.
 fn with_workload<'a>(alloc: Global, command: Command<'a>) -> Result<Command<'a>, AllocError> {
     let workload = Arg::new(alloc, "workload")
         .long("workload")
@@ -173,7 +173,7 @@ fn with_workload<'a>(alloc: Global, command: Command<'a>) -> Result<Command<'a>,
     command.arg(workload)?.arg(steps)
 }
 
-/// The command with the files of figures. A small fixed run has none.
+/// The `command` with the words for files of figures and of instructions. A small fixed run has none.
 fn with_files<'a>(alloc: Global, command: Command<'a>) -> Result<Command<'a>, AllocError> {
     let csv = Arg::new(alloc, "csv")
         .long("csv")

@@ -59,7 +59,7 @@ const CHECKED: u32 = 640;
 /// How many rounds there are, of which the one in the middle is printed.
 const ROUNDS: usize = 5;
 
-/// The work that is done in this case.
+/// For how long, and how often, something is held in `case`.
 fn work_of(case: Case) -> &'static [Work] {
     match case {
         Case::Listing => LISTINGS.as_slice(),
@@ -67,7 +67,8 @@ fn work_of(case: Case) -> &'static [Work] {
     }
 }
 
-/// The jobs of so many threads: each of these cases with each length of work.
+/// The jobs of `threads` threads: each of `cases` with each length of work, at the database and for the owner that
+/// `asked` has.
 fn jobs(alloc: Global, cases: &[Case], asked: Asked, threads: u32) -> Result<Vec<Job>, AllocError> {
     let mut jobs = Vec::new(alloc);
     for case in cases {
@@ -78,6 +79,8 @@ fn jobs(alloc: Global, cases: &[Case], asked: Asked, threads: u32) -> Result<Vec
     Ok(jobs)
 }
 
+/// The job of `threads` threads in `case`, with the holding time of `work` and its number of acquires shared out among
+/// them.
 fn job(case: Case, work: Work, asked: Asked, threads: u32) -> Job {
     let acquires = if asked.check { CHECKED } else { work.acquires };
     Job {
@@ -99,6 +102,7 @@ struct Figures {
 }
 
 impl Figures {
+    /// The figures of rounds of which none was made yet.
     fn new() -> Self {
         Figures {
             wall: [0; ROUNDS],
@@ -107,7 +111,7 @@ impl Figures {
         }
     }
 
-    /// Notes what the round with this number took.
+    /// Notes what the round `round` took.
     fn note(&mut self, round: usize, taken: Taken) {
         if round < ROUNDS {
             self.wall[round] = taken.wall();
@@ -117,13 +121,13 @@ impl Figures {
     }
 }
 
-/// The figure in the middle of a few.
+/// The figure in the middle of `figures`, once they are sorted.
 fn middle(mut figures: [u64; ROUNDS]) -> u64 {
     figures.sort_unstable();
     figures[ROUNDS / 2]
 }
 
-/// Sees that every request was granted: else the figures are not of the job.
+/// Refuses what was `taken` where one of the requests of `job` was not granted: the figures would not be of that job.
 fn see_granted(job: Job, taken: Taken) -> Result<()> {
     let (asked, granted) = (job.acquires(), taken.granted);
     if granted != asked {
@@ -135,7 +139,7 @@ fn see_granted(job: Job, taken: Taken) -> Result<()> {
     Ok(())
 }
 
-/// One round by these sessions.
+/// Makes one round of `job` by the sessions of `crew`, and refuses one in which a request was not granted.
 fn run_whole<B: Board<Part> + Send, R: Threads + Wait + Clock + CpuClock + Sync>(
     rt: &R,
     crew: &mut Vec<OwnSession<Part, B>>,
@@ -149,7 +153,7 @@ fn run_whole<B: Board<Part> + Send, R: Threads + Wait + Clock + CpuClock + Sync>
     Ok(taken)
 }
 
-/// Several rounds by these sessions.
+/// Makes all rounds of `job` by the sessions of `crew`.
 fn run_rounds<B: Board<Part> + Send, R: Threads + Wait + Clock + CpuClock + Sync>(
     rt: &R,
     crew: &mut Vec<OwnSession<Part, B>>,
@@ -166,7 +170,7 @@ fn run_rounds<B: Board<Part> + Send, R: Threads + Wait + Clock + CpuClock + Sync
     Ok(figures)
 }
 
-/// Several rounds under a mutex.
+/// Makes all rounds of `job` under a mutex.
 fn run_mutex_rounds<R: Threads + Wait + Clock + CpuClock + Sync>(rt: &R, job: Job) -> Figures {
     let mut figures = Figures::new();
     for round in 0..ROUNDS {
@@ -175,12 +179,12 @@ fn run_mutex_rounds<R: Threads + Wait + Clock + CpuClock + Sync>(rt: &R, job: Jo
     figures
 }
 
-/// So many nanoseconds for each of so many, in tenths.
+/// The tenths of a nanosecond that each of `of` steps took, if all took `nanos` nanoseconds; 0 if there are none.
 fn tenths(nanos: u64, of: u64) -> u64 {
     nanos.saturating_mul(10).checked_div(of).unwrap_or(0)
 }
 
-/// Prints what the rounds took, of each figure the one in the middle.
+/// Prints what the rounds of `job` took: of each of the `figures` the one in the middle.
 fn print_figures<R: Print>(rt: &R, job: Job, figures: Figures) -> io::Result<()> {
     let wall = tenths(middle(figures.wall), job.acquires());
     let processor = tenths(middle(figures.processor), job.acquires());
@@ -196,7 +200,7 @@ fn print_figures<R: Print>(rt: &R, job: Job, figures: Figures) -> io::Result<()>
     )
 }
 
-/// Prints the figures of a job, or with a check that its steps were made.
+/// Prints the figures of `job`, or with `check` how many requests of one round were granted.
 fn print_job<B: Board<Part> + Send, R: Threads + Wait + Clock + CpuClock + Print + Sync>(
     rt: &R,
     crew: &mut Vec<OwnSession<Part, B>>,
@@ -216,14 +220,14 @@ fn print_job<B: Board<Part> + Send, R: Threads + Wait + Clock + CpuClock + Print
     Ok(())
 }
 
-/// Tells how many requests were granted.
+/// Prints how many requests of `job` were granted, of those that were `taken`.
 fn print_checked<R: Print>(rt: &R, job: Job, taken: Taken) -> io::Result<()> {
     let (name, work) = (job.case.name(), job.work / 1_000);
     let (acquires, granted) = (job.acquires(), taken.granted);
     println!(rt; "        {name}, {work} us: {acquires} acquires, granted {granted}")
 }
 
-/// Prints the figures of all jobs.
+/// Prints the figures of each of `jobs` by the sessions of `crew`, or with `check` how many requests were granted.
 fn print_jobs<B: Board<Part> + Send, R: Threads + Wait + Clock + CpuClock + Print + Sync>(
     rt: &R,
     crew: &mut Vec<OwnSession<Part, B>>,
@@ -239,7 +243,7 @@ fn print_jobs<B: Board<Part> + Send, R: Threads + Wait + Clock + CpuClock + Prin
     Ok(())
 }
 
-/// Prints the figures of all jobs under a mutex.
+/// Prints the figures of each of `jobs` under a mutex, or with `check` how many requests were granted.
 fn print_mutex_jobs<R: Threads + Wait + Clock + CpuClock + Print + Sync>(
     rt: &R,
     jobs: &[Job],
@@ -255,7 +259,7 @@ fn print_mutex_jobs<R: Threads + Wait + Clock + CpuClock + Print + Sync>(
     Ok(())
 }
 
-/// Prints the jobs of sessions of the manager that the desk has.
+/// Prints the figures of `jobs` by the sessions of `crew`, all of which `_desk` has open.
 fn print_at_work<
     B: Board<Part> + Send,
     D: Desk<OwnSession<Part, B>>,
@@ -269,7 +273,8 @@ fn print_at_work<
     print_jobs(rt, crew, jobs, check)
 }
 
-/// Prints the jobs of so many threads, each with a session from the desk, which has none open before and after.
+/// Prints the figures of `jobs` by `threads` threads, each with a session from `desk`, which has none open before and
+/// after.
 fn print_crew<
     B: Board<Part> + Send,
     D: Desk<OwnSession<Part, B>>,
@@ -294,8 +299,8 @@ fn print_crew<
     }
 }
 
-/// The same at the desk of a manager. The board of the shared table is named here alone: all that this calls is
-/// over any board.
+/// Prints the figures of `jobs` by `threads` threads with sessions from `desk`, that of a manager. Only this function
+/// names the board of the shared table: all that it calls is written over any board.
 fn print_at_desk<R: Threads + Wait + Clock + CpuClock + AllocGlobal + Print + Sync>(
     rt: &R,
     desk: &mut ManagerDesk<'_>,
@@ -310,7 +315,7 @@ fn print_at_desk<R: Threads + Wait + Clock + CpuClock + AllocGlobal + Print + Sy
     print_crew(rt, desk, jobs, asked, threads)
 }
 
-/// The same at a manager of their own.
+/// Prints what `threads` threads do with sessions of a manager that is made for them.
 fn print_sessions<R: Threads + Wait + Clock + CpuClock + AllocGlobal + Print + Sync>(
     rt: &R,
     asked: Asked,
@@ -330,7 +335,7 @@ fn print_sessions<R: Threads + Wait + Clock + CpuClock + AllocGlobal + Print + S
     printed
 }
 
-/// What so many threads do: with sessions, and under a mutex.
+/// Prints what `threads` threads do: with sessions, and under a mutex.
 fn print_threads<R: Threads + Wait + Clock + CpuClock + AllocGlobal + Print + Sync>(
     rt: &R,
     asked: Asked,
@@ -343,7 +348,7 @@ fn print_threads<R: Threads + Wait + Clock + CpuClock + AllocGlobal + Print + Sy
     Ok(())
 }
 
-/// Prints the table of figures, or with a check what the same steps leave.
+/// Prints the table of figures, or where `asked` is for a check how many requests were granted.
 pub fn print<R: Threads + Wait + Clock + CpuClock + AllocGlobal + Print + Sync>(
     rt: &R,
     asked: Asked,

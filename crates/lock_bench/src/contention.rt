@@ -1,6 +1,5 @@
-//! What threads do beside each other: each takes one object of all, or an object of its own in one partition,
-//! works, and releases it; or it lists what stands, for which all partitions are in hand for a while; or it takes a
-//! standard mutex.
+//! What threads do beside each other: each takes one object of all, or an object of its own in one partition, works, and
+//! releases it; or it lists all holds, for which it locks all partitions for a while; or it takes a standard mutex.
 
 ghost use Rattle.std.specs.Prelude.{◌≡◌, length};
 ghost use Rattle.lock_manager.specs.Crews.{KeepManagers, KeepsSeat};
@@ -19,7 +18,7 @@ pub const MOST_THREADS: u32 = 64;
 /// How many holds a listing finds.
 const LISTED: u32 = 250;
 
-/// How often a thread looks at most whether all others have come, or have ended, with so many microseconds between.
+/// How often a thread looks at most whether all others have come, or have ended, with `PAUSE` microseconds between.
 const LOOKS: u32 = 100_000;
 
 const PAUSE: u64 = 100;
@@ -32,15 +31,16 @@ const READINGS: u32 = 1_000_000;
 pub enum Case {
     /// Takes one object of all in ExclusiveLock, works, and releases it.
     OneObject,
-    /// The same with an object of its own, all of one partition.
+    /// Takes an object of its own in ExclusiveLock, all of one partition, works, and releases it.
     OnePartition,
-    /// Lists what stands, with all partitions in hand. The first thread has what is found, until all have ended.
+    /// Lists all holds, with every partition locked at once. The first thread has them until all have ended.
     Listing,
     /// Takes a standard mutex, works, and releases it. It needs no session.
     Mutex,
 }
 
 impl Case {
+    /// The name of the case in the table.
     pub fn name(self) -> &'static str {
         match self {
             Case::OneObject => "one object",
@@ -70,7 +70,7 @@ impl Job {
         u64::from(self.threads).saturating_mul(u64::from(self.laps))
     }
 
-    /// The object that a thread takes. Numbers that are sixteen apart lie in one partition.
+    /// The object that the thread numbered `thread` takes. Numbers sixteen apart belong to one partition.
     fn object(self, thread: usize) -> Tag {
         let own = match self.case {
             Case::OnePartition => u32::try_from(thread).unwrap_or(0).wrapping_mul(16),
@@ -92,7 +92,7 @@ pub struct Taken {
 }
 
 impl Taken {
-    /// Of no thread.
+    /// What no thread took.
     fn none() -> Self {
         Taken {
             from: u64::MAX,
@@ -108,7 +108,7 @@ impl Taken {
         self.to.saturating_sub(self.from)
     }
 
-    /// With a request more, which waited for so long.
+    /// What was taken with one request more, which waited `waited` nanoseconds and was granted or not.
     fn after(self, waited: u64, is_granted: bool) -> Self {
         Taken {
             longest: self.longest.max(waited),
@@ -117,7 +117,7 @@ impl Taken {
         }
     }
 
-    /// With what others took beside it.
+    /// What this thread and those of `other` took together.
     fn beside(self, other: Taken) -> Self {
         Taken {
             from: self.from.min(other.from),
@@ -141,6 +141,7 @@ struct Round {
 }
 
 impl Round {
+    /// A round of `job`, to which no thread has come.
     fn new(job: Job) -> Self {
         Round {
             job,
@@ -160,13 +161,12 @@ impl Round {
         self.wait_for_all(rt, &self.came);
     }
 
-    /// A thread waits until all have ended, so that what it holds stands while others list it.
+    /// A thread waits until all have ended, so that others can list what it holds.
     fn leave<R: Clock>(&self, rt: &R) {
         self.wait_for_all(rt, &self.ended);
     }
 
-    /// Counts one more thread here, and waits until all are counted. Nobody waits for ever for one that couldn't be
-    /// started.
+    /// Adds one to `counted`, and waits until all threads are, or long enough for one that couldn't be started.
     fn wait_for_all<R: Clock>(&self, rt: &R, counted: &AtomicU64) {
         counted.fetch_add(1, Ordering::SeqCst);
         for _ in 0..LOOKS {
@@ -177,7 +177,7 @@ impl Round {
         }
     }
 
-    /// A thread's steps are over; they began at this time, when it had used so much of its processor's.
+    /// Notes `steps` of a thread that began at `from`, when it had used `used_before` nanoseconds of its processor.
     fn end<R: Wait + Clock + CpuClock>(&self, rt: &R, from: u64, used_before: u64, steps: Taken) {
         let own = Taken {
             from,
@@ -200,7 +200,7 @@ fn used(rt: &impl CpuClock) -> u64 {
     cpu_nanos(rt).unwrap_or(0)
 }
 
-/// Works for so many nanoseconds.
+/// Works for `nanos` nanoseconds.
 fn work(rt: &impl Clock, nanos: u64) {
     let from = now(rt);
     for _ in 0..READINGS {
@@ -210,7 +210,8 @@ fn work(rt: &impl Clock, nanos: u64) {
     }
 }
 
-/// Takes the object, works, and releases it. How long the request waited, and whether it was granted.
+/// Takes `tag` by `session`, works as `job` says, and releases it. Answers how long it waited, and whether it was
+/// granted.
 fn hold<B: Board<Part>, R: Wait + Clock>(
     rt: &R,
     session: &mut OwnSession<Part, B>,
@@ -229,7 +230,7 @@ fn hold<B: Board<Part>, R: Wait + Clock>(
     (waited, is_granted)
 }
 
-/// Lists what stands. How long that took, and whether all was found that the first thread has.
+/// Lists all holds by `session`. Answers how long that took, and whether all of the first thread were found.
 fn list<B: Board<Part>, R: Wait + Clock>(rt: &R, session: &mut OwnSession<Part, B>) -> (u64, bool)
     ensures seat { KeepsSeat B.seat session.old session.new }
 {
@@ -241,7 +242,7 @@ fn list<B: Board<Part>, R: Wait + Clock>(rt: &R, session: &mut OwnSession<Part, 
     (now(rt).saturating_sub(from), is_listed)
 }
 
-/// One step of a thread.
+/// Makes one step of `job` by `session`: a listing, or the object `tag` taken and released.
 fn step<B: Board<Part>, R: Wait + Clock>(
     rt: &R,
     session: &mut OwnSession<Part, B>,
@@ -256,7 +257,7 @@ fn step<B: Board<Part>, R: Wait + Clock>(
     }
 }
 
-/// Takes the objects that listings find, where the thread is the first of them.
+/// Takes the objects that listings of `job` find, if `thread` is the first one.
 fn hold_listed<B: Board<Part>, R: Wait>(
     rt: &R,
     session: &mut OwnSession<Part, B>,
@@ -277,7 +278,7 @@ fn hold_listed<B: Board<Part>, R: Wait>(
     }
 }
 
-/// All steps of a thread.
+/// Makes all steps of one thread of `job`, by `session` with the object `tag`.
 fn make_steps<B: Board<Part>, R: Wait + Clock>(
     rt: &R,
     session: &mut OwnSession<Part, B>,
@@ -294,7 +295,7 @@ fn make_steps<B: Board<Part>, R: Wait + Clock>(
     taken
 }
 
-/// A thread's part of the round.
+/// Makes the part of `round` that the thread with the number `thread` has, by `session`.
 fn run_thread<B: Board<Part>, R: Wait + Clock + CpuClock>(
     rt: &R,
     session: &mut OwnSession<Part, B>,
@@ -313,7 +314,7 @@ fn run_thread<B: Board<Part>, R: Wait + Clock + CpuClock>(
     session.commit(rt);
 }
 
-/// The sessions' work, each in a thread of its own.
+/// Makes `round` by `sessions`, each in a thread of its own.
 fn run_sessions<B: Board<Part> + Send, R: Threads + Wait + Clock + CpuClock + Sync>(
     rt: &R,
     sessions: &mut [OwnSession<Part, B>],
@@ -330,7 +331,7 @@ fn run_sessions<B: Board<Part> + Send, R: Threads + Wait + Clock + CpuClock + Sy
     );
 }
 
-/// The same of a list.
+/// Makes `round` by the sessions of the list `crew`, each in a thread of its own.
 fn run_crew<B: Board<Part> + Send, R: Threads + Wait + Clock + CpuClock + Sync>(
     rt: &R,
     crew: &mut Vec<OwnSession<Part, B>>,
@@ -342,7 +343,7 @@ fn run_crew<B: Board<Part> + Send, R: Threads + Wait + Clock + CpuClock + Sync>(
     run_sessions(rt, crew.as_mut_slice(), round);
 }
 
-/// Takes the mutex, works, and releases it. How long it waited.
+/// Takes `lock`, works as long as `job` says, and releases it. Answers how long it waited.
 fn hold_mutex<R: Wait + Clock>(rt: &R, lock: &Mutex<u64>, job: Job) -> u64 {
     let from = now(rt);
     let mut held = lock.lock(rt);
@@ -352,7 +353,7 @@ fn hold_mutex<R: Wait + Clock>(rt: &R, lock: &Mutex<u64>, job: Job) -> u64 {
     waited
 }
 
-/// A thread's part of a round at the mutex.
+/// Makes one thread's part of `round` with the mutex `lock`.
 fn run_mutex<R: Wait + Clock + CpuClock>(rt: &R, lock: &Mutex<u64>, round: &Round) {
     round.begin(rt);
     let (from, used_before) = (now(rt), used(rt));
@@ -363,7 +364,7 @@ fn run_mutex<R: Wait + Clock + CpuClock>(rt: &R, lock: &Mutex<u64>, round: &Roun
     round.end(rt, from, used_before, steps);
 }
 
-/// The same work under a mutex.
+/// Makes `round` under a mutex, each thread's part in a thread of its own.
 fn run_mutexes<R: Threads + Wait + Clock + CpuClock + Sync>(rt: &R, round: &Round) {
     let lock = Mutex::new(0u64);
     let mut threads = [(); MOST_THREADS as usize];
@@ -376,7 +377,7 @@ fn run_mutexes<R: Threads + Wait + Clock + CpuClock + Sync>(rt: &R, round: &Roun
     );
 }
 
-/// One round of a job by these sessions, as many as it has threads.
+/// Makes one round of `job` by the sessions of `crew`, of which there are as many as the job has threads.
 pub fn run_by_sessions<B: Board<Part> + Send, R: Threads + Wait + Clock + CpuClock + Sync>(
     rt: &R,
     crew: &mut Vec<OwnSession<Part, B>>,
@@ -390,7 +391,7 @@ pub fn run_by_sessions<B: Board<Part> + Send, R: Threads + Wait + Clock + CpuClo
     round.into_taken()
 }
 
-/// One round of a job under a mutex.
+/// Makes one round of `job` under a mutex.
 pub fn run_by_mutex<R: Threads + Wait + Clock + CpuClock + Sync>(rt: &R, job: Job) -> Taken {
     let round = Round::new(job);
     run_mutexes(rt, &round);

@@ -1,10 +1,10 @@
-//! A file with the instructions of a step of each workload, as `.ci/instructions` writes it: a line of each has its word and
-//! its count, and other lines say nothing.
+//! A file with the instructions of a step of each workload, as `.ci/instructions` writes it: each workload has a line with its
+//! word and its count, and other lines are passed over.
 
 use anyhow::{Result, anyhow};
 use std::fs::{self, Files};
 
-/// The text of a file of counts, with its name.
+/// The text of a file of counts, with the file's name.
 #[derive(Drop)]
 pub struct Counts<'a> {
     name: &'a str,
@@ -12,7 +12,7 @@ pub struct Counts<'a> {
 }
 
 impl<'a> Counts<'a> {
-    /// The file of this name. The error says that it can't be read.
+    /// Reads the file `name`. The error says that it can't be read.
     pub fn read<R: Files + AllocGlobal>(rt: &R, name: &'a str) -> Result<Counts<'a>> {
         match fs::read_to_string(rt, name) {
             Ok(text) => Ok(Counts { name, text }),
@@ -20,7 +20,7 @@ impl<'a> Counts<'a> {
         }
     }
 
-    /// The count of the workload that `word` names. The error says that the file has none.
+    /// The instructions of a step of the workload that `word` names. The error says that the file has no number for it.
     pub fn of(&self, word: &str) -> Result<u64> {
         for line in self.text.lines() {
             if let Some((name, count)) = line.split_once(' ') {

@@ -25,6 +25,7 @@ pub struct Job {
 }
 
 impl Job {
+    /// The keys of the thread with the number `thread`.
     fn keys_of(&self, thread: usize) -> &[Key] {
         match self.keys.get(thread) {
             Some(keys) => keys.as_slice(),
@@ -32,7 +33,7 @@ impl Job {
         }
     }
 
-    /// How often something is acquired by so many threads together.
+    /// How often `threads` threads together acquire something in a round.
     pub fn acquires(&self, threads: u32) -> u64 {
         let keys = u64::try_from(self.keys_of(0).len()).unwrap_or(u64::MAX);
         keys.saturating_mul(u64::from(self.laps))
@@ -47,7 +48,7 @@ pub struct Crew<B: Board<Part>> {
 }
 
 impl<'a> Crew<SeatBoard<'a, Part>> {
-    /// Four sessions of a manager. Where one of them is refused none of them is open.
+    /// Opens four sessions of `manager`, which work in `database`. Where one of them is refused none of them is open.
     pub fn open<R: Wait>(
         rt: &R,
         manager: &'a Manager,
@@ -78,7 +79,7 @@ impl<'a> Crew<SeatBoard<'a, Part>> {
         }
     }
 
-    /// Closes all four.
+    /// Closes all four sessions.
     pub fn close<R: Wait>(self, rt: &R, opener: &mut Opener)
         requires first { (⟦<SeatBoard<'a, Part> as Board<Part>>⟧.seat self.left.first.board).table ≡ opener.old.table }
         requires second { (⟦<SeatBoard<'a, Part> as Board<Part>>⟧.seat self.left.second.board).table ≡ opener.old.table }
@@ -96,7 +97,8 @@ impl<'a> Crew<SeatBoard<'a, Part>> {
 }
 
 impl<B: Board<Part> + Send> Crew<B> {
-    /// The work of the first of them, in this thread, of two in two or of all in four. Whether nothing was refused.
+    /// Does the work of `job` by as many of the sessions as `threads` says: by one in this thread, by two in two, or by
+    /// all in four. Answers whether nothing was refused.
     pub fn work<R: Threads + Wait + Sync>(&mut self, rt: &R, job: &Job, threads: u32) -> bool
         ensures first { B.seat self.new.left.first.board ≡ B.seat self.old.left.first.board }
         ensures second { B.seat self.new.left.second.board ≡ B.seat self.old.left.second.board }
@@ -111,7 +113,8 @@ impl<B: Board<Part> + Send> Crew<B> {
     }
 }
 
-/// A session's work in this thread. Whether nothing was refused.
+/// Does the work of `job` for the thread with the number `thread` by `session`, in this thread. Answers whether nothing
+/// was refused.
 fn in_one<B: Board<Part>, R: Wait>(
     rt: &R,
     session: &mut OwnSession<Part, B>,
@@ -123,7 +126,8 @@ fn in_one<B: Board<Part>, R: Wait>(
     lock_pairs(rt, session, job.keys_of(thread), job.owner, job.laps).is_ok()
 }
 
-/// The work of two sessions in two threads, with the lists of this number and of the next.
+/// Does the work of `job` by both sessions of `pair` in two threads, whose numbers are `thread` and the next one.
+/// Answers whether nothing was refused.
 fn in_two<B: Board<Part> + Send, R: Threads + Wait + Sync>(
     rt: &R,
     pair: &mut Pair<Part, B>,
@@ -143,7 +147,7 @@ fn in_two<B: Board<Part> + Send, R: Threads + Wait + Sync>(
     left && right
 }
 
-/// The work of four sessions in four threads.
+/// Does the work of `job` by the sessions of `first` and `second` in four threads. Answers whether nothing was refused.
 fn in_four<B: Board<Part> + Send, R: Threads + Wait + Sync>(
     rt: &R,
     first: &mut Pair<Part, B>,
@@ -163,10 +167,14 @@ fn in_four<B: Board<Part> + Send, R: Threads + Wait + Sync>(
     left && right
 }
 
+/// Does the work of `job` for the thread with the number `thread` on `map`, in this thread. Answers whether nothing was
+/// refused.
 fn on_map_in_one<R: Wait>(rt: &R, map: &SharedMap, job: &Job, thread: usize) -> bool {
     map_pairs(rt, map, job.keys_of(thread), job.laps).is_ok()
 }
 
+/// Does the work of `job` on `map` in two threads, whose numbers are `thread` and the next one. Answers whether nothing
+/// was refused.
 fn on_map_in_two<R: Threads + Wait + Sync>(
     rt: &R,
     map: &SharedMap,
@@ -182,7 +190,7 @@ fn on_map_in_two<R: Threads + Wait + Sync>(
     left && right
 }
 
-/// The same work on the map, in one, two or four threads.
+/// Does the work of `job` on `map`, in `threads` threads: one, two or four. Answers whether nothing was refused.
 pub fn on_map<R: Threads + Wait + Sync>(rt: &R, map: &SharedMap, job: &Job, threads: u32) -> bool {
     match threads {
         1 => on_map_in_one(rt, map, job, 0),

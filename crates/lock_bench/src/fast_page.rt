@@ -55,7 +55,7 @@ static GROUP_SIZES: [Size; 2] = [
     },
 ];
 
-/// With eight groups all of them stand in slots, with one the first sixteen.
+/// With eight groups all of these relations are locked by slots, with one group the first sixteen.
 static GROUP_ROWS: [Row<Work>; 6] = [
     Row {
         name: ONE_CALL,
@@ -191,7 +191,7 @@ static ROWS: [Row<Work>; 10] = [
     },
 ];
 
-/// Prints the tables of times, or with `check` what fewer of the same steps leave.
+/// Prints the tables of times, or where `asked` is for a check what fewer of the same steps leave.
 pub fn print<R: Wait + CpuClock + AllocGlobal + Print>(rt: &R, asked: Asked) -> Result<()> {
     let page = Page {
         name: "fast path on one thread",

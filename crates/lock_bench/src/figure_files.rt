@@ -6,7 +6,7 @@ use bench_base::{Figures, csv, svg};
 use std::fs::{File, Files, OpenOptions};
 use std::io::Write;
 
-/// Sees that the files can be opened, so that nothing is timed in vain. What is in them stays.
+/// Opens each file that `wanted` names and closes it, so that nothing is timed in vain. What is in them stays.
 pub fn open_files<R: Files>(rt: &R, wanted: &Wanted<'_>) -> Result<()> {
     if let Some(name) = wanted.csv {
         open_file(rt, name)?;
@@ -17,7 +17,7 @@ pub fn open_files<R: Files>(rt: &R, wanted: &Wanted<'_>) -> Result<()> {
     Ok(())
 }
 
-/// Sees that the file can be opened, and makes it where it isn't there.
+/// Opens the file `name` and closes it; makes it where it isn't there. The error says that it can't be written.
 fn open_file<R: Files>(rt: &R, name: &str) -> Result<()> {
     let mut options = OpenOptions::new();
     options.write(true).create(true);
@@ -27,7 +27,7 @@ fn open_file<R: Files>(rt: &R, name: &str) -> Result<()> {
     }
 }
 
-/// Writes the figures to the files that are asked for. Where the one can't be written the other one is.
+/// Writes `figures` to the files that `wanted` names. Where one of them can't be written the other one is.
 pub fn write_files<R: AllocGlobal + Files>(
     rt: &R,
     wanted: &Wanted<'_>,
@@ -38,6 +38,7 @@ pub fn write_files<R: AllocGlobal + Files>(
     values.and(picture)
 }
 
+/// Writes `figures` as values with commas between them to the file `name`, if there is one.
 fn write_values<R: AllocGlobal + Files>(
     rt: &R,
     name: Option<&str>,
@@ -49,6 +50,7 @@ fn write_values<R: AllocGlobal + Files>(
     }
 }
 
+/// Writes `figures` as a picture to the file `name`, if there is one.
 fn write_picture<R: AllocGlobal + Files>(
     rt: &R,
     name: Option<&str>,
@@ -60,7 +62,7 @@ fn write_picture<R: AllocGlobal + Files>(
     }
 }
 
-/// Puts the text in place of what is in the file. An error tells whether that is lost.
+/// Writes `text` to the file `name` in place of what is there. An error says whether that is lost.
 fn write_file<R: Files>(rt: &R, name: &str, text: &str) -> Result<()> {
     let mut file = match File::create(rt, name) {
         Ok(file) => file,

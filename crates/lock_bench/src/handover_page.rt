@@ -17,7 +17,7 @@ use std::time::Clock;
 /// How many turns each of the two threads has in a round.
 const TURNS: u32 = 5_000;
 
-/// The same where nothing is timed.
+/// How many turns each of the two threads has where nothing is timed.
 const CHECKED_TURNS: u32 = 100;
 
 const LOCK: &str = "an exclusive lock";
@@ -32,7 +32,7 @@ struct Round {
     left: u32,
 }
 
-/// A round of a manager of its own.
+/// Makes a round of `plan` with a manager of its own, whose sessions work in `database`.
 fn play<R: Threads + Wait + Clock + AllocGlobal + Sync>(
     rt: &R,
     database: u32,
@@ -55,7 +55,8 @@ fn play<R: Threads + Wait + Clock + AllocGlobal + Sync>(
     })
 }
 
-/// Both sessions' turns: how many of them were granted, and the nanoseconds that they took.
+/// Has both sessions of `pair` take the turns of `plan`. Answers with the sessions how many were granted, and the
+/// nanoseconds that they took.
 fn time_lock<B: Board<Part> + Send, R: Threads + Wait + Clock + Sync>(
     rt: &R,
     pair: Pair<Part, B>,
@@ -70,7 +71,7 @@ fn time_lock<B: Board<Part> + Send, R: Threads + Wait + Clock + Sync>(
     (pair, granted, nanos_between(from, to))
 }
 
-/// The nanoseconds between two readings of the clock.
+/// The nanoseconds from the reading `from` of the clock to the reading `to`.
 fn nanos_between(from: Option<u64>, to: Option<u64>) -> Result<u64> {
     match (from, to) {
         (Some(from), Some(to)) => Ok(to.saturating_sub(from)),
@@ -78,7 +79,7 @@ fn nanos_between(from: Option<u64>, to: Option<u64>) -> Result<u64> {
     }
 }
 
-/// Prints the times of handovers, and of turns beside them.
+/// Prints the times of the handovers of `plan`, and of turns under a mutex beside them.
 fn time<R: Threads + Wait + Clock + AllocGlobal + Print + Sync>(
     rt: &R,
     database: u32,
@@ -96,7 +97,7 @@ fn time<R: Threads + Wait + Clock + AllocGlobal + Print + Sync>(
     Ok(())
 }
 
-/// The nanoseconds of so many turns of each.
+/// The nanoseconds that two threads take for `turns` turns each under a mutex.
 fn time_turns<R: Threads + Wait + Clock + Sync>(rt: &R, turns: u32) -> Result<u64> {
     let from = wall_nanos(rt)?;
     pass_turn(rt, turns);
@@ -104,13 +105,14 @@ fn time_turns<R: Threads + Wait + Clock + Sync>(rt: &R, turns: u32) -> Result<u6
     Ok(to.saturating_sub(from))
 }
 
+/// Prints `of_lock`, `of_turn`, and the ratio of these.
 fn print_times<R: Print>(rt: &R, of_lock: Spread, of_turn: Spread) -> io::Result<()> {
     print_time(rt, WIDTH, LOCK, of_lock)?;
     print_time(rt, WIDTH, TURN, of_turn)?;
     print_ratio(rt, "to that", of_lock, of_turn)
 }
 
-/// Makes one round, and tells what it leaves.
+/// Makes one round of `plan`, and prints what it leaves.
 fn check<R: Threads + Wait + Clock + AllocGlobal + Print + Sync>(
     rt: &R,
     database: u32,
@@ -123,7 +125,7 @@ fn check<R: Threads + Wait + Clock + AllocGlobal + Print + Sync>(
     Ok(())
 }
 
-/// Prints the times of handovers, or with `check` what the same steps leave.
+/// Prints the times of handovers, or with `is_check` what fewer of the same steps leave.
 pub fn print<R: Threads + Wait + Clock + AllocGlobal + Print + Sync>(
     rt: &R,
     database: u32,

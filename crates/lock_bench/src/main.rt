@@ -64,7 +64,7 @@ fn read_words(rt: &HostRuntime) -> io::Result<Vec<String>> {
     Ok(env::args(rt)?.collect(rt.alloc())?)
 }
 
-/// Prints what the words ask for, and answers the status.
+/// Prints what `words` ask for, and answers the status. What is wrong with them is written to `errors`.
 fn run<
     R: Threads + Wait + Clock + CpuClock + AllocGlobal + Print + Eprint + Files + Sync,
     E: Write,
@@ -87,7 +87,8 @@ fn run<
     }
 }
 
-/// How the pages are asked for. Database and owner come from outside, so that no call is specialised to them.
+/// How the pages are asked for: for a check with `check`. Database and owner depend on the command line, so that no
+/// call is specialised to them.
 fn asked_of(has_no_words: bool, check: bool) -> Asked {
     let (database, owner) = if has_no_words {
         (1, Owner::Session)
@@ -101,7 +102,7 @@ fn asked_of(has_no_words: bool, check: bool) -> Asked {
     }
 }
 
-/// Prints the pages that are wanted.
+/// Prints the pages that are `wanted`, and writes the files that have their figures.
 fn print_pages<R: Threads + Wait + Clock + CpuClock + AllocGlobal + Print + Eprint + Files + Sync>(
     rt: &R,
     wanted: &Wanted<'_>,
@@ -126,7 +127,7 @@ fn print_pages<R: Threads + Wait + Clock + CpuClock + AllocGlobal + Print + Epri
     Ok(())
 }
 
-/// Prints those of what one thread does.
+/// Prints those of the `wanted` pages whose work one thread does.
 fn print_on_one_thread<R: Wait + CpuClock + AllocGlobal + Print + Eprint>(
     rt: &R,
     wanted: &Wanted<'_>,
@@ -154,7 +155,7 @@ fn print_on_one_thread<R: Wait + CpuClock + AllocGlobal + Print + Eprint>(
     Ok(())
 }
 
-/// Prints those of what several do.
+/// Prints those of the `wanted` pages whose work several threads do.
 fn print_in_threads<R: Threads + Wait + Clock + CpuClock + AllocGlobal + Print + Eprint + Sync>(
     rt: &R,
     wanted: &Wanted<'_>,

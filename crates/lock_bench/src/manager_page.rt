@@ -156,7 +156,7 @@ static ROWS: [Row<Work>; 13] = [
     },
 ];
 
-/// Prints the table of times, or with `check` what fewer of the same steps leave.
+/// Prints the table of times, or where `asked` is for a check what fewer of the same steps leave.
 pub fn print<R: Wait + CpuClock + AllocGlobal + Print>(rt: &R, asked: Asked) -> Result<()> {
     let page = Page {
         name: "lock manager on one thread",

@@ -28,27 +28,27 @@ pub enum Work {
     OneEmptyCall,
     /// Two of them.
     TwoEmptyCalls,
-    /// It is taken and released.
+    /// The key is locked and unlocked.
     Pair,
-    /// The same, where the session has it already.
+    /// The key, which the session holds already, is locked and unlocked.
     HeldPair,
-    /// It is asked for, and refused.
+    /// The key is asked for, and refused.
     Refused,
-    /// It is asked for, and refused since the other session has it in AccessExclusiveLock.
+    /// The key is asked for, and refused since the other session has the relation in AccessExclusiveLock.
     RefusedRelation,
-    /// It is asked for by a slot, and refused since the other session has it in AccessExclusiveLock.
+    /// The key is asked for by a slot, and refused since the other session has the relation in AccessExclusiveLock.
     RefusedBySlot,
-    /// It is taken, and after all of them comes a commit.
+    /// The key is locked. After all keys comes a commit.
     TakeAndCommit,
-    /// The same, of which the commit alone is timed, by two readings of the clock.
+    /// The key is locked. After all keys comes a commit, which alone is timed, by two readings of the clock.
     Commit,
     /// Two readings of the clock for all of them.
     TwoReadings,
-    /// It is counted in the map once more and once less.
+    /// The key is counted in the map once more and once less.
     MapPair,
-    /// It is looked up in the map.
+    /// The key is looked up in the map.
     MapLookUp,
-    /// It is counted in the map, and after all of them each is counted once less, which alone is timed.
+    /// The key is counted in the map. After all keys each is counted once less, which alone is timed.
     MapCommit,
     /// The atomic steps of a pair by a slot.
     PairFloor,
@@ -73,7 +73,7 @@ pub struct Bed {
     few_strong: Vec<Key>,
 }
 
-/// A map that has the keys of the list.
+/// Counts each key of `list` in `map`.
 fn add_to_map<R: Wait + AllocGlobal>(
     rt: &R,
     map: &SharedMap,
@@ -85,7 +85,7 @@ fn add_to_map<R: Wait + AllocGlobal>(
     map_all(rt, map, keys.as_slice())
 }
 
-/// A map that has what the other session has throughout, and the few relations.
+/// A map that has the few relations, and what the other session holds throughout.
 fn map_of<R: Wait + AllocGlobal>(
     rt: &R,
     database: u32,
@@ -99,7 +99,7 @@ fn map_of<R: Wait + AllocGlobal>(
 }
 
 impl Bed {
-    /// What a manager of this size is timed with.
+    /// What a manager of `size` is timed with, by sessions of `database` that lock for `owner`.
     pub fn new<R: Wait + AllocGlobal>(
         rt: &R,
         database: u32,
@@ -116,7 +116,7 @@ impl Bed {
         })
     }
 
-    /// The steps of a row that is timed as a whole, and what they count.
+    /// Makes the steps of `line`, a row that is timed as a whole, by `session`. Answers what they count.
     fn run<T: PartTable, B: Board<T>, R: Wait>(
         &self,
         rt: &R,
@@ -148,8 +148,8 @@ impl Bed {
         Ok(0)
     }
 
-    /// A round of the row, made by the first session: its nanoseconds, and what it counted. Before and after it the
-    /// first one holds nothing, and the other one what it has for itself.
+    /// Makes a round of the row `line` by the first session of `pair`. Answers its nanoseconds, and what it counted.
+    /// Before and after it the first session holds nothing, and the other one what it holds throughout.
     pub fn time<T: PartTable, B: Board<T>, R: Wait + CpuClock>(
         &self,
         rt: &R,
@@ -169,7 +169,8 @@ impl Bed {
         Ok((nanos, 0))
     }
 
-    /// The same of a row that is timed as a whole.
+    /// Makes a round of `line`, a row that is timed as a whole, by the first session of `pair`. Answers its
+    /// nanoseconds, and what it counted.
     fn time_whole<T: PartTable, B: Board<T>, R: Wait + CpuClock>(
         &self,
         rt: &R,
@@ -188,7 +189,7 @@ impl Bed {
         Ok((to.saturating_sub(from), counted))
     }
 
-    /// Takes what one of the two has while the row is timed.
+    /// Locks what one of the sessions of `pair` holds while the row `line` is timed.
     fn prepare<T: PartTable, B: Board<T>, R: Wait>(
         &self,
         rt: &R,
@@ -213,7 +214,7 @@ impl Bed {
     }
 }
 
-/// The nanoseconds between two readings of the clock with nothing between them, so often.
+/// The nanoseconds between two readings of the clock that follow each other at once, summed over `laps` of them.
 fn readings<R: CpuClock>(rt: &R, laps: u32) -> Result<u64> {
     let mut taken = 0u64;
     for _ in 0..laps {

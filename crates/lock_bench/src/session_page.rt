@@ -22,7 +22,7 @@ use std::time::CpuClock;
 pub struct Asked {
     pub database: u32,
     pub owner: Owner,
-    /// Whether only one round is made, and told without times.
+    /// Whether only one round is made, whose output has no times.
     pub check: bool,
 }
 
@@ -36,7 +36,7 @@ pub struct Page<'a> {
     pub asked: Asked,
 }
 
-/// Prints the page, for a manager of each size.
+/// Prints `page` for a manager of each of `sizes`.
 pub fn print_page<R: Wait + CpuClock + AllocGlobal + Print>(
     rt: &R,
     page: &Page<'_>,
@@ -49,7 +49,7 @@ pub fn print_page<R: Wait + CpuClock + AllocGlobal + Print>(
     Ok(())
 }
 
-/// Prints what the page is of.
+/// Prints the heading of the page `name`.
 pub fn print_heading<R: Print>(rt: &R, name: &str, asked: Asked) -> io::Result<()> {
     if asked.check {
         return println!(rt; "{name}");
@@ -61,7 +61,7 @@ pub fn print_heading<R: Print>(rt: &R, name: &str, asked: Asked) -> io::Result<(
     )
 }
 
-/// Prints the rows for a manager of this size.
+/// Prints the rows of `page` for a manager of `size`.
 fn print_size<R: Wait + CpuClock + AllocGlobal + Print>(
     rt: &R,
     page: &Page<'_>,
@@ -77,6 +77,7 @@ fn print_size<R: Wait + CpuClock + AllocGlobal + Print>(
     print_rows(rt, lines.as_slice(), page.beside)
 }
 
+/// Prints what sets a manager of `size` apart.
 fn print_size_header<R: Print>(rt: &R, size: Size) -> io::Result<()> {
     let Size {
         sessions,
@@ -93,8 +94,8 @@ fn print_size_header<R: Print>(rt: &R, size: Size) -> io::Result<()> {
     }
 }
 
-/// The rounds of all rows with a manager of this size, of which only one is made and told where the page asks for a
-/// check.
+/// Makes all rounds of `lines` with a manager of `size`. Where `asked` is for a check, only one is made, and what it
+/// leaves is printed.
 pub fn run_lines<R: Wait + CpuClock + AllocGlobal + Print>(
     rt: &R,
     asked: Asked,
@@ -114,7 +115,8 @@ pub fn run_lines<R: Wait + CpuClock + AllocGlobal + Print>(
     done
 }
 
-/// The same with two sessions.
+/// Makes all rounds of `lines` with the sessions of `pair`, whose manager is of `size`. Where `asked` is for a check,
+/// only one is made, and what it leaves is printed.
 fn run_pair<T: PartTable, B: Board<T>, R: Wait + CpuClock + AllocGlobal + Print>(
     rt: &R,
     pair: &mut Pair<T, B>,
@@ -134,7 +136,7 @@ fn run_pair<T: PartTable, B: Board<T>, R: Wait + CpuClock + AllocGlobal + Print>
     }
 }
 
-/// Takes what the other session has throughout.
+/// Locks by `session` what the other session of a manager of `size` holds throughout.
 fn hold_of_other<T: PartTable, B: Board<T>, R: Wait + AllocGlobal>(
     rt: &R,
     session: &mut OwnSession<T, B>,
@@ -147,7 +149,7 @@ fn hold_of_other<T: PartTable, B: Board<T>, R: Wait + AllocGlobal>(
     hold_list(rt, session, KeyList::Crowd, database, size)
 }
 
-/// Takes what is in the list.
+/// Locks each key of `list` by `session`, to be held past commits.
 fn hold_list<T: PartTable, B: Board<T>, R: Wait + AllocGlobal>(
     rt: &R,
     session: &mut OwnSession<T, B>,
@@ -162,7 +164,7 @@ fn hold_list<T: PartTable, B: Board<T>, R: Wait + AllocGlobal>(
     Ok(())
 }
 
-/// Times every row, each once in a round.
+/// Times all of `lines` by the sessions of `pair`, each once in a round.
 fn time_rows<T: PartTable, B: Board<T>, R: Wait + CpuClock>(
     rt: &R,
     pair: &mut Pair<T, B>,
@@ -178,7 +180,7 @@ fn time_rows<T: PartTable, B: Board<T>, R: Wait + CpuClock>(
     Ok(())
 }
 
-/// Times every row once, in the round with this number.
+/// Times all of `lines` once by the sessions of `pair`, in the round with the number `round`.
 fn time_round<T: PartTable, B: Board<T>, R: Wait + CpuClock>(
     rt: &R,
     pair: &mut Pair<T, B>,
@@ -196,7 +198,7 @@ fn time_round<T: PartTable, B: Board<T>, R: Wait + CpuClock>(
     Ok(())
 }
 
-/// Prints what each row takes, and then how much that is of the row beside which it is put.
+/// Prints what each of `lines` took, and below the words `beside` its ratio to the row that it is compared with.
 fn print_rows<R: Print>(rt: &R, lines: &[Line<Work>], beside: &str) -> Result<()> {
     print_times(rt, WIDTH, lines)?;
     println!(rt; "    {beside}")?;
@@ -204,7 +206,7 @@ fn print_rows<R: Print>(rt: &R, lines: &[Line<Work>], beside: &str) -> Result<()
     Ok(())
 }
 
-/// Makes every row's steps once, and tells what they leave.
+/// Makes the steps of all `lines` once by the sessions of `pair`, and prints what they leave.
 fn check_rows<T: PartTable, B: Board<T>, R: Wait + CpuClock + Print>(
     rt: &R,
     pair: &mut Pair<T, B>,
@@ -222,7 +224,7 @@ fn check_rows<T: PartTable, B: Board<T>, R: Wait + CpuClock + Print>(
     Ok(())
 }
 
-/// Tells what a row's steps counted and left.
+/// Prints what the steps of `line` `counted`, and how many holds they `left`.
 fn print_checked<R: Print>(rt: &R, line: &Line<Work>, counted: u64, left: usize) -> io::Result<()> {
     let name = line.name;
     let steps = line.steps();

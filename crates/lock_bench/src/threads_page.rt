@@ -42,10 +42,11 @@ const OWN_KEYS: usize = 16;
 /// How many steps a thread has in a round.
 const STEPS: u32 = 100_000;
 
-/// The same where nothing is timed.
+/// How many steps a thread has where nothing is timed.
 const CHECKED_STEPS: u32 = 1_600;
 
 impl Case {
+    /// The name of the case in the table.
     fn name(self) -> &'static str {
         match self {
             Case::OneObject => "one object for all",
@@ -55,7 +56,7 @@ impl Case {
         }
     }
 
-    /// What the thread with this number takes.
+    /// What the thread with the number `thread` takes.
     fn keys(self, alloc: Global, database: u32, thread: u8) -> Result<Vec<Key>, AllocError> {
         let from = u32::from(thread) * 10_000;
         match self {
@@ -72,7 +73,7 @@ impl Case {
         }
     }
 
-    /// The work of four threads, of which each has so many steps.
+    /// The work of four threads, each of which has `steps` steps.
     fn job(
         self,
         alloc: Global,
@@ -98,7 +99,7 @@ impl Case {
     }
 }
 
-/// The work of all cases.
+/// The work of all cases: with `check` fewer steps.
 fn jobs(alloc: Global, database: u32, owner: Owner, check: bool) -> Result<Vec<Job>, AllocError> {
     let steps = if check { CHECKED_STEPS } else { STEPS };
     let mut jobs = Vec::new(alloc);
@@ -108,7 +109,7 @@ fn jobs(alloc: Global, database: u32, owner: Owner, check: bool) -> Result<Vec<J
     Ok(jobs)
 }
 
-/// Times rounds of the sessions' work and of the same work on the map, in turn.
+/// Times rounds of `job` by `threads` sessions of `crew` and on a map, in turn. Answers the times of both.
 fn time_job<B: Board<Part> + Send, R: Threads + Wait + Clock + AllocGlobal + Sync>(
     rt: &R,
     crew: &mut Crew<B>,
@@ -132,7 +133,7 @@ fn time_job<B: Board<Part> + Send, R: Threads + Wait + Clock + AllocGlobal + Syn
     Ok((of_crew.spread(), of_map.spread()))
 }
 
-/// The nanoseconds of the sessions' work, and of the same work on the map.
+/// Makes one round of `job` by `threads` sessions of `crew` and one on `map`. Answers the nanoseconds of both.
 fn time_round<B: Board<Part> + Send, R: Threads + Wait + Clock + Sync>(
     rt: &R,
     crew: &mut Crew<B>,
@@ -153,8 +154,8 @@ fn time_round<B: Board<Part> + Send, R: Threads + Wait + Clock + Sync>(
     Ok((between.saturating_sub(from), to.saturating_sub(between)))
 }
 
-/// Prints the times of the sessions and of the map, and how many times the throughput of one thread that is, if
-/// there are more.
+/// Prints the times `of_crew` and `of_map` of the job `name`, and where `alone` has the time of one thread, how many
+/// times its throughput that is.
 fn print_job<R: Print>(
     rt: &R,
     name: &str,
@@ -170,7 +171,7 @@ fn print_job<R: Print>(
     Ok(())
 }
 
-/// The same once, and what it leaves.
+/// Makes one round of `job` by `threads` sessions of `crew` and one on a map, and prints what they leave.
 fn check_job<B: Board<Part> + Send, R: Threads + Wait + AllocGlobal + Print + Sync>(
     rt: &R,
     crew: &mut Crew<B>,
@@ -193,13 +194,13 @@ fn check_job<B: Board<Part> + Send, R: Threads + Wait + AllocGlobal + Print + Sy
     Ok(())
 }
 
-/// The same work on a map of its own. Whether nothing was refused.
+/// Whether `threads` threads do the work of `job` on a map of its own with nothing refused.
 fn is_counted<R: Threads + Wait + AllocGlobal + Sync>(rt: &R, job: &Job, threads: u32) -> bool {
     let map: SharedMap = Mutex::new(HashMap::new(rt.alloc()));
     on_map(rt, &map, job, threads)
 }
 
-/// All cases, in so many threads.
+/// Prints the times of `jobs` in `threads` threads, or with `check` what one round leaves.
 fn print_jobs<B: Board<Part> + Send, R: Threads + Wait + Clock + AllocGlobal + Print + Sync>(
     rt: &R,
     crew: &mut Crew<B>,
@@ -226,7 +227,7 @@ fn print_jobs<B: Board<Part> + Send, R: Threads + Wait + Clock + AllocGlobal + P
     Ok(())
 }
 
-/// All cases, in one, two and four threads.
+/// Prints the times of `jobs` in one, two and four threads, or with `check` what one round of each leaves.
 fn print_crew<B: Board<Part> + Send, R: Threads + Wait + Clock + AllocGlobal + Print + Sync>(
     rt: &R,
     crew: &mut Crew<B>,
@@ -245,7 +246,7 @@ fn print_crew<B: Board<Part> + Send, R: Threads + Wait + Clock + AllocGlobal + P
     Ok(())
 }
 
-/// Prints the table of times, or with `check` what the same steps leave.
+/// Prints the table of times, or with `check` what fewer of the same steps leave.
 pub fn print<R: Threads + Wait + Clock + AllocGlobal + Print + Sync>(
     rt: &R,
     database: u32,
@@ -265,7 +266,8 @@ pub fn print<R: Threads + Wait + Clock + AllocGlobal + Print + Sync>(
     print_with_crew(rt, database, jobs.as_mut_slice(), check)
 }
 
-/// The same for four sessions of a manager of their own.
+/// Prints the times of `jobs` by four sessions of a manager of their own, or with `check` what one round of each
+/// leaves.
 fn print_with_crew<R: Threads + Wait + Clock + AllocGlobal + Print + Sync>(
     rt: &R,
     database: u32,

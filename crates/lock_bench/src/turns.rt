@@ -21,7 +21,7 @@ pub struct Plan {
     pub turns: u32,
 }
 
-/// Takes the lock, and waits for it where it must. Whether the session has it.
+/// Locks the key of `plan` by `session`, and waits for it where it must. Answers whether the session has it.
 #[inline(never)]
 fn lock<T: PartTable, B: Board<T>, R: Wait>(
     rt: &R,
@@ -34,7 +34,8 @@ fn lock<T: PartTable, B: Board<T>, R: Wait>(
     session.acquire(rt, tag, mode, plan.owner).is_ok()
 }
 
-/// Looks until the other one awaits the lock, or plays no more.
+/// Looks by `session` whether the other session awaits the key of `plan`, until it does or no more than one of them is
+/// `playing`.
 fn see_other<T: PartTable, B: Board<T>, R: Wait>(
     rt: &R,
     session: &mut OwnSession<T, B>,
@@ -55,7 +56,8 @@ fn see_other<T: PartTable, B: Board<T>, R: Wait>(
     unreachable!()
 }
 
-/// Locks over and over, and unlocks each time as soon as the other one awaits it. How many times it was granted.
+/// Takes the turns of `plan` by `session`: locks, and unlocks as soon as the other session awaits the lock. Answers how
+/// many times it was granted.
 fn take_turns<T: PartTable, B: Board<T>, R: Wait>(
     rt: &R,
     session: &mut OwnSession<T, B>,
@@ -77,7 +79,8 @@ fn take_turns<T: PartTable, B: Board<T>, R: Wait>(
     granted
 }
 
-/// The turns of two sessions that are lent, each in a thread, and how many of each were granted.
+/// Has the sessions `first` and `second`, which are lent, take the turns of `plan`, each in a thread. Answers how many
+/// of each were granted.
 fn pass_on_loan<B: Board<Part> + Send, R: Threads + Wait + Sync>(
     rt: &R,
     first: &mut OwnSession<Part, B>,
@@ -95,7 +98,8 @@ fn pass_on_loan<B: Board<Part> + Send, R: Threads + Wait + Sync>(
     )
 }
 
-/// Both sessions' turns, each in a thread, and how many of them were granted.
+/// Has both sessions of `pair` take the turns of `plan`, each in a thread. Answers with the sessions how many turns
+/// were granted.
 pub fn pass_lock<B: Board<Part> + Send, R: Threads + Wait + Sync>(
     rt: &R,
     pair: Pair<Part, B>,
@@ -112,7 +116,7 @@ pub fn pass_lock<B: Board<Part> + Send, R: Threads + Wait + Sync>(
     (Pair { first, second }, granted.wrapping_add(its_granted))
 }
 
-/// Waits for the turn and passes it on, over and over. It is the other one's at the end.
+/// Waits `turns` times until `turn` is `number`, and makes it the other thread's. It is the other one's at the end.
 fn pass_on<R: Wait>(rt: &R, turn: &Mutex<u64>, passed: &Condvar, number: u64, turns: u32) {
     for _ in 0..turns {
         let mut whose = passed.wait_while(rt, turn.lock(rt), |whose| *whose != number);
@@ -122,7 +126,8 @@ fn pass_on<R: Wait>(rt: &R, turn: &Mutex<u64>, passed: &Condvar, number: u64, tu
     }
 }
 
-/// The same by a mutex and a condition variable.
+/// Has two threads pass a turn on under a mutex, each woken by a condition variable, `turns` times each. Answers whose
+/// turn it is at the end.
 pub fn pass_turn<R: Threads + Wait + Sync>(rt: &R, turns: u32) -> u64 {
     let turn = Mutex::new(0u64);
     let passed = Condvar::new();

@@ -152,7 +152,7 @@ static WORKLOADS: [Workload; 9] = [
     },
 ];
 
-/// A strong lock where there can be few sessions: it is made alone, and stands on no page.
+/// A strong lock where there can be few sessions: it is made alone, and no page has it.
 static STRONG_OF_FEW: Workload = Workload {
     word: "strong-of-8",
     name: "strong relation lock, of 8 sessions",
@@ -167,6 +167,7 @@ static STRONG_OF_FEW: Workload = Workload {
 };
 
 impl Workload {
+    /// What its manager is made for.
     fn size(&self) -> Size {
         Size {
             sessions: self.sessions,
@@ -187,7 +188,7 @@ impl Workload {
         ]
     }
 
-    /// How many instructions a step takes by the file of counts, if one is named.
+    /// How many instructions a step takes by `counts`, if a file of counts is named.
     fn instructions(&self, counts: Option<&Counts<'_>>) -> Result<Option<u64>> {
         match counts {
             Some(counts) => Ok(Some(counts.of(self.word)?)),
@@ -195,7 +196,7 @@ impl Workload {
         }
     }
 
-    /// What its rows took.
+    /// What the rows of `lines` took, with the number of `instructions` that a step takes.
     fn figures(&self, lines: &[Line<Work>], instructions: Option<u64>) -> Figures {
         Figures {
             name: self.name,
@@ -209,7 +210,8 @@ impl Workload {
     }
 }
 
-/// A row that is compared with no other.
+/// A row `name` that does `work` with each key of `list`, from which the row `empty` is taken off. It is compared with
+/// no other.
 fn row(name: &'static str, work: Work, list: KeyList, empty: Option<&'static str>) -> Row<Work> {
     Row {
         name,
@@ -221,7 +223,7 @@ fn row(name: &'static str, work: Work, list: KeyList, empty: Option<&'static str
     }
 }
 
-/// Sees that the file of counts has one of each workload, so that nothing is timed in vain.
+/// Refuses `counts` where a workload has none in that file, so that nothing is timed in vain.
 pub fn see_counts(counts: Option<&Counts<'_>>) -> Result<()> {
     for workload in &WORKLOADS {
         workload.instructions(counts)?;
@@ -229,8 +231,8 @@ pub fn see_counts(counts: Option<&Counts<'_>>) -> Result<()> {
     Ok(())
 }
 
-/// Prints the times of each workload and a table of them all, with the instructions of a file of counts, and gives the
-/// figures; with a check what fewer of the same steps leave, and no figures.
+/// Prints the times of each workload and a table of them all, with the instructions of `counts`, and answers the
+/// figures. Where `asked` is for a check, it prints what fewer of the same steps leave, and answers no figures.
 pub fn print<R: Wait + CpuClock + AllocGlobal + Print + Eprint>(
     rt: &R,
     asked: Asked,
@@ -245,7 +247,7 @@ pub fn print<R: Wait + CpuClock + AllocGlobal + Print + Eprint>(
     Ok(figures)
 }
 
-/// Prints the rows of each workload.
+/// Prints the times of each workload, and answers the figures; for a check there are none.
 fn print_workloads<R: Wait + CpuClock + AllocGlobal + Print + Eprint>(
     rt: &R,
     asked: Asked,
@@ -262,7 +264,7 @@ fn print_workloads<R: Wait + CpuClock + AllocGlobal + Print + Eprint>(
     Ok(all)
 }
 
-/// Prints the rows of a workload, with a manager of its own.
+/// Prints the times of `workload`, with a manager of its own, and answers its figures; for a check there are none.
 fn print_workload<R: Wait + CpuClock + AllocGlobal + Print>(
     rt: &R,
     workload: &Workload,
@@ -289,7 +291,7 @@ fn print_workload<R: Wait + CpuClock + AllocGlobal + Print>(
     Ok(Some(workload.figures(lines.as_slice(), instructions)))
 }
 
-/// The workload of this word.
+/// The workload that `word` names.
 fn workload_of(word: &str) -> Option<&'static Workload> {
     for workload in &WORKLOADS {
         if workload.word == word {
@@ -299,8 +301,8 @@ fn workload_of(word: &str) -> Option<&'static Workload> {
     (STRONG_OF_FEW.word == word).then_some(&STRONG_OF_FEW)
 }
 
-/// Makes so many steps of the workload that `word` names, with a manager of its own, times none, and tells what they
-/// leave. Fewer steps than its list has keys become one for each key.
+/// Makes `steps` steps of the workload that `word` names, with a manager of its own and without timing them, and prints
+/// what they leave. Fewer steps than its list has keys become one for each key.
 pub fn make_alone<R: Wait + CpuClock + AllocGlobal + Print>(
     rt: &R,
     asked: Asked,
