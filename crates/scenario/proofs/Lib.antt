@@ -1,4 +1,5 @@
 pub mod Deeds
 mod Hearing
+mod Lines
 mod Playing
 mod Polling

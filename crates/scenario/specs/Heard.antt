@@ -1,5 +1,7 @@
-use Rattle.std.specs.Prelude.{◌≡◌, ℕ, ◌+◌, ◌-◌, ◌^◌, min, List, [], ◌∷◌, ◌++◌, map, vec_len}
+use Rattle.std.specs.Prelude.{◌≡◌, ℕ, ◌+◌, ◌-◌, ◌^◌, min, List, [], ◌∷◌, ◌++◌, map, vec_len, ⊤}
 use Rattle.arrayvec.specs.declared.array_string.ArrayString.{ArrayString}
+use Rattle.lock_script.specs.declared.faults.Fault.{Fault}
+use Rattle.lock_script.specs.declared.faults.Fault.TheVariants.{BadLine, ReadFailed, WriteFailed, NoMemory, GateHeld}
 use Rattle.scenario.specs.declared.answers.Row.{Row}
 use Rattle.scenario.specs.declared.answers.Row.TheVariants as row
 use Rattle.scenario.specs.declared.answers.Said.{Said}
@@ -21,6 +23,14 @@ pub data Heard : Type 0 where
   Helped : List ℕ → Heard
   -- the end of what answers a line
   Done : Heard
+
+-- Why a listener doesn't hear something: it can't be written, or there is no memory for it.
+abbrev pub IsUnheard : Fault → Type 0
+IsUnheard WriteFailed = ⊤
+IsUnheard NoMemory = ⊤
+IsUnheard (BadLine line what) = ⊥
+IsUnheard ReadFailed = ⊥
+IsUnheard GateHeld = ⊥
 
 -- A listener hears these, one after another.
 abbrev pub HearsAll : {L : Type 0} → (L → Heard → L → Type 0) → L → List Heard → L → Type 0

@@ -10,4 +10,5 @@ pub mod Tasks
 pub mod Heard
 pub mod Polled
 pub mod Played
+pub mod Scripts
 pub mod Printed

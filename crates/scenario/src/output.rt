@@ -1,9 +1,9 @@
 //! Where the answers of a script go: to a writer, as text or as JSON.
-ghost use Rattle.std.specs.Prelude.{◌≡◌, OnOk, IfOk, IsOk, map, false};
+ghost use Rattle.std.specs.Prelude.{◌≡◌, OnOk, IfOk, IfErr, IsOk, map, false};
 ghost use Rattle.std.specs.Io.KnownBytes.{Appends, Keeps};
 ghost use Rattle.serde_json.specs.View.{view};
 ghost use Rattle.serde_json.specs.Written.{has_float};
-ghost use Rattle.scenario.specs.Heard.{Done, Drawn, HearsAll, Helped, Line, Listed, Told, told_of};
+ghost use Rattle.scenario.specs.Heard.{Done, Drawn, HearsAll, Helped, IsUnheard, Line, Listed, Told, told_of};
 ghost use Rattle.scenario.specs.Printed.{Prints, data_line};
 
 use crate::answers::{Answer, Row, Said};
@@ -25,30 +25,36 @@ pub trait Listener {
 
     /// A line of the script was read, with this number. What follows answers it.
     fn begin_line(&mut self, number: u32, text: &str) -> Result<(), Fault>
-        ensures heard { OnOk result (hears self.old (Line number text.now) self.new) };
+        ensures heard { OnOk result (hears self.old (Line number text.now) self.new) }
+        ensures unheard { IfErr result IsUnheard };
 
     /// The session of this name is told this. The other sessions are known by `names`.
     fn said(&mut self, names: &Names, name: Name, said: Said) -> Result<(), Fault>
-        ensures heard { OnOk result (hears self.old (Told names.now name said) self.new) };
+        ensures heard { OnOk result (hears self.old (Told names.now name said) self.new) }
+        ensures unheard { IfErr result IsUnheard };
 
     /// A row of an answer. Its sessions are known by `names`.
     fn row(&mut self, names: &Names, row: Row) -> Result<(), Fault>
-        ensures heard { OnOk result (hears self.old (Listed names.now row) self.new) };
+        ensures heard { OnOk result (hears self.old (Listed names.now row) self.new) }
+        ensures unheard { IfErr result IsUnheard };
 
     /// What draws the pictures, if any are wanted.
     fn pen(&self) -> Option<Pen>;
 
     /// A picture of who waits for whom. Its sessions are known by `names`.
     fn picture(&mut self, names: &Names, picture: &Picture) -> Result<(), Fault>
-        ensures heard { OnOk result (hears self.old Drawn self.new) };
+        ensures heard { OnOk result (hears self.old Drawn self.new) }
+        ensures unheard { IfErr result IsUnheard };
 
     /// Tells somebody at a shell this text, at once.
     fn tell(&mut self, text: &str) -> Result<(), Fault>
-        ensures heard { OnOk result (hears self.old (Helped text.now) self.new) };
+        ensures heard { OnOk result (hears self.old (Helped text.now) self.new) }
+        ensures unheard { IfErr result IsUnheard };
 
     /// A line is answered, and all who go on have said so.
     fn end_line(&mut self) -> Result<(), Fault>
-        ensures heard { OnOk result (hears self.old Done self.new) };
+        ensures heard { OnOk result (hears self.old Done self.new) }
+        ensures unheard { IfErr result IsUnheard };
 }
 
 /// Tells a listener an answer, row by row. The sessions are known by `names`.
@@ -58,6 +64,7 @@ pub fn tell_answer<L: Listener>(
     answer: &Answer,
 ) -> Result<(), Fault>
     ensures heard { OnOk result (HearsAll L.hears listener.old (told_of names.now answer.now) listener.new) }
+    ensures unheard { IfErr result IsUnheard }
 {
     match answer {
         Answer::Said(name, said) => listener.said(names, *name, *said),
@@ -79,6 +86,7 @@ fn tell_listing<L: Listener>(
 ) -> Result<(), Fault>
     ensures heard { OnOk result (HearsAll L.hears listener.old
         (told_of names.now (Answer.Listing listing.now)) listener.new) }
+    ensures unheard { IfErr result IsUnheard }
 {
     tell_slots(listener, names, listing.fast.as_slice())?;
     tell_table(listener, names, listing.table.as_slice())?;
@@ -90,6 +98,7 @@ fn tell_listing<L: Listener>(
 fn tell_slots<L: Listener>(listener: &mut L, names: &Names, rows: &[SlotRow]) -> Result<(), Fault>
     ensures heard { OnOk result (HearsAll L.hears listener.old
         (map (λ row. Listed names.now (Row.Slot row)) rows.now) listener.new) }
+    ensures unheard { IfErr result IsUnheard }
 {
     'rows: for row in rows {
         listener.row(names, Row::Slot(*row))?;
@@ -101,6 +110,7 @@ fn tell_slots<L: Listener>(listener: &mut L, names: &Names, rows: &[SlotRow]) ->
 fn tell_table<L: Listener>(listener: &mut L, names: &Names, rows: &[TableRow]) -> Result<(), Fault>
     ensures heard { OnOk result (HearsAll L.hears listener.old
         (map (λ row. Listed names.now (Row.Table row)) rows.now) listener.new) }
+    ensures unheard { IfErr result IsUnheard }
 {
     'rows: for row in rows {
         listener.row(names, Row::Table(*row))?;
@@ -112,6 +122,7 @@ fn tell_table<L: Listener>(listener: &mut L, names: &Names, rows: &[TableRow]) -
 fn tell_waits<L: Listener>(listener: &mut L, names: &Names, rows: &[QueueRow]) -> Result<(), Fault>
     ensures heard { OnOk result (HearsAll L.hears listener.old
         (map (λ row. Listed names.now (Row.Wait row)) rows.now) listener.new) }
+    ensures unheard { IfErr result IsUnheard }
 {
     'rows: for row in rows {
         listener.row(names, Row::Wait(*row))?;
@@ -128,6 +139,7 @@ fn tell_blockers<L: Listener>(
 ) -> Result<(), Fault>
     ensures heard { OnOk result (HearsAll L.hears listener.old
         (map (λ one. Listed names.now (Row.InTheWay name one)) found.now) listener.new) }
+    ensures unheard { IfErr result IsUnheard }
 {
     'rows: for blocker in found {
         listener.row(names, Row::InTheWay(name, *blocker))?;
@@ -149,7 +161,8 @@ pub struct Output<W: Write + Drop> {
 
 /// A writer's error is a fault of the script.
 fn written(outcome: io::Result<()>) -> Result<(), Fault>
-    ensures { OnOk result (IsOk outcome) }
+    ensures ok { OnOk result (IsOk outcome) }
+    ensures unheard { IfErr result IsUnheard }
 {
     outcome.map_err(|_| Fault::WriteFailed)
 }
@@ -191,6 +204,7 @@ impl<W: Write + Drop> Output<W> {
         ensures written { OnOk result (IfOk object (λ it. has_float (view it) ≡ false →
             Appends (W.contents self.old.writer) (W.contents self.new.writer) (data_line (view it)))) }
         ensures object { OnOk result (IsOk object) }
+        ensures unheard { IfErr result IsUnheard }
         ensures line { self.new.line ≡ self.old.line }
         ensures form { self.new.form ≡ self.old.form }
         ensures is_echoing { self.new.is_echoing ≡ self.old.is_echoing }
@@ -207,6 +221,7 @@ impl<W: Write + Drop> Output<W> {
     /// Passes on what was printed.
     fn flush(&mut self) -> Result<(), Fault>
         ensures kept { Keeps (W.contents self.old.writer) (W.contents self.new.writer) }
+        ensures unheard { IfErr result IsUnheard }
         ensures line { self.new.line ≡ self.old.line }
         ensures form { self.new.form ≡ self.old.form }
         ensures is_echoing { self.new.is_echoing ≡ self.old.is_echoing }

@@ -1,10 +1,11 @@
 //! Scripts: a line is read, run and answered before the next one is read.
-ghost use Rattle.std.specs.Prelude.{◌≡◌, ◌≤◌, ◌<◌, [], true, length, Ok, IfOk, OnOk};
+ghost use Rattle.std.specs.Prelude.{◌≡◌, ◌≤◌, ◌<◌, [], true, length, Ok, IfOk, IfErr, OnOk};
 ghost use Rattle.lock_manager.specs.Crews.{SeatsAre};
 ghost use Rattle.lock_script.specs.Command.{Addresses, NamesCounter};
 ghost use Rattle.lock_script.specs.Sessions.{IsThere, MayAct};
-ghost use Rattle.scenario.specs.Heard.{Hears};
+ghost use Rattle.scenario.specs.Heard.{Hears, IsUnheard};
 ghost use Rattle.scenario.specs.Played.{Draws, IsPassHeard, IsPollHeard, Plays, Settles};
+ghost use Rattle.scenario.specs.Scripts.{IsBadLine, IsScriptHeard, PlaysLine};
 ghost use Rattle.scenario.specs.Tasks.{IsForManager};
 
 use crate::answers::{Answer, Said};
@@ -162,16 +163,20 @@ impl<T: PartTable, B: Board<T>, D: Desk<OwnSession<T, B>>, L: Listener> Scene<T,
         Ok(Scene { stage, listener })
     }
 
-    /// Plays a script: runs its lines to their end or to the first fault, and then closes the sessions that
-    /// are open.
+    /// Plays a script: runs its lines one by one, to their end or to the first fault, and then closes the sessions
+    /// that are open.
     pub fn play<H: Wait, R: Read + Drop>(&mut self, rt: &H, reader: R) -> Result<(), Fault>
         requires seats { SeatsAre B.seat D.seat }
+        ensures played { IsScriptHeard B.seat B.view B.stack D.database_of D.entries L.hears (R.remaining reader)
+            (record { sessions = self.old.stage.sessions; names = self.old.stage.names }) self.old.listener result self.new.listener }
         ensures manager { D.manager self.new.stage.desk ≡ D.manager self.old.stage.desk }
         ensures none_waits { self.new.stage.sessions.waiting ≡ [] }
         ensures none_open { self.new.stage.sessions.resting ≡ [] }
         ensures none_live { D.live self.new.stage.desk ≡ 0 }
     {
-        self.act_out(rt, reader, None)
+        let ended = self.run_lines(rt, reader);
+        self.stage.close_all(rt);
+        ended
     }
 
     /// Plays a script, or has a shell, and then closes the sessions that are open.
@@ -187,49 +192,44 @@ impl<T: PartTable, B: Board<T>, D: Desk<OwnSession<T, B>>, L: Listener> Scene<T,
         ensures none_open { self.new.stage.sessions.resting ≡ [] }
         ensures none_live { D.live self.new.stage.desk ≡ 0 }
     {
-        let ended = self.run_all(rt, reader, shell);
-        self.stage.close_all(rt);
-        ended
-    }
-
-    /// Runs the lines of a script, or of a shell.
-    fn run_all<H: Wait, R: Read + Drop>(
-        &mut self,
-        rt: &H,
-        reader: R,
-        shell: Option<Shell>,
-    ) -> Result<(), Fault>
-        requires seats { SeatsAre B.seat D.seat }
-        ensures manager { D.manager self.new.stage.desk ≡ D.manager self.old.stage.desk }
-    {
         match shell {
-            None => self.run_lines(rt, reader),
-            Some(shell) => self.converse(rt, reader, shell),
+            None => self.play(rt, reader),
+            Some(shell) => self.have_shell(rt, reader, shell),
         }
     }
 
     /// Runs the lines of the reader, to its end or to the first fault.
     fn run_lines<H: Wait, R: Read + Drop>(&mut self, rt: &H, reader: R) -> Result<(), Fault>
         requires seats { SeatsAre B.seat D.seat }
+        ensures played { IsScriptHeard B.seat B.view B.stack D.database_of D.entries L.hears (R.remaining reader)
+            (record { sessions = self.old.stage.sessions; names = self.old.stage.names }) self.old.listener result self.new.listener }
         ensures manager { D.manager self.new.stage.desk ≡ D.manager self.old.stage.desk }
     {
         let mut lines = LineReader::new(reader);
-        'lines: for _ in 0..u64::MAX {
-            let Some(line) = lines.next_line()? else {
-                break;
-            };
-            self.listener.begin_line(lines.number, line.as_str())?;
-            let command = parse(line.as_str(), &self.stage.sessions).map_err(
-                |what| Fault::BadLine {
-                    line: lines.number,
-                    what,
-                },
-            )?;
-            if let Some(command) = command {
-                self.run(rt, command)?;
-            }
+        'lines: while let Some(line) = lines.next_line()? {
+            self.run_line(rt, lines.number, line.as_str())?;
         }
         Ok(())
+    }
+
+    /// Tells the listener the line with this number, and runs its command if it has one.
+    pub(crate) fn run_line<H: Wait>(&mut self, rt: &H, number: u32, line: &str) -> Result<(), Fault>
+        requires seats { SeatsAre B.seat D.seat }
+        ensures played { OnOk result (Hears L.hears self.old.listener self.new.listener (λ heard.
+            PlaysLine B.seat B.view B.stack D.database_of D.entries number
+            (record { sessions = self.old.stage.sessions; names = self.old.stage.names }) line.now heard
+            (record { sessions = self.new.stage.sessions; names = self.new.stage.names }))) }
+        ensures bad { IfErr result (λ fault. IsBadLine L.hears number
+            (record { sessions = self.old.stage.sessions; names = self.old.stage.names }) self.old.listener line.now fault
+            (record { sessions = self.new.stage.sessions; names = self.new.stage.names }) self.new.listener) }
+        ensures manager { D.manager self.new.stage.desk ≡ D.manager self.old.stage.desk }
+    {
+        self.listener.begin_line(number, line)?;
+        match parse(line, &self.stage.sessions) {
+            Ok(Some(command)) => self.run(rt, command),
+            Ok(None) => Ok(()),
+            Err(what) => Err(Fault::BadLine { line: number, what }),
+        }
     }
 
     /// Runs a command and then polls those who wait, and passes on what both are answered.
@@ -241,6 +241,7 @@ impl<T: PartTable, B: Board<T>, D: Desk<OwnSession<T, B>>, L: Listener> Scene<T,
             Plays B.seat B.view B.stack D.database_of D.entries
             (record { sessions = self.old.stage.sessions; names = self.old.stage.names }) command heard
             (record { sessions = self.new.stage.sessions; names = self.new.stage.names }))) }
+        ensures unheard { IfErr result IsUnheard }
         ensures manager { D.manager self.new.stage.desk ≡ D.manager self.old.stage.desk }
     {
         let lister = lister_of(&command);
@@ -262,6 +263,7 @@ impl<T: PartTable, B: Board<T>, D: Desk<OwnSession<T, B>>, L: Listener> Scene<T,
         ensures drawn { OnOk result (Hears L.hears self.old.listener self.new.listener (λ picture. Draws
             (record { sessions = self.old.stage.sessions; names = self.old.stage.names }) picture
             (record { sessions = self.new.stage.sessions; names = self.new.stage.names }))) }
+        ensures unheard { IfErr result IsUnheard }
         ensures manager { D.manager self.new.stage.desk ≡ D.manager self.old.stage.desk }
     {
         match (lister, answer) {
@@ -277,6 +279,7 @@ impl<T: PartTable, B: Board<T>, D: Desk<OwnSession<T, B>>, L: Listener> Scene<T,
         ensures drawn { OnOk result (Hears L.hears self.old.listener self.new.listener (λ picture. Draws
             (record { sessions = self.old.stage.sessions; names = self.old.stage.names }) picture
             (record { sessions = self.new.stage.sessions; names = self.new.stage.names }))) }
+        ensures unheard { IfErr result IsUnheard }
         ensures manager { D.manager self.new.stage.desk ≡ D.manager self.old.stage.desk }
     {
         let Some(pen) = self.listener.pen() else {
@@ -304,6 +307,7 @@ impl<T: PartTable, B: Board<T>, D: Desk<OwnSession<T, B>>, L: Listener> Scene<T,
         ensures settled { OnOk result (Hears L.hears self.old.listener self.new.listener (λ news. Settles B.seat B.view B.stack
             (record { sessions = self.old.stage.sessions; names = self.old.stage.names }) news
             (record { sessions = self.new.stage.sessions; names = self.new.stage.names }))) }
+        ensures unheard { IfErr result IsUnheard }
         ensures manager { D.manager self.new.stage.desk ≡ D.manager self.old.stage.desk }
     {
         'passes: while self.poll_each(rt)? {}
@@ -317,6 +321,7 @@ impl<T: PartTable, B: Board<T>, D: Desk<OwnSession<T, B>>, L: Listener> Scene<T,
             (record { sessions = self.new.stage.sessions; names = self.new.stage.names }) self.new.listener) }
         ensures fewer { result ≡ Ok true →
             length self.new.stage.sessions.waiting < length self.old.stage.sessions.waiting }
+        ensures unheard { IfErr result IsUnheard }
         ensures manager { D.manager self.new.stage.desk ≡ D.manager self.old.stage.desk }
     {
         let mut went_on = false;
@@ -341,6 +346,7 @@ impl<T: PartTable, B: Board<T>, D: Desk<OwnSession<T, B>>, L: Listener> Scene<T,
         ensures polled { IfOk result (λ went_on. IsPollHeard B.seat B.view B.stack L.hears
             (record { sessions = self.old.stage.sessions; names = self.old.stage.names }) self.old.listener place went_on
             (record { sessions = self.new.stage.sessions; names = self.new.stage.names }) self.new.listener) }
+        ensures unheard { IfErr result IsUnheard }
         ensures manager { D.manager self.new.stage.desk ≡ D.manager self.old.stage.desk }
     {
         match self.stage.poll(rt, place) {

@@ -1,5 +1,5 @@
 //! A shell: the lines of a script as somebody types them, with help, and with what is wrong with a bad one.
-ghost use Rattle.std.specs.Prelude.{◌≡◌};
+ghost use Rattle.std.specs.Prelude.{◌≡◌, []};
 ghost use Rattle.lock_manager.specs.Crews.{SeatsAre};
 
 use crate::hints::{Reader, help, push_correction};
@@ -67,8 +67,26 @@ fn names_of<S, W>(alloc: Global, sessions: &OpenSessions<S, W>) -> Result<Vec<Na
 }
 
 impl<T: PartTable, B: Board<T>, D: Desk<OwnSession<T, B>>, L: Listener> Scene<T, B, D, L> {
+    /// Has a shell, and then closes the sessions that are open.
+    pub fn have_shell<H: Wait, R: Read + Drop>(
+        &mut self,
+        rt: &H,
+        reader: R,
+        shell: Shell,
+    ) -> Result<(), Fault>
+        requires seats { SeatsAre B.seat D.seat }
+        ensures manager { D.manager self.new.stage.desk ≡ D.manager self.old.stage.desk }
+        ensures none_waits { self.new.stage.sessions.waiting ≡ [] }
+        ensures none_open { self.new.stage.sessions.resting ≡ [] }
+        ensures none_live { D.live self.new.stage.desk ≡ 0 }
+    {
+        let ended = self.converse(rt, reader, shell);
+        self.stage.close_all(rt);
+        ended
+    }
+
     /// Runs the lines of a shell, to the line that ends it, the end of the reader, or a fault that is no bad line's.
-    pub fn converse<H: Wait, R: Read + Drop>(
+    fn converse<H: Wait, R: Read + Drop>(
         &mut self,
         rt: &H,
         reader: R,

@@ -19,4 +19,5 @@ returns-in_ok-tell_waits-in-Queue g c =
           (hears-more g.L.Listener.hears c.args.listener.now c.tell_waits.new.listener c.row-in-Queue.new.self
           (map (λ wait. Listed c.args.names.now (row.Wait wait)) c.as_slice.result.now) last c.in_ok-tell_waits-in-Queue.ensures.heard heard))
           c.row-in-Queue.ensures.heard;
+      unheard = c.row-in-Queue.ensures.unheard;
     }

@@ -21,4 +21,5 @@ returns g c =
           (hears-append g.L.Listener.hears c.args.listener.now c.tell_slots.new.listener c.tell_table.new.listener
           (map (λ slot. Listed c.args.names.now (row.Slot slot)) c.as_slice.result.now) (map (λ entry. Listed c.args.names.now (row.Table entry)) c.as_slice-2.result.now) c.in_ok-tell_slots.ensures.heard c.in_ok-tell_table.ensures.heard) heard))
           c.row.ensures.heard;
+      unheard = c.row.ensures.unheard;
     }
