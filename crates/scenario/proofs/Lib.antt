@@ -3,3 +3,4 @@ mod Hearing
 mod Lines
 mod Playing
 mod Polling
+mod Printing

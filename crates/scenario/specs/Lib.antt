@@ -12,3 +12,4 @@ pub mod Polled
 pub mod Played
 pub mod Scripts
 pub mod Printed
+pub mod Written

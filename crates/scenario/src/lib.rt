@@ -26,6 +26,7 @@ mod style;
 mod text;
 mod timelines;
 mod workers;
+mod written;
 
 pub use answers::{Answer, Row, Said};
 pub use arguments::{Hammer, NoRun, Task, parse_arguments};
@@ -42,3 +43,4 @@ pub use sessions::{Deed, Stage};
 pub use style::{Drawing, Pen, Style};
 pub use timelines::draw_script;
 pub use workers::{Gate, OpenGate};
+pub use written::what_is_heard_is_written;
