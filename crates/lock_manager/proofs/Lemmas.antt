@@ -9,3 +9,4 @@ pub mod Sessions
 pub mod Managers
 pub mod Desks
 pub mod Quiet
+pub mod ShutDown

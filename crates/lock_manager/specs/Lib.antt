@@ -11,5 +11,7 @@ pub mod WaitingSessions
 pub mod Crews
 pub mod Desks
 pub mod Audits
+pub mod Patience
 pub mod Queues
+pub mod ShutDown
 pub mod Quiet

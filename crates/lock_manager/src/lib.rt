@@ -11,10 +11,12 @@ pub mod laws;
 mod listing;
 mod manager;
 mod parts;
+mod patience;
 mod queues;
 mod releases;
 mod requests;
 mod sessions;
+mod shut_down;
 mod waiting;
 mod waiting_sessions;
 

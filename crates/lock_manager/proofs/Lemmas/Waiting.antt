@@ -3,3 +3,4 @@ pub mod InPart
 pub mod Looks
 pub mod Watch
 pub mod Cancels
+pub mod Patience

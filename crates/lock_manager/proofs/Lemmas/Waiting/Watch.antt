@@ -24,7 +24,7 @@ pub record IsWatching (number : ℕ) (before after : List TraceEntry) : Type 0 w
   pub watch : IsWatch number looks
   pub trace : after ≡ before ++ looks
 
-watch-more : (number : ℕ) (looks : List TraceEntry) (shown : ℕ) → IsWatch number looks → polled_as shown ≡ Still → IsWatch number (looks ++ Loaded (Wait number) shown ∷ [])
+pub watch-more : (number : ℕ) (looks : List TraceEntry) (shown : ℕ) → IsWatch number looks → polled_as shown ≡ Still → IsWatch number (looks ++ Loaded (Wait number) shown ∷ [])
 watch-more number [] shown watch still = (shown, refl, still, tt)
 watch-more number (entry ∷ looks) shown watch still = (watch.0, watch.1, watch.2, watch-more number looks shown watch.3 still)
 

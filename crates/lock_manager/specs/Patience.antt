@@ -1,0 +1,71 @@
+use Rattle.std.specs.Prelude.{◌≡◌, ◌⊎◌, ℕ, Bool, true, false, List, [], ◌∷◌, ◌++◌, Result, Ok, Err}
+use Rattle.std.specs.List.{FoldsTo}
+use Rattle.modes_core.specs.declared.modes.Mode.{Mode}
+use Rattle.modes_core.specs.declared.tags.Tag.{Tag}
+use Rattle.modes_core.specs.declared.refusals.Refusal.{Refusal}
+use Rattle.modes_core.specs.declared.refusals.Refusal.TheVariants as refusal_
+use Rattle.local_locks.specs.declared.answers.Acquired.{Acquired}
+use Rattle.local_locks.specs.declared.answers.Acquired.TheVariants as acquired
+use Rattle.local_locks.specs.Owned.{Owned}
+use Rattle.lock_world.specs.Account.{Account}
+use Rattle.lock_world.specs.declared.events.Word.TheVariants.{Wait}
+use Rattle.lock_world.specs.World.{TraceEntry, Loaded}
+use Rattle.shared_rule.specs.Boards.{Seated}
+use Rattle.fast_path.specs.declared.use_counts.UseCounts.{UseCounts}
+use Rattle.wait_queue.specs.declared.requests.Kind.TheVariants.{Waiting}
+use Rattle.lock_manager.specs.declared.requests.Begun.TheVariants as begun
+use Rattle.lock_manager.specs.declared.waiting.Looked.TheVariants as looked
+use Rattle.lock_manager.specs.Acquires.{Begins}
+use Rattle.lock_manager.specs.Waiting.{polled_as, Cancels, IsWatch, EndsWait}
+
+-- Waits that go on for as long as their caller says. `Says now answer next` is: the caller's word, as it was `now`, was asked once,
+-- answered this, and was `next` then.
+
+-- What a wait that its session cancels is answered: granted, where the grant was first.
+abbrev pub CancelsAs : ℕ → List TraceEntry → Tag → Mode → Result (Unit {0}) Refusal → List TraceEntry → Type 0
+CancelsAs number before tag mode (Ok done) after = Cancels number before tag mode true after
+CancelsAs number before tag mode (Err refusal_.Cancelled) after = Cancels number before tag mode false after
+CancelsAs number before tag mode (Err refusal) after = ⊥
+
+module _ {K : Type 0} (Says : K → Bool → K → Type 0) where
+  -- The caller gives up, after a load that showed neither a grant nor that the session was asked to cancel: he says so, and the
+  -- session cancels its wait.
+  pub record GivesUp (last : K) (number : ℕ) (before : List TraceEntry) (tag : Tag) (mode : Mode) (shown : ℕ)
+      (result : Result (Unit {0}) Refusal) (after : List TraceEntry) : Type 0 where
+    pub still : polled_as shown ≡ looked.Still
+    pub left : K
+    pub said : Says last false left
+    pub cancels : CancelsAs number before tag mode result after
+
+  -- A whole wait: after each look but the last the caller says to go on. It ends by what the last look showed, as every wait
+  -- does, or the caller gives up.
+  pub record WaitsWhile (keep : K) (number : ℕ) (before : List TraceEntry) (tag : Tag) (mode : Mode)
+      (result : Result (Unit {0}) Refusal) (after : List TraceEntry) : Type 0 where
+    pub looks : List TraceEntry
+    pub watch : IsWatch number looks
+    pub last : K
+    pub said : FoldsTo (λ now look next. Says now true next) keep looks last
+    pub shown : ℕ
+    pub ends :
+        EndsWait number (before ++ looks ++ Loaded (Wait number) shown ∷ []) tag mode shown result after
+        ⊎ GivesUp last number (before ++ looks ++ Loaded (Wait number) shown ∷ []) tag mode shown result after
+
+  -- The request was queued, and its wait ended so.
+  pub record QueuesAndWaitsWhile (keep : K) (seat : Seated) (owned : Owned) (a : Account) (uses : UseCounts) (tag : Tag)
+      (mode : Mode) (result : Result (Unit {0}) Refusal) (b : Account) (left : UseCounts) : Type 0 where
+    pub queued : Account
+    pub starts : Begins Waiting seat owned a uses tag mode (Ok begun.Queued) queued left
+    pub waits : WaitsWhile keep seat.number queued.trace tag mode result b.trace
+
+  -- What joins its trace, by its answer: it is answered at once as one that may wait, and the caller is asked nothing, or
+  -- after its wait.
+  abbrev pub LocksWhile :
+      K → Seated → Owned → Account → UseCounts → Tag → Mode → Result Acquired Refusal → Account → UseCounts → Type 0
+  LocksWhile keep seat owned a uses tag mode (Ok acquired.AlreadyHeld) b left =
+      Begins Waiting seat owned a uses tag mode (Ok begun.AlreadyHeld) b left
+  LocksWhile keep seat owned a uses tag mode (Ok acquired.Granted) b left =
+      Begins Waiting seat owned a uses tag mode (Ok begun.Granted) b left
+      ⊎ QueuesAndWaitsWhile keep seat owned a uses tag mode (Ok tt) b left
+  LocksWhile keep seat owned a uses tag mode (Err refusal) b left =
+      Begins Waiting seat owned a uses tag mode (Err refusal) b left
+      ⊎ QueuesAndWaitsWhile keep seat owned a uses tag mode (Err refusal) b left

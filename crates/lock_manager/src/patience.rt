@@ -1,0 +1,186 @@
+//! Acquires that wait for as long as their caller says, over any board.
+
+ghost use Rattle.std.specs.Prelude.{◌≡◌, ◌≤◌, true, IsOkUnless, IfErr, OnOk, OnErr};
+ghost use Rattle.local_locks.specs.Owned.{with_one_more, IsReserved, IsWellOwned};
+ghost use Rattle.lock_manager.specs.Rest.{IsAtRest};
+ghost use Rattle.lock_manager.specs.Sessions.{IsSame, KeepsOwn};
+ghost use Rattle.lock_manager.specs.Acquires.{AnswersByOwned, IsOwnAnswer, IsRefusedForMemory};
+ghost use Rattle.lock_manager.specs.Waiting.{IsWaiting};
+ghost use Rattle.lock_manager.specs.Patience.{CancelsAs, WaitsWhile, LocksWhile};
+ghost use Rattle.lock_manager.specs.Quiet.{QuietOfAcquire};
+
+use crate::requests::{Begun, acquire};
+use crate::sessions::{Own, OwnSession};
+use crate::waiting::{Looked, cancel, poll};
+use local_locks::Acquired;
+use lock_table::PartTable;
+use modes_core::{Mode, Owner, Refusal, Tag};
+use shared_rule::Board;
+use std::sync::Wait;
+use wait_queue::Kind;
+
+/// Ends the session's wait for `mode` on `tag` by a cancel of its own (`LockErrorCleanup` in proc.c): `Cancelled`, or,
+/// where the grant was first, with the mode for `owner`.
+fn give_up<T: PartTable, B: Board<T>, R: Wait>(
+    rt: &R,
+    board: &mut B,
+    own: &mut Own,
+    tag: Tag,
+    mode: Mode,
+    owner: Owner,
+) -> Result<(), Refusal>
+    requires waiting { IsWaiting (B.seat board.old).groups (B.seat board.old).limit own.old.database own.old.uses
+        (B.view board.old) (B.stack board.old) own.old.locals.entries tag mode }
+    requires reserved { IsReserved own.old.locals tag mode owner }
+    ensures cancelled { IsOkUnless result Refusal.Cancelled }
+    ensures steps { CancelsAs (B.seat board.old).number (B.view board.old).trace tag mode result
+        (B.view board.new).trace }
+    ensures quiet { B.quiet board.new ≡ B.quiet board.old }
+    ensures rest { IsAtRest (B.seat board.old).groups (B.seat board.old).limit own.old.database own.old.uses
+        (B.view board.new) (B.stack board.new) own.new.locals.entries }
+    ensures entries { OnOk result (own.new.locals.entries ≡ with_one_more own.old.locals.entries tag mode owner) }
+    ensures max_local { OnOk result (own.new.locals.max_local ≡ own.old.locals.max_local) }
+    ensures levels { OnOk result (own.new.locals.outer ≡ own.old.locals.outer) }
+    ensures well_owned { OnOk result (IsWellOwned own.new.locals) }
+    ensures same_own { OnErr result (own.new ≡ own.old) }
+    ensures seat { B.seat board.new ≡ B.seat board.old }
+    ensures database { own.new.database ≡ own.old.database }
+    ensures uses { own.new.uses ≡ own.old.uses }
+{
+    if cancel(rt, board, own, tag, mode, owner) {
+        return Ok(());
+    }
+    Err(Refusal::Cancelled)
+}
+
+/// Waits until the wait for `mode` on `tag` is granted, another session asks to cancel it, or `keep_waiting` answers
+/// no, which is asked after each look that showed neither (`ProcSleep` in proc.c with a timeout, and
+/// `LockErrorCleanup`).
+fn wait_while<T: PartTable, B: Board<T>, R: Wait, K: FnMut() -> bool>(
+    rt: &R,
+    board: &mut B,
+    own: &mut Own,
+    tag: Tag,
+    mode: Mode,
+    owner: Owner,
+    mut keep_waiting: K,
+) -> Result<(), Refusal>
+    requires callable { K.IsAlwaysCallable keep_waiting }
+    requires waiting { IsWaiting (B.seat board.old).groups (B.seat board.old).limit own.old.database own.old.uses
+        (B.view board.old) (B.stack board.old) own.old.locals.entries tag mode }
+    requires reserved { IsReserved own.old.locals tag mode owner }
+    ensures cancelled { IsOkUnless result Refusal.Cancelled }
+    ensures steps { WaitsWhile K.step keep_waiting (B.seat board.old).number (B.view board.old).trace tag mode result
+        (B.view board.new).trace }
+    ensures quiet { B.quiet board.new ≡ B.quiet board.old }
+    ensures rest { IsAtRest (B.seat board.old).groups (B.seat board.old).limit own.old.database own.old.uses
+        (B.view board.new) (B.stack board.new) own.new.locals.entries }
+    ensures entries { OnOk result (own.new.locals.entries ≡ with_one_more own.old.locals.entries tag mode owner) }
+    ensures max_local { OnOk result (own.new.locals.max_local ≡ own.old.locals.max_local) }
+    ensures levels { OnOk result (own.new.locals.outer ≡ own.old.locals.outer) }
+    ensures well_owned { OnOk result (IsWellOwned own.new.locals) }
+    ensures same_own { OnErr result (own.new ≡ own.old) }
+    ensures seat { B.seat board.new ≡ B.seat board.old }
+    ensures database { own.new.database ≡ own.old.database }
+    ensures uses { own.new.uses ≡ own.old.uses }
+{
+    'looks: for _ in rt.forever() {
+        match poll(board, own, tag, mode, owner) {
+            Looked::Granted => return Ok(()),
+            Looked::CancelAsked => return give_up(rt, board, own, tag, mode, owner),
+            Looked::Still => {
+                if !keep_waiting() {
+                    return give_up(rt, board, own, tag, mode, owner);
+                }
+            }
+        }
+    }
+    unreachable!()
+}
+
+/// Acquires `mode` on `tag` for `owner`, and waits for it where it must, for as long as `keep_waiting` says: `acquire`,
+/// and `wait_while` where that queued the request.
+fn lock_while<T: PartTable, B: Board<T>, R: Wait, K: FnMut() -> bool>(
+    rt: &R,
+    board: &mut B,
+    own: &mut Own,
+    tag: Tag,
+    mode: Mode,
+    owner: Owner,
+    keep_waiting: K,
+) -> Result<Acquired, Refusal>
+    requires callable { K.IsAlwaysCallable keep_waiting }
+    requires few { (B.seat board.old).limit ≤ 64 }
+    requires few_entries { own.old.locals.max_local ≤ 65536 }
+    requires rest { IsAtRest (B.seat board.old).groups (B.seat board.old).limit own.old.database own.old.uses
+        (B.view board.old) (B.stack board.old) own.old.locals.entries }
+    ensures answers { AnswersByOwned own.old.locals tag mode owner Acquired.AlreadyHeld true result }
+    ensures steps { LocksWhile K.step keep_waiting (B.seat board.old) own.old.locals (B.view board.old) own.old.uses
+        tag mode result (B.view board.new) own.new.uses }
+    ensures quiet { QuietOfAcquire (B.seat board.old) (B.view board.old) own.old.uses tag mode
+        (B.quiet board.old) (B.quiet board.new) }
+    ensures untouched { IsOwnAnswer Acquired.AlreadyHeld result → board.new ≡ board.old }
+    ensures no_memory { IfErr result (λ refusal. refusal ≡ Refusal.NoMemory → IsRefusedForMemory B.view Kind.Waiting
+        (B.seat board.old) own.old.locals own.old.uses tag mode board.old board.new own.new.uses) }
+    ensures entries { OnOk result (own.new.locals.entries ≡ with_one_more own.old.locals.entries tag mode owner) }
+    ensures same_entries { OnErr result (own.new.locals.entries ≡ own.old.locals.entries) }
+    ensures rest { IsAtRest (B.seat board.old).groups (B.seat board.old).limit own.old.database own.new.uses
+        (B.view board.new) (B.stack board.new) own.new.locals.entries }
+    ensures levels { own.new.locals.outer ≡ own.old.locals.outer }
+    ensures kept { KeepsOwn (B.seat board.old) own.old (B.seat board.new) own.new }
+{
+    match acquire(rt, board, own, tag, mode, owner, Kind::Waiting) {
+        Ok(Begun::Granted) => Ok(Acquired::Granted),
+        Ok(Begun::AlreadyHeld) => Ok(Acquired::AlreadyHeld),
+        Ok(Begun::Queued) => match wait_while(rt, board, own, tag, mode, owner, keep_waiting) {
+            Ok(()) => Ok(Acquired::Granted),
+            Err(refusal) => Err(refusal),
+        },
+        Err(refusal) => Err(refusal),
+    }
+}
+
+impl<T: PartTable, B: Board<T>> OwnSession<T, B> {
+    /// Takes `tag` in `mode` for `owner` as `acquire` does, and waits where it must for as long as `keep_waiting`
+    /// answers yes (`LockAcquire` in lock.c with a `lock_timeout`). That is asked after each look at the wait that
+    /// showed neither a grant nor that another session asked to cancel it; where it answers no the wait is given up,
+    /// and the acquire refused with `Cancelled`, as where another session asked; or, where the grant was first,
+    /// granted. The session doesn't sleep between two looks, and has no clock: `keep_waiting` is where its caller
+    /// pauses, and looks at his own.
+    pub fn acquire_while<R: Wait, K: FnMut() -> bool>(
+        &mut self,
+        rt: &R,
+        tag: Tag,
+        mode: Mode,
+        owner: Owner,
+        keep_waiting: K,
+    ) -> Result<Acquired, Refusal>
+        requires callable { K.IsAlwaysCallable keep_waiting }
+        // What it is answered.
+        ensures answers { AnswersByOwned self.old.owned tag mode owner Acquired.AlreadyHeld true result }
+        ensures steps { LocksWhile K.step keep_waiting (B.seat self.old.board) self.old.owned (B.view self.old.board)
+            self.old.uses tag mode result (B.view self.new.board) self.new.uses }
+        ensures quiet { QuietOfAcquire (B.seat self.old.board) (B.view self.old.board) self.old.uses tag mode
+            (B.quiet self.old.board) (B.quiet self.new.board) }
+        ensures untouched { IsOwnAnswer Acquired.AlreadyHeld result → self.new.board ≡ self.old.board }
+        ensures no_memory { IfErr result (λ refusal. refusal ≡ Refusal.NoMemory → IsRefusedForMemory B.view Kind.Waiting
+            (B.seat self.old.board) self.old.owned self.old.uses tag mode self.old.board self.new.board self.new.uses) }
+
+        // What stands after it.
+        ensures entries { OnOk result (self.new.owned.entries
+            ≡ with_one_more self.old.owned.entries tag mode owner) }
+        ensures same_entries { OnErr result (self.new.owned.entries ≡ self.old.owned.entries) }
+        ensures levels { self.new.owned.outer ≡ self.old.owned.outer }
+        ensures same { IsSame B.seat B.view B.stack self.old self.new }
+    {
+        lock_while(
+            rt,
+            &mut self.board,
+            &mut self.own,
+            tag,
+            mode,
+            owner,
+            keep_waiting,
+        )
+    }
+}
