@@ -3,7 +3,7 @@ use Rattle.std.specs.Option.{ForSome}
 use Rattle.lock_table.specs.Queue.{awaits_mode}
 use Rattle.slab.specs.Slab.{slab_len}
 use Rattle.lock_records.specs.Holders.{holds_in}
-use Rattle.lock_records.specs.Locks.{AreNoted, HasNoLock}
+use Rattle.lock_records.specs.Locks.{AreNoted, HasNoLock, IsLockAt}
 use Rattle.lock_records.specs.Queues.{queue_on, waiting_in}
 use Rattle.lock_records.specs.Objects.{AreObjects, HasRoom}
 use Rattle.lock_records.specs.View.{RecordView}
@@ -27,7 +27,7 @@ view_of part = record {
 }
 
 -- The records of each object are right, the index finds the lock records, and there is room for the hold that each wait becomes; a begun
--- request is new, and has room. An object that is noted as absent has no record, and the begun request is on it.
+-- request is new, and has room. Where it is noted so, its object has no record, or its record stands at the hint.
 pub record AreRecords (part : Inside) : Type 0 where
   pub objects : AreObjects part.locks.slots part.holders.slots part.queues.slots
   pub noted : AreNoted part.locks.slots part.index
@@ -36,5 +36,5 @@ pub record AreRecords (part : Inside) : Type 0 where
   pub begun_not_awaited : ForSome part.begun.request
       (λ request. awaits_mode (queue_on part.queues.slots request.tag) request.session request.mode ≡ false)
   pub begun_room : ForSome part.begun.request (λ request. HasRoom part.locks part.holders part.queues part.index)
-  pub absent : part.absent ≡ true → HasNoLock part.locks.slots part.absent_tag
-  pub begun_absent : part.absent ≡ true → ForSome part.begun.request (λ request. request.tag ≡ part.absent_tag)
+  pub absent : part.absent ≡ true → ForSome part.begun.request (λ request. HasNoLock part.locks.slots request.tag)
+  pub known : part.known ≡ true → ForSome part.begun.request (λ request. IsLockAt part.locks.slots request.tag part.hint)

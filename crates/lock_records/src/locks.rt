@@ -85,7 +85,7 @@ fn key_of(tag: &Tag) -> u32
 /// Whether `tag` is `other`. They are compared where they stand: a copy is stored field by field, and the comparison
 /// waits for that.
 #[inline(always)]
-pub(crate) fn is_same_tag(tag: &Tag, other: &Tag) -> bool
+fn is_same_tag(tag: &Tag, other: &Tag) -> bool
     ensures { result ≡ tag_eq tag.now other.now }
 {
     *tag == *other
@@ -137,16 +137,6 @@ pub(crate) fn find_hinted_lock(
         return find_lock_cold(locks, index, tag);
     }
     Some(hint)
-}
-
-/// Keeps `tag` in `kept`, where no record of it was found.
-#[inline(always)]
-pub(crate) fn keep_absent(kept: &mut Tag, found: Option<usize>, tag: &Tag)
-    ensures { found ≡ None → kept.new ≡ tag.now }
-{
-    if found.is_none() {
-        *kept = *tag;
-    }
 }
 
 /// The record of `tag`, for a call that mostly follows one on the same object, whose place is `hint`.

@@ -107,6 +107,16 @@ impl PartTable for RecordPart {
     }
 
     #[inline(always)]
+    fn conflict_of_begun(
+        &self,
+        session: SessionId,
+        tag: &Tag,
+        mode: Mode,
+    ) -> Option<(SessionId, Mode)> {
+        self.records.conflict_of_begun(session, tag, mode)
+    }
+
+    #[inline(always)]
     fn waiter(&self, tag: &Tag, place: usize) -> Option<Waiter> {
         self.records.waiter(tag, place)
     }

@@ -3,9 +3,7 @@ ghost use Rattle.std.specs.Prelude.{◌≡◌, ◌<◌, ◌≤◌, false, true, 
 use crate::counts::{Counts, counts_of};
 use crate::holders::{HolderRecord, find_holder};
 use crate::listing::push_holds;
-use crate::locks::{
-    LockRecord, drop_empty, find_lock, find_or_make_lock, hinted_lock, is_same_tag, keep_absent,
-};
+use crate::locks::{LockRecord, drop_empty, find_lock, find_or_make_lock, hinted_lock};
 use crate::objects::{
     add_hold, holder_in_the_way, lower_awaited, make_room, queue_place, raise_awaited, remove_hold,
 };
@@ -32,11 +30,11 @@ pub struct Records {
     prepared: Pending,
     /// Where a lock record was found last: the call that follows mostly wants the same one.
     hint: usize,
-    /// Whether the object of the request that was begun last has no lock record. Nobody makes one before the request is
-    /// granted or joins.
+    /// Whether the object of the begun request has no lock record. Nobody makes one before the request is granted or
+    /// joins.
     absent: bool,
-    /// Which object that is.
-    absent_tag: Tag,
+    /// Whether that object's lock record stands at `hint`.
+    known: bool,
 }
 
 impl Model for Records {
@@ -72,7 +70,7 @@ impl Records {
             prepared: Pending::nothing(),
             hint: 0,
             absent: false,
-            absent_tag: Tag::relation(0, 0),
+            known: false,
         })
     }
 
@@ -99,7 +97,7 @@ impl Records {
     ghost use Rattle.modes_core.specs.declared.modes.Mode.{Mode};
     ghost use Rattle.modes_core.specs.ModeSet.{set_has};
     ghost use Rattle.lock_table.specs.Content.{add_hold};
-    ghost use Rattle.lock_table.specs.Clash.{NoConflictingHolder};
+    ghost use Rattle.lock_table.specs.Clash.{NoConflictingHolder, HolderInTheWay};
     ghost use Rattle.lock_table.specs.Queue.{awaits_mode, remove_wait, conflicts_with_some};
     ghost use Rattle.lock_records.specs.View.{content_of};
 
@@ -117,17 +115,18 @@ impl Records {
         self.conflict_of(session, tag, mode).is_none()
     }
 
-    /// Whether `tag` is known to have no lock record, since the last `begin` was on it and found none.
-    #[inline(always)]
-    fn is_absent(&self, tag: &Tag) -> bool
-        ensures held { result ≡ true →
-            (session : ℕ) (mode : Mode) → (content_of self.now).holds session tag.now mode ≡ false }
-        ensures awaited { result ≡ true → (content_of self.now).waits tag.now ≡ [] }
+    /// What `conflict_of` answers: a function of its own, called seldom.
+    #[cold]
+    #[inline(never)]
+    fn conflict_by_look(
+        &self,
+        session: SessionId,
+        tag: &Tag,
+        mode: Mode,
+    ) -> Option<(SessionId, Mode)>
+        ensures { HolderInTheWay (content_of self.now).holds session tag.now mode result }
     {
-        if !self.absent {
-            return false;
-        }
-        is_same_tag(tag, &self.absent_tag)
+        self.conflict_of(session, tag, mode)
     }
 
     /// Where the queue record of `tag` is, if somebody awaits it.
@@ -166,6 +165,7 @@ impl Records {
             unreachable!()
         };
         self.absent = false;
+        self.known = false;
         self.queues.leave(at, tag, session);
         lower_awaited(&mut self.locks, place, tag, mode);
         add_hold(
@@ -221,8 +221,8 @@ impl PartTable for Records {
             &mut self.index,
         )?;
         let found = find_lock(&self.locks, &self.index, self.hint, tag);
-        keep_absent(&mut self.absent_tag, found, tag);
         self.absent = found.is_none();
+        self.known = found.is_some();
         self.hint = found.unwrap_or(self.hint);
         let request = Request {
             session,
@@ -244,6 +244,7 @@ impl PartTable for Records {
         self.begun = Pending::nothing();
         let absent = self.absent;
         self.absent = false;
+        self.known = false;
         let place = find_or_make_lock(&mut self.locks, &mut self.index, self.hint, absent, tag);
         self.hint = place;
         add_hold(
@@ -259,6 +260,7 @@ impl PartTable for Records {
     #[inline(always)]
     fn ungrant(&mut self, session: SessionId, tag: &Tag, mode: Mode) -> bool {
         self.absent = false;
+        self.known = false;
         let Some(place) = find_lock(&self.locks, &self.index, self.hint, tag) else {
             unreachable!()
         };
@@ -289,9 +291,6 @@ impl PartTable for Records {
 
     #[inline(always)]
     fn may_conflict(&self, tag: &Tag, mode: Mode) -> bool {
-        if self.is_absent(tag) {
-            return false;
-        }
         match hinted_lock(&self.locks, &self.index, self.hint, tag) {
             Some(lock) => lock.may_conflict(mode),
             None => false,
@@ -300,13 +299,32 @@ impl PartTable for Records {
 
     #[inline(always)]
     fn conflict_of(&self, session: SessionId, tag: &Tag, mode: Mode) -> Option<(SessionId, Mode)> {
-        if self.is_absent(tag) {
-            return None;
-        }
         match hinted_lock(&self.locks, &self.index, self.hint, tag) {
             Some(lock) => holder_in_the_way(lock, &self.holders, tag, session, mode),
             None => None,
         }
+    }
+
+    #[inline(always)]
+    fn conflict_of_begun(
+        &self,
+        session: SessionId,
+        tag: &Tag,
+        mode: Mode,
+    ) -> Option<(SessionId, Mode)> {
+        if self.absent {
+            return None;
+        }
+        if !self.known {
+            return self.conflict_by_look(session, tag, mode);
+        }
+        holder_in_the_way(
+            &self.locks[self.hint],
+            &self.holders,
+            tag,
+            session,
+            mode,
+        )
     }
 
     #[inline(always)]
@@ -326,6 +344,7 @@ impl PartTable for Records {
         self.begun = Pending::nothing();
         let absent = self.absent;
         self.absent = false;
+        self.known = false;
         let at = find_or_make_lock(&mut self.locks, &mut self.index, self.hint, absent, tag);
         self.hint = at;
         let waiter = Waiter {
@@ -344,6 +363,7 @@ impl PartTable for Records {
             unreachable!()
         };
         self.absent = false;
+        self.known = false;
         self.hint = place;
         self.queues.leave(at, tag, session);
         lower_awaited(&mut self.locks, place, tag, mode);

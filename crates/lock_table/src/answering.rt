@@ -1,7 +1,7 @@
 //! What a content answers a lock request: what the request clashes with, and where it goes in the
 //! object's queue. Each function here only reads, and works on any keeper of a partition's content.
 
-ghost use Rattle.std.specs.Prelude.{◌≡◌, option_map};
+ghost use Rattle.std.specs.Prelude.{◌≡◌, option_map, Some};
 ghost use Rattle.lock_table.specs.Clash.{ClashIs, first_waiter};
 ghost use Rattle.lock_table.specs.Queue.{WaitingAnswer};
 ghost use Rattle.lock_table.specs.Waiter.{shown_wait};
@@ -46,6 +46,32 @@ pub fn clash_with<P: PartTable>(
         });
     }
     let (other, its) = part.conflict_of(session, tag, mode)?;
+    Some(Clash {
+        session: other,
+        mode: its,
+        how: How::Held,
+    })
+}
+
+/// What `clash_with` answers for the request of `session` for `tag` in `mode` that is begun in `part`.
+#[inline(always)]
+pub fn clash_with_begun<P: PartTable>(
+    part: &P,
+    session: SessionId,
+    tag: &Tag,
+    mode: Mode,
+) -> Option<Clash>
+    requires begun { P.begun part.now ≡ Some (record { session = session; tag = tag.now; mode = mode }) }
+    ensures { ClashIs (P.content part.now) session tag.now mode result }
+{
+    if let Some(waiter) = waiter_against(part, tag, mode) {
+        return Some(Clash {
+            session: waiter.session,
+            mode: waiter.mode,
+            how: How::Awaited,
+        });
+    }
+    let (other, its) = part.conflict_of_begun(session, tag, mode)?;
     Some(Clash {
         session: other,
         mode: its,

@@ -16,7 +16,8 @@ mod rows;
 mod waits;
 
 pub use answering::{
-    Answer, Clash, answer_by_place, clash_with, first_against, is_against, waiting_answer,
+    Answer, Clash, answer_by_place, clash_with, clash_with_begun, first_against, is_against,
+    waiting_answer,
 };
 pub use moves::Move;
 pub use no_memory::NoMemory;

@@ -153,6 +153,15 @@ impl PartTable for PartLists {
         lowest
     }
 
+    fn conflict_of_begun(
+        &self,
+        session: SessionId,
+        tag: &Tag,
+        mode: Mode,
+    ) -> Option<(SessionId, Mode)> {
+        self.conflict_of(session, tag, mode)
+    }
+
     fn waiter(&self, tag: &Tag, place: usize) -> Option<Waiter> {
         // No list is longer than a number of its length can say.
         let _len = self.waits.len();

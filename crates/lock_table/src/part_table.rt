@@ -75,6 +75,17 @@ pub trait PartTable {
     fn conflict_of(&self, session: SessionId, tag: &Tag, mode: Mode) -> Option<(SessionId, Mode)>
         ensures { HolderInTheWay (content self.now).holds session tag.now mode result };
 
+    /// What `conflict_of` answers for the begun request of `session` for `tag` in `mode`. A keeper that remembers where the
+    /// object's records stand looks for none.
+    fn conflict_of_begun(
+        &self,
+        session: SessionId,
+        tag: &Tag,
+        mode: Mode,
+    ) -> Option<(SessionId, Mode)>
+        requires begun { begun self.now ≡ Some (record { session = session; tag = tag.now; mode = mode }) }
+        ensures { HolderInTheWay (content self.now).holds session tag.now mode result };
+
     /// The wait at `place` of the queue of `tag`, counted from the front, or `None` behind the last one.
     fn waiter(&self, tag: &Tag, place: usize) -> Option<Waiter>
         ensures wait { option_map shown_wait result ≡ slice_get ((content self.now).waits tag.now) place }

@@ -126,6 +126,15 @@ impl PartTable for PlainPart {
         self.lists.conflict_of(session, tag, mode)
     }
 
+    fn conflict_of_begun(
+        &self,
+        session: SessionId,
+        tag: &Tag,
+        mode: Mode,
+    ) -> Option<(SessionId, Mode)> {
+        self.lists.conflict_of(session, tag, mode)
+    }
+
     fn waiter(&self, tag: &Tag, place: usize) -> Option<Waiter> {
         self.lists.waiter(tag, place)
     }

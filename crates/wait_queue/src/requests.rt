@@ -3,7 +3,7 @@ ghost use Rattle.lock_table.specs.Queue.{WaitingAnswer, waits_there};
 ghost use Rattle.lock_table.specs.Clash.{Clashes};
 ghost use Rattle.wait_queue.specs.Decide.{IsDecided, RefusedFor, IsAfterRoom};
 
-use lock_table::{Answer, PartTable, answer_by_place, clash_with};
+use lock_table::{Answer, PartTable, answer_by_place, clash_with_begun};
 use modes_core::{Mode, Refusal, SessionId, Tag};
 
 /// Whether a request may wait (`dontWait` of `LockAcquireExtended` in lock.c).
@@ -78,7 +78,7 @@ fn decide_begun<P: PartTable>(
     ensures at_once { kind ≡ Kind.Conditional → result ≢ Ok Decision.Queued }
     ensures ended { P.begun part.new ≡ None }
 {
-    let Some(clash) = clash_with(part, session, tag, mode) else {
+    let Some(clash) = clash_with_begun(part, session, tag, mode) else {
         part.grant(session, tag, mode);
         return Ok(Decision::Granted);
     };

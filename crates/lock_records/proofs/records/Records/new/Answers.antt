@@ -23,7 +23,7 @@ invariant_of-result c =
       begun_not_awaited = nothing-said (λ (request : Request). awaits_mode (queue_on c.new-4.result.slots request.tag) request.session request.mode ≡ false) _ c.nothing.ensures;
       begun_room = nothing-said (λ (request : Request). HasRoom c.new-2.result c.new-3.result c.new-4.result c.in_ok-index.index) _ c.nothing.ensures;
       absent = λ there. let no_way : ⊥ = cc in absurd no_way;
-      begun_absent = λ there. let no_way : ⊥ = cc in absurd no_way;
+      known = λ there. let no_way : ⊥ = cc in absurd no_way;
     }
 
 pub returns-clause-content : goal.returns-clause-content

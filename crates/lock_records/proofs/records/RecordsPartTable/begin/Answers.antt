@@ -1,6 +1,6 @@
-use Rattle.std.proofs.lemmas.Bool.{true≢false}
-use Rattle.std.specs.Prelude.{is_some, not, IfNone, Option, Some}
-use Rattle.std.proofs.Common.{◌≡◌, false, None, List, refl, sym, ap, ◌∙◌, subst, arith}
+use Rattle.std.proofs.lemmas.Bool.{true≢false, false≢true}
+use Rattle.std.specs.Prelude.{is_some, not, IfSome, IfNone, Option, Some, unwrap_or}
+use Rattle.std.proofs.Common.{◌≡◌, ℕ, true, false, None, List, refl, sym, ap, ◌∙◌, subst, arith}
 use Rattle.slab.specs.Slab.{Slab, slab_len}
 use Rattle.lock_table.specs.declared.request.Request.{Request}
 use Rattle.lock_records.specs.declared.wait_queues.QueueRecord.{QueueRecord}
@@ -9,7 +9,7 @@ use Rattle.lock_records.specs.Queues.{queue_on, waiting_in}
 use Rattle.lock_records.specs.declared.locks.LockRecord.{LockRecord}
 use Rattle.lock_records.specs.declared.holders.HolderRecord.{HolderRecord}
 use Rattle.lock_records.specs.Holders.{holds_in}
-use Rattle.lock_records.specs.Locks.{AreNoted, HasNoLock}
+use Rattle.lock_records.specs.Locks.{AreNoted, HasNoLock, IsLockAt}
 use Rattle.lock_records.specs.Objects.{HasRoom, AreObjects}
 use Rattle.lock_records.specs.View.{RecordView, Capacity, GrowsWhereFull}
 use Rattle.lock_records.proofs.Parts.{objects-same, noted-grown, one-said}
@@ -20,9 +20,9 @@ found-none : {X P : Type 0} (found : Option X) → is_some found ≡ false → I
 found-none None none absent = absent
 found-none (Some x) none absent = absurd (true≢false none)
 
-none-there : {X : Type 0} (found : Option X) → is_some found ≡ false → found ≡ None
-none-there None none = refl
-none-there (Some x) none = absurd (true≢false none)
+found-some : (P : ℕ → Type 0) (found : Option ℕ) (hint : ℕ) → is_some found ≡ true → IfSome found P → P (unwrap_or found hint)
+found-some P None hint some is = absurd (false≢true some)
+found-some P (Some x) hint some is = is
 
 locks : (c : After-make_room) → c.make_room.new.locks.slots ≡ c.self.inside.locks.slots
 locks c = ap (λ (slab : Slab LockRecord). slab.slots) c.make_room.ensures.locks
@@ -57,8 +57,8 @@ invariant_of-self c =
       begun_new = λ request is. let no_way : ⊥ = cc in absurd no_way;
       begun_not_awaited = λ request is. let no_way : ⊥ = cc in absurd no_way;
       begun_room = λ request is. let no_way : ⊥ = cc in absurd no_way;
-      absent = λ there. subst (λ slots. HasNoLock slots c.self.inside.absent_tag) (sym (locks at)) (c.self.invariant.absent there);
-      begun_absent = λ there request begun. let no_way : ⊥ = cc in absurd no_way;
+      absent = λ there request is. let no_way : ⊥ = cc in absurd no_way;
+      known = λ there request is. let no_way : ⊥ = cc in absurd no_way;
     }
 
 pub find_lock-found-requires : goal.find_lock-found-requires
@@ -85,12 +85,12 @@ invariant_of-self-2 c =
           (c.in_ok-make_room.ensures {u = tt}).room;
       absent = λ there.
           let none = c.is_none-self-inside.ensures ∙ ap not there in
-          subst (λ it. HasNoLock c.make_room.new.locks.slots it) (sym (c.keep_absent.ensures (none-there c.find_lock-found.result none)))
+          one-said (λ (x : Request). HasNoLock c.make_room.new.locks.slots x.tag) c.of-self-inside.result.request request c.of-self-inside.ensures
           (found-none c.find_lock-found.result none c.find_lock-found.ensures.absent);
-      begun_absent = λ there.
-          let none = c.is_none-self-inside.ensures ∙ ap not there in
-          one-said (λ (x : Request). x.tag ≡ c.keep_absent.new.kept) c.of-self-inside.result.request request c.of-self-inside.ensures
-          (sym (c.keep_absent.ensures (none-there c.find_lock-found.result none)));
+      known = λ there.
+          one-said (λ (x : Request). IsLockAt c.make_room.new.locks.slots x.tag c.unwrap_or-self-inside.result) c.of-self-inside.result.request request c.of-self-inside.ensures
+          (subst (IsLockAt c.make_room.new.locks.slots c.args.tag.now) (sym c.unwrap_or-self-inside.ensures)
+          (found-some (IsLockAt c.make_room.new.locks.slots c.args.tag.now) c.find_lock-found.result c.self.inside.hint (sym c.is_some-self-inside.ensures ∙ there) c.find_lock-found.ensures.found));
     }
 
 -- each slab and the index grew only where it was full

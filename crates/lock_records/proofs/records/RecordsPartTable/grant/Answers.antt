@@ -36,10 +36,10 @@ invariant_of-self c =
       begun_not_awaited = nothing-said (λ (request : Request). awaits_mode (queue_on c.self.inside.queues.slots request.tag) request.session request.mode ≡ false) _ c.nothing-self-inside.ensures;
       begun_room = nothing-said (λ (request : Request). HasRoom c.add_hold.new.locks c.add_hold.new.holders c.self.inside.queues c.find_or_make_lock-place.new.index) _ c.nothing-self-inside.ensures;
       absent = λ there. let no_way : ⊥ = cc in absurd no_way;
-      begun_absent = λ there. let no_way : ⊥ = cc in absurd no_way;
+      known = λ there. let no_way : ⊥ = cc in absurd no_way;
     }
 
 pub find_or_make_lock-place-requires-clause-absent : goal.find_or_make_lock-place-requires-clause-absent
 find_or_make_lock-place-requires-clause-absent c absent =
     let begun = ap (λ (part : RecordView). part.begun) c.self.view_is ∙ c.requires.begun in
-    subst (λ tag. HasNoLock c.self.inside.locks.slots tag) (sym (c.self.invariant.begun_absent absent _ begun)) (c.self.invariant.absent absent)
+    c.self.invariant.absent absent _ begun

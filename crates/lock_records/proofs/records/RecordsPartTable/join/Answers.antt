@@ -27,7 +27,7 @@ absent c = ap (λ (part : RecordView). waits_there (queue_on part.queues c.args.
 pub find_or_make_lock-at-requires-clause-absent : goal.find_or_make_lock-at-requires-clause-absent
 find_or_make_lock-at-requires-clause-absent c absent =
     let begun = ap (λ (part : RecordView). part.begun) c.self.view_is ∙ c.requires.begun in
-    subst (λ tag. HasNoLock c.self.inside.locks.slots tag) (sym (c.self.invariant.begun_absent absent _ begun)) (c.self.invariant.absent absent)
+    c.self.invariant.absent absent _ begun
 
 pub queue_up-queue-requires-clause-few : goal.queue_up-queue-requires-clause-few
 queue_up-queue-requires-clause-few c =
@@ -58,5 +58,5 @@ invariant_of-self c =
       begun_not_awaited = nothing-said (λ (request : Request). awaits_mode (queue_on c.queue_up-queue.new.queues.slots request.tag) request.session request.mode ≡ false) _ c.nothing-self-inside.ensures;
       begun_room = nothing-said (λ (request : Request). HasRoom c.raise_awaited.new.locks c.self.inside.holders c.queue_up-queue.new.queues c.find_or_make_lock-at.new.index) _ c.nothing-self-inside.ensures;
       absent = λ there. let no_way : ⊥ = cc in absurd no_way;
-      begun_absent = λ there. let no_way : ⊥ = cc in absurd no_way;
+      known = λ there. let no_way : ⊥ = cc in absurd no_way;
     }

@@ -66,7 +66,7 @@ invariant_of-self c =
             queue = c.leave.ensures.room room.queue;
           };
       absent = λ there. let no_way : ⊥ = cc in absurd no_way;
-      begun_absent = λ there. let no_way : ⊥ = cc in absurd no_way;
+      known = λ there. let no_way : ⊥ = cc in absurd no_way;
     }
 
 pub returns-clause-mode : goal.returns-clause-mode

@@ -18,12 +18,6 @@ right c =
     let its = (c.in-Some.ensures {u = tt}).found in
     (c.self.invariant.objects c.args.tag.now).lock its.place (record { lock = c.in-Some.lock.now; there = its.there; on = its.on })
 
-pub returns-then-is_absent-clause-awaited : goal.returns-then-is_absent-clause-awaited
-returns-then-is_absent-clause-awaited c = λ not_met. ap (λ (queue : List Wait). some_awaits_conflict queue c.args.mode) (c.is_absent.ensures.awaited c.if-is_absent.true)
-
-pub returns-then-is_absent-clause-held : goal.returns-then-is_absent-clause-held
-returns-then-is_absent-clause-held c = λ not_met session other its another has. absurd (both_ways _ (c.is_absent.ensures.held c.if-is_absent.true other its) has)
-
 pub returns-in-Some-clause-awaited : goal.returns-in-Some-clause-awaited
 returns-in-Some-clause-awaited c = λ not_met.
     let is = right (goal.at.returns-in-Some-clause-awaited c).In-Some in

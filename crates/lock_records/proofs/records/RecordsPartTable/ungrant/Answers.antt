@@ -50,7 +50,7 @@ invariant_of-self c =
             queue = room.queue;
           };
       absent = λ there. let no_way : ⊥ = cc in absurd no_way;
-      begun_absent = λ there. let no_way : ⊥ = cc in absurd no_way;
+      known = λ there. let no_way : ⊥ = cc in absurd no_way;
     }
 
 pub returns-clause-awaited : goal.returns-clause-awaited
