@@ -38,6 +38,10 @@ use Rattle.shared_rule.specs.Seats.{behind_of}
 use Rattle.shared_rule.specs.Quiet.{Quiet, first_quiet, quiet_told, quiet_noted}
 use Rattle.shared_rule.specs.Gatherings.{Gathered, account_among, AreDistinct, NoneWaits, counted_at, HasAllInHand, AreAll, gathered_in, KnowsOfAll, KnowsAll}
 use Rattle.shared_rule.specs.Audits.{account_after, counter_loads, CountersSeen, slot_loads_of, all_slot_loads, IsFurther, HasPartInHand, holding_steps, SeesSlots, SeesAllSlots, Finds, CountsFrom}
+use Rattle.lock_world.specs.Account.{ListAccount}
+use Rattle.shared_rule.specs.Boards.{lists_told}
+use Rattle.shared_rule.specs.Todos.{nothing_to_do, todo_noted}
+use Rattle.shared_rule.proofs.Taken.{todo-noted}
 use Rattle.shared_rule.proofs.Episodes.{fresh_hand, taken-in_hand, kept-since}
 
 -- What a seat at which all sessions are knows stays as its first session makes steps that change neither its own holds nor what it knows of
@@ -60,9 +64,11 @@ module _ {T : Type 0} where
     sessions = ap (λ xs. noting_first xs mark) has.sessions;
   }
 
-  -- and it is the same seat where that step isn't a quiet one.
-  pub noting-further : (view : View T) (mark : Mark T) → ((before : List Quiet) → quiet_noted before mark ≡ before) → HasSession view → IsFurther view (noting view mark)
-  noting-further view mark silent has =
+  -- and it is the same seat where that step isn't a quiet one, and leaves nothing to do.
+  pub noting-further :
+      (view : View T) (mark : Mark T) → ((before : List Quiet) → quiet_noted before mark ≡ before)
+      → ((number : ℕ) (lists : ListAccount) → todo_noted number lists nothing_to_do mark ≡ nothing_to_do) → HasSession view → IsFurther view (noting view mark)
+  noting-further view mark silent nothing has =
       let is : (noting view mark).sessions ≡ record { number = has.history.number; marks = mark ∷ has.history.marks } ∷ has.others = ap (λ xs. noting_first xs mark) has.sessions in
       record {
         next = refl;
@@ -71,10 +77,11 @@ module _ {T : Type 0} where
         number = ap first_number is ∙ sym (ap first_number has.sessions);
         quiet = ap first_quiet is ∙ silent (quiet_told has.history.marks) ∙ sym (ap first_quiet has.sessions);
         some = noting-some view mark has;
+        free = λ was. todo-noted view mark has ∙ ap (λ todo. todo_noted (first_number view.sessions) (lists_told view.sessions) todo mark) was ∙ nothing (first_number view.sessions) (lists_told view.sessions);
       }
 
   pub further-itself : (view : View T) → HasSession view → IsFurther view view
-  further-itself view has = record { next = refl; closed = refl; behind = refl; number = refl; quiet = refl; some = has }
+  further-itself view has = record { next = refl; closed = refl; behind = refl; number = refl; quiet = refl; some = has; free = λ was. was }
 
   pub further-then : (a b c : View T) → IsFurther a b → IsFurther b c → IsFurther a c
   further-then a b c first second = record {
@@ -84,6 +91,7 @@ module _ {T : Type 0} where
     number = second.number ∙ first.number;
     quiet = second.quiet ∙ first.quiet;
     some = second.some;
+    free = λ was. second.free (first.free was);
   }
 
   -- the sessions at a seat, the first and those behind it
@@ -274,7 +282,7 @@ module _ {T : Type 0} (content : T → Content) where
       → more ≡ sum + modes_shown shown → SeesSlots content owner (count + 1) before after more
   sees-load owner count before mid after sum more shown has so_far is knows added =
       sees-more owner count before mid after sum more shown has so_far
-      (subst (IsFurther mid) (sym is) (noting-further mid (LoadedSlot owner count shown) (λ before. refl) so_far.further.some))
+      (subst (IsFurther mid) (sym is) (noting-further mid (LoadedSlot owner count shown) (λ before. refl) (λ number lists. refl) so_far.further.some))
       (ap (λ (v : View T). first_account content v.sessions) is ∙ account-noting content mid (LoadedSlot owner count shown) so_far.further.some)
       knows added
 
@@ -383,7 +391,7 @@ module _ {T : Type 0} (content : T → Content) where
       → ((issued : ℕ) → AreAll issued mid → KnowsOfAll content mid (Strong count) shown) → CountersSeen content (count + 1) before after (sum + shown)
   counters-load count issued before mid after sum shown has so_far are no_slots is knows =
       counters-more count issued before mid after sum (sum + shown) shown has so_far are no_slots
-      (subst (IsFurther mid) (sym is) (noting-further mid (LoadedStrong count shown) (λ before. refl) so_far.further.some))
+      (subst (IsFurther mid) (sym is) (noting-further mid (LoadedStrong count shown) (λ before. refl) (λ number lists. refl) so_far.further.some))
       (ap (λ (v : View T). first_account content v.sessions) is ∙ account-noting content mid (LoadedStrong count shown) so_far.further.some)
       knows refl
 
@@ -446,18 +454,17 @@ module _ {T : Type 0} (content : T → Content) (limit p : ℕ) (before mid : Vi
   taken = content part
 
   mid-further : IsFurther before mid
-  mid-further = subst (IsFurther before) (sym took) (noting-further before (TookPart p part) (λ before. refl) has)
+  mid-further = subst (IsFurther before) (sym took) (noting-further before (TookPart p part) (λ before. refl) (λ number lists. refl) has)
 
   pub mid-account : first_account content mid.sessions ≡ account_taking (first_account content before.sessions) p taken
   mid-account = ap (λ (v : View T). first_account content v.sessions) took ∙ account-noting content before (TookPart p part) has
 
 module _ {T : Type 0} (content : T → Content) (groups limit p : ℕ) (before mid later after : View T) (old new most : List TableRow) (first result : Result (Unit {0}) NoMemory) (fast : ℕ)
     (has : HasSession before) (part : T) (took : mid ≡ noting before (TookPart p part)) (counts : CountsFrom content groups (p + 1) limit mid old first fast later new)
-    (put : after ≡ noting later (PutPart p Keep part)) (none : (first_account content before.sessions).hand p ≡ None) where
-  last-account : first_account content after.sessions
-      ≡ account_putting (first_account content later.sessions) p (taken_of ((first_account content later.sessions).hand p)) (content part) Keep
-  last-account = ap (λ (v : View T). first_account content v.sessions) put ∙ account-noting content later (PutPart p Keep part) counts.further.some
-
+    (put : IsFurther later after)
+    (last-account : first_account content after.sessions
+      ≡ account_putting (first_account content later.sessions) p (taken_of ((first_account content later.sessions).hand p)) (content part) Keep)
+    (none : (first_account content before.sessions).hand p ≡ None) where
   pub counts-more :
       KnowsContent (first_number before.sessions) (first_account content before.sessions) p (content part)
       → OnOk result ((row : TableRow) → count_by (row_eq row) most ≡ count_by (row_eq row) old + times_had (content part ∷ counts.contents) row)
@@ -469,7 +476,7 @@ module _ {T : Type 0} (content : T → Content) (groups limit p : ℕ) (before m
     word = counts.word;
     further =
         further-then before mid after (mid-further content limit p before mid has part took)
-        (further-then mid later after counts.further (subst (IsFurther later) (sym put) (noting-further later (PutPart p Keep part) (λ before. refl) counts.further.some)));
+        (further-then mid later after counts.further put);
     account =
         kept-since (first_account content before.sessions) (first_account content mid.sessions) (first_account content later.sessions) (first_account content after.sessions) p (content part)
         (holding_steps (p + 1) counts.contents (all_slot_loads limit groups counts.word)) none (mid-account content limit p before mid has part took) counts.account last-account;

@@ -1,4 +1,4 @@
-use Rattle.std.proofs.Common.{◌≡◌, ◌≢◌, ◌⊎◌, ℕ, zero, suc, true, ◌<◌, ◌≤◌, List, [], ◌∷◌, ◌++◌, length, Option, Some, refl, sym, ap, ◌∙◌, subst, inl, inr, arith}
+use Rattle.std.proofs.Common.{◌≡◌, ◌≢◌, ◌⊎◌, ℕ, zero, suc, Bool, true, ◌<◌, ◌≤◌, List, [], ◌∷◌, ◌++◌, length, Option, Some, None, refl, sym, ap, ◌∙◌, subst, inl, inr, arith}
 use Rattle.std.specs.Prelude.{slice_get, slice_set}
 use Rattle.std.proofs.lemmas.Bool.{cases_eq, both_ways}
 use mathlib.Core.Option.{some}
@@ -27,8 +27,20 @@ use Rattle.shared_rule.specs.Shown.{WordsAreShown}
 use Rattle.shared_rule.specs.History.{noted, told, noting_first, noting, keeper}
 use Rattle.shared_rule.proofs.Standing.{there-within, there-one}
 use Rattle.shared_rule.proofs.ClosedCounts.{opener-set}
-use Rattle.shared_rule.specs.Tells.{Tells, AreTold, steps_of}
-use Rattle.shared_rule.specs.Ruled.{OpenerHasClosed, NoneBeyondSlots, ContentsAreHome, ListsAreHome, IsClosed, HistoryIsShown, IsBehind, SeatsAreShown, StandsClosed, HasSeat, HasOpener, StepsAreTold, HasClosedSo, Ruled}
+use Rattle.shared_rule.specs.Tells.{Tells, AreTold, LooksOnly, steps_of}
+use Rattle.lw_word.specs.LightweightWord.{IsHeldByNobody, IsListLocked}
+use Rattle.lock_world.specs.WaitLists.{lock_word}
+use Rattle.lock_world.specs.Wakes.{MakesNoStep, Beside, Turn, happened, saw_list_locked, saw_held, Keeps, beside_after}
+use Rattle.lock_world.specs.Wakes.Waking.{NobodyIsForgotten, NoneOr}
+use Rattle.lock_world.specs.Wakes.Owing.{Duties, waking, duties_after, after_looking, after_attempt, HasNothingToDo, Asks}
+use Rattle.lock_world.specs.Wakes.Calling.{no_calls}
+use Rattle.lock_world.proofs.Wakes.Runs.{turn-nobody}
+use Rattle.lock_world.proofs.Wakes.Live.{turn-live}
+use Rattle.shared_rule.specs.Marks.{SawListLocked, SawHeld}
+use Rattle.shared_rule.specs.Todos.{Todo, no_content, todo_noted, flagged_noted, todo_told_by, flagged_told_by}
+use Rattle.shared_rule.proofs.Idle.{told-lists}
+use Rattle.shared_rule.proofs.Owings.{KeepsOwed, todo-others, flagged-others, due-others, tries-others, due-here, tries-here, calls-aside}
+use Rattle.shared_rule.specs.Ruled.{todo_of, StandsAtSeat, WakesAreKept, OpenerHasClosed, NoneBeyondSlots, ContentsAreHome, ListsAreHome, IsClosed, HistoryIsShown, IsBehind, SeatsAreShown, StandsClosed, HasSeat, HasOpener, StepsAreTold, HasClosedSo, Ruled}
 use Rattle.shared_rule.proofs.Told.{leads-push, another's, told-push, told-beside, steps-beside, set-back, set-among, set-seat, seat-here, set-opener, opener-here, closed_so-push}
 
 -- A step of the session that goes on by itself at a seat, noted there, keeps the rule.
@@ -194,43 +206,38 @@ module _ {T : Type 0} (content : T → Content) (w v : World) (views : List (Vie
   closed-stood : (y : History T) → StandsClosed after_it y → StandsClosed views y
   closed-stood y = set-among (λ (z : View T). z.closed) views id view at (noting view mark) y (λ place get. (place, get))
 
-  module _ (events : List Event) (step : Step) (tells : Tells x.number mark step) (told : StepsAreTold views w.numbers events) where
-    abbrev event : Event
-    event = record { session = x.number; step = step }
+  -- The steps are told of these events then, where they are of the session with its new mark, and of all others as they were.
+  module _ (events later : List Event) (told : StepsAreTold views w.numbers events)
+      (own-told : AreTold x.number (mark ∷ x.marks) (steps_of x.number later))
+      (same : (number : ℕ) → number ≢ x.number → steps_of number later ≡ steps_of number events) where
+    beside : (y : History T) → y.number ≢ x.number → AreTold y.number y.marks (steps_of y.number events) → AreTold y.number y.marks (steps_of y.number later)
+    beside y other = subst (AreTold y.number y.marks) (sym (same y.number other))
 
-    beside : (y : History T) → y.number ≢ x.number → AreTold y.number y.marks (steps_of y.number events) → AreTold y.number y.marks (steps_of y.number (events ++ event ∷ []))
-    beside y other = told-beside y.number y.marks events event (another's y.number event other)
-
-    own-told : AreTold x.number (mark ∷ x.marks) (steps_of x.number (events ++ event ∷ []))
-    own-told =
-        told-push x.number x.marks events mark step tells
-        (told.at_seat x (record { seat = id; place = 0; view = view; there = at; stands = ap (λ sessions. slice_get sessions 0) is }))
-
-    here-told : (y : History T) (j : ℕ) → slice_get (noting view mark).sessions j ≡ Some y → AreTold y.number y.marks (steps_of y.number (events ++ event ∷ []))
+    here-told : (y : History T) (j : ℕ) → slice_get (noting view mark).sessions j ≡ Some y → AreTold y.number y.marks (steps_of y.number later)
     here-told y j get =
         elim (noting-get x others mark j y (sym (ap (λ sessions. slice_get sessions j) sessions') ∙ get)) [
-          | inl one ↦ subst (λ (z : History T). AreTold z.number z.marks (steps_of z.number (events ++ event ∷ []))) (sym one.1) own-told
+          | inl one ↦ subst (λ (z : History T). AreTold z.number z.marks (steps_of z.number later)) (sym one.1) own-told
           | inr other ↦
               let stands : slice_get view.sessions j ≡ Some y = ap (λ sessions. slice_get sessions j) is ∙ other.1 in
               beside y (else-another y j other.0 stands) (told.at_seat y (record { seat = id; place = j; view = view; there = at; stands = stands }))
         ]
 
     seat-still : (number place : ℕ) (y : History T) → slice_get view.sessions place ≡ Some y → y.number ≡ number → HasSeat after_it number
-    seat-still number zero y get same =
+    seat-still number zero y get same_number =
         let first : x ≡ y = some-get (sym (ap (λ sessions. slice_get sessions 0) is) ∙ get) in
         seat-here (λ (z : View T). z.sessions) views id view at (noting view mark) number 0 (record { number = x.number; marks = mark ∷ x.marks })
-        (ap (λ sessions. slice_get sessions 0) sessions') (ap (λ (h : History T). h.number) first ∙ same)
-    seat-still number (suc place) y get same =
+        (ap (λ sessions. slice_get sessions 0) sessions') (ap (λ (h : History T). h.number) first ∙ same_number)
+    seat-still number (suc place) y get same_number =
         seat-here (λ (z : View T). z.sessions) views id view at (noting view mark) number (suc place) y
-        (ap (λ sessions. slice_get sessions (suc place)) sessions' ∙ sym (ap (λ sessions. slice_get sessions (suc place)) is) ∙ get) same
+        (ap (λ sessions. slice_get sessions (suc place)) sessions' ∙ sym (ap (λ sessions. slice_get sessions (suc place)) is) ∙ get) same_number
 
-    pub steps-noted : StepsAreTold (slice_set views id (noting view mark)) v.numbers (events ++ record { session = x.number; step = step } ∷ [])
-    steps-noted = record {
+    steps-then : StepsAreTold after_it v.numbers later
+    steps-then = record {
       opener = subst (λ (n : Numbers). HasOpener after_it n.issued) (sym numbers)
           (set-opener (λ (z : View T). z.sessions) views id view at (noting view mark) w.numbers.issued
           (λ says. opener-here (λ (z : View T). z.sessions) views id view at (noting view mark) w.numbers.issued says) (λ has. has) told.opener);
       live = λ number alive.
-          set-seat (λ (z : View T). z.sessions) views id view at (noting view mark) number (λ place y get same. seat-still number place y get same)
+          set-seat (λ (z : View T). z.sessions) views id view at (noting view mark) number (λ place y get same_number. seat-still number place y get same_number)
           (λ has. has) (told.live number (sym (ap (λ (n : Numbers). n.live number) numbers) ∙ alive));
       at_seat = λ y stands. elim (set-back (λ (z : View T). z.sessions) views id view at (noting view mark) y stands) [
         | inl here ↦ here-told y here.0 here.1
@@ -242,7 +249,65 @@ module _ {T : Type 0} (content : T → Content) (w v : World) (views : List (Vie
       none = λ number later.
           let not_yet : w.numbers.issued ≤ number = subst (λ (n : Numbers). n.issued ≤ number) numbers later in
           let young = issued x.number own.live in
-          steps-beside number events event (another's number event (λ e. let eq : ◌≡◌ {A = ℕ} number x.number = e in omega (arith, not_yet, young, eq))) ∙ told.none number not_yet;
+          same number (λ e. let eq : ◌≡◌ {A = ℕ} number x.number = e in omega (arith, not_yet, young, eq)) ∙ told.none number not_yet;
+    }
+
+  own-was : (events : List Event) → StepsAreTold views w.numbers events → AreTold x.number x.marks (steps_of x.number events)
+  own-was events told = told.at_seat x (record { seat = id; place = 0; view = view; there = at; stands = ap (λ sessions. slice_get sessions 0) is })
+
+  -- One more event was told,
+  pub steps-noted : (events : List Event) (step : Step) → Tells x.number mark step → StepsAreTold views w.numbers events
+      → StepsAreTold (slice_set views id (noting view mark)) v.numbers (events ++ record { session = x.number; step = step } ∷ [])
+  steps-noted events step tells told =
+      let event : Event = record { session = x.number; step = step } in
+      steps-then events (events ++ event ∷ []) told (told-push x.number x.marks events mark step tells (own-was events told))
+      (λ number other. steps-beside number events event (another's number event other))
+
+  -- or none, by a look.
+  pub steps-looked : (events : List Event) → LooksOnly mark → StepsAreTold views w.numbers events → StepsAreTold (slice_set views id (noting view mark)) v.numbers events
+  steps-looked events looks told = steps-then events events told (inr (looks, own-was events told)) (λ number other. refl)
+
+  pub closed_so-looked : (first : World) (events : List Event) → ((y : History T) → StandsClosed views y → HasClosedSo content first w events y) → v ≡ w
+      → (y : History T) → StandsClosed (slice_set views id (noting view mark)) y → HasClosedSo content first v events y
+  closed_so-looked first events so same y stands = subst (λ (u : World). HasClosedSo content first u events y) (sym same) (so y (closed-stood y stands))
+
+  -- What is known of each history at a seat, and of the one with its new mark, is known of each then.
+  each-noted : (P Q : History T → Type 0) → Q (record { number = x.number; marks = mark ∷ x.marks }) → ((y : History T) → y.number ≢ x.number → P y → Q y)
+      → ((y : History T) → StandsAtSeat views y → P y) → (y : History T) → StandsAtSeat after_it y → Q y
+  each-noted P Q new others_ each y stands = elim (set-back (λ (z : View T). z.sessions) views id view at (noting view mark) y stands) [
+    | inl here ↦ elim (noting-get x others mark here.0 y (sym (ap (λ sessions. slice_get sessions here.0) sessions') ∙ here.1)) [
+      | inl one ↦ subst Q (sym one.1) new
+      | inr other ↦
+          let stood : slice_get view.sessions here.0 ≡ Some y = ap (λ sessions. slice_get sessions here.0) is ∙ other.1 in
+          others_ y (else-another y here.0 other.0 stood) (each y (record { seat = id; place = here.0; view = view; there = at; stands = stood }))
+    ]
+    | inr elsewhere ↦
+        let old = seats.history elsewhere.0.seat elsewhere.0.place elsewhere.0.view y elsewhere.0.there elsewhere.0.stands in
+        others_ y (λ e. elsewhere.1 (sym old.seat ∙ ap seats.seat_of e ∙ own.seat)) (each y elsewhere.0)
+  ]
+
+  -- So nobody is forgotten after it, where that is so by other duties, which are as before of all others.
+  module _ (kept : WakesAreKept views w) (next : Duties)
+      (own_todo : todo_told_by x.number (mark ∷ x.marks) ≡ todo_of next x.number) (own_flagged : flagged_told_by (mark ∷ x.marks) ≡ next.flagged x.number)
+      (todo_same : (k : ℕ) → k ≢ x.number → todo_of next k ≡ todo_of kept.duties k) (flagged_same : (k : ℕ) → k ≢ x.number → next.flagged k ≡ kept.duties.flagged k)
+      (nobody : NobodyIsForgotten (waking v next)) (only : (k : ℕ) → MakesNoStep v.numbers k → HasNothingToDo v next no_calls no_calls k) where
+    young-apart : (k : ℕ) → v.numbers.issued ≤ k → k ≢ x.number
+    young-apart k later e =
+        let not_yet : w.numbers.issued ≤ k = subst (λ (n : Numbers). n.issued ≤ k) numbers later in
+        let young = issued x.number own.live in
+        let eq : ◌≡◌ {A = ℕ} k x.number = e in omega (arith, not_yet, young, eq)
+
+    pub wakes-then : WakesAreKept (slice_set views id (noting view mark)) v
+    wakes-then = record {
+      duties = next;
+      todo = each-noted (λ y. todo_told_by y.number y.marks ≡ todo_of kept.duties y.number) (λ y. todo_told_by y.number y.marks ≡ todo_of next y.number) own_todo
+          (λ y other was. was ∙ sym (todo_same y.number other)) kept.todo;
+      flagged = each-noted (λ y. flagged_told_by y.marks ≡ kept.duties.flagged y.number) (λ y. flagged_told_by y.marks ≡ next.flagged y.number) own_flagged
+          (λ y other was. was ∙ sym (flagged_same y.number other)) kept.flagged;
+      none_todo = λ k later. kept.none_todo k (subst (λ (n : Numbers). n.issued ≤ k) numbers later) ∙ sym (todo_same k (young-apart k later));
+      none_flagged = λ k later. kept.none_flagged k (subst (λ (n : Numbers). n.issued ≤ k) numbers later) ∙ sym (flagged_same k (young-apart k later));
+      nobody = nobody;
+      only_live = only;
     }
 
   pub closed_so-noted : (first : World) (events : List Event) (event : Event) → Happens w event v → ((y : History T) → StandsClosed views y → HasClosedSo content first w events y)
@@ -263,7 +328,7 @@ pub record Stepper (sizes : Sizes) (w : World) (number : ℕ) (a : Account) : Ty
   pub few_counted : (session : ℕ) → length (w.sessions.counted session) ≤ most_counted
 
 -- A step of it, and what it makes of the World.
-pub record IsNoted {T : Type 0} (content : T → Content) (groups : ℕ) (w : World) (number : ℕ) (a : Account) (mark : Mark T) (next : Words) : Type 0 where
+pub record IsNoted {T : Type 0} (content : T → Content) (groups : ℕ) (w : World) (number : ℕ) (a : Account) (todo : Todo) (flagged : Bool) (mark : Mark T) (next : Words) : Type 0 where
   pub step : Step
   pub after : World
   pub happens : HappensStep w number step after
@@ -273,6 +338,14 @@ pub record IsNoted {T : Type 0} (content : T → Content) (groups : ℕ) (w : Wo
   pub words : after.words ≡ next
   pub none_beyond : NoneBeyondSlots groups next
   pub few_counted : length (after.sessions.counted number) ≤ most_counted
+  pub keeps : KeepsOwed w number todo flagged (todo_noted number a.lists todo mark) (flagged_noted flagged mark) step
+
+-- What a look sees is so, and the session may look.
+abbrev pub IsSeen : {T : Type 0} → World → Todo → Mark T → Type 0
+IsSeen w todo mark =
+    (lock : ℕ)
+    × (((mark ≡ SawListLocked lock) × IsListLocked (lock_word w.words.partition w.words.fast lock) × NoneOr todo.due lock)
+    ⊎ ((mark ≡ SawHeld lock) × (IsHeldByNobody (lock_word w.words.partition w.words.fast lock) → ⊥) × NoneOr todo.tries lock))
 
 module _ {T : Type 0} (content : T → Content) (begun : T → Option Request) (sizes : Sizes) (s : State (Kept T) (View T)) (r : Ruled content begun sizes s)
     (id : ℕ) (view : View T) (x : History T) (others : List (History T)) (at : get_elem? s.views id ≡ some view) (is : view.sessions ≡ x ∷ others) where
@@ -294,7 +367,7 @@ module _ {T : Type 0} (content : T → Content) (begun : T → Option Request) (
   }
 
   pub ruled-noted :
-      (mark : Mark T) (words : Words) (table : List ℕ) (homes : List (maybe.Option (Kept T))) (noted : IsNoted content sizes.groups r.world x.number (told content x.number x.marks) mark words)
+      (mark : Mark T) (words : Words) (table : List ℕ) (homes : List (maybe.Option (Kept T))) (noted : IsNoted content sizes.groups r.world x.number (told content x.number x.marks) (todo_told_by x.number x.marks) (flagged_told_by x.marks) mark words)
       → WordsAreShown sizes.groups table words → ContentsAreHome content begun homes noted.after.contents
       → ListsAreHome homes noted.after.sessions.has_list noted.after.words.list
       → Ruled content begun sizes (record { words = table; homes = homes; views = slice_set s.views id (noting view mark) })
@@ -327,4 +400,115 @@ module _ {T : Type 0} (content : T → Content) (begun : T → Option Request) (
             r.safe.but_slots.table.carriers.numbers.live_is_issued r.seats;
         closed = subst (λ (n : Numbers). OpenerHasClosed (slice_set s.views id (noting view mark)) n) (sym noted.numbers)
             (opener-set r.world.numbers s.views id view (noting view mark) at refl (λ n says. says) r.closed);
+        wakes = wakes-then content r.world noted.after s.views id view x others mark at is noted.numbers left noted.account
+            r.safe.but_slots.table.carriers.numbers.live_is_issued r.seats r.wakes (duties_after r.world duties x.number noted.step)
+            (ap (λ lists. todo_noted x.number lists (todo_told_by x.number x.marks) mark) (sym (told-lists content x.number x.marks)) ∙ noted.keeps.todo_ duties own_todo)
+            (noted.keeps.flagged_ duties own_flagged)
+            (λ k other. todo-others r.world duties x.number k other noted.step) (λ k other. flagged-others r.world duties x.number k other noted.step)
+            (turn-nobody r.world noted.after beside (happened event) r.safe r.wakes.nobody (noted.happens, asks))
+            (λ k spent. calls-aside noted.after _ _ _ k (turn-live r.world noted.after beside (happened event) r.safe r.wakes.only_live (noted.happens, asks) k spent));
+      } where
+        duties : Duties
+        duties = r.wakes.duties
+
+        beside : Beside
+        beside = record { duties = r.wakes.duties; waits = no_calls; sleeps = no_calls }
+
+        stood : StandsAtSeat s.views x
+        stood = record { seat = id; place = 0; view = view; there = at; stands = ap (λ sessions. slice_get sessions 0) is }
+
+        own_todo : todo_told_by x.number x.marks ≡ todo_of r.wakes.duties x.number
+        own_todo = r.wakes.todo x stood
+
+        own_flagged : flagged_told_by x.marks ≡ r.wakes.duties.flagged x.number
+        own_flagged = r.wakes.flagged x stood
+
+        asks : Asks r.world r.wakes.duties no_calls no_calls x.number noted.step
+        asks = noted.keeps.asks r.wakes.duties own_todo own_flagged
+
+  -- A look leaves the account alone.
+  look-account : (mark : Mark T) (number : ℕ) (a : Account) → LooksOnly mark → noted content number a mark ≡ a
+  look-account mark number a looks = elim looks.1 [
+    | inl locked ↦ ap (noted content number a) locked
+    | inr held ↦ ap (noted content number a) held
+  ]
+
+  -- It is a turn that keeps to what is owed, and nobody is forgotten after it.
+  wakes-looked : (mark : Mark T) → LooksOnly mark → (next : Duties) (turn : Turn) → Keeps r.world (record { duties = r.wakes.duties; waits = no_calls; sleeps = no_calls }) turn r.world
+      → beside_after r.world (record { duties = r.wakes.duties; waits = no_calls; sleeps = no_calls }) turn ≡ record { duties = next; waits = no_calls; sleeps = no_calls }
+      → todo_told_by x.number (mark ∷ x.marks) ≡ todo_of next x.number → flagged_told_by (mark ∷ x.marks) ≡ next.flagged x.number
+      → ((k : ℕ) → k ≢ x.number → todo_of next k ≡ todo_of r.wakes.duties k) → next.flagged ≡ r.wakes.duties.flagged
+      → WakesAreKept (slice_set s.views id (noting view mark)) r.world
+  wakes-looked mark looks next turn keeps same own_todo own_flagged todo_same flagged_same =
+      let w : World = r.world in
+      let beside : Beside = record { duties = r.wakes.duties; waits = no_calls; sleeps = no_calls } in
+      wakes-then content w w s.views id view x others mark at is refl (λ k other. refl) (look-account mark x.number (told content x.number x.marks) looks ∙ history_of.account)
+      r.safe.but_slots.table.carriers.numbers.live_is_issued r.seats r.wakes next own_todo own_flagged todo_same (λ k other. ap (λ (f : ℕ → Bool). f k) flagged_same)
+      (subst (λ (b : Beside). NobodyIsForgotten (waking w b.duties)) same (turn-nobody w w beside turn r.safe r.wakes.nobody keeps))
+      (λ k spent. calls-aside w _ _ _ k (subst (λ (b : Beside). HasNothingToDo w b.duties b.waits b.sleeps k) same (turn-live w w beside turn r.safe r.wakes.only_live keeps k spent)))
+
+  seen-looks : (mark : Mark T) → IsSeen r.world (todo_told_by x.number x.marks) mark → LooksOnly mark
+  seen-looks mark seen = (seen.0, elim seen.1 [
+    | inl locked ↦ inl locked.0
+    | inr held ↦ inr held.0
+  ])
+
+  wakes-seen : (mark : Mark T) → IsSeen r.world (todo_told_by x.number x.marks) mark → WakesAreKept (slice_set s.views id (noting view mark)) r.world
+  wakes-seen mark seen = elim seen.1 [
+    | inl locked ↦
+        wakes-looked mark (lock, inl locked.0) (after_looking duties x.number) (saw_list_locked x.number lock)
+        (locked.1, subst (λ (t : Todo). NoneOr t.due lock) own_todo locked.2, refl) refl
+        (ap (λ m. todo_noted x.number (told no_content x.number x.marks).lists (todo_told_by x.number x.marks) m) locked.0 ∙ due-here duties x.number (todo_told_by x.number x.marks) own_todo None)
+        (ap (flagged_noted (flagged_told_by x.marks)) locked.0 ∙ own_flagged)
+        (λ k other. due-others r.world duties x.number k other None) refl
+    | inr held ↦
+        wakes-looked mark (lock, inr held.0) (after_attempt duties x.number) (saw_held x.number lock)
+        (held.1, subst (λ (t : Todo). NoneOr t.tries lock) own_todo held.2, refl) refl
+        (ap (λ m. todo_noted x.number (told no_content x.number x.marks).lists (todo_told_by x.number x.marks) m) held.0 ∙ tries-here duties x.number (todo_told_by x.number x.marks) own_todo None)
+        (ap (flagged_noted (flagged_told_by x.marks)) held.0 ∙ own_flagged)
+        (λ k other. tries-others r.world duties x.number k other None) refl
+  ] where
+    lock : ℕ
+    lock = seen.0
+
+    duties : Duties
+    duties = r.wakes.duties
+
+    stood : StandsAtSeat s.views x
+    stood = record { seat = id; place = 0; view = view; there = at; stands = ap (λ sessions. slice_get sessions 0) is }
+
+    own_todo : todo_told_by x.number x.marks ≡ todo_of r.wakes.duties x.number
+    own_todo = r.wakes.todo x stood
+
+    own_flagged : flagged_told_by x.marks ≡ r.wakes.duties.flagged x.number
+    own_flagged = r.wakes.flagged x stood
+
+  -- A look keeps the rule.
+  pub ruled-looked : (mark : Mark T) → IsSeen r.world (todo_told_by x.number x.marks) mark
+      → Ruled content begun sizes (record { words = s.words; homes = s.homes; views = slice_set s.views id (noting view mark) })
+  ruled-looked mark seen =
+      let w : World = r.world in
+      let looks = seen-looks mark seen in
+      let now : noted content x.number (told content x.number x.marks) mark ≡ account w x.number = look-account mark x.number (told content x.number x.marks) looks ∙ history_of.account in
+      let young = r.safe.but_slots.table.carriers.numbers.live_is_issued in
+      record {
+        world = w;
+        events = r.events;
+        run = r.run;
+        steps = steps-looked content w w s.views id view x others mark at is refl (λ k other. refl) now young r.seats r.events looks r.steps;
+        closed_so = closed_so-looked content w w s.views id view x others mark at is refl (λ k other. refl) now young r.seats (opening sizes.sessions sizes.groups) r.events r.closed_so refl;
+        safe = r.safe;
+        is_limit = r.is_limit;
+        are_groups = r.are_groups;
+        few = r.few;
+        some_groups = r.some_groups;
+        few_groups = r.few_groups;
+        words = r.words;
+        none_beyond = r.none_beyond;
+        few_counted = r.few_counted;
+        contents = r.contents;
+        lists = r.lists;
+        seats = seats-noted content w w s.views id view x others mark at is refl (λ k other. refl) now young r.seats;
+        closed = opener-set w.numbers s.views id view (noting view mark) at refl (λ n says. says) r.closed;
+        wakes = wakes-seen mark seen;
       }

@@ -11,7 +11,8 @@ use Rattle.shared_rule.specs.declared.history.WordMark.{WordMark}
 use Rattle.shared_rule.specs.declared.history.WordMark.TheVariants as word
 use Rattle.shared_rule.specs.declared.history.View.{View}
 use Rattle.shared_rule.specs.Audits.{IsFurther}
-use Rattle.shared_rule.specs.Boards.{lists_told, no_content, IsIdle, AreIdle}
+use Rattle.shared_rule.specs.Boards.{lists_told, IsIdle, AreIdle}
+use Rattle.shared_rule.specs.Todos.{no_content, first_todo, nothing_to_do}
 use Rattle.shared_rule.specs.LwLocks.{no_lists}
 use Rattle.shared_rule.specs.Slots.{TriesFast}
 use Rattle.shared_rule.specs.Seats.{all_but_last, last_of, behind_of}
@@ -39,10 +40,10 @@ lists_after number lists m = (noted no_content number (record blank_account { li
 
 words-lists : (number : ℕ) (a : Account) (step : WordMark) → (noted_words number a step).lists ≡ (noted_words number (record blank_account { lists = a.lists }) step).lists
 words-lists number a (word.TookFast owner database words) = refl
-words-lists number a (word.PutFast owner) = refl
+words-lists number a (word.PutFast owner found) = refl
 words-lists number a (word.SharedFast owner database words) = refl
-words-lists number a (word.UnsharedFast owner) = refl
-words-lists number a (word.Passed owner tag mode) = refl
+words-lists number a (word.UnsharedFast owner found) = refl
+words-lists number a (word.Passed owner tag mode found) = refl
 words-lists number a (word.Counted tag mode) = refl
 words-lists number a (word.Uncounted tag mode) = refl
 words-lists number a (word.LoadedWait shown) = refl
@@ -65,17 +66,19 @@ words-lists number a (word.Told other) = refl
 words-lists number a (word.LoadedSleep shown) = refl
 words-lists number a (word.SetReleaseOk lock) = refl
 words-lists number a (word.SetHasWaiters lock) = refl
+words-lists number a (word.SawListLocked lock) = refl
+words-lists number a (word.SawHeld lock) = refl
 
 module _ {T : Type 0} (content : T → Content) where
   step-lists : (number : ℕ) (a : Account) (m : Mark T) → (noted content number a m).lists ≡ lists_after number a.lists m
   step-lists number a (mark.TookPart part taken) = refl
-  step-lists number a (mark.PutPart part done put) = refl
+  step-lists number a (mark.PutPart part done put found) = refl
   step-lists number a (mark.SetWaiting tag mode now) = refl
   step-lists number a (mark.MarkedGranted part other done woken now) = granting-lists (in_hand (a.hand part)).recorded a part (in_hand (a.hand part)) other done woken (content now)
   step-lists number a (mark.LeftQueue woken now) = left-lists a a.awaited (content now) woken
   step-lists number a (mark.OfWords step) = words-lists number a step
 
-told-lists : {T : Type 0} (content : T → Content) (number : ℕ) (marks : List (Mark T)) → (told content number marks).lists ≡ (told no_content number marks).lists
+pub told-lists : {T : Type 0} (content : T → Content) (number : ℕ) (marks : List (Mark T)) → (told content number marks).lists ≡ (told no_content number marks).lists
 told-lists content number [] = refl
 told-lists content number (m ∷ marks) =
     step-lists content number (told content number marks) m
@@ -89,9 +92,10 @@ lists-told content (history ∷ others) = told-lists content history.number hist
 
 -- A call that leaves them as they were leaves a session idle.
 pub idle-still : {T : Type 0} (content : T → Content) (sessions after : List (History T))
-    → (first_account content after).lists ≡ (first_account content sessions).lists → IsIdle sessions → IsIdle after
-idle-still content sessions after same idle = record {
+    → (first_account content after).lists ≡ (first_account content sessions).lists → first_todo after ≡ nothing_to_do → IsIdle sessions → IsIdle after
+idle-still content sessions after same free idle = record {
   none = sym (lists-told content after) ∙ same ∙ lists-told content sessions ∙ idle.none;
+  free = free;
 }
 
 -- Trying for the lock of its own slots leaves them.
@@ -121,12 +125,16 @@ module _ {T : Type 0} where
   idle-left (history ∷ []) are = tt
   idle-left (history ∷ next ∷ others) are = (are.0, idle-left (next ∷ others) are.1)
 
-  first-idle : (sessions : List (History T)) → AreIdle sessions → lists_told sessions ≡ no_lists
+  pub first-idle : (sessions : List (History T)) → AreIdle sessions → lists_told sessions ≡ no_lists
   first-idle [] are = refl
   first-idle (history ∷ others) are = are.0.none
 
+  pub first-free : (sessions : List (History T)) → AreIdle sessions → first_todo sessions ≡ nothing_to_do
+  first-free [] are = refl
+  first-free (history ∷ others) are = are.0.free
+
   pub idle-one : (sessions : List (History T)) → AreIdle sessions → IsIdle sessions
-  idle-one sessions are = record { none = first-idle sessions are }
+  idle-one sessions are = record { none = first-idle sessions are; free = first-free sessions are }
 
   behind-idle : (sessions : List (History T)) → AreIdle sessions → AreIdle (behind_of sessions)
   behind-idle [] are = tt
@@ -143,6 +151,7 @@ module _ {T : Type 0} where
           none = sym (lists-told content (some.history ∷ []))
               ∙ ap (λ (sessions : List (History T)). (first_account content sessions).lists) (sym some.sessions) ∙ same
               ∙ lists-told content before.sessions ∙ first-idle before.sessions are;
+          free = sym (ap first_todo some.sessions) ∙ further.free (first-free before.sessions are);
         },
         subst AreIdle (sym further.behind ∙ ap behind_of some.sessions) (behind-idle before.sessions are),
       )

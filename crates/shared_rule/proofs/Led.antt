@@ -1,5 +1,10 @@
-use Rattle.std.proofs.Common.{◌≡◌, ◌≢◌, ℕ, List, None, refl, sym, ap, ◌∙◌, subst}
-use Rattle.std.specs.Prelude.{if◌then◌else◌}
+use Rattle.std.proofs.Common.{◌≡◌, ◌≢◌, ◌⊎◌, ℕ, false, List, Option, Some, None, refl, sym, ap, ◌∙◌, subst, inl, inr}
+use Rattle.std.specs.Prelude.{if◌then◌else◌, not, is_some}
+use Rattle.std.proofs.lemmas.Bool.{cases_Bool, cond-true, cond-false}
+use Rattle.lw_word.specs.LockState.{LockState, must_wake}
+use Rattle.lock_world.specs.Account.{ListAccount}
+use Rattle.lock_world.specs.Wakes.Waking.{NoneOr}
+use Rattle.lock_world.specs.Wakes.Owing.{is_lock}
 use Rattle.std.proofs.lemmas.Bool.{ne_eqb}
 use Rattle.atomic_table.specs.declared.shared.Seat.{Seat}
 use Rattle.lock_table.specs.Content.{Content}
@@ -9,11 +14,16 @@ use Rattle.shared_rule.specs.declared.history.Mark.{Mark}
 use Rattle.shared_rule.specs.declared.history.View.{View}
 use Rattle.shared_rule.specs.declared.kept.Kept.{Kept}
 use Rattle.shared_rule.specs.Boards.{StaysLone}
-use Rattle.shared_rule.specs.History.{noted, noting, first_account, first_number}
-use Rattle.shared_rule.specs.Led.{Led, LedBy}
-use Rattle.shared_rule.specs.Plays.{account_at, number_at, quiet_at, HasSession, IsSameSeat}
+use Rattle.shared_rule.specs.History.{noted, noting, noting_first, first_account, first_number}
+use Rattle.shared_rule.specs.Led.{Led, LedBy, LedTo, KeepsOthers}
+use Rattle.shared_rule.specs.declared.history.History.{History}
+use Rattle.shared_rule.specs.Seats.{behind_of}
+use Rattle.shared_rule.specs.Audits.{IsFurther}
+use Rattle.shared_rule.specs.Plays.{account_at, number_at, quiet_at, todo_at, HasSession, IsSameSeat}
 use Rattle.shared_rule.specs.Quiet.{Quiet, first_quiet, quiet_noted}
-use Rattle.shared_rule.proofs.Taken.{lone-noted, number-noted, session-noted, account-noted, quiet-noted}
+use Rattle.shared_rule.specs.Todos.{Todo, first_todo, nothing_to_do, todo_noted, todo_looked, todo_putting, todo_leaving, todo_told, todo_setting_ok, is_off_list_in_hand}
+use Rattle.shared_rule.proofs.Idle.{lists-told}
+use Rattle.shared_rule.proofs.Taken.{lone-noted, number-noted, session-noted, account-noted, quiet-noted, todo-noted}
 
 -- What calls of several steps make of a seat, step by step.
 
@@ -22,12 +32,22 @@ module _ {T : Type 0} where
   lone-then : (a b c : View T) → StaysLone a b → StaysLone b c → StaysLone a c
   lone-then a b c one two number is = two number (one number is)
 
+  others-then : (a b c : View T) → KeepsOthers a b → KeepsOthers b c → KeepsOthers a c
+  others-then a b c one two = record { next = two.next ∙ one.next; closed = two.closed ∙ one.closed; behind = two.behind ∙ one.behind }
+
+  others-noted : (view : View T) (mark : Mark T) → HasSession view → KeepsOthers view (noting view mark)
+  others-noted view mark has = record {
+    next = refl;
+    closed = refl;
+    behind = ap (λ (sessions : List (History T)). behind_of (noting_first sessions mark)) has.sessions ∙ sym (ap behind_of has.sessions);
+  }
+
 module _ {T : Type 0} (content : T → Content) (before after : Seat (Kept T) (View T)) where
   -- A step that is noted.
   pub led-noted : (mark : Mark T) → HasSession before.me.0 → IsSameSeat before after
       → after.me.0 ≡ noting before.me.0 mark
       → LedBy content before after (noted content (number_at before) (account_at content before) mark)
-      (quiet_noted (quiet_at before) mark)
+      (quiet_noted (quiet_at before) mark) (todo_noted (number_at before) (account_at content before).lists (todo_at before) mark)
   led-noted mark has same is = record {
     seat = same;
     session = subst HasSession (sym is) (session-noted before.me.0 mark has);
@@ -35,6 +55,9 @@ module _ {T : Type 0} (content : T → Content) (before after : Seat (Kept T) (V
     lone = subst (λ (view : View T). StaysLone before.me.0 view) (sym is) (lone-noted before.me.0 mark);
     account = ap (λ (view : View T). first_account content view.sessions) is ∙ account-noted content before.me.0 mark has;
     quiet = ap (λ (view : View T). first_quiet view.sessions) is ∙ quiet-noted before.me.0 mark has;
+    todo = ap (λ (view : View T). first_todo view.sessions) is ∙ todo-noted before.me.0 mark has
+        ∙ ap (λ lists. todo_noted (number_at before) lists (todo_at before) mark) (sym (lists-told content before.me.0.sessions));
+    others = subst (KeepsOthers before.me.0) (sym is) (others-noted before.me.0 mark has);
   }
 
   -- A call that leaves the view alone.
@@ -47,44 +70,65 @@ module _ {T : Type 0} (content : T → Content) (before after : Seat (Kept T) (V
     lone = subst (λ (view : View T). StaysLone before.me.0 view) (sym is) (λ number one. one);
     account = ap (λ (view : View T). first_account content view.sessions) is;
     quiet = ap (λ (view : View T). first_quiet view.sessions) is;
+    todo = ap (λ (view : View T). first_todo view.sessions) is;
+    others = subst (KeepsOthers before.me.0) (sym is) (record { next = refl; closed = refl; behind = refl });
   }
 
-  -- The same by another account that is equal.
+  -- The same by another account that is equal, and by as much to do.
+  pub led_by-as : (its : List Quiet) (todo : Todo) (a b : Account) → LedBy content before after a its todo → a ≡ b → LedBy content before after b its todo
+  led_by-as its todo a b led same = subst (λ c. LedBy content before after c its todo) same led
+
   pub led-as : (a b : Account) → Led content before after a → a ≡ b → Led content before after b
   led-as a b led same = subst (Led content before after) same led
 
-  pub led_by-as : (its : List Quiet) (a b : Account) → LedBy content before after a its → a ≡ b → LedBy content before after b its
-  led_by-as its a b led same = subst (λ c. LedBy content before after c its) same led
+  pub led_to-as : (todo : Todo) (a b : Account) → LedTo content before after a todo → a ≡ b → LedTo content before after b todo
+  led_to-as todo = led_by-as (quiet_at before) todo
 
-  -- What a call then makes of it, with the quiet steps that it adds to these.
-  pub led_by-then : (last : Seat (Kept T) (View T)) (a : Account) (its : List Quiet) (next : Account → Account) (adds : List Quiet → List Quiet)
-      → LedBy content before after a its → LedBy content after last (next (account_at content after)) (adds (quiet_at after))
-      → LedBy content before last (next a) (adds its)
-  led_by-then last a its next adds one two = record {
+  pub led_by-todo : (a : Account) (its : List Quiet) (todo other : Todo) → LedBy content before after a its todo → todo ≡ other → LedBy content before after a its other
+  led_by-todo a its todo other led same = subst (LedBy content before after a its) same led
+
+  -- What a call then makes of it, with the quiet steps that it adds to these, and what it makes of what is to do.
+  pub led_by-then : (last : Seat (Kept T) (View T)) (a : Account) (its : List Quiet) (todo : Todo) (next : Account → Account) (adds : List Quiet → List Quiet) (does : Todo → Todo)
+      → LedBy content before after a its todo → LedBy content after last (next (account_at content after)) (adds (quiet_at after)) (does (todo_at after))
+      → LedBy content before last (next a) (adds its) (does todo)
+  led_by-then last a its todo next adds does one two = record {
     seat = record { table_id = two.seat.table_id ∙ one.seat.table_id; id = two.seat.id ∙ one.seat.id };
     session = two.session;
     number = two.number ∙ one.number;
     lone = lone-then before.me.0 after.me.0 last.me.0 one.lone two.lone;
     account = two.account ∙ ap next one.account;
     quiet = two.quiet ∙ ap adds one.quiet;
+    todo = two.todo ∙ ap does one.todo;
+    others = others-then before.me.0 after.me.0 last.me.0 one.others two.others;
   }
 
-  -- The same where neither makes one.
+  -- The same where neither makes one,
+  pub led_to-then : (last : Seat (Kept T) (View T)) (a : Account) (todo : Todo) (next : Account → Account) (does : Todo → Todo) → LedTo content before after a todo
+      → LedTo content after last (next (account_at content after)) (does (todo_at after)) → LedTo content before last (next a) (does todo)
+  led_to-then last a todo next does one two = led_by-then last a (quiet_at before) todo next (λ its. its) does one two
+
+  -- and as much is to do.
   pub led-then : (last : Seat (Kept T) (View T)) (a : Account) (next : Account → Account) → Led content before after a
       → Led content after last (next (account_at content after)) → Led content before last (next a)
-  led-then last a next one two = led_by-then last a (quiet_at before) next (λ its. its) one two
+  led-then last a next one two = led_to-then last a (todo_at before) next (λ todo. todo) one two
 
   -- The account is as it is.
-  pub led-again : (last : Seat (Kept T) (View T)) (a b : Account) → Led content before after a → Led content after last b
-      → Led content before last (account_at content last)
-  led-again last a b one two = record {
+  pub led_to-again : (last : Seat (Kept T) (View T)) (a b : Account) (todo : Todo) → LedTo content before after a todo → Led content after last b
+      → LedTo content before last (account_at content last) todo
+  led_to-again last a b todo one two = record {
     seat = record { table_id = two.seat.table_id ∙ one.seat.table_id; id = two.seat.id ∙ one.seat.id };
     session = two.session;
     number = two.number ∙ one.number;
     lone = lone-then before.me.0 after.me.0 last.me.0 one.lone two.lone;
     account = refl;
     quiet = two.quiet ∙ one.quiet;
+    todo = two.todo ∙ one.todo;
+    others = others-then before.me.0 after.me.0 last.me.0 one.others two.others;
   }
+
+  pub led-again : (last : Seat (Kept T) (View T)) (a b : Account) → Led content before after a → Led content after last b
+      → Led content before last (account_at content last)
+  led-again last a b one two = led_to-again last a b (todo_at before) one two
 
 -- Nothing was done.
 pub led-self : {T : Type 0} (content : T → Content) (place : Seat (Kept T) (View T)) → HasSession place.me.0
@@ -100,3 +144,43 @@ slept-told a shown zero = ap (account_loading_sleep a) zero
 pub slept-on : (a : Account) (shown : ℕ) → shown ≢ 0 → account_loading_sleep a shown ≡ a
 slept-on a shown some =
     ap (λ told. record a { lists = record (a.lists) { stands = if told then None else a.lists.stands } }) (ne_eqb shown 0 some)
+
+-- A look that is not due leaves as much to do.
+pub looked-same : (todo : Todo) → todo.due ≡ None → todo_looked todo ≡ todo
+looked-same todo none = λ i. record todo { due = sym none i }
+
+-- Whoever owes no release-ok has as much to do once it has set it.
+pub none-owed : (number : ℕ) (lists : ListAccount) (todo : Todo) (lock : ℕ) → todo.owes_release_ok ≡ None → todo_setting_ok number lists todo lock ≡ todo
+none-owed number lists todo lock none =
+    ap (λ its. if is_lock its lock then (if not (is_some lists.stands) then todo_told todo lock else (if is_off_list_in_hand number lists.in_hand lock then todo_leaving todo else todo)) else todo) none
+
+pub owes-none : {P : Type 0} (todo : Todo) (lock : ℕ) → todo.owes_release_ok ≡ None → todo.owes_release_ok ≡ Some lock → P
+owes-none todo lock none owes = let never : ◌≡◌ {A = Option ℕ} None (Some lock) = sym none ∙ owes in absurd (cc (never))
+
+-- What is due once a lock was put, by whether it must wake.
+pub due-or : (todo : Todo) (lock : ℕ) (state : LockState) → NoneOr (todo_putting todo lock state).due lock
+due-or todo lock state = elim (cases_Bool (must_wake state)) [
+  | inl wakes ↦ inr (cond-true (must_wake state) (Some lock) None wakes)
+  | inr quiet ↦ inl (cond-false (must_wake state) (Some lock) None quiet)
+]
+
+-- Where it need not, there is nothing to do after it,
+pub put-nothing : (todo : Todo) (lock : ℕ) (state : LockState) → todo ≡ nothing_to_do → must_wake state ≡ false → todo_putting todo lock state ≡ todo
+put-nothing todo lock state free quiet =
+    (λ i. record todo { due = cond-false (must_wake state) (Some lock) None quiet i }) ∙ (λ i. record todo { due = sym (ap (λ (t : Todo). t.due) free) i })
+
+-- and else there is nothing once its list was looked at.
+pub put-looked : (todo : Todo) (lock : ℕ) (state : LockState) → todo ≡ nothing_to_do → todo_looked (todo_putting todo lock state) ≡ todo
+put-looked todo lock state free = λ i. record todo { due = sym (ap (λ (t : Todo). t.due) free) i }
+
+-- A call that leaves as much to do goes on at the same seat.
+pub led-further : {T : Type 0} (content : T → Content) (before after : Seat (Kept T) (View T)) (a : Account) → Led content before after a → IsFurther before.me.0 after.me.0
+led-further content before after a led = record {
+  next = led.others.next;
+  closed = led.others.closed;
+  behind = led.others.behind;
+  number = led.number;
+  quiet = led.quiet;
+  some = led.session;
+  free = λ was. led.todo ∙ was;
+}

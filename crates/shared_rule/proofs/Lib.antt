@@ -2,10 +2,12 @@ mod Shown
 pub mod Standing
 pub mod ClosedCounts
 pub mod Told
+pub mod Owings
 pub mod Frame
 pub mod Views
 pub mod Meetings
 pub mod SeatSteps
+pub mod WakeSeats
 pub mod Gathered
 pub mod GivenOut
 pub mod NoLie

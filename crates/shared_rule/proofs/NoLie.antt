@@ -19,11 +19,18 @@ use Rattle.shared_rule.specs.declared.kept.Kept.{Kept}
 use Rattle.shared_rule.specs.declared.rule.Sizes.{Sizes}
 use Rattle.shared_rule.specs.Layout.{index_of_word}
 use Rattle.shared_rule.specs.Marks.{LoadedStrong}
-use Rattle.shared_rule.specs.Tells.{is_of_seats, is_step_of, steps_of, AreTold, Leads}
+use Rattle.shared_rule.specs.Tells.{is_of_seats, is_step_of, steps_of, AreTold, LooksOnly, Leads}
 use Rattle.shared_rule.specs.Ruled.{StandsAtSeat, NobodyElse, Ruled}
 use Rattle.shared_rule.proofs.GivenOut.{has-history}
 
 -- Where nobody else has made a step, a load that a session made last shows what its word shows.
+
+-- A load is no look.
+no-look : {T : Type 0} (index shown : ℕ) → LooksOnly (LoadedStrong {T = T} index shown) → ⊥
+no-look index shown looks = elim looks.1 [
+  | inl locked ↦ cc (locked)
+  | inr held ↦ cc (held)
+]
 
 -- Steps of seats leave all words as they are.
 seats-words : (w : World) (s : ℕ) (its : Step) (v : World) → is_of_seats its ≡ true → HappensStep w s its v → v.words ≡ w.words
@@ -140,7 +147,9 @@ module _ {T : Type 0} (content : T → Content) (begun : T → Option Request) (
   ]
 
   pub load-shows : shown ≡ slice_index s.words (index_of_word (Strong index))
-  load-shows =
-      let told = r.steps.at_seat (record { number = number; marks = LoadedStrong index shown ∷ marks }) stands in
-      last-load number (opening sizes.sessions sizes.groups) r.events r.world index shown told.0 r.run no-other (told.2 ∙ ap (λ last. told.0 ++ last ∷ []) told.3)
-      ∙ sym (r.words.word (Strong index) (within, tt))
+  load-shows = elim (r.steps.at_seat (record { number = number; marks = LoadedStrong index shown ∷ marks }) stands) [
+    | inl told ↦
+        last-load number (opening sizes.sessions sizes.groups) r.events r.world index shown told.0 r.run no-other (told.2 ∙ ap (λ last. told.0 ++ last ∷ []) told.3)
+        ∙ sym (r.words.word (Strong index) (within, tt))
+    | inr looked ↦ absurd (no-look index shown looked.0)
+  ]

@@ -20,6 +20,9 @@ use Rattle.shared_rule.specs.Layout.{content_slot_of, list_slot_of}
 use Rattle.shared_rule.specs.Shown.{WordsAreShown}
 use Rattle.shared_rule.specs.History.{opening_view}
 use Rattle.shared_rule.specs.Opening.{IsNew, AreNew}
+use Rattle.lock_world.specs.Wakes.{nothing_beside}
+use Rattle.lock_world.specs.Wakes.Owing.{no_duties}
+use Rattle.lock_world.proofs.Wakes.Runs.{keeps-well}
 use Rattle.shared_rule.specs.Ruled.{ClosedAreCounted, SeatsAreShown, StandsAmong, Ruled}
 
 -- The table before the first step meets the rule.
@@ -106,6 +109,17 @@ module _ {T : Type 0} (content : T → Content) (begun : T → Option Request) (
         };
     seats = opening-seats;
     closed = λ seat view number there says. subst (λ (z : View T). ClosedAreCounted (opening sizes.sessions sizes.groups).numbers z.closed) (only-one seat view there).1 none-closed;
+    wakes =
+        let well = keeps-well sizes.sessions sizes.groups [] (opening sizes.sessions sizes.groups) nothing_beside (omega (arith, few), (refl, refl)) in
+        record {
+          duties = no_duties;
+          todo = λ h stands. nobody-there (λ (z : View T). z.sessions) (λ _. refl) h stands;
+          flagged = λ h stands. nobody-there (λ (z : View T). z.sessions) (λ _. refl) h stands;
+          none_todo = λ number later. refl;
+          none_flagged = λ number later. refl;
+          nobody = well.nobody;
+          only_live = λ number spent. well.only number spent;
+        };
   }
 
 -- The last of parts with nothing in them, and the others.

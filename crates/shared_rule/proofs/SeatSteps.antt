@@ -67,8 +67,13 @@ module _ {T : Type 0} (views : List (View T)) (numbers : Numbers) (events : List
       (set-seat sessions_of views id view at left number
       (λ place h get same. seat-here sessions_of views id view at left number place h get same) (λ still. still) has)
 
-  new-told : (h : History T) → h ≡ record { number = n; marks = [] } → AreTold h.number h.marks (steps_of h.number events)
-  new-told h same = subst (λ (z : History T). AreTold z.number z.marks (steps_of z.number events)) (sym same) (told.none n (omega (arith, next)))
+  -- What is known of each history at a seat, and of the one that is new, is known of each then.
+  pub each-opened : (P : History T → Type 0) → P (record { number = n; marks = [] }) → ((h : History T) → StandsAtSeat views h → P h)
+      → (h : History T) → StandsAtSeat (slice_set views id (record { next = Some (n + 1); closed = view.closed; sessions = view.sessions }) ++ lone n [] ∷ []) h → P h
+  each-opened P new each h stands = elim (more-back (slice_set views id left) (lone n []) sessions_of h stands) [
+    | inl here ↦ subst P (sym (one-get (record { number = n; marks = [] }) here.0 h here.1).1) new
+    | inr stood ↦ each h (set-among sessions_of views id view at left h (λ place get. (place, get)) stood)
+  ]
 
   pub told-opened :
       StepsAreTold (slice_set views id (record { next = Some (n + 1); closed = view.closed; sessions = view.sessions }) ++ lone n [] ∷ [])
@@ -79,10 +84,7 @@ module _ {T : Type 0} (views : List (View T)) (numbers : Numbers) (events : List
       | inl same ↦ new-seat number (sym same)
       | inr other ↦ old-seat number (told.live number (sym (set_at-else numbers.live n true number other) ∙ alive))
     ];
-    at_seat = λ h stands. elim (more-back (slice_set views id left) (lone n []) sessions_of h stands) [
-      | inl here ↦ new-told h (one-get (record { number = n; marks = [] }) here.0 h here.1).1
-      | inr stood ↦ told.at_seat h (set-among sessions_of views id view at left h (λ place get. (place, get)) stood)
-    ];
+    at_seat = each-opened (λ h. AreTold h.number h.marks (steps_of h.number events)) (told.none n (omega (arith, next))) told.at_seat;
     closed = λ h stands. told.closed h (closed-opened h stands);
     none = λ number later. let after : n + 1 ≤ number = later in told.none number (omega (arith, next, after));
   }
@@ -188,6 +190,10 @@ module _ {T : Type 0} (views : List (View T)) (numbers : Numbers) (events : List
       → StandsClosed views h ⊎ (h ≡ record { number = k; marks = marks })
   closed-closing h = joined-closed views id opener other k marks at there apart having h (closing-there h)
 
+  pub each-closing : (P : History T → Type 0) → ((h : History T) → StandsAtSeat views h → P h) → (h : History T)
+      → StandsAtSeat (slice_set (slice_set views id (record { next = opener.next; closed = record { number = k; marks = marks } ∷ opener.closed; sessions = opener.sessions })) other spent_view) h → P h
+  each-closing P each h stands = each h (joined-back views id opener other k marks at there apart having h (λ place get. inl (place, get)) stands)
+
   pub told-closing :
       StepsAreTold (slice_set (slice_set views id (record { next = opener.next; closed = record { number = k; marks = marks } ∷ opener.closed; sessions = opener.sessions })) other spent_view)
       (record numbers { live = set_at numbers.live k false }) events
@@ -230,6 +236,10 @@ module _ {T : Type 0} (views : List (View T)) (numbers : Numbers) (events : List
     | inl old ↦ inl (place, old)
     | inr last ↦ inr last.1
   ]
+
+  pub each-met : (P : History T → Type 0) → ((h : History T) → StandsAtSeat views h → P h) → (h : History T)
+      → StandsAtSeat (slice_set (slice_set views id (record { next = view.next; closed = view.closed; sessions = view.sessions ++ record { number = b; marks = others } ∷ [] })) other spent_view) h → P h
+  each-met P each h stands = each h (joined-back views id view other b others at there apart both h (met-there h) stands)
 
   pub told-met : StepsAreTold views numbers events
       → StepsAreTold (slice_set (slice_set views id (record { next = view.next; closed = view.closed; sessions = view.sessions ++ record { number = b; marks = others } ∷ [] })) other spent_view)
@@ -292,6 +302,20 @@ module _ {T : Type 0} (views : List (View T)) (numbers : Numbers) (events : List
         there = at;
         stands = ap (λ (sessions : List (History T)). slice_get sessions (length before)) is ∙ last-get before y ∙ ap (λ (z : History T). Some z) (sym same);
       })
+
+  pub each-parted : (P : History T → Type 0) → ((h : History T) → StandsAtSeat views h → P h) → (h : History T)
+      → StandsAtSeat (slice_set views id (record { next = view.next; closed = view.closed; sessions = before }) ++ record { next = None; closed = []; sessions = y ∷ [] } ∷ []) h → P h
+  each-parted P each h stands = elim (more-back (slice_set views id kept_view) given_view sessions_of h stands) [
+    | inl here ↦ subst P (sym (one-get y here.0 h here.1).1) (each y (record {
+      seat = id;
+      place = length before;
+      view = view;
+      there = at;
+      stands = ap (λ (sessions : List (History T)). slice_get sessions (length before)) is ∙ last-get before y;
+    }))
+    | inr stood ↦ each h (set-among sessions_of views id view at kept_view h
+        (λ place get. (place, ap (λ (sessions : List (History T)). slice_get sessions place) is ∙ before-get before (y ∷ []) place h get)) stood)
+  ]
 
   pub told-parted : StepsAreTold views numbers events
       → StepsAreTold (slice_set views id (record { next = view.next; closed = view.closed; sessions = before }) ++ record { next = None; closed = []; sessions = y ∷ [] } ∷ []) numbers events

@@ -1,12 +1,14 @@
-use Rattle.std.proofs.Common.{◌≡◌, List, ◌∷◌, refl, sym, ap, ◌∙◌, subst}
+use Rattle.std.proofs.Common.{◌≡◌, ℕ, true, None, List, ◌∷◌, refl, sym, ap, ◌∙◌, subst}
 use Rattle.lock_table.specs.Content.{Content}
 use Rattle.shared_rule.specs.declared.history.History.{History}
 use Rattle.shared_rule.specs.declared.history.Mark.{Mark}
 use Rattle.shared_rule.specs.declared.history.View.{View}
 use Rattle.shared_rule.specs.History.{first_account, first_number, lone, noted, noting, noting_first}
-use Rattle.shared_rule.specs.Boards.{first_marks, StaysLone}
+use Rattle.shared_rule.specs.Boards.{first_marks, lists_told, StaysLone}
 use Rattle.shared_rule.specs.Plays.{HasSession}
 use Rattle.shared_rule.specs.Quiet.{first_quiet, quiet_noted}
+use Rattle.lock_world.specs.Wakes.Waking.{NoneOr}
+use Rattle.shared_rule.specs.Todos.{Todo, todo_told_by, flagged_told_by, first_todo, todo_noted, first_flagged, flagged_noted}
 
 -- What a step that is noted makes of the view and of the account.
 
@@ -38,6 +40,19 @@ module _ {T : Type 0} where
       ap (λ (sessions : List (History T)). first_quiet (noting_first sessions mark)) has.sessions
       ∙ sym (ap (λ (sessions : List (History T)). quiet_noted (first_quiet sessions) mark) has.sessions)
 
+  -- So is what it has to do, and whether it has set has-waiters.
+  pub todo-noted : (view : View T) (mark : Mark T) → HasSession view
+      → first_todo (noting view mark).sessions ≡ todo_noted (first_number view.sessions) (lists_told view.sessions) (first_todo view.sessions) mark
+  todo-noted view mark has =
+      ap (λ (sessions : List (History T)). first_todo (noting_first sessions mark)) has.sessions
+      ∙ sym (ap (λ (sessions : List (History T)). todo_noted (first_number sessions) (lists_told sessions) (first_todo sessions) mark) has.sessions)
+
+  pub flagged-noted : (view : View T) (mark : Mark T) → HasSession view
+      → first_flagged (noting view mark).sessions ≡ flagged_noted (first_flagged view.sessions) mark
+  flagged-noted view mark has =
+      ap (λ (sessions : List (History T)). first_flagged (noting_first sessions mark)) has.sessions
+      ∙ sym (ap (λ (sessions : List (History T)). flagged_noted (first_flagged sessions) mark) has.sessions)
+
 module _ {T : Type 0} (content : T → Content) where
   -- Its account is as the step makes it.
   pub account-noted : (view : View T) (mark : Mark T) → HasSession view
@@ -47,3 +62,23 @@ module _ {T : Type 0} (content : T → Content) where
       ap (λ (sessions : List (History T)). first_account content (noting_first sessions mark)) has.sessions
       ∙ sym (ap (λ (sessions : List (History T)). noted content (first_number sessions)
       (first_account content sessions) mark) has.sessions)
+
+-- What the session has to do, by its history.
+module _ {T : Type 0} (view : View T) (has : HasSession view) where
+  todo-known : first_todo view.sessions ≡ todo_told_by has.history.number has.history.marks
+  todo-known = ap (λ (sessions : List (History T)). first_todo sessions) has.sessions
+
+  pub tries-known : (lock : ℕ) → NoneOr (first_todo view.sessions).tries lock → NoneOr (todo_told_by has.history.number has.history.marks).tries lock
+  tries-known lock none = subst (λ (todo : Todo). NoneOr todo.tries lock) todo-known none
+
+  pub look-known : (lock : ℕ) → NoneOr (first_todo view.sessions).due lock → NoneOr (todo_told_by has.history.number has.history.marks).due lock
+  look-known lock none = subst (λ (todo : Todo). NoneOr todo.due lock) todo-known none
+
+  pub due-known : (first_todo view.sessions).due ≡ None → (todo_told_by has.history.number has.history.marks).due ≡ None
+  due-known none = sym (ap (λ (todo : Todo). todo.due) todo-known) ∙ none
+
+  pub owes-known : (first_todo view.sessions).owes_release_ok ≡ None → (todo_told_by has.history.number has.history.marks).owes_release_ok ≡ None
+  owes-known none = sym (ap (λ (todo : Todo). todo.owes_release_ok) todo-known) ∙ none
+
+  pub flagged-known : first_flagged view.sessions ≡ true → flagged_told_by has.history.marks ≡ true
+  flagged-known set = sym (ap (λ (sessions : List (History T)). first_flagged sessions) has.sessions) ∙ set

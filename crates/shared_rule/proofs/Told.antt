@@ -58,10 +58,10 @@ last-both w (u ∷ worlds) more = last-both u worlds more
 -- No mark tells a step of seats.
 words-no_seats : (number : ℕ) (mark : WordMark) (its : Step) → WordsTell number mark its → is_of_seats its ≡ false
 words-no_seats number (words.TookFast owner database shown) its tells = ap is_of_seats tells
-words-no_seats number (words.PutFast owner) its tells = ap is_of_seats tells
+words-no_seats number (words.PutFast owner found) its tells = ap is_of_seats tells
 words-no_seats number (words.SharedFast owner database shown) its tells = ap is_of_seats tells
-words-no_seats number (words.UnsharedFast owner) its tells = ap is_of_seats tells
-words-no_seats number (words.Passed owner tag mode) its tells = ap is_of_seats tells
+words-no_seats number (words.UnsharedFast owner found) its tells = ap is_of_seats tells
+words-no_seats number (words.Passed owner tag mode found) its tells = ap is_of_seats tells
 words-no_seats number (words.Counted tag mode) its tells = ap is_of_seats tells
 words-no_seats number (words.Uncounted tag mode) its tells = ap is_of_seats tells
 words-no_seats number (words.LoadedWait shown) its tells = ap is_of_seats tells
@@ -84,10 +84,12 @@ words-no_seats number (words.Told other) its tells = ap is_of_seats tells
 words-no_seats number (words.LoadedSleep shown) its tells = ap is_of_seats tells
 words-no_seats number (words.SetReleaseOk lock) its tells = ap is_of_seats tells.1.2
 words-no_seats number (words.SetHasWaiters lock) its tells = ap is_of_seats tells.1.2
+words-no_seats number (words.SawListLocked lock) its tells = absurd tells
+words-no_seats number (words.SawHeld lock) its tells = absurd tells
 
 pub tells-no_seats : {T : Type 0} (number : ℕ) (mark : Mark T) (its : Step) → Tells number mark its → is_of_seats its ≡ false
 tells-no_seats number (TookPart part taken) its tells = ap is_of_seats tells
-tells-no_seats number (PutPart part done put) its tells = ap is_of_seats tells.1
+tells-no_seats number (PutPart part done put found) its tells = ap is_of_seats tells.1
 tells-no_seats number (SetWaiting tag mode now) its tells = ap is_of_seats tells
 tells-no_seats number (MarkedGranted part other done woken now) its tells = ap is_of_seats tells
 tells-no_seats number (LeftQueue woken now) its tells = ap is_of_seats tells
@@ -123,7 +125,7 @@ module _ {T : Type 0} where
   -- A step that its mark tells goes on with the history,
   pub told-push : (number : ℕ) (marks : List (Mark T)) (events : List Event) (mark : Mark T) (its : Step) → Tells number mark its → AreTold number marks (steps_of number events)
       → AreTold number (mark ∷ marks) (steps_of number (events ++ record { session = number; step = its } ∷ []))
-  told-push number marks events mark its tells told = (
+  told-push number marks events mark its tells told = inl (
     steps_of number events,
     its,
     steps-own number events (record { session = number; step = its })

@@ -26,7 +26,7 @@ use Rattle.shared_rule.specs.declared.history.View.{View}
 use Rattle.shared_rule.specs.declared.kept.Kept.{Kept}
 use Rattle.shared_rule.specs.History.{blank_account, told, keeper, lone, spent_view}
 use Rattle.shared_rule.specs.Tells.{is_of_seats}
-use Rattle.shared_rule.specs.Ruled.{IsClosed, OpenerHasClosed, HistoryIsShown, IsBehind, SeatsAreShown, StandsClosed, StepsAreTold, HasClosedSo, Ruled}
+use Rattle.shared_rule.specs.Ruled.{WakesAreKept, IsClosed, OpenerHasClosed, HistoryIsShown, IsBehind, SeatsAreShown, StandsClosed, StepsAreTold, HasClosedSo, Ruled}
 use Rattle.shared_rule.proofs.Told.{leads-push, told-seats, closed_so-push}
 use Rattle.shared_rule.proofs.Standing.{there-within, there-one, there-snoc}
 
@@ -375,8 +375,9 @@ module _ {T : Type 0} (content : T → Content) (begun : T → Option Request) (
       (event : Event) (numbers : Numbers) (views : List (View T)) → Happens r.world event (with_numbers r.world numbers) → numbers.limit ≡ r.world.numbers.limit
       → SafeWorld (with_numbers r.world numbers) → SeatsAreShown content views (with_numbers r.world numbers) → OpenerHasClosed views numbers
       → is_of_seats event.step ≡ true → StepsAreTold views numbers r.events → ((h : History T) → StandsClosed views h → StandsClosed s.views h)
+      → WakesAreKept views (with_numbers r.world numbers)
       → Ruled content begun sizes (record { words = s.words; homes = s.homes; views = views })
-  ruled-numbered event numbers views happens same safe seats closed of_seats told stood = record {
+  ruled-numbered event numbers views happens same safe seats closed of_seats told stood wakes = record {
     world = with_numbers r.world numbers;
     events = r.events ++ event ∷ [];
     run = leads-push (opening sizes.sessions sizes.groups) r.events event r.world (with_numbers r.world numbers) r.run happens;
@@ -396,6 +397,7 @@ module _ {T : Type 0} (content : T → Content) (begun : T → Option Request) (
     lists = r.lists;
     seats = seats;
     closed = closed;
+    wakes = wakes;
   }
 
   -- and in the World in which a session has closed.
@@ -404,8 +406,9 @@ module _ {T : Type 0} (content : T → Content) (begun : T → Option Request) (
       → OpenerHasClosed views (after_closing r.world k).numbers → told content k marks ≡ account r.world k
       → StepsAreTold views (after_closing r.world k).numbers r.events
       → ((h : History T) → StandsClosed views h → StandsClosed s.views h ⊎ (h ≡ record { number = k; marks = marks }))
+      → WakesAreKept views (after_closing r.world k)
       → Ruled content begun sizes (record { words = s.words; homes = s.homes; views = views })
-  ruled-closed k marks views may safe seats closed shown its_steps stood = record {
+  ruled-closed k marks views may safe seats closed shown its_steps stood wakes = record {
     world = after_closing r.world k;
     events = r.events ++ event ∷ [];
     run = leads-push first r.events event r.world (after_closing r.world k) r.run (may, refl);
@@ -427,6 +430,7 @@ module _ {T : Type 0} (content : T → Content) (begun : T → Option Request) (
     lists = r.lists;
     seats = seats;
     closed = closed;
+    wakes = wakes;
   } where
     first : World
     first = opening sizes.sessions sizes.groups

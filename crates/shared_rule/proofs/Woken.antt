@@ -10,11 +10,13 @@ use Rattle.shared_rule.specs.declared.history.View.{View}
 use Rattle.shared_rule.specs.declared.kept.Kept.{Kept}
 use Rattle.shared_rule.specs.History.{list_here}
 use Rattle.lock_table.proofs.PutLemmas.{set_at-here, set_at-else}
-use Rattle.shared_rule.specs.Led.{Led}
+use Rattle.shared_rule.specs.Led.{Led, LedTo}
+use Rattle.shared_rule.specs.Todos.{Todo, IsLeftWellBy, nobody_waits, took_off}
+use Rattle.shared_rule.specs.declared.lw_lock.LwLock.{LwLock}
 use Rattle.shared_rule.specs.LwLocks.{no_lists}
 use Rattle.shared_rule.specs.Plays.{account_at, number_at}
 use Rattle.shared_rule.specs.Wakeups.{all_taken_off, all_told, MayTakeAllOff, MayTellAll}
-use Rattle.shared_rule.proofs.Led.{led-again, led-as}
+use Rattle.shared_rule.proofs.Led.{led_to-again, led_to-as}
 use Rattle.shared_rule.proofs.TakenOff.{with_list, to_tell, may_take-off, left-waiting, may_tell-all, all-told}
 
 -- A wakeup, step by step: the list is locked, some are taken off it, it is unlocked, and they are told.
@@ -25,8 +27,8 @@ pub not-there : (lists : ListAccount) (number lock : ℕ) (waiters : List LwWait
 not-there lists number lock waiters idle stands = false_from_ne_true (stands_in number waiters) (λ there.
     let never : None ≡ Some lock = sym (ap (λ (l : ListAccount). l.stands) idle) ∙ stands there in cc (never))
 
-module _ {T : Type 0} (content : T → Content) (before locked : Seat (Kept T) (View T)) (lock : ℕ) (ws : List LwWaiter)
-    (locks : Led content before locked (account_locking_list (account_at content before) lock ws))
+module _ {T : Type 0} (content : T → Content) (before locked : Seat (Kept T) (View T)) (lock : ℕ) (ws : List LwWaiter) (todo : Todo)
+    (locks : LedTo content before locked (account_locking_list (account_at content before) lock ws) todo)
     (idle : (account_at content before).lists ≡ no_lists) (once : (k : ℕ) → times_in k ws ≤ 1)
     (other : stands_in (number_at before) ws ≡ false) (taken : List LwWaiter) (is : taken ≡ taken_off ws) where
   abbrev a : Account
@@ -60,12 +62,12 @@ module _ {T : Type 0} (content : T → Content) (before locked : Seat (Kept T) (
           (subst (λ b. MayTellAll b (taken_off ws)) (sym at-unlocked) (may_tell-all (number_at before) a lock ws once other))
 
       pub woken : (after : Seat (Kept T) (View T)) (its : List LwWaiter) → its ≡ taken_off ws → Led content unlocked after (all_told (account_at content unlocked) its)
-          → Led content before after a
+          → LedTo content before after a todo
       woken after its same tells =
-          let one = led-again content before locked off _ _ locks takes in
-          let two = led-again content before off unlocked _ _ one unlocks in
-          let three = led-again content before unlocked after _ _ two tells in
-          led-as content before after (account_at content after) a three
+          let one = led_to-again content before locked off _ _ todo locks takes in
+          let two = led_to-again content before off unlocked _ _ todo one unlocks in
+          let three = led_to-again content before unlocked after _ _ todo two tells in
+          led_to-as content before after todo (account_at content after) a three
           (tells.account ∙ ap (all_told (account_at content unlocked)) same ∙ ap (λ b. all_told b (taken_off ws)) at-unlocked
           ∙ all-told (number_at before) a lock ws once other
           ∙ (λ i. record a { lists = sym idle i }))
@@ -89,3 +91,15 @@ taken-none (w ∷ ws) none = elim (cases_Bool (wants_to_share w)) [
   | inl shares ↦ let some : w ∷ filter wants_to_share ws ≡ [] = sym (cond-true (wants_to_share w) (w ∷ filter wants_to_share ws) (w ∷ []) shares) ∙ none in absurd (cc)
   | inr alone ↦ let some : w ∷ [] ≡ [] = sym (cond-false (wants_to_share w) (w ∷ filter wants_to_share ws) (w ∷ []) alone) ∙ none in absurd (cc)
 ]
+
+-- A list is left well after a wakeup: nobody was there, or somebody was taken off.
+pub left-well : (a b : Account) (todo : Todo) (lock : LwLock) (ws taken left : List LwWaiter) → taken ≡ taken_off ws → left ≡ left_waiting ws
+    → b ≡ all_taken_off a taken → IsLeftWellBy b todo lock left
+left-well a b todo lock [] taken left is rest now = nobody_waits rest
+left-well a b todo lock (w ∷ ws) taken left is rest now =
+    let f = some-off taken a (λ none. absurd (let never : w ∷ ws ≡ [] = taken-none (w ∷ ws) (sym is ∙ none) in cc (never))) in
+    took_off f.0 (ap (λ (c : Account). c.lists.off f.0) now ∙ f.1)
+
+-- It is so still after a step that changes neither the account nor what is to do.
+pub well-then : (a b : Account) (todo other : Todo) (lock : LwLock) (ws : List LwWaiter) → b ≡ a → other ≡ todo → IsLeftWellBy a todo lock ws → IsLeftWellBy b other lock ws
+well-then a b todo other lock ws same as_much well = subst (λ (c : Account). IsLeftWellBy c other lock ws) (sym same) (subst (λ (t : Todo). IsLeftWellBy a t lock ws) (sym as_much) well)

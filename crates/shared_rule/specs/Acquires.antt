@@ -6,15 +6,17 @@ use Rattle.lw_word.specs.declared.words.LwMode.{LwMode}
 use Rattle.lw_word.specs.declared.words.LwMode.TheVariants.{Exclusive, Shared}
 use Rattle.lock_world.specs.Account.{Account, SlotsInHand}
 use Rattle.lock_world.specs.AccountLaw.{MayShareFastBy}
+use Rattle.lock_world.specs.Wakes.Waking.{NoneOr}
 use Rattle.lock_world.specs.AccountSteps.{account_taking, account_taking_fast, account_sharing_fast}
 use Rattle.lock_world.specs.AccountFacts.{KnowsContent, KnowsSlots}
 use Rattle.shared_rule.specs.declared.history.View.{View}
 use Rattle.shared_rule.specs.declared.kept.Kept.{Kept}
 use Rattle.shared_rule.specs.declared.kept.Kept.TheVariants.{Nothing}
 use Rattle.shared_rule.specs.Layout.{content_slot_of}
-use Rattle.shared_rule.specs.Led.{Led, LedBy}
-use Rattle.shared_rule.specs.Plays.{account_at, number_at, quiet_at}
+use Rattle.shared_rule.specs.Led.{LedBy, LedTo}
+use Rattle.shared_rule.specs.Plays.{account_at, number_at, quiet_at, todo_at}
 use Rattle.shared_rule.specs.Quiet.{quiet_getting}
+use Rattle.shared_rule.specs.Todos.{Todo, todo_attempted}
 
 -- What an acquire of a lightweight lock leads to, whether it won at once or waited in the lock's list.
 
@@ -29,10 +31,20 @@ MayGetSlots Exclusive a owner = Unit {0}
 MayGetSlots Shared a owner = MayShareFastBy a owner
 
 module _ {T : Type 0} (content : T → Content) where
-  -- It got nothing: the account, and what is in hand, are as before.
-  pub record IsAsBefore (before after : Seat (Kept T) (View T)) : Type 0 where
-    pub led : Led content before after (account_at content before)
+  -- It got nothing: the account, and what is in hand, are as before, and this is to do.
+  pub record GotNothing (before after : Seat (Kept T) (View T)) (todo : Todo) : Type 0 where
+    pub led : LedTo content before after (account_at content before) todo
     pub slots : after.me.1 ≡ before.me.1
+
+  abbrev pub IsAsBefore : Seat (Kept T) (View T) → Seat (Kept T) (View T) → Type 0
+  IsAsBefore before after = GotNothing before after (todo_at before)
+
+  -- It got nothing, and has tried or is to try this lock still.
+  pub record IsTrying (lock : ℕ) (before after : Seat (Kept T) (View T)) : Type 0 where
+    pub todo : Todo
+    pub nothing : GotNothing before after todo
+    pub no_other : NoneOr todo.tries lock
+    pub same : todo_attempted todo ≡ todo_attempted (todo_at before)
 
   -- It got the lock of a session's slots, of so many groups, in this mode, with what they show.
   pub record GetsSlots (groups : ℕ) (mode : LwMode) (owner : ℕ) (before after : Seat (Kept T) (View T)) : Type 0 where
@@ -41,13 +53,15 @@ module _ {T : Type 0} (content : T → Content) where
     pub led :
         LedBy content before after
         (account_getting mode (number_at before) (account_at content before) owner shown)
-        (quiet_getting mode owner (quiet_at before))
+        (quiet_getting mode owner (quiet_at before)) (todo_attempted (todo_at before))
     pub slots : after.me.1 ≡ before.me.1
 
 module _ {T : Type 0} (content : T → Content) (begun : T → Option Request) where
   -- It got a partition, with this content.
   pub record TakesPartition (part : ℕ) (before after : Seat (Kept T) (View T)) (taken : T) : Type 0 where
-    pub led : Led content before after (account_taking (account_at content before) part (content taken))
+    pub led :
+        LedTo content before after (account_taking (account_at content before) part (content taken))
+        (todo_attempted (todo_at before))
     pub slots : after.me.1 ≡ (content_slot_of part, Nothing) ∷ before.me.1
     pub none_begun : begun taken ≡ None
     pub knows : KnowsContent (number_at before) (account_at content before) part (content taken)

@@ -18,6 +18,7 @@ use Rattle.shared_rule.specs.Openers.{OpenerState}
 use Rattle.shared_rule.specs.Quiet.{first_quiet, quiet_told}
 use Rattle.shared_rule.specs.Seats.{behind_of}
 use Rattle.shared_rule.specs.Plays.{HasSession}
+use Rattle.shared_rule.specs.Todos.{first_todo, nothing_to_do}
 use Rattle.shared_rule.specs.Gatherings.{Gathered, counted_at, account_among, AreDistinct, NoneWaits, HasAllInHand, AreAll, gathered_in}
 
 -- What an audit does and finds.
@@ -58,6 +59,8 @@ module _ {T : Type 0} where
     pub number : first_number after.sessions ≡ first_number before.sessions
     pub quiet : first_quiet after.sessions ≡ first_quiet before.sessions
     pub some : HasSession after
+    -- whoever has nothing to do for those who wait has nothing to do still
+    pub free : first_todo before.sessions ≡ nothing_to_do → first_todo after.sessions ≡ nothing_to_do
 
 -- The session has this partition in hand, with this content.
 abbrev pub HasPartInHand : Account → ℕ → Content → Type 0

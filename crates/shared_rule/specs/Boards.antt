@@ -1,6 +1,5 @@
 use Rattle.std.specs.Prelude.{◌≡◌, ℕ, ◌/◌, List, [], ◌∷◌, map}
 use Rattle.atomic_table.specs.Seated.{TableId}
-use Rattle.lock_table.specs.Content.{Content, empty_content}
 use Rattle.lock_world.specs.Account.{ListAccount}
 use Rattle.shared_rule.specs.declared.history.History.{History}
 use Rattle.shared_rule.specs.declared.history.Mark.{Mark}
@@ -11,6 +10,7 @@ use Rattle.shared_rule.specs.Layout.{content_slot_of}
 use Rattle.shared_rule.specs.History.{lone, first_account}
 use Rattle.shared_rule.specs.LwLocks.{no_lists}
 use Rattle.shared_rule.specs.Owed.{owing, asking, waking}
+use Rattle.shared_rule.specs.Todos.{first_todo, nothing_to_do, no_content}
 
 -- What a board is: shared state as one session sees it.
 
@@ -64,16 +64,14 @@ abbrev pub first_marks : {T : Type 0} → List (History T) → List (Mark T)
 first_marks [] = []
 first_marks (history ∷ others) = history.marks
 
--- what its session knows of wait lists; how contents are read makes no difference
-abbrev pub no_content : {T : Type 0} → T → Content
-no_content part = empty_content
-
+-- what its session knows of wait lists
 abbrev pub lists_told : {T : Type 0} → List (History T) → ListAccount
 lists_told sessions = (first_account no_content sessions).lists
 
--- It has no wait list in hand, and stands in none.
+-- It has no wait list in hand, and stands in none, and has nothing to do for those who wait.
 pub record IsIdle {T : Type 0} (sessions : List (History T)) : Type 0 where
   pub none : lists_told sessions ≡ no_lists
+  pub free : first_todo sessions ≡ nothing_to_do
 
 -- So has each of these sessions.
 abbrev pub AreIdle : {T : Type 0} → List (History T) → Type 0

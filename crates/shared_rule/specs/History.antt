@@ -29,7 +29,7 @@ use Rattle.shared_rule.specs.declared.history.WordMark.TheVariants.{Counted, Unc
 use Rattle.shared_rule.specs.declared.history.WordMark.TheVariants.{LoadedDatabase, LoadedSlot, LoadedFast, LoadedStrong, SetSlot}
 use Rattle.shared_rule.specs.declared.history.WordMark.TheVariants.{ClearedSlot, TransferredSlot, StoredDatabase, LockedList, UnlockedList}
 use Rattle.shared_rule.specs.declared.history.WordMark.TheVariants.{JoinedList, LeftList, TookOff, Told, LoadedSleep}
-use Rattle.shared_rule.specs.declared.history.WordMark.TheVariants.{SetReleaseOk, SetHasWaiters}
+use Rattle.shared_rule.specs.declared.history.WordMark.TheVariants.{SetReleaseOk, SetHasWaiters, SawListLocked, SawHeld}
 use Rattle.shared_rule.specs.declared.history.History.{History}
 use Rattle.shared_rule.specs.declared.history.View.{View}
 
@@ -122,10 +122,10 @@ slots_shown database words = record {
 -- what a step that tells of no content makes of the account of the session of this number
 abbrev pub noted_words : ℕ → Account → WordMark → Account
 noted_words number a (TookFast owner database words) = account_taking_fast number a owner (slots_shown database words)
-noted_words number a (PutFast owner) = account_putting_fast number a owner
+noted_words number a (PutFast owner found) = account_putting_fast number a owner
 noted_words number a (SharedFast owner database words) = account_sharing_fast number a owner (slots_shown database words)
-noted_words number a (UnsharedFast owner) = account_unsharing_fast a owner
-noted_words number a (Passed owner tag mode) = account_passing number a owner tag mode
+noted_words number a (UnsharedFast owner found) = account_unsharing_fast a owner
+noted_words number a (Passed owner tag mode found) = account_passing number a owner tag mode
 noted_words number a (Counted tag mode) = account_counting a tag mode
 noted_words number a (Uncounted tag mode) = account_uncounting a tag mode
 noted_words number a (LoadedWait shown) =
@@ -154,12 +154,14 @@ noted_words number a (Told other) = account_telling a other
 noted_words number a (LoadedSleep shown) = account_loading_sleep a shown
 noted_words number a (SetReleaseOk lock) = a
 noted_words number a (SetHasWaiters lock) = a
+noted_words number a (SawListLocked lock) = a
+noted_words number a (SawHeld lock) = a
 
 module _ {T : Type 0} (content : T → Content) where
   -- what a step makes of it
   abbrev pub noted : ℕ → Account → Mark T → Account
   noted number a (TookPart part taken) = account_taking a part (content taken)
-  noted number a (PutPart part done put) = account_putting a part (taken_of (a.hand part)) (content put) done
+  noted number a (PutPart part done put found) = account_putting a part (taken_of (a.hand part)) (content put) done
   noted number a (SetWaiting tag mode now) =
       account_waiting a (in_hand (a.hand (partition_of tag))) tag mode (content now)
       ((in_hand (a.hand (partition_of tag))).now.holds number tag)

@@ -3,6 +3,7 @@ pub mod Shown
 pub mod Marks
 pub mod History
 pub mod Tells
+pub mod Todos
 pub mod Quiet
 pub mod Ruled
 pub mod WasSo

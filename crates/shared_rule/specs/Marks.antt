@@ -14,23 +14,23 @@ module _ {T : Type 0} where
   abbrev pub TookPart : ℕ → T → Mark T
   TookPart part taken = mark.TookPart part taken
 
-  abbrev pub PutPart : ℕ → Move → T → Mark T
-  PutPart part done put = mark.PutPart part done put
+  abbrev pub PutPart : ℕ → Move → T → ℕ → Mark T
+  PutPart part done put found = mark.PutPart part done put found
 
   abbrev pub TookFast : ℕ → ℕ → List ℕ → Mark T
   TookFast owner database words = mark.OfWords (word.TookFast owner database words)
 
-  abbrev pub PutFast : ℕ → Mark T
-  PutFast owner = mark.OfWords (word.PutFast owner)
+  abbrev pub PutFast : ℕ → ℕ → Mark T
+  PutFast owner found = mark.OfWords (word.PutFast owner found)
 
   abbrev pub SharedFast : ℕ → ℕ → List ℕ → Mark T
   SharedFast owner database words = mark.OfWords (word.SharedFast owner database words)
 
-  abbrev pub UnsharedFast : ℕ → Mark T
-  UnsharedFast owner = mark.OfWords (word.UnsharedFast owner)
+  abbrev pub UnsharedFast : ℕ → ℕ → Mark T
+  UnsharedFast owner found = mark.OfWords (word.UnsharedFast owner found)
 
-  abbrev pub Passed : ℕ → Tag → Mode → Mark T
-  Passed owner tag mode = mark.OfWords (word.Passed owner tag mode)
+  abbrev pub Passed : ℕ → Tag → Mode → ℕ → Mark T
+  Passed owner tag mode found = mark.OfWords (word.Passed owner tag mode found)
 
   abbrev pub Counted : Tag → Mode → Mark T
   Counted tag mode = mark.OfWords (word.Counted tag mode)
@@ -106,3 +106,10 @@ module _ {T : Type 0} where
 
   abbrev pub SetHasWaiters : ℕ → Mark T
   SetHasWaiters lock = mark.OfWords (word.SetHasWaiters lock)
+
+  -- Looks, which are no steps of the World.
+  abbrev pub SawListLocked : ℕ → Mark T
+  SawListLocked lock = mark.OfWords (word.SawListLocked lock)
+
+  abbrev pub SawHeld : ℕ → Mark T
+  SawHeld lock = mark.OfWords (word.SawHeld lock)

@@ -1,9 +1,10 @@
-use Rattle.std.specs.Prelude.{◌≡◌, ◌≢◌, ℕ, ◌<◌, ◌≤◌, ◌/◌, ◌%◌, ◌^◌, true, List, ◌∷◌, Option, Some, None}
+use Rattle.std.specs.Prelude.{◌≡◌, ◌≢◌, ℕ, ◌<◌, ◌≤◌, ◌/◌, ◌%◌, ◌^◌, Bool, true, List, ◌∷◌, Option, Some, None}
 use Rattle.atomic_table.specs.Table.{Me, Step, rest}
 use Rattle.atomic_table.specs.Seated.{TableId}
 use Rattle.std.specs.Global.{Box}
 use Rattle.lw_word.specs.declared.wait_lists.LwWaiter.{LwWaiter}
 use Rattle.lw_word.specs.WaitList.{stands_in}
+use Rattle.lw_word.specs.LightweightWord.{IsHeldByNobody}
 use Rattle.lock_table.specs.declared.request.Request.{Request}
 use Rattle.lock_table.specs.Content.{Content}
 use Rattle.lock_world.specs.declared.events.Word.{Word}
@@ -14,7 +15,7 @@ use Rattle.lock_world.specs.AccountFacts.{KnowsContent, KnowsSlots}
 use Rattle.atomic_table.specs.declared.shared.Seat.{Seat}
 use Rattle.shared_rule.specs.declared.history.History.{History}
 use Rattle.shared_rule.specs.declared.history.Mark.{Mark}
-use Rattle.shared_rule.specs.Marks.{TookPart, TookFast, SharedFast, LoadedFast, LockedList}
+use Rattle.shared_rule.specs.Marks.{TookPart, TookFast, SharedFast, LoadedFast, LockedList, SawListLocked, SawHeld}
 use Rattle.shared_rule.specs.declared.history.View.{View}
 use Rattle.shared_rule.specs.declared.kept.Kept.{Kept}
 use Rattle.shared_rule.specs.declared.kept.Kept.TheVariants.{Part}
@@ -25,6 +26,7 @@ use Rattle.shared_rule.specs.declared.layout.TheConstants.{TABLE_WORDS, TABLE_SL
 use Rattle.shared_rule.specs.Layout.{index_of_word, content_slot_of, list_slot_of, words_of_groups, MayBeInTable}
 use Rattle.shared_rule.specs.History.{noting, first_account, first_number, slots_shown}
 use Rattle.shared_rule.specs.Quiet.{Quiet, first_quiet}
+use Rattle.shared_rule.specs.Todos.{Todo, first_todo, first_flagged}
 use Rattle.shared_rule.specs.Slots.{KnowsWord}
 
 -- What each step tells. A session's side of a step: its view, and the contents that it has in hand, each with its slot.
@@ -54,6 +56,13 @@ module _ {T : Type 0} where
   -- and its quiet steps
   abbrev pub quiet_at : Seat (Kept T) (View T) → List Quiet
   quiet_at place = first_quiet place.me.0.sessions
+
+  -- and what it has to do for those who wait; whether it has set has-waiters in the word of the list that it locked last
+  abbrev pub todo_at : Seat (Kept T) (View T) → Todo
+  todo_at place = first_todo place.me.0.sessions
+
+  abbrev pub flagged_at : Seat (Kept T) (View T) → Bool
+  flagged_at place = first_flagged place.me.0.sessions
 
   -- the seat is at this table
   pub record FitsTable (place : Seat (Kept T) (View T)) (table : TableId) : Type 0 where
@@ -132,14 +141,22 @@ module _ {T : Type 0} (content : T → Content) where
         stands_in (first_number before.0.sessions) list.value ≡ true
         → (first_account content before.0.sessions).lists.stands ≡ Some (lock_number lock)
 
-  -- A fetch-or of its bit takes the list where it finds that bit not set, and else changes nothing.
+  -- A fetch-or of its bit takes the list where it finds that bit not set, and else only sees that another has it.
   abbrev pub LockedListOr : Step (Kept T) → Side T → ℕ → Side T → Type 0
   LockedListOr step before found after =
       (found / 2 ^ 28 % 2 ≡ 0 → (lock : LwLock) → LockIsInTable lock → step.word ≡ index_of_word (word_of_lock lock)
       → TookList lock before after)
-      × (found / 2 ^ 28 % 2 ≢ 0 → after ≡ before)
+      × (found / 2 ^ 28 % 2 ≢ 0 → (lock : LwLock) → LockIsInTable lock → step.word ≡ index_of_word (word_of_lock lock)
+      → after ≡ (noting before.0 (SawListLocked (lock_number lock)), before.1))
 
 module _ {T : Type 0} where
+  -- A load sees a lightweight lock held, and that is noted, where it finds that somebody holds it.
+  abbrev pub SawHeldOr : Step (Kept T) → Side T → ℕ → Side T → Type 0
+  SawHeldOr step before found after =
+      (IsHeldByNobody found → after ≡ before)
+      × ((IsHeldByNobody found → ⊥) → (lock : LwLock) → LockIsInTable lock → step.word ≡ index_of_word (word_of_lock lock)
+      → after ≡ (noting before.0 (SawHeld (lock_number lock)), before.1))
+
   -- A lost exchange is not noted, or is noted as a load of its own word.
   abbrev pub unnoted : ℕ → View T → View T
   unnoted found view = view

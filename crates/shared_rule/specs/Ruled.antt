@@ -24,6 +24,11 @@ use Rattle.shared_rule.specs.Layout.{content_slot_of, list_slot_of, lock_count}
 use Rattle.shared_rule.specs.Shown.{WordsAreShown}
 use Rattle.shared_rule.specs.History.{blank_account, told, keeper}
 use Rattle.shared_rule.specs.Tells.{AreTold, Leads, steps_of}
+use Rattle.shared_rule.specs.Todos.{Todo, nothing_to_do, todo_told_by, flagged_told_by}
+use Rattle.lock_world.specs.Wakes.{Beside, MakesNoStep}
+use Rattle.lock_world.specs.Wakes.Waking.{NobodyIsForgotten}
+use Rattle.lock_world.specs.Wakes.Owing.{Duties, waking, HasNothingToDo}
+use Rattle.lock_world.specs.Wakes.Calling.{no_calls}
 
 -- The rule of the table: there is a World which its words, its contents at home and the histories of all sessions show,
 -- to which a list of events leads from the World before the first step, and which is safe.
@@ -190,6 +195,28 @@ module _ {T : Type 0} (content : T → Content) where
     -- a number not yet given out has an account with nothing in it
     pub not_issued : (number : ℕ) → w.numbers.issued ≤ number → account w number ≡ blank_account
 
+-- what one session has to do, of the duties of all
+abbrev pub todo_of : Duties → ℕ → Todo
+todo_of duties number = record { due = duties.due number; tries = duties.tries number; owes_release_ok = duties.owes_release_ok number }
+
+-- these duties, and nothing of calls
+abbrev pub with_duties : Duties → Beside
+with_duties duties = record { duties = duties; waits = no_calls; sleeps = no_calls }
+
+-- Nobody who sleeps for a lightweight lock is forgotten, by the duties that histories tell: there are duties of all sessions, which are
+-- those of each history at a seat; and whoever makes no step has no lock and nothing to do.
+pub record WakesAreKept {T : Type 0} (views : List (View T)) (w : World) : Type 0 where
+  pub duties : Duties
+  pub todo :
+      (history : History T) → StandsAtSeat views history
+      → todo_told_by history.number history.marks ≡ todo_of duties history.number
+  pub flagged :
+      (history : History T) → StandsAtSeat views history → flagged_told_by history.marks ≡ duties.flagged history.number
+  pub none_todo : (number : ℕ) → w.numbers.issued ≤ number → nothing_to_do ≡ todo_of duties number
+  pub none_flagged : (number : ℕ) → w.numbers.issued ≤ number → false ≡ duties.flagged number
+  pub nobody : NobodyIsForgotten (waking w duties)
+  pub only_live : (number : ℕ) → MakesNoStep w.numbers number → HasNothingToDo w duties no_calls no_calls number
+
 -- The rule.
 module _ {T : Type 0} (content : T → Content) (begun : T → Option Request) where
   pub record Ruled (sizes : Sizes) (state : State (Kept T) (View T)) : Type 0 where
@@ -215,3 +242,4 @@ module _ {T : Type 0} (content : T → Content) (begun : T → Option Request) w
     pub lists : ListsAreHome state.homes world.sessions.has_list world.words.list
     pub seats : SeatsAreShown content state.views world
     pub closed : OpenerHasClosed state.views world.numbers
+    pub wakes : WakesAreKept state.views world

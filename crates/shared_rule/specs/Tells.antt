@@ -17,7 +17,7 @@ use Rattle.shared_rule.specs.declared.history.WordMark.TheVariants.{Counted, Unc
 use Rattle.shared_rule.specs.declared.history.WordMark.TheVariants.{LoadedDatabase, LoadedSlot, LoadedFast, LoadedStrong, SetSlot}
 use Rattle.shared_rule.specs.declared.history.WordMark.TheVariants.{ClearedSlot, TransferredSlot, StoredDatabase, LockedList, UnlockedList}
 use Rattle.shared_rule.specs.declared.history.WordMark.TheVariants.{JoinedList, LeftList, TookOff, Told, LoadedSleep}
-use Rattle.shared_rule.specs.declared.history.WordMark.TheVariants.{SetReleaseOk, SetHasWaiters}
+use Rattle.shared_rule.specs.declared.history.WordMark.TheVariants.{SetReleaseOk, SetHasWaiters, SawListLocked, SawHeld}
 use Rattle.shared_rule.specs.declared.lw_lock.LwLock.{LwLock}
 use Rattle.shared_rule.specs.LwLocks.{word_of_lock, lock_number}
 
@@ -30,10 +30,10 @@ IsOnLock number on its = (lock : LwLock) × (lock_number lock ≡ number) × (it
 -- The step that a mark tells, of the session of this number.
 abbrev pub WordsTell : ℕ → WordMark → Step → Type 0
 WordsTell number (TookFast owner database words) its = its ≡ step.TakeExclusive (Fast owner)
-WordsTell number (PutFast owner) its = its ≡ step.PutExclusive (Fast owner) Keep
+WordsTell number (PutFast owner found) its = its ≡ step.PutExclusive (Fast owner) Keep
 WordsTell number (SharedFast owner database words) its = its ≡ step.TakeShared (Fast owner)
-WordsTell number (UnsharedFast owner) its = its ≡ step.PutShared (Fast owner)
-WordsTell number (Passed owner tag mode) its = its ≡ step.PutPassing owner tag mode
+WordsTell number (UnsharedFast owner found) its = its ≡ step.PutShared (Fast owner)
+WordsTell number (Passed owner tag mode found) its = its ≡ step.PutPassing owner tag mode
 WordsTell number (Counted tag mode) its = its ≡ step.Count tag mode
 WordsTell number (Uncounted tag mode) its = its ≡ step.Uncount tag mode
 WordsTell number (LoadedWait shown) its = its ≡ step.LoadWait shown
@@ -61,6 +61,8 @@ WordsTell number (SetReleaseOk lock) its =
     (shown : ℕ) × IsOnLock lock (λ l. step.SetReleaseOk (word_of_lock l) shown) its
 WordsTell number (SetHasWaiters lock) its =
     (shown : ℕ) × IsOnLock lock (λ l. step.SetHasWaiters (word_of_lock l) shown) its
+WordsTell number (SawListLocked lock) its = ⊥
+WordsTell number (SawHeld lock) its = ⊥
 
 -- Putting a partition names the move that was made: the mark's, or, where that is to keep, the one that stood recorded.
 abbrev pub Puts : ℕ → Move → Step → Type 0
@@ -82,18 +84,23 @@ steps_of number events = map (λ event. event.step) (filter (is_step_of number) 
 module _ {T : Type 0} where
   abbrev pub Tells : ℕ → Mark T → Step → Type 0
   Tells number (TookPart part taken) its = its ≡ step.TakeExclusive (Partition part)
-  Tells number (PutPart part done put) its = Puts part done its
+  Tells number (PutPart part done put found) its = Puts part done its
   Tells number (SetWaiting tag mode now) its = its ≡ step.SetWaiting tag mode
   Tells number (MarkedGranted part other done woken now) its = its ≡ step.MarkGranted other done
   Tells number (LeftQueue woken now) its = its ≡ step.ClearWait true
   Tells number (OfWords mark) its = WordsTell number mark its
 
+  -- It is the mark of a look, which is no step: the World is as it was.
+  abbrev pub LooksOnly : Mark T → Type 0
+  LooksOnly mark = (lock : ℕ) × ((mark ≡ OfWords (SawListLocked lock)) ⊎ (mark ≡ OfWords (SawHeld lock)))
+
   -- These steps are those that the marks tell, the last mark first: the last step is told by the first of them, and the steps before
-  -- it by the others.
+  -- it by the others; looks aside.
   abbrev pub AreTold : ℕ → List (Mark T) → List Step → Type 0
   AreTold number [] steps = steps ≡ []
   AreTold number (mark ∷ marks) steps =
-      (before : List Step) × (last : Step) × (steps ≡ before ++ last ∷ []) × Tells number mark last × AreTold number marks before
+      ((before : List Step) × (last : Step) × (steps ≡ before ++ last ∷ []) × Tells number mark last × AreTold number marks before)
+      ⊎ (LooksOnly mark × AreTold number marks steps)
 
 -- Events lead from one World to another, each happening in its turn: none is skipped.
 abbrev pub Leads : World → List Event → World → Type 0

@@ -11,21 +11,25 @@ ghost use Rattle.lock_world.specs.declared.events.Word.{Word};
 ghost use Rattle.lock_world.specs.declared.events.Word.TheVariants.{Slot, Strong};
 ghost use Rattle.lock_world.specs.SlotHolds.{group_size};
 ghost use Rattle.lock_world.specs.Tallies.{modes_shown};
-ghost use Rattle.shared_rule.specs.Marks.{LoadedSlot, LoadedStrong, TookPart, PutPart};
+ghost use Rattle.shared_rule.specs.Marks.{LoadedSlot, LoadedStrong, TookPart};
+ghost use Rattle.shared_rule.specs.Led.{Led};
+ghost use Rattle.shared_rule.specs.LwLocks.{no_lists};
+ghost use Rattle.shared_rule.specs.Todos.{nothing_to_do};
+ghost use Rattle.lock_world.specs.AccountSteps.{account_putting};
 ghost use Rattle.shared_rule.specs.declared.kept.Kept.TheVariants.{Nothing};
 ghost use Rattle.shared_rule.specs.Audits.{CountersSeen, CountsAll, CountsFrom, SeesSlots, SeesAllSlots};
 ghost use Rattle.shared_rule.specs.Gatherings.{AreAll, KnowsAll, KnowsOfAll, LookedOver, NoneWaits, gathered_in};
 ghost use Rattle.shared_rule.specs.declared.history.History.{History};
-ghost use Rattle.shared_rule.specs.History.{noting, first_account};
+ghost use Rattle.shared_rule.specs.History.{noting, first_account, taken_of};
 ghost use Rattle.shared_rule.specs.Layout.{content_slot_of, index_of_word, MayBeInTable};
 ghost use Rattle.shared_rule.specs.Lawful.{IsAboveHand, MayPutPart};
-ghost use Rattle.shared_rule.specs.Plays.{account_at, number_at, FitsTable, HasGroups, HasSession, IsSameSeat};
+ghost use Rattle.shared_rule.specs.Plays.{account_at, number_at, todo_at, FitsTable, HasGroups, HasSession, IsSameSeat};
 ghost use Rattle.shared_rule.specs.Ruled.{Ruled};
 ghost use Rattle.shared_rule.specs.Seats.{MayBeKeptApartBy};
 
 use crate::layout::{SLOTS_PER_GROUP, slot_word, strong_word};
 use crate::opener::Opener;
-use crate::partitions::{put_part_home, take_part_alone};
+use crate::partitions::{put_part, take_part_alone};
 use crate::plays::{Grouping, LooksOver, Marking, TellsAll};
 use crate::rule::{Place, Sizes, Top};
 use lock_table::{Move, NoMemory, PartTable, TableRow};
@@ -198,6 +202,7 @@ fn take_next<T: PartTable, R: Wait>(rt: &R, top: &Top<T>, place: &mut Place<T>, 
     requires session { HasSession place.old.me.0 }
     requires exists { part < 16 }
     requires none_in_hand { IsAboveHand (account_at T.content place.old) part }
+    requires todo { todo_at place.old ≡ nothing_to_do }
     ensures seat { IsSameSeat place.old place.new }
     ensures side { place.new.me
         ≡ (noting place.old.me.0 (TookPart part result), (content_slot_of part, Nothing) ∷ place.old.me.1) }
@@ -205,11 +210,13 @@ fn take_next<T: PartTable, R: Wait>(rt: &R, top: &Top<T>, place: &mut Place<T>, 
     ensures knows { KnowsContent (number_at place.old) (account_at T.content place.old) part (T.content result) }
     ensures session_there { HasSession place.new.me.0 }
     ensures above { IsAboveHand (account_at T.content place.new) (part + 1) }
+    ensures lists { (account_at T.content place.new).lists ≡ (account_at T.content place.old).lists }
+    ensures todo { todo_at place.new ≡ nothing_to_do }
 {
     take_part_alone(rt, top, place, part)
 }
 
-// Puts a partition back as it was taken. Nobody waits for its lock, since all sessions are gathered.
+// Puts a partition back as it was taken. Whoever is told to wait for its lock is woken, though all sessions are gathered.
 fn put_back<T: PartTable>(top: &Top<T>, place: &mut Place<T>, part: u8, content: T)
     requires table { FitsTable place.old top.now.table_id }
     requires exists { part < 16 }
@@ -218,10 +225,13 @@ fn put_back<T: PartTable>(top: &Top<T>, place: &mut Place<T>, part: u8, content:
     requires none_begun { T.begun content ≡ None }
     requires lawful { (mine : InHand) × MayPutPart top.now.key.sessions (number_at place.old)
         (account_at T.content place.old) part mine Keep (T.content content) }
-    ensures seat { IsSameSeat place.old place.new }
-    ensures side { place.new.me ≡ (noting place.old.me.0 (PutPart part Keep content), rest place.old.me.1) }
+    requires idle { (account_at T.content place.old).lists ≡ no_lists }
+    requires todo { todo_at place.old ≡ nothing_to_do }
+    ensures led { Led T.content place.old place.new (account_putting (account_at T.content place.old) part
+        (taken_of ((account_at T.content place.old).hand part)) (T.content content) Keep) }
+    ensures slots { place.new.me.1 ≡ rest place.old.me.1 }
 {
-    put_part_home::<T, Brand>(top, place, part, &Move::Keep, content);
+    put_part::<T, Brand>(top, place, part, &Move::Keep, content);
 }
 
 /// Takes the partitions from `part` on, in rising order, counts in `fast` with all in hand what slots show, and puts
@@ -243,6 +253,8 @@ pub(crate) fn count_from<T: PartTable, R: Wait>(
     requires few { sizes.now.sessions ≤ 64 }
     requires exists { part ≤ 16 }
     requires none_in_hand { IsAboveHand (account_at T.content place.old) part }
+    requires idle { (account_at T.content place.old).lists ≡ no_lists }
+    requires todo { todo_at place.old ≡ nothing_to_do }
     ensures seat { IsSameSeat place.old place.new }
     ensures slots { place.new.me.1 ≡ place.old.me.1 }
     ensures counts { CountsFrom T.content sizes.now.groups part sizes.now.sessions place.old.me.0 rows.old.items result

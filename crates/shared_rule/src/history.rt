@@ -19,10 +19,12 @@ pub enum WordMark {
         /// The words of its slots.
         words: [u64; 0],
     },
-    /// It put that lock.
+    /// It put that lock, whose word showed this before.
     PutFast {
         /// The session whose slots they are.
         owner: u8,
+        /// What the lock's word showed.
+        found: u64,
     },
     /// It shares the lock of a session's fast-path slots, which show these numbers with this database.
     SharedFast {
@@ -33,12 +35,15 @@ pub enum WordMark {
         /// The words of its slots.
         words: [u64; 0],
     },
-    /// It gave that back.
+    /// It gave that back, and the lock's word showed this before.
     UnsharedFast {
         /// The session whose slots they are.
         owner: u8,
+        /// What the lock's word showed.
+        found: u64,
     },
-    /// It put the lock of a session's slots, and its strong lock, which it has counted, is past the session.
+    /// It put the lock of a session's slots, and its strong lock, which it has counted, is past the session. The lock's
+    /// word showed this before.
     Passed {
         /// The session whose slots the lock guards.
         owner: u8,
@@ -46,6 +51,8 @@ pub enum WordMark {
         tag: Tag,
         /// The mode of the strong lock.
         mode: Mode,
+        /// What the lock's word showed.
+        found: u64,
     },
     /// It counted a strong lock.
     Counted {
@@ -178,6 +185,16 @@ pub enum WordMark {
         /// The number of the lock.
         lock: u8,
     },
+    /// It saw that another session has the wait list of this lock locked: no step, but a look at the lock's word.
+    SawListLocked {
+        /// The number of the lock.
+        lock: u8,
+    },
+    /// It saw that another session holds this lock, in the way of its own attempt: no step, but a look at the lock's word.
+    SawHeld {
+        /// The number of the lock.
+        lock: u8,
+    },
 }
 
 /// One atomic step of a session, as its history has it.
@@ -189,7 +206,8 @@ pub enum Mark<T> {
         /// Its content.
         taken: T,
     },
-    /// It put the partition home with this content, after this move that it made as it put it.
+    /// It put the partition home with this content, after this move that it made as it put it. The word of its lock
+    /// showed this before.
     PutPart {
         /// The number of the partition.
         part: u8,
@@ -197,6 +215,8 @@ pub enum Mark<T> {
         done: Move,
         /// The content after it.
         put: T,
+        /// What the lock's word showed.
+        found: u64,
     },
     /// Its wait word was set to waiting, and the content in hand is this, after its join.
     SetWaiting {

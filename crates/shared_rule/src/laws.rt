@@ -21,7 +21,7 @@ ghost use Rattle.shared_rule.specs.Shown.{WordsAreShown, set_word};
 ghost use Rattle.shared_rule.specs.declared.history.View.{View};
 ghost use Rattle.shared_rule.specs.declared.kept.Kept.{Kept};
 ghost use Rattle.shared_rule.specs.declared.layout.TheConstants.{TABLE_WORDS};
-ghost use Rattle.shared_rule.specs.Headline.{ShowsHeadline, ShowsReasons};
+ghost use Rattle.shared_rule.specs.Headline.{ShowsHeadline, ShowsReasons, ShowsSleepers};
 ghost use Rattle.shared_rule.specs.Tells.{Leads, steps_of};
 ghost use Rattle.shared_rule.specs.Quiet.{quiet_told, quiet_of};
 ghost use Rattle.shared_rule.specs.Ruled.{Ruled, StandsAtSeat, StandsClosed, HasSeat, HasClosedHistory, NobodyElse, StepsAreTold};
@@ -45,6 +45,16 @@ pub fn the_table_shows_no_two_sessions_in_conflict<T: PartTable>()
 pub fn the_table_shows_why_each_session_waits<T: PartTable>()
     ensures { (sizes : Sizes) (state : State (Kept T) (View T)) → Ruled T.content T.begun sizes state
         → ShowsReasons T.content T.begun sizes state }
+{}
+
+/// A table that keeps the rule forgets no session that sleeps for a lightweight lock, whatever the steps of the threads and their
+/// order. It shows a World in which, where a lock's wait list has a waiter, a session has the lock or something to do for it: a
+/// look at the list, the list itself, an attempt, or the release-ok flag. What that is, is what its history tells. So who sleeps stands in
+/// a list, and a session that makes steps has that lock or something to do for it; or the sleeper was taken off, and a session
+/// that makes steps has it to tell.
+pub fn the_table_forgets_no_sleeper<T: PartTable>()
+    ensures { (sizes : Sizes) (state : State (Kept T) (View T)) → Ruled T.content T.begun sizes state
+        → ShowsSleepers T.content T.begun sizes state }
 {}
 
 /// Each word of a table for so many groups of slots stands below the table's length, `TABLE_WORDS` with one group.

@@ -15,14 +15,19 @@ ghost use Rattle.shared_rule.specs.Marks.{SetReleaseOk, SetHasWaiters};
 ghost use Rattle.shared_rule.specs.declared.kept.Kept.TheVariants.{Nothing};
 ghost use Rattle.shared_rule.specs.History.{list_here, noting};
 ghost use Rattle.shared_rule.specs.Layout.{list_slot_of};
-ghost use Rattle.shared_rule.specs.Led.{Led};
+ghost use Rattle.shared_rule.specs.Acquires.{GotNothing, IsAsBefore};
+ghost use Rattle.shared_rule.specs.Led.{Led, LedTo};
+ghost use Rattle.shared_rule.specs.Todos.{IsLeftWellBy, TellsNobodyBy, todo_looked, todo_queueing, todo_leaving};
+ghost use Rattle.shared_rule.specs.Todos.{todo_setting_ok, todo_attempted, lock_of_list};
+ghost use Rattle.lw_word.specs.LightweightWord.{IsHeldByNobody};
+ghost use Rattle.lock_world.specs.Wakes.Waking.{NoneOr};
 ghost use Rattle.shared_rule.specs.LwLocks.{lock_number, LockExists, LockIsInTable};
-ghost use Rattle.shared_rule.specs.Plays.{account_at, number_at, FitsTable, HasSession, IsSameSeat};
+ghost use Rattle.shared_rule.specs.Plays.{account_at, number_at, todo_at, flagged_at, FitsTable, HasSession, IsSameSeat};
 
 use crate::kept::Kept;
 use crate::layout::sleep_word;
 use crate::lw_lock::LwLock;
-use crate::plays::{LocksList, Marking};
+use crate::plays::{LocksList, Marking, SeesHeld};
 use crate::rule::{Place, Top};
 use crate::words::{fetch_or_as, load_as, store_as, unlock_as};
 use lock_table::PartTable;
@@ -31,7 +36,8 @@ use modes_core::SessionId;
 use std::marker::Brand;
 
 /// Makes one attempt to lock the wait list of `lock` (`LWLockWaitListLock` in lwlock.c). A session that gets it is
-/// told that it stands there only if it knows that it waits for that lock.
+/// told that it stands there only if it knows that it waits for that lock. Whoever has put the lock so that it must
+/// wake has done its part then: it has the list in hand, or another session has.
 pub(crate) fn try_lock_list<T: PartTable>(
     top: &Top<T>,
     place: &mut Place<T>,
@@ -42,14 +48,17 @@ pub(crate) fn try_lock_list<T: PartTable>(
     requires there { LockIsInTable lock.now }
     requires session { HasSession place.old.me.0 }
     requires no_list { (account_at T.content place.old).lists.in_hand ≡ None }
+    requires no_other_look { NoneOr (todo_at place.old).due (lock_number lock.now) }
+    requires tells_nobody { TellsNobodyBy (account_at T.content place.old) }
     ensures seat { IsSameSeat place.old place.new }
-    ensures led { IfSome result (λ list. Led T.content place.old place.new
-        (account_locking_list (account_at T.content place.old) (lock_number lock.now) list.value)) }
+    ensures led { IfSome result (λ list. LedTo T.content place.old place.new
+        (account_locking_list (account_at T.content place.old) (lock_number lock.now) list.value)
+        (todo_looked (todo_at place.old))) }
     ensures slots { IfSome result (λ list. place.new.me.1
         ≡ (list_slot_of (lock_number lock.now), Nothing) ∷ place.old.me.1) }
     ensures stands { IfSome result (λ list. stands_in (number_at place.old) list.value ≡ true
         → (account_at T.content place.old).lists.stands ≡ Some (lock_number lock.now)) }
-    ensures none { IfNone result (place.new.me ≡ place.old.me) }
+    ensures none { IfNone result (GotNothing T.content place.old place.new (todo_looked (todo_at place.old))) }
 {
     let found = top.fetch_or::<LocksList>(place, lock.word(), LwWord::LIST_LOCKED);
     if found / LwWord::LIST_LOCKED % 2 == 0 {
@@ -62,7 +71,9 @@ pub(crate) fn try_lock_list<T: PartTable>(
 
 /// Puts the list in hand home and unlocks it; of the two flags those go that are not to stay
 /// (`LWLockWaitListUnlock`, and the end of `LWLockWakeup`, in lwlock.c). `has_waiters` may go only from an empty
-/// list, and `release_ok` only where somebody was taken off who is yet to be told, and will set it again.
+/// list, and `release_ok` only where somebody was taken off who is yet to be told, and will set it again. Nobody may
+/// leave a list so that its waiters are forgotten: where some are left, the session has taken one off, has the lock, or
+/// attempts it next.
 pub(crate) fn unlock_list<T: PartTable>(
     top: &Top<T>,
     place: &mut Place<T>,
@@ -80,6 +91,7 @@ pub(crate) fn unlock_list<T: PartTable>(
     requires waiters_stay { has_waiters ≡ false → list.value ≡ [] }
     requires release_stays { release_ok ≡ false
         → (other : ℕ) × ((account_at T.content place.old).lists.off other ≡ true) }
+    requires left_well { IsLeftWellBy (account_at T.content place.old) (todo_at place.old) lock.now list.value }
     ensures led { Led T.content place.old place.new (account_unlocking_list (account_at T.content place.old)) }
     ensures slots { place.new.me.1 ≡ rest place.old.me.1 }
 {
@@ -106,9 +118,14 @@ pub(crate) fn join_list<T: PartTable, M: Marking<T>>(
     requires session { HasSession place.old.me.0 }
     requires own { number ≡ number_at place.old }
     requires lawful { (mine : ListInHand) × MayJoinListBy (account_at T.content place.old) mine }
+    requires flagged { flagged_at place.old ≡ true }
+    requires owes_no_ok { (todo_at place.old).owes_release_ok ≡ None }
+    requires no_other { (mine : ListInHand) → (account_at T.content place.old).lists.in_hand ≡ Some mine
+        → NoneOr (todo_at place.old).tries mine.lock }
     requires mark { M.mark ≡ (λ _. JoinedList mode) }
-    ensures led { Led T.content place.old place.new (account_joining_list (account_at T.content place.old)
-        (list_here (account_at T.content place.old).lists.in_hand) (record { session = number; mode = mode })) }
+    ensures led { LedTo T.content place.old place.new (account_joining_list (account_at T.content place.old)
+        (list_here (account_at T.content place.old).lists.in_hand) (record { session = number; mode = mode }))
+        (todo_queueing (todo_at place.old) (lock_of_list (account_at T.content place.old).lists.in_hand)) }
     ensures slots { place.new.me.1 ≡ place.old.me.1 }
 {
     store_as::<T, M>(top, place, sleep_word(number), 1);
@@ -122,8 +139,8 @@ pub(crate) fn leave_list<T: PartTable>(top: &Top<T>, place: &mut Place<T>, numbe
     requires own { number ≡ number_at place.old }
     requires lawful { (mine : ListInHand)
         × MayLeaveListBy (number_at place.old) (account_at T.content place.old) mine }
-    ensures led { Led T.content place.old place.new (account_leaving_list (account_at T.content place.old)
-        (list_here (account_at T.content place.old).lists.in_hand) number) }
+    ensures led { LedTo T.content place.old place.new (account_leaving_list (account_at T.content place.old)
+        (list_here (account_at T.content place.old).lists.in_hand) number) (todo_leaving (todo_at place.old)) }
     ensures slots { place.new.me.1 ≡ place.old.me.1 }
 {
     store_as::<T, Brand>(top, place, sleep_word(number), 0);
@@ -187,8 +204,15 @@ pub(crate) fn set_release_ok<T: PartTable, M: Marking<T>>(
     requires exists { LockExists top.now.key.sessions lock.now }
     requires there { LockIsInTable lock.now }
     requires session { HasSession place.old.me.0 }
+    requires no_other { (todo_at place.old).owes_release_ok ≡ Some (lock_number lock.now)
+        → (account_at T.content place.old).lists.stands ≡ None
+        → NoneOr (todo_at place.old).tries (lock_number lock.now) }
+    requires tells_nobody { (todo_at place.old).owes_release_ok ≡ Some (lock_number lock.now)
+        → (account_at T.content place.old).lists.in_hand ≢ None → TellsNobodyBy (account_at T.content place.old) }
     requires mark { M.mark ≡ (λ _. SetReleaseOk (lock_number lock.now)) }
-    ensures led { Led T.content place.old place.new (account_at T.content place.old) }
+    ensures led { LedTo T.content place.old place.new (account_at T.content place.old)
+        (todo_setting_ok (number_at place.old) (account_at T.content place.old).lists (todo_at place.old)
+        (lock_number lock.now)) }
     ensures side { place.new.me ≡ (noting place.old.me.0 (SetReleaseOk (lock_number lock.now)), place.old.me.1) }
     ensures slots { place.new.me.1 ≡ place.old.me.1 }
 {
@@ -209,7 +233,23 @@ pub(crate) fn set_has_waiters<T: PartTable, M: Marking<T>>(
         × (mine.lock ≡ lock_number lock.now) }
     requires mark { M.mark ≡ (λ _. SetHasWaiters (lock_number lock.now)) }
     ensures led { Led T.content place.old place.new (account_at T.content place.old) }
+    ensures flagged { flagged_at place.new ≡ true }
     ensures slots { place.new.me.1 ≡ place.old.me.1 }
 {
     fetch_or_as::<T, M>(top, place, lock.word(), LwWord::HAS_WAITERS);
+}
+
+/// Loads the word of `lock`, which the session is to attempt (the loop of `LWLockAttemptLock` in lwlock.c). Where it shows
+/// that somebody holds the lock that is noted, and the attempt is done: whoever holds it sees has-waiters as it puts it.
+pub(crate) fn look_at_lock<T: PartTable>(top: &Top<T>, place: &mut Place<T>, lock: &LwLock) -> u64
+    requires table { FitsTable place.old top.now.table_id }
+    requires there { LockIsInTable lock.now }
+    requires session { HasSession place.old.me.0 }
+    requires no_other_try { NoneOr (todo_at place.old).tries (lock_number lock.now) }
+    ensures seat { IsSameSeat place.old place.new }
+    ensures held { (IsHeldByNobody result → ⊥)
+        → GotNothing T.content place.old place.new (todo_attempted (todo_at place.old)) }
+    ensures free { IsHeldByNobody result → IsAsBefore T.content place.old place.new }
+{
+    top.load::<SeesHeld>(place, lock.word())
 }

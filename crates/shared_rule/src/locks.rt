@@ -9,9 +9,13 @@ ghost use Rattle.lock_world.specs.AccountSteps.{account_putting_fast, account_pa
 ghost use Rattle.shared_rule.specs.Marks.{PutFast, Passed, LoadedFast};
 ghost use Rattle.shared_rule.specs.Acquires.{IsAsBefore, GetsSlots};
 ghost use Rattle.shared_rule.specs.History.{noting};
-ghost use Rattle.shared_rule.specs.Led.{Led};
+ghost use Rattle.shared_rule.specs.Led.{Led, LedTo};
+ghost use Rattle.shared_rule.specs.Todos.{nothing_to_do, todo_putting};
+ghost use Rattle.lock_world.specs.WaitLists.{fast_lock};
+ghost use Rattle.lock_world.specs.Wakes.Waking.{NoneOr};
+ghost use Rattle.lw_word.specs.LockState.{state_of, put_in};
 ghost use Rattle.shared_rule.specs.LwLocks.{no_lists};
-ghost use Rattle.shared_rule.specs.Plays.{account_at, number_at, quiet_at, FitsTable, HasSession, IsSameSeat, TookSlots};
+ghost use Rattle.shared_rule.specs.Plays.{account_at, number_at, quiet_at, todo_at, FitsTable, HasSession, IsSameSeat, TookSlots};
 ghost use Rattle.std.specs.Bool.{OnTrue, OnFalse};
 ghost use Rattle.shared_rule.specs.Quiet.{quiet_trying};
 ghost use Rattle.shared_rule.specs.Slots.{TriesFast};
@@ -44,6 +48,7 @@ fn attempt_fast<T: PartTable, G: Grouping>(
     requires exists { owner < top.now.key.sessions }
     requires session { HasSession place.old.me.0 }
     requires free { IsHeldByNobody shown × (taken ≡ taken_word shown) }
+    requires no_other_try { NoneOr (todo_at place.old).tries (fast_lock owner) }
     requires groups { G.groups ≡ top.now.key.groups }
     ensures seat { IsSameSeat place.old place.new }
     ensures won { OnTrue result (GetsSlots T.content top.now.key.groups Exclusive owner place.old place.new) }
@@ -65,6 +70,7 @@ pub(crate) fn attempt_free_fast<T: PartTable>(
     requires table { FitsTable place.old top.now.table_id }
     requires exists { owner < top.now.key.sessions }
     requires session { HasSession place.old.me.0 }
+    requires no_other_try { NoneOr (todo_at place.old).tries (fast_lock owner) }
     ensures seat { IsSameSeat place.old place.new }
     ensures won { OnTrue result (GetsSlots T.content top.now.key.groups Exclusive owner place.old place.new) }
     ensures lost { OnFalse result (IsAsBefore T.content place.old place.new) }
@@ -91,6 +97,7 @@ pub(crate) fn take_fast<T: PartTable, R: Wait>(
     requires session { HasSession place.old.me.0 }
     requires own { number ≡ number_at place.old }
     requires idle { (account_at T.content place.old).lists ≡ no_lists }
+    requires todo { todo_at place.old ≡ nothing_to_do }
     ensures { GetsSlots T.content top.now.key.groups Exclusive owner place.old place.new }
 {
     if !attempt_free_fast(top, place, owner) {
@@ -127,6 +134,7 @@ fn take_own_fast<T: PartTable, G: Grouping>(
     requires session { HasSession place.old.me.0 }
     requires own { number ≡ number_at place.old }
     requires free { IsHeldByNobody shown × (taken ≡ taken_word shown) }
+    requires no_other_try { NoneOr (todo_at place.old).tries (fast_lock number) }
     requires groups { G.groups ≡ top.now.key.groups }
     ensures seat { IsSameSeat place.old place.new }
     ensures won { result ≡ shown → TookSlots T.content top.now.key.groups number place.old.me place.new.me }
@@ -145,10 +153,12 @@ pub(crate) fn try_take_fast<T: PartTable>(
     requires table { FitsTable place.old top.now.table_id }
     requires session { HasSession place.old.me.0 }
     requires own { number ≡ number_at place.old }
+    requires todo { todo_at place.old ≡ nothing_to_do }
     ensures seat { IsSameSeat place.old place.new }
     ensures tried { TriesFast top.now.key.groups (number_at place.old) (account_at T.content place.old) result
         (account_at T.content place.new) }
     ensures quiet { quiet_at place.new ≡ quiet_trying number result (quiet_at place.old) }
+    ensures todo { todo_at place.new ≡ nothing_to_do }
     ensures lone { StaysLone place.old.me.0 place.new.me.0 }
     ensures slots { place.new.me.1 ≡ place.old.me.1 }
 {
@@ -173,9 +183,11 @@ fn put_fast_home<T: PartTable, M: Marking<T>>(
     requires exists { owner < top.now.key.sessions }
     requires session { HasSession place.old.me.0 }
     requires lawful { (slots : SlotsInHand) × MayPutFastBy (account_at T.content place.old) owner slots }
-    requires mark { M.mark ≡ (λ _. PutFast owner) }
-    ensures led { Led T.content place.old place.new
-        (account_putting_fast (number_at place.old) (account_at T.content place.old) owner) }
+    requires no_look { (todo_at place.old).due ≡ None }
+    requires mark { M.mark ≡ PutFast owner }
+    ensures led { LedTo T.content place.old place.new
+        (account_putting_fast (number_at place.old) (account_at T.content place.old) owner)
+        (todo_putting (todo_at place.old) (fast_lock owner) (put_in Exclusive (state_of result))) }
     ensures slots { place.new.me.1 ≡ place.old.me.1 }
 {
     fetch_sub_as::<T, M>(top, place, fast_word(owner), LwMode::Exclusive.amount())
@@ -193,7 +205,8 @@ pub(crate) fn put_fast<T: PartTable, M: Marking<T>>(
     requires session { HasSession place.old.me.0 }
     requires lawful { (slots : SlotsInHand) × MayPutFastBy (account_at T.content place.old) owner slots }
     requires idle { (account_at T.content place.old).lists ≡ no_lists }
-    requires mark { M.mark ≡ (λ _. PutFast owner) }
+    requires todo { todo_at place.old ≡ nothing_to_do }
+    requires mark { M.mark ≡ PutFast owner }
     ensures led { Led T.content place.old place.new
         (account_putting_fast (number_at place.old) (account_at T.content place.old) owner) }
     ensures slots { place.new.me.1 ≡ place.old.me.1 }
@@ -216,9 +229,11 @@ fn pass_fast_home<T: PartTable, M: Marking<T>>(
     requires exists { owner < top.now.key.sessions }
     requires session { HasSession place.old.me.0 }
     requires lawful { (slots : SlotsInHand) × MayPassBy (account_at T.content place.old) owner slots tag.now mode }
-    requires mark { M.mark ≡ (λ _. Passed owner tag.now mode) }
-    ensures led { Led T.content place.old place.new
-        (account_passing (number_at place.old) (account_at T.content place.old) owner tag.now mode) }
+    requires no_look { (todo_at place.old).due ≡ None }
+    requires mark { M.mark ≡ Passed owner tag.now mode }
+    ensures led { LedTo T.content place.old place.new
+        (account_passing (number_at place.old) (account_at T.content place.old) owner tag.now mode)
+        (todo_putting (todo_at place.old) (fast_lock owner) (put_in Exclusive (state_of result))) }
     ensures slots { place.new.me.1 ≡ place.old.me.1 }
 {
     fetch_sub_as::<T, M>(top, place, fast_word(owner), LwMode::Exclusive.amount())
@@ -239,7 +254,8 @@ pub(crate) fn pass_fast<T: PartTable, M: Marking<T>>(
     requires session { HasSession place.old.me.0 }
     requires lawful { (slots : SlotsInHand) × MayPassBy (account_at T.content place.old) owner slots tag.now mode }
     requires idle { (account_at T.content place.old).lists ≡ no_lists }
-    requires mark { M.mark ≡ (λ _. Passed owner tag.now mode) }
+    requires todo { todo_at place.old ≡ nothing_to_do }
+    requires mark { M.mark ≡ Passed owner tag.now mode }
     ensures led { Led T.content place.old place.new
         (account_passing (number_at place.old) (account_at T.content place.old) owner tag.now mode) }
     ensures slots { place.new.me.1 ≡ place.old.me.1 }

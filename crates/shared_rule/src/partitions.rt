@@ -8,17 +8,22 @@ ghost use Rattle.lock_world.specs.AccountSteps.{account_putting};
 ghost use Rattle.lock_world.specs.AccountFacts.{KnowsContent};
 ghost use Rattle.shared_rule.specs.Marks.{TookPart, PutPart};
 ghost use Rattle.shared_rule.specs.declared.kept.Kept.TheVariants.{Nothing};
-ghost use Rattle.shared_rule.specs.Acquires.{IsAsBefore, TakesPartition};
+ghost use Rattle.shared_rule.specs.Acquires.{GotNothing, IsAsBefore, TakesPartition};
+ghost use Rattle.shared_rule.specs.Todos.{TriesAtMost, nothing_to_do, todo_attempted, todo_putting, todo_back};
+ghost use Rattle.lock_world.specs.WaitLists.{partition_lock};
+ghost use Rattle.lock_world.specs.Wakes.Waking.{NoneOr};
+ghost use Rattle.lw_word.specs.declared.words.LwMode.TheVariants.{Exclusive};
+ghost use Rattle.lw_word.specs.LockState.{state_of, put_in};
 ghost use Rattle.shared_rule.specs.History.{noting, taken_of};
 ghost use Rattle.shared_rule.specs.Layout.{content_slot_of};
 ghost use Rattle.shared_rule.specs.Lawful.{MayPutPart};
-ghost use Rattle.shared_rule.specs.Led.{Led};
+ghost use Rattle.shared_rule.specs.Led.{Led, LedTo};
 ghost use Rattle.shared_rule.specs.LwLocks.{no_lists};
-ghost use Rattle.shared_rule.specs.Plays.{account_at, number_at, FitsTable, HasSession, IsSameSeat};
+ghost use Rattle.shared_rule.specs.Plays.{account_at, number_at, todo_at, FitsTable, HasSession, IsSameSeat};
 
 use crate::kept::Kept;
 use crate::layout::{content_slot, partition_word};
-use crate::lists::set_release_ok;
+use crate::lists::{look_at_lock, set_release_ok};
 use crate::lw_lock::LwLock;
 use crate::plays::{Marking, TakesPart};
 use crate::queues::{SPINS, dequeue_self, pause_before, queue_self, sleep_until_told};
@@ -43,6 +48,7 @@ fn attempt_part<T: PartTable>(
     requires exists { part < 16 }
     requires session { HasSession place.old.me.0 }
     requires free { IsHeldByNobody shown × (taken ≡ taken_word shown) }
+    requires no_other_try { NoneOr (todo_at place.old).tries (partition_lock part) }
     ensures seat { IsSameSeat place.old place.new }
     ensures lost { IfNone result (IsAsBefore T.content place.old place.new) }
     ensures won { IfSome result (TakesPartition T.content T.begun part place.old place.new) }
@@ -65,6 +71,7 @@ fn attempt_free_part<T: PartTable>(top: &Top<T>, place: &mut Place<T>, part: u8)
     requires table { FitsTable place.old top.now.table_id }
     requires exists { part < 16 }
     requires session { HasSession place.old.me.0 }
+    requires no_other_try { NoneOr (todo_at place.old).tries (partition_lock part) }
     ensures seat { IsSameSeat place.old place.new }
     ensures lost { IfNone result (IsAsBefore T.content place.old place.new) }
     ensures won { IfSome result (TakesPartition T.content T.begun part place.old place.new) }
@@ -90,6 +97,7 @@ pub(crate) fn take_part_alone<T: PartTable, R: Wait>(
     requires table { FitsTable place.old top.now.table_id }
     requires exists { part < 16 }
     requires session { HasSession place.old.me.0 }
+    requires no_other_try { NoneOr (todo_at place.old).tries (partition_lock part) }
     ensures seat { IsSameSeat place.old place.new }
     ensures side { place.new.me
         ≡ (noting place.old.me.0 (TookPart part result), (content_slot_of part, Nothing) ∷ place.old.me.1) }
@@ -109,6 +117,7 @@ fn attempt_part_a_while<T: PartTable>(top: &Top<T>, place: &mut Place<T>, part: 
     requires table { FitsTable place.old top.now.table_id }
     requires exists { part < 16 }
     requires session { HasSession place.old.me.0 }
+    requires no_other_try { NoneOr (todo_at place.old).tries (partition_lock part) }
     ensures seat { IsSameSeat place.old place.new }
     ensures lost { IfNone result (IsAsBefore T.content place.old place.new) }
     ensures won { IfSome result (TakesPartition T.content T.begun part place.old place.new) }
@@ -133,12 +142,13 @@ fn attempt_part_unless_held<T: PartTable, R: Wait>(
     requires table { FitsTable place.old top.now.table_id }
     requires exists { part < 16 }
     requires session { HasSession place.old.me.0 }
+    requires no_other_try { NoneOr (todo_at place.old).tries (partition_lock part) }
     ensures seat { IsSameSeat place.old place.new }
-    ensures lost { IfNone result (IsAsBefore T.content place.old place.new) }
+    ensures lost { IfNone result (GotNothing T.content place.old place.new (todo_attempted (todo_at place.old))) }
     ensures won { IfSome result (TakesPartition T.content T.begun part place.old place.new) }
 {
     for _ in rt.forever() {
-        let shown = top.peek(partition_word(part));
+        let shown = look_at_lock(top, place, &LwLock::OfPart(part));
         let Some(taken) = taken(shown) else {
             return None;
         };
@@ -163,8 +173,9 @@ fn take_part_or_sleep<T: PartTable, R: Wait>(
     requires session { HasSession place.old.me.0 }
     requires own { number ≡ number_at place.old }
     requires idle { (account_at T.content place.old).lists ≡ no_lists }
+    requires todo { TriesAtMost (partition_lock part) (todo_at place.old) }
     ensures seat { IsSameSeat place.old place.new }
-    ensures lost { IfNone result (IsAsBefore T.content place.old place.new) }
+    ensures lost { IfNone result (GotNothing T.content place.old place.new (todo_back (partition_lock part))) }
     ensures won { IfSome result (TakesPartition T.content T.begun part place.old place.new) }
 {
     let lock = LwLock::OfPart(part);
@@ -195,8 +206,9 @@ fn take_part_in_turn<T: PartTable, R: Wait>(
     requires session { HasSession place.old.me.0 }
     requires own { number ≡ number_at place.old }
     requires idle { (account_at T.content place.old).lists ≡ no_lists }
+    requires todo { TriesAtMost (partition_lock part) (todo_at place.old) }
     ensures seat { IsSameSeat place.old place.new }
-    ensures lost { IfNone result (IsAsBefore T.content place.old place.new) }
+    ensures lost { IfNone result (GotNothing T.content place.old place.new (todo_back (partition_lock part))) }
     ensures won { IfSome result (TakesPartition T.content T.begun part place.old place.new) }
 {
     match attempt_part_a_while(top, place, part) {
@@ -221,6 +233,7 @@ pub(crate) fn take_part<T: PartTable, R: Wait>(
     requires session { HasSession place.old.me.0 }
     requires own { number ≡ number_at place.old }
     requires idle { (account_at T.content place.old).lists ≡ no_lists }
+    requires todo { todo_at place.old ≡ nothing_to_do }
     ensures { TakesPartition T.content T.begun part place.old place.new result }
 {
     match attempt_free_part(top, place, part) {
@@ -244,6 +257,7 @@ fn take_part_held<T: PartTable, R: Wait>(
     requires session { HasSession place.old.me.0 }
     requires own { number ≡ number_at place.old }
     requires idle { (account_at T.content place.old).lists ≡ no_lists }
+    requires todo { TriesAtMost (partition_lock part) (todo_at place.old) }
     ensures { TakesPartition T.content T.begun part place.old place.new result }
 {
     for _ in rt.forever() {
@@ -270,10 +284,12 @@ pub(crate) fn put_part_home<T: PartTable, M: Marking<T>>(
     requires none_begun { T.begun content ≡ None }
     requires lawful { (mine : InHand) × MayPutPart top.now.key.sessions (number_at place.old)
         (account_at T.content place.old) part mine done.now (T.content content) }
-    requires mark { M.mark ≡ (λ _. PutPart part done.now content) }
-    ensures led { Led T.content place.old place.new (account_putting (account_at T.content place.old) part
-        (taken_of ((account_at T.content place.old).hand part)) (T.content content) done.now) }
-    ensures side { place.new.me ≡ (noting place.old.me.0 (PutPart part done.now content), rest place.old.me.1) }
+    requires no_look { (todo_at place.old).due ≡ None }
+    requires mark { M.mark ≡ PutPart part done.now content }
+    ensures led { LedTo T.content place.old place.new (account_putting (account_at T.content place.old) part
+        (taken_of ((account_at T.content place.old).hand part)) (T.content content) done.now)
+        (todo_putting (todo_at place.old) (partition_lock part) (put_in Exclusive (state_of result))) }
+    ensures slots { place.new.me.1 ≡ rest place.old.me.1 }
 {
     match top.exchange(place, content_slot(part), Kept::Part(content)) {
         Kept::Nothing => put_home_as::<T, M>(top, place, partition_word(part)),
@@ -298,7 +314,8 @@ pub(crate) fn put_part<T: PartTable, M: Marking<T>>(
     requires lawful { (mine : InHand) × MayPutPart top.now.key.sessions (number_at place.old)
         (account_at T.content place.old) part mine done.now (T.content content) }
     requires idle { (account_at T.content place.old).lists ≡ no_lists }
-    requires mark { M.mark ≡ (λ _. PutPart part done.now content) }
+    requires todo { todo_at place.old ≡ nothing_to_do }
+    requires mark { M.mark ≡ PutPart part done.now content }
     ensures led { Led T.content place.old place.new (account_putting (account_at T.content place.old) part
         (taken_of ((account_at T.content place.old).hand part)) (T.content content) done.now) }
     ensures slots { place.new.me.1 ≡ rest place.old.me.1 }

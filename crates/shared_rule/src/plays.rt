@@ -17,7 +17,7 @@ pub trait Marking<T> {
 impl<T> Marking<T> for Brand {
     ghost use Rattle.shared_rule.specs.Marks.{PutFast};
 
-    ghost mark = { λ _. PutFast 0 };
+    ghost mark = { λ _. PutFast 0 0 };
 }
 
 /// How many groups of slots each session has, as a step on slots tells of them. Each call picks it.
@@ -108,14 +108,24 @@ impl<T: PartTable, G: Grouping> Play<Kept<T>, View<T>> for TriesSlots<G> {
     ghost then = { TookSlotsOr T.content G.groups noted_load };
 }
 
-/// A fetch-or of a word's list bit that takes the wait list in hand where it finds the bit not set, and else changes
-/// nothing.
+/// A fetch-or of a word's list bit that takes the wait list in hand where it finds the bit not set, and else is noted as
+/// a look that saw it locked.
 pub struct LocksList;
 
 impl<T: PartTable> Play<Kept<T>, View<T>> for LocksList {
     ghost use Rattle.shared_rule.specs.Plays.{LockedListOr};
 
     ghost then = { LockedListOr T.content };
+}
+
+/// A load of a lightweight word that is noted as a look where it shows that somebody holds the lock, and else changes
+/// nothing.
+pub struct SeesHeld;
+
+impl<T> Play<Kept<T>, View<T>> for SeesHeld {
+    ghost use Rattle.shared_rule.specs.Plays.{SawHeldOr};
+
+    ghost then = { SawHeldOr };
 }
 
 /// A load that changes nothing, and tells the opener that those that have closed were given out, each once.

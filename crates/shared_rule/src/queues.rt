@@ -1,15 +1,16 @@
 //! Waiting for a lightweight lock in its list (`LWLockAcquire` in lwlock.c, from the first lost attempt on).
 //!
-//! No wake-up is lost, by these, of which no clause tells. Has-waiters is set before the attempt that follows the
-//! queueing (`queue_self`), so that whoever holds the lock then sees it; and that attempt is made. Whoever was told
-//! sets release-ok before it attempts again, and so does a winner that was taken off its list (`dequeue_self`). A
-//! release looks at the list; where that is locked it may go, since whoever has the list attempts the lock
-//! afterwards, holds it, or has taken somebody off. It stores in a sleep word before it wakes that session, and
-//! `park` looks at the word again in the kernel.
+//! No wake-up is lost, by clauses. Has-waiters is set before a session joins a list (`join_list`), so that whoever holds
+//! the lock then sees it; and the session attempts the lock after that, before it sleeps (`sleep_until_told`). Whoever
+//! was told sets release-ok before it attempts again, and so does a winner that was taken off its list (`dequeue_self`):
+//! else it can't queue or sleep again. A release looks at the list (`wake_waiters`); where that is locked it may go,
+//! since whoever has the list attempts the lock afterwards, holds it, or has taken somebody off, or nobody is left there
+//! (`unlock_list`). What each session has still to do is `Todo` of specs/Todos.
 //!
-//! By clauses a winner leaves the list that it stands in and no other (`dequeue_self`). Whoever unlocks a list
-//! leaves has-waiters where somebody stands there, and release-ok where it took nobody off (`unlock_list`). All
-//! sessions take locks in one order.
+//! A winner leaves the list that it stands in and no other (`dequeue_self`). Whoever unlocks a list leaves has-waiters
+//! where somebody stands there, and release-ok where it took nobody off (`unlock_list`). All sessions take locks in one
+//! order. No clause tells that a session that is told is woken by the kernel, after its sleep word shows 0, and that
+//! `park` looks at the word again there.
 //!
 //! The attempt after the queueing is repeated until it wins or sees the lock held, since a change of a flag may
 //! make it fail. Somebody attempts the lock after each such change, so nobody is known to sleep for ever where it
@@ -20,9 +21,11 @@ ghost use Rattle.lw_word.specs.WaitList.{stands_in};
 ghost use Rattle.lock_world.specs.AccountSteps.{account_locking_list};
 ghost use Rattle.shared_rule.specs.declared.kept.Kept.TheVariants.{Nothing};
 ghost use Rattle.shared_rule.specs.Layout.{list_slot_of};
-ghost use Rattle.shared_rule.specs.Led.{Led};
+ghost use Rattle.shared_rule.specs.Led.{Led, LedTo};
+ghost use Rattle.shared_rule.specs.Todos.{HasBy, MaySleepBy, TellsNobodyBy, TriesAtMost};
+ghost use Rattle.shared_rule.specs.Todos.{nothing_to_do, todo_in_list, todo_got};
 ghost use Rattle.shared_rule.specs.LwLocks.{lock_number, LockExists, LockIsInTable, no_lists, queued_for};
-ghost use Rattle.shared_rule.specs.Plays.{account_at, number_at, FitsTable, HasSession};
+ghost use Rattle.shared_rule.specs.Plays.{account_at, number_at, todo_at, FitsTable, HasSession};
 
 use crate::layout::sleep_word;
 use crate::lists::{
@@ -67,6 +70,8 @@ fn lock_list<T: PartTable, R: Wait>(
     requires there { LockIsInTable lock.now }
     requires session { HasSession place.old.me.0 }
     requires no_list { (account_at T.content place.old).lists.in_hand ≡ None }
+    requires no_look { (todo_at place.old).due ≡ None }
+    requires tells_nobody { TellsNobodyBy (account_at T.content place.old) }
     ensures led { Led T.content place.old place.new
         (account_locking_list (account_at T.content place.old) (lock_number lock.now) result.value) }
     ensures slots { place.new.me.1 ≡ (list_slot_of (lock_number lock.now), Nothing) ∷ place.old.me.1 }
@@ -100,8 +105,10 @@ pub(crate) fn queue_self<T: PartTable, R: Wait>(
     requires session { HasSession place.old.me.0 }
     requires own { number ≡ number_at place.old }
     requires idle { (account_at T.content place.old).lists ≡ no_lists }
-    ensures led { Led T.content place.old place.new
-        (record (account_at T.content place.old) { lists = queued_for (lock_number lock.now) }) }
+    requires todo { TriesAtMost (lock_number lock.now) (todo_at place.old) }
+    ensures led { LedTo T.content place.old place.new
+        (record (account_at T.content place.old) { lists = queued_for (lock_number lock.now) })
+        (todo_in_list (lock_number lock.now)) }
     ensures slots { place.new.me.1 ≡ place.old.me.1 }
 {
     let mut list = lock_list(rt, top, place, lock);
@@ -123,6 +130,7 @@ pub(crate) fn sleep_until_told<T: PartTable, R: Wait>(
     requires table { FitsTable place.old top.now.table_id }
     requires session { HasSession place.old.me.0 }
     requires own { number ≡ number_at place.old }
+    requires may { MaySleepBy (account_at T.content place.old) (todo_at place.old) }
     ensures led { Led T.content place.old place.new (record (account_at T.content place.old) {
       lists = record ((account_at T.content place.old).lists) { stands = None };
     }) }
@@ -140,8 +148,9 @@ pub(crate) fn sleep_until_told<T: PartTable, R: Wait>(
 }
 
 /// Leaves the list of `lock`, which the session `number` has got meanwhile. Where another session has taken it off
-/// already, it is told so in any case: it waits for that, and sets release-ok in that one's stead
-/// (`LWLockDequeueSelf` in lwlock.c).
+/// already, it sets release-ok in that one's stead, while it has the list in hand and so knows that it is off it. It is
+/// told so in any case, and waits for that (`LWLockDequeueSelf` in lwlock.c, which sets the flag after it has unlocked
+/// the list).
 pub(crate) fn dequeue_self<T: PartTable, R: Wait>(
     rt: &R,
     top: &Top<T>,
@@ -155,8 +164,10 @@ pub(crate) fn dequeue_self<T: PartTable, R: Wait>(
     requires session { HasSession place.old.me.0 }
     requires own { number ≡ number_at place.old }
     requires queued { (account_at T.content place.old).lists ≡ queued_for (lock_number lock.now) }
-    ensures led { Led T.content place.old place.new
-        (record (account_at T.content place.old) { lists = no_lists }) }
+    requires got { HasBy (account_at T.content place.old) lock.now }
+    requires todo { todo_at place.old ≡ todo_got (lock_number lock.now) }
+    ensures led { LedTo T.content place.old place.new
+        (record (account_at T.content place.old) { lists = no_lists }) nothing_to_do }
     ensures slots { place.new.me.1 ≡ place.old.me.1 }
 {
     let mut list = lock_list(rt, top, place, lock);
@@ -165,8 +176,8 @@ pub(crate) fn dequeue_self<T: PartTable, R: Wait>(
         let some_left = !list.is_empty();
         unlock_list(top, place, lock, list, some_left, true);
     } else {
-        unlock_list(top, place, lock, list, true, true);
         set_release_ok::<T, Brand>(top, place, lock);
+        unlock_list(top, place, lock, list, true, true);
         sleep_until_told(rt, top, place, number);
     }
 }

@@ -3,7 +3,7 @@
 
 ghost use Rattle.std.specs.Bool.{OnTrue, OnFalse};
 ghost use Rattle.std.specs.Option.{SomeIff};
-ghost use Rattle.std.specs.Prelude.{◌≡◌, ◌<◌};
+ghost use Rattle.std.specs.Prelude.{◌≡◌, ◌<◌, None};
 ghost use Rattle.lw_word.specs.declared.words.LwMode.TheVariants.{Shared};
 ghost use Rattle.lw_word.specs.LightweightWord.{IsFreeToShare, shared_word};
 ghost use Rattle.lock_world.specs.Account.{SlotsInHand};
@@ -11,9 +11,13 @@ ghost use Rattle.lock_world.specs.AccountLaw.{MayShareFastBy, MayUnshareFastBy};
 ghost use Rattle.shared_rule.specs.Marks.{UnsharedFast};
 ghost use Rattle.lock_world.specs.AccountSteps.{account_unsharing_fast};
 ghost use Rattle.shared_rule.specs.Acquires.{IsAsBefore, GetsSlots};
-ghost use Rattle.shared_rule.specs.Led.{Led};
+ghost use Rattle.shared_rule.specs.Led.{Led, LedTo};
+ghost use Rattle.shared_rule.specs.Todos.{nothing_to_do, todo_putting};
+ghost use Rattle.lock_world.specs.WaitLists.{fast_lock};
+ghost use Rattle.lock_world.specs.Wakes.Waking.{NoneOr};
+ghost use Rattle.lw_word.specs.LockState.{state_of, put_in};
 ghost use Rattle.shared_rule.specs.LwLocks.{no_lists};
-ghost use Rattle.shared_rule.specs.Plays.{account_at, number_at, FitsTable, HasSession, IsSameSeat};
+ghost use Rattle.shared_rule.specs.Plays.{account_at, number_at, todo_at, FitsTable, HasSession, IsSameSeat};
 
 use crate::layout::fast_word;
 use crate::lw_lock::LwLock;
@@ -53,6 +57,7 @@ fn attempt_share<T: PartTable, G: Grouping>(
     requires exists { owner < top.now.key.sessions }
     requires session { HasSession place.old.me.0 }
     requires lawful { MayShareFastBy (account_at T.content place.old) owner }
+    requires no_other_try { NoneOr (todo_at place.old).tries (fast_lock owner) }
     requires free { IsFreeToShare shown × (shared ≡ shared_word shown) }
     requires groups { G.groups ≡ top.now.key.groups }
     ensures seat { IsSameSeat place.old place.new }
@@ -76,6 +81,7 @@ pub(crate) fn attempt_free_share<T: PartTable>(
     requires exists { owner < top.now.key.sessions }
     requires session { HasSession place.old.me.0 }
     requires lawful { MayShareFastBy (account_at T.content place.old) owner }
+    requires no_other_try { NoneOr (todo_at place.old).tries (fast_lock owner) }
     ensures seat { IsSameSeat place.old place.new }
     ensures won { OnTrue result (GetsSlots T.content top.now.key.groups Shared owner place.old place.new) }
     ensures lost { OnFalse result (IsAsBefore T.content place.old place.new) }
@@ -103,6 +109,7 @@ pub(crate) fn share_fast<T: PartTable, R: Wait>(
     requires own { number ≡ number_at place.old }
     requires lawful { MayShareFastBy (account_at T.content place.old) owner }
     requires idle { (account_at T.content place.old).lists ≡ no_lists }
+    requires todo { todo_at place.old ≡ nothing_to_do }
     ensures { GetsSlots T.content top.now.key.groups Shared owner place.old place.new }
 {
     if !attempt_free_share(top, place, owner) {
@@ -120,9 +127,11 @@ fn unshare_fast_home<T: PartTable, M: Marking<T>>(
     requires exists { owner < top.now.key.sessions }
     requires session { HasSession place.old.me.0 }
     requires lawful { (slots : SlotsInHand) × MayUnshareFastBy (account_at T.content place.old) owner slots }
-    requires mark { M.mark ≡ (λ _. UnsharedFast owner) }
-    ensures led { Led T.content place.old place.new
-        (account_unsharing_fast (account_at T.content place.old) owner) }
+    requires no_look { (todo_at place.old).due ≡ None }
+    requires mark { M.mark ≡ UnsharedFast owner }
+    ensures led { LedTo T.content place.old place.new
+        (account_unsharing_fast (account_at T.content place.old) owner)
+        (todo_putting (todo_at place.old) (fast_lock owner) (put_in Shared (state_of result))) }
     ensures slots { place.new.me.1 ≡ place.old.me.1 }
 {
     fetch_sub_as::<T, M>(top, place, fast_word(owner), LwMode::Shared.amount())
@@ -140,7 +149,8 @@ pub(crate) fn unshare_fast<T: PartTable, M: Marking<T>>(
     requires session { HasSession place.old.me.0 }
     requires lawful { (slots : SlotsInHand) × MayUnshareFastBy (account_at T.content place.old) owner slots }
     requires idle { (account_at T.content place.old).lists ≡ no_lists }
-    requires mark { M.mark ≡ (λ _. UnsharedFast owner) }
+    requires todo { todo_at place.old ≡ nothing_to_do }
+    requires mark { M.mark ≡ UnsharedFast owner }
     ensures led { Led T.content place.old place.new
         (account_unsharing_fast (account_at T.content place.old) owner) }
     ensures slots { place.new.me.1 ≡ place.old.me.1 }

@@ -3,12 +3,14 @@
 
 ghost use Rattle.std.specs.Bool.{OnTrue, OnFalse};
 ghost use Rattle.std.specs.Prelude.{◌≡◌, ◌<◌};
-ghost use Rattle.shared_rule.specs.Acquires.{IsAsBefore, GetsSlots, MayGetSlots};
+ghost use Rattle.shared_rule.specs.Acquires.{GotNothing, IsAsBefore, IsTrying, GetsSlots, MayGetSlots};
+ghost use Rattle.lock_world.specs.WaitLists.{fast_lock};
+ghost use Rattle.lock_world.specs.Wakes.Waking.{NoneOr};
+ghost use Rattle.shared_rule.specs.Todos.{TriesAtMost, todo_attempted, todo_back};
 ghost use Rattle.shared_rule.specs.LwLocks.{no_lists};
-ghost use Rattle.shared_rule.specs.Plays.{account_at, number_at, FitsTable, HasSession, IsSameSeat, IsSized};
+ghost use Rattle.shared_rule.specs.Plays.{account_at, number_at, todo_at, FitsTable, HasSession, IsSameSeat};
 
-use crate::layout::fast_word;
-use crate::lists::set_release_ok;
+use crate::lists::{look_at_lock, set_release_ok};
 use crate::locks::attempt_free_fast;
 use crate::lw_lock::LwLock;
 use crate::queues::{SPINS, dequeue_self, pause_before, queue_self, sleep_until_told};
@@ -32,6 +34,7 @@ fn attempt_slots<T: PartTable>(
     requires exists { owner < top.now.key.sessions }
     requires session { HasSession place.old.me.0 }
     requires lawful { MayGetSlots mode (account_at T.content place.old) owner }
+    requires no_other_try { NoneOr (todo_at place.old).tries (fast_lock owner) }
     ensures seat { IsSameSeat place.old place.new }
     ensures won { OnTrue result (GetsSlots T.content top.now.key.groups mode owner place.old place.new) }
     ensures lost { OnFalse result (IsAsBefore T.content place.old place.new) }
@@ -42,11 +45,23 @@ fn attempt_slots<T: PartTable>(
     }
 }
 
-// Whether the word shows that somebody holds the lock in the way of this mode.
-fn is_held<T: PartTable>(top: &Top<T>, owner: SessionId, mode: LwMode) -> bool
-    requires sized { IsSized top.now.table_id }
+// Whether the word shows that somebody holds the lock in the way of this mode. Where it shows that somebody holds it at all,
+// that is noted.
+fn is_held<T: PartTable>(
+    top: &Top<T>,
+    place: &mut Place<T>,
+    owner: SessionId,
+    mode: LwMode,
+) -> bool
+    requires table { FitsTable place.old top.now.table_id }
+    requires exists { owner < top.now.key.sessions }
+    requires session { HasSession place.old.me.0 }
+    requires no_other_try { NoneOr (todo_at place.old).tries (fast_lock owner) }
+    ensures seat { IsSameSeat place.old place.new }
+    ensures held { OnTrue result (GotNothing T.content place.old place.new (todo_attempted (todo_at place.old))) }
+    ensures free { OnFalse result (IsTrying T.content (fast_lock owner) place.old place.new) }
 {
-    let shown = top.peek(fast_word(owner));
+    let shown = look_at_lock(top, place, &LwLock::OfSlots(owner));
     match mode {
         LwMode::Exclusive => taken(shown).is_none(),
         LwMode::Shared => shared(shown).is_none(),
@@ -64,6 +79,7 @@ fn attempt_slots_a_while<T: PartTable>(
     requires exists { owner < top.now.key.sessions }
     requires session { HasSession place.old.me.0 }
     requires lawful { MayGetSlots mode (account_at T.content place.old) owner }
+    requires no_other_try { NoneOr (todo_at place.old).tries (fast_lock owner) }
     ensures seat { IsSameSeat place.old place.new }
     ensures won { OnTrue result (GetsSlots T.content top.now.key.groups mode owner place.old place.new) }
     ensures lost { OnFalse result (IsAsBefore T.content place.old place.new) }
@@ -90,15 +106,16 @@ fn attempt_slots_unless_held<T: PartTable, R: Wait>(
     requires exists { owner < top.now.key.sessions }
     requires session { HasSession place.old.me.0 }
     requires lawful { MayGetSlots mode (account_at T.content place.old) owner }
+    requires no_other_try { NoneOr (todo_at place.old).tries (fast_lock owner) }
     ensures seat { IsSameSeat place.old place.new }
     ensures won { OnTrue result (GetsSlots T.content top.now.key.groups mode owner place.old place.new) }
-    ensures lost { OnFalse result (IsAsBefore T.content place.old place.new) }
+    ensures lost { OnFalse result (GotNothing T.content place.old place.new (todo_attempted (todo_at place.old))) }
 {
     for _ in rt.forever() {
         if attempt_slots(top, place, owner, mode) {
             return true;
         }
-        if is_held(top, owner, mode) {
+        if is_held(top, place, owner, mode) {
             return false;
         }
     }
@@ -121,9 +138,10 @@ fn get_slots_or_sleep<T: PartTable, R: Wait>(
     requires own { number ≡ number_at place.old }
     requires lawful { MayGetSlots mode (account_at T.content place.old) owner }
     requires idle { (account_at T.content place.old).lists ≡ no_lists }
+    requires todo { TriesAtMost (fast_lock owner) (todo_at place.old) }
     ensures seat { IsSameSeat place.old place.new }
     ensures won { OnTrue result (GetsSlots T.content top.now.key.groups mode owner place.old place.new) }
-    ensures lost { OnFalse result (IsAsBefore T.content place.old place.new) }
+    ensures lost { OnFalse result (GotNothing T.content place.old place.new (todo_back (fast_lock owner))) }
 {
     let lock = LwLock::OfSlots(owner);
     queue_self(rt, top, place, number, &lock, mode);
@@ -152,9 +170,10 @@ fn get_slots_in_turn<T: PartTable, R: Wait>(
     requires own { number ≡ number_at place.old }
     requires lawful { MayGetSlots mode (account_at T.content place.old) owner }
     requires idle { (account_at T.content place.old).lists ≡ no_lists }
+    requires todo { TriesAtMost (fast_lock owner) (todo_at place.old) }
     ensures seat { IsSameSeat place.old place.new }
     ensures won { OnTrue result (GetsSlots T.content top.now.key.groups mode owner place.old place.new) }
-    ensures lost { OnFalse result (IsAsBefore T.content place.old place.new) }
+    ensures lost { OnFalse result (GotNothing T.content place.old place.new (todo_back (fast_lock owner))) }
 {
     if attempt_slots_a_while(top, place, owner, mode) {
         return true;
@@ -180,6 +199,7 @@ pub(crate) fn get_slots_held<T: PartTable, R: Wait>(
     requires own { number ≡ number_at place.old }
     requires lawful { MayGetSlots mode (account_at T.content place.old) owner }
     requires idle { (account_at T.content place.old).lists ≡ no_lists }
+    requires todo { TriesAtMost (fast_lock owner) (todo_at place.old) }
     ensures { GetsSlots T.content top.now.key.groups mode owner place.old place.new }
 {
     for _ in rt.forever() {

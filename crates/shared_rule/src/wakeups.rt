@@ -1,15 +1,17 @@
 //! Waking those who wait for a lightweight lock (`LWLockReleaseInternal` and `LWLockWakeup` in lwlock.c).
 
-ghost use Rattle.std.specs.Prelude.{◌≡◌, ◌∷◌, ℕ, Some, true, false};
+ghost use Rattle.std.specs.Prelude.{◌≡◌, ◌∷◌, ℕ, Some, None, true, false};
 ghost use Rattle.atomic_table.specs.Table.{rest};
 ghost use Rattle.lw_word.specs.declared.words.LwMode.TheVariants.{Exclusive, Shared};
 ghost use Rattle.lw_word.specs.LockState.{state_of, put_in, must_wake};
 ghost use Rattle.lock_world.specs.AccountSteps.{account_unlocking_list};
 ghost use Rattle.shared_rule.specs.declared.kept.Kept.TheVariants.{Nothing};
 ghost use Rattle.shared_rule.specs.Layout.{list_slot_of};
-ghost use Rattle.shared_rule.specs.Led.{Led};
+ghost use Rattle.shared_rule.specs.Led.{Led, LedTo};
+ghost use Rattle.shared_rule.specs.Todos.{IsLeftWellBy, todo_looked};
+ghost use Rattle.lock_world.specs.Wakes.Waking.{NoneOr};
 ghost use Rattle.shared_rule.specs.LwLocks.{lock_number, LockExists, LockIsInTable, no_lists};
-ghost use Rattle.shared_rule.specs.Plays.{account_at, number_at, FitsTable, HasSession};
+ghost use Rattle.shared_rule.specs.Plays.{account_at, number_at, todo_at, FitsTable, HasSession};
 ghost use Rattle.shared_rule.specs.Wakeups.{all_taken_off, all_told, MayTakeAllOff, MayTellAll};
 
 use crate::layout::sleep_word;
@@ -80,6 +82,7 @@ fn set_release_ok_if<T: PartTable>(
     requires exists { LockExists top.now.key.sessions lock.now }
     requires there { LockIsInTable lock.now }
     requires session { HasSession place.old.me.0 }
+    requires owes_no_ok { (todo_at place.old).owes_release_ok ≡ None }
     ensures led { Led T.content place.old place.new (account_at T.content place.old) }
     ensures slots { place.new.me.1 ≡ place.old.me.1 }
 {
@@ -104,8 +107,10 @@ fn unlock_after_wakeup<T: PartTable>(
     requires out { place.old.me.1 ≡ (list_slot_of (lock_number lock.now), Nothing) ∷ rest place.old.me.1 }
     requires in_hand { (account_at T.content place.old).lists.in_hand
         ≡ Some (record { lock = lock_number lock.now; waiters = list.value }) }
+    requires owes_no_ok { (todo_at place.old).owes_release_ok ≡ None }
     requires release_stays { release_ok ≡ false
         → (other : ℕ) × ((account_at T.content place.old).lists.off other ≡ true) }
+    requires left_well { IsLeftWellBy (account_at T.content place.old) (todo_at place.old) lock.now list.value }
     ensures led { Led T.content place.old place.new (account_unlocking_list (account_at T.content place.old)) }
     ensures slots { place.new.me.1 ≡ rest place.old.me.1 }
 {
@@ -125,7 +130,10 @@ pub(crate) fn wake_waiters<T: PartTable>(top: &Top<T>, place: &mut Place<T>, loc
     requires there { LockIsInTable lock.now }
     requires session { HasSession place.old.me.0 }
     requires idle { (account_at T.content place.old).lists ≡ no_lists }
-    ensures led { Led T.content place.old place.new (account_at T.content place.old) }
+    requires no_other_look { NoneOr (todo_at place.old).due (lock_number lock.now) }
+    requires owes_no_ok { (todo_at place.old).owes_release_ok ≡ None }
+    ensures led { LedTo T.content place.old place.new (account_at T.content place.old)
+        (todo_looked (todo_at place.old)) }
     ensures slots { place.new.me.1 ≡ place.old.me.1 }
 {
     let Some(mut list) = try_lock_list(top, place, lock) else {

@@ -38,6 +38,11 @@ use Rattle.lock_world.proofs.Accounts.Lists.{account-unlocking_partition_list, a
 use Rattle.lock_world.proofs.Accounts.Lists.{account-taking_off, account-telling, account-loading_sleep}
 use Rattle.lock_world.proofs.Accounts.Lists.{lock_list-lawful, has_list-lawful, join_list-lawful, leave_list-lawful, take_off-lawful, tell-lawful}
 use Rattle.shared_rule.specs.declared.history.Mark.{Mark}
+use Rattle.lock_world.specs.Wakes.Waking.{NoneOr}
+use Rattle.shared_rule.specs.Todos.{Todo, todo_told_by, flagged_told_by}
+use Rattle.shared_rule.specs.Todos.{TellsNobodyBy, IsLeftWellBy, lock_of_list}
+use Rattle.lw_word.specs.LightweightWord.{IsHeldByNobody, IsListLocked}
+use Rattle.shared_rule.proofs.Owings.{keeps-locking, keeps-unlocking, keeps-joining, keeps-leaving, keeps-setting_ok, keeps-flagging, lock-in_hand, tells-told}
 use Rattle.shared_rule.specs.Marks as mark
 use Rattle.shared_rule.specs.declared.history.History.{History}
 use Rattle.shared_rule.specs.declared.rule.Sizes.{Sizes}
@@ -51,10 +56,10 @@ use Rattle.shared_rule.specs.LwLocks.{word_of_lock, lock_number, LockExists, Loc
 use Rattle.shared_rule.specs.Shown.{WordsAreShown, set_word}
 use Rattle.shared_rule.specs.History.{told, noting, first_account, first_number, list_here}
 use Rattle.shared_rule.specs.Ruled.{IsHomeUnlessInHand, ContentsAreHome, IsInNoHand, ListIsAtHome, ListsAreHome, Ruled}
-use Rattle.shared_rule.specs.Plays.{Side, WentHome, TookList, LockedListOr}
+use Rattle.shared_rule.specs.Plays.{Side, WentHome, TookList, LockedListOr, SawHeldOr}
 use Rattle.shared_rule.proofs.Shown.{words-set}
 use Rattle.shared_rule.proofs.Frame.{Stepper, IsNoted, ruled-steps, ruled-noted}
-use Rattle.shared_rule.proofs.Events.Words.{IsAlwaysLawful, nothing-changes}
+use Rattle.shared_rule.proofs.Events.Words.{IsAlwaysLawful, nothing-changes, looks-only}
 
 -- Steps on wait lists: locking one and unlocking it, joining and leaving, taking off and telling, and the flags.
 
@@ -92,6 +97,14 @@ same-lock (OfSlots o) (OfSlots k) there also same = let one : o ≡ k = omega (a
 word-by_number : (words : Words) (lock : LwLock) → lock_word words.partition words.fast (lock_number lock) ≡ word_in words (word_of_lock lock)
 word-by_number words (OfPart p) = lock_word-partition words.partition words.fast p
 word-by_number words (OfSlots o) = lock_word-fast words.partition words.fast o
+
+-- A word that shows its list locked, or its lock held, shows so by the lock's number.
+shown-locked : (w : World) (lock : LwLock) (n : ℕ) → word_in w.words (word_of_lock lock) ≡ n → n / 2 ^ 28 % 2 ≢ 0 → IsListLocked (lock_word w.words.partition w.words.fast (lock_number lock))
+shown-locked w lock n shown locked =
+    subst IsListLocked (sym (word-by_number w.words lock ∙ shown)) (let one : n / 2 ^ 28 % 2 ≡ 1 = omega (arith, locked) in one)
+
+shown-held : (w : World) (lock : LwLock) (n : ℕ) → word_in w.words (word_of_lock lock) ≡ n → (IsHeldByNobody n → ⊥) → IsHeldByNobody (lock_word w.words.partition w.words.fast (lock_number lock)) → ⊥
+shown-held w lock n shown held free = held (subst IsHeldByNobody (word-by_number w.words lock ∙ shown) free)
 
 -- A list whose bit is not set is in no hand.
 unlocked-in_no_hand : (w : World) → SafeWorld w → (lock : LwLock) → word_in w.words (word_of_lock lock) / 2 ^ 28 % 2 ≡ 0 → IsInNoHand (lock_number lock) w.sessions.has_list
@@ -157,8 +170,8 @@ module _ {T : Type 0} where
   ]
 
 -- A step by which a list comes in the session's hand or goes, as it is noted; contents stay, and who stands where.
-record ChangesHand {T : Type 0} (content : T → Content) (groups : ℕ) (w : World) (number : ℕ) (a : Account) (mark : Mark T) (next : Words) (has : Option ℕ) : Type 0 where
-  noted : IsNoted content groups w number a mark next
+record ChangesHand {T : Type 0} (content : T → Content) (groups : ℕ) (w : World) (number : ℕ) (a : Account) (todo : Todo) (flagged : Bool) (mark : Mark T) (next : Words) (has : Option ℕ) : Type 0 where
+  noted : IsNoted content groups w number a todo flagged mark next
   contents : noted.after.contents ≡ w.contents
   has_list : noted.after.sessions.has_list ≡ set_at w.sessions.has_list number has
   list : noted.after.words.list ≡ w.words.list
@@ -167,13 +180,19 @@ module _ {T : Type 0} (content : T → Content) (sizes : Sizes) (x : History T) 
   abbrev a : Account
   a = told content x.number x.marks
 
+  abbrev todo : Todo
+  todo = todo_told_by x.number x.marks
+
+  abbrev flagged : Bool
+  flagged = flagged_told_by x.marks
+
   -- Locking a list whose bit is not set.
   locking-noted :
       (lock : LwLock) (w : World) → Stepper sizes w x.number a → LockExists sizes.sessions lock → MayLockListBy a → word_in w.words (word_of_lock lock) / 2 ^ 28 % 2 ≡ 0
-      → (waiters : List LwWaiter) → waiters ≡ w.words.list (lock_number lock)
-      → ChangesHand content sizes.groups w x.number a (mark.LockedList (lock_number lock) waiters)
+      → NoneOr todo.due (lock_number lock) → TellsNobodyBy a → (waiters : List LwWaiter) → waiters ≡ w.words.list (lock_number lock)
+      → ChangesHand content sizes.groups w x.number a todo flagged (mark.LockedList (lock_number lock) waiters)
       (set_word w.words (word_of_lock lock) (list_locked_word (word_in w.words (word_of_lock lock)))) (Some (lock_number lock))
-  locking-noted (OfPart p) w steps exists may unlocked waiters is = record {
+  locking-noted (OfPart p) w steps exists may unlocked fits nobody waiters is = record {
     noted = record {
       step = step_of.LockList (Partition p);
       tells = (OfPart p, refl, refl);
@@ -184,12 +203,13 @@ module _ {T : Type 0} (content : T → Content) (sizes : Sizes) (x : History T) 
       words = refl;
       none_beyond = steps.none_beyond;
       few_counted = steps.few_counted x.number;
+      keeps = keeps-locking w x.number todo flagged (Partition p) fits (tells-told w x.number a steps.account steps.safe nobody);
     };
     contents = refl;
     has_list = refl;
     list = refl;
   }
-  locking-noted (OfSlots o) w steps exists may unlocked waiters is = record {
+  locking-noted (OfSlots o) w steps exists may unlocked fits nobody waiters is = record {
     noted = record {
       step = step_of.LockList (Fast o);
       tells = (OfSlots o, refl, refl);
@@ -204,6 +224,7 @@ module _ {T : Type 0} (content : T → Content) (sizes : Sizes) (x : History T) 
       words = refl;
       none_beyond = steps.none_beyond;
       few_counted = steps.few_counted x.number;
+      keeps = keeps-locking w x.number todo flagged (Fast o) fits (tells-told w x.number a steps.account steps.safe nobody);
     };
     contents = refl;
     has_list = refl;
@@ -213,9 +234,11 @@ module _ {T : Type 0} (content : T → Content) (sizes : Sizes) (x : History T) 
   -- Unlocking it.
   unlocking-noted :
       (lock : LwLock) (has_waiters release_ok : Bool) (w : World) → Stepper sizes w x.number a → HasList w x.number (lock_number lock)
-      → ChangesHand content sizes.groups w x.number a mark.UnlockedList
+      → (waiters : List LwWaiter) → w.words.list (lock_number lock) ≡ waiters → (has_waiters ≡ false → waiters ≡ [])
+      → (release_ok ≡ false → (other : ℕ) × (a.lists.off other ≡ true)) → IsLeftWellBy a todo lock waiters
+      → ChangesHand content sizes.groups w x.number a todo flagged mark.UnlockedList
       (set_word w.words (word_of_lock lock) (list_unlocked_word (word_in w.words (word_of_lock lock)) has_waiters release_ok)) None
-  unlocking-noted (OfPart p) has_waiters release_ok w steps has = record {
+  unlocking-noted (OfPart p) has_waiters release_ok w steps has waiters list waiters_stay release_stays well = record {
     noted = record {
       step = step_of.UnlockList (Partition p) has_waiters release_ok;
       tells = (OfPart p, has_waiters, release_ok, refl);
@@ -226,12 +249,13 @@ module _ {T : Type 0} (content : T → Content) (sizes : Sizes) (x : History T) 
       words = refl;
       none_beyond = steps.none_beyond;
       few_counted = steps.few_counted x.number;
+      keeps = keeps-unlocking w x.number a steps.account steps.safe todo flagged (OfPart p) has_waiters release_ok waiters list waiters_stay release_stays well;
     };
     contents = refl;
     has_list = refl;
     list = refl;
   }
-  unlocking-noted (OfSlots o) has_waiters release_ok w steps has = record {
+  unlocking-noted (OfSlots o) has_waiters release_ok w steps has waiters list waiters_stay release_stays well = record {
     noted = record {
       step = step_of.UnlockList (Fast o) has_waiters release_ok;
       tells = (OfSlots o, has_waiters, release_ok, refl);
@@ -242,6 +266,7 @@ module _ {T : Type 0} (content : T → Content) (sizes : Sizes) (x : History T) 
       words = refl;
       none_beyond = steps.none_beyond;
       few_counted = steps.few_counted x.number;
+      keeps = keeps-unlocking w x.number a steps.account steps.safe todo flagged (OfSlots o) has_waiters release_ok waiters list waiters_stay release_stays well;
     };
     contents = refl;
     has_list = refl;
@@ -259,8 +284,9 @@ module _ {T : Type 0} (content : T → Content) (sizes : Sizes) (x : History T) 
       let is = known-list (w.sessions.has_list x.number) w.words.list mine known in
       ap list_here known ∙ (λ i. record { lock = mine.lock; waiters = sym is.1 i })
 
-  pub joining-lawful : (mine : ListInHand) (mode : LwMode) → MayJoinListBy a mine → IsAlwaysLawful content sizes x (Sleep x.number) (λ _. Unit {0}) (λ _. 1) (λ _. mark.JoinedList mode)
-  joining-lawful mine mode may w steps n below shown _ =
+  pub joining-lawful : (mine : ListInHand) (mode : LwMode) → MayJoinListBy a mine → flagged ≡ true → todo.owes_release_ok ≡ None
+      → ((its : ListInHand) → a.lists.in_hand ≡ Some its → NoneOr todo.tries its.lock) → IsAlwaysLawful content sizes x (Sleep x.number) (λ _. Unit {0}) (λ _. 1) (λ _. mark.JoinedList mode)
+  joining-lawful mine mode may set owes_none no_other w steps n below shown _ =
       let may' : MayJoinListBy (account w x.number) mine = subst (λ b. MayJoinListBy b mine) steps.account may in
       let lawful = join_list-lawful w steps.safe x.number steps.makes mine may' in
       let waiter : LwWaiter = record { session = x.number; mode = mode } in
@@ -278,6 +304,10 @@ module _ {T : Type 0} (content : T → Content) (sizes : Sizes) (x : History T) 
           words = refl;
           none_beyond = steps.none_beyond;
           few_counted = steps.few_counted x.number;
+          keeps = keeps-joining w x.number todo flagged mode (lock_of_list a.lists.in_hand)
+              (ap (λ (b : Account). lock_of_list b.lists.in_hand) steps.account ∙ lock-in_hand (w.sessions.has_list x.number) w.words.list) set owes_none
+              (λ lock has. no_other (record { lock = lock; waiters = w.words.list lock })
+              (ap (λ (b : Account). b.lists.in_hand) steps.account ∙ ap (λ its. list_in_hand its w.words.list) has));
         };
         home = λ p none. (none, refl);
         lists = λ l nobody. (nobody, kept-beside w mine.lock _ lawful.has.in_hand l nobody);
@@ -301,6 +331,7 @@ module _ {T : Type 0} (content : T → Content) (sizes : Sizes) (x : History T) 
           words = refl;
           none_beyond = steps.none_beyond;
           few_counted = steps.few_counted x.number;
+          keeps = keeps-leaving w x.number todo flagged;
         };
         home = λ p none. (none, refl);
         lists = λ l nobody. (nobody, kept-beside w mine.lock _ lawful.has.in_hand l nobody);
@@ -325,6 +356,7 @@ module _ {T : Type 0} (content : T → Content) (sizes : Sizes) (x : History T) 
           words = refl;
           none_beyond = steps.none_beyond;
           few_counted = steps.few_counted x.number;
+          keeps = record { asks = λ d is was. tt; todo_ = λ d is. is; flagged_ = λ d was. was };
         };
         home = λ p none. (none, refl);
         lists = λ l nobody. (nobody, kept-beside w mine.lock _ lawful.has.in_hand l nobody);
@@ -345,6 +377,7 @@ module _ {T : Type 0} (content : T → Content) (sizes : Sizes) (x : History T) 
           words = refl;
           none_beyond = steps.none_beyond;
           few_counted = steps.few_counted x.number;
+          keeps = record { asks = λ d is was. tt; todo_ = λ d is. is; flagged_ = λ d was. was };
         };
         home = λ p none. (none, refl);
         lists = λ l nobody. (nobody, refl);
@@ -371,6 +404,7 @@ module _ {T : Type 0} (content : T → Content) (sizes : Sizes) (x : History T) 
           words = same ∙ stored;
           none_beyond = steps.none_beyond;
           few_counted = steps.few_counted x.number;
+          keeps = record { asks = λ d is was. tt; todo_ = λ d is. is; flagged_ = λ d was. was };
         };
         home = λ p none. (none, refl);
         lists = λ l nobody. (nobody, ap (λ (words : Words). words.list l) same);
@@ -378,8 +412,10 @@ module _ {T : Type 0} (content : T → Content) (sizes : Sizes) (x : History T) 
 
   -- The flags.
   pub setting_release_ok-lawful : (lock : LwLock) → LockExists sizes.sessions lock
+      → (todo.owes_release_ok ≡ Some (lock_number lock) → a.lists.stands ≡ None → NoneOr todo.tries (lock_number lock))
+      → (todo.owes_release_ok ≡ Some (lock_number lock) → a.lists.in_hand ≢ None → TellsNobodyBy a)
       → IsAlwaysLawful content sizes x (word_of_lock lock) (λ _. Unit {0}) (λ n. bit_or n (2 ^ 29)) (λ _. mark.SetReleaseOk (lock_number lock))
-  setting_release_ok-lawful (OfPart p) exists w steps n below shown _ = record {
+  setting_release_ok-lawful (OfPart p) exists no_other nobody w steps n below shown _ = record {
     list = w.words.list;
     noted = record {
       step = step_of.SetReleaseOk (Partition p) n;
@@ -391,11 +427,12 @@ module _ {T : Type 0} (content : T → Content) (sizes : Sizes) (x : History T) 
       words = ap (λ k. set_word w.words (Partition p) (release_ok_word k)) (sym shown);
       none_beyond = steps.none_beyond;
       few_counted = steps.few_counted x.number;
+      keeps = keeps-setting_ok w x.number a todo flagged steps.account (Partition p) n (partition_lock p) refl no_other nobody;
     };
     home = λ q none. (none, refl);
     lists = λ l nobody. (nobody, refl);
   }
-  setting_release_ok-lawful (OfSlots o) exists w steps n below shown _ = record {
+  setting_release_ok-lawful (OfSlots o) exists no_other nobody w steps n below shown _ = record {
     list = w.words.list;
     noted = record {
       step = step_of.SetReleaseOk (Fast o) n;
@@ -407,6 +444,7 @@ module _ {T : Type 0} (content : T → Content) (sizes : Sizes) (x : History T) 
       words = ap (λ k. set_word w.words (Fast o) (release_ok_word k)) (sym shown);
       none_beyond = steps.none_beyond;
       few_counted = steps.few_counted x.number;
+      keeps = keeps-setting_ok w x.number a todo flagged steps.account (Fast o) n (fast_lock o) refl no_other nobody;
     };
     home = λ q none. (none, refl);
     lists = λ l nobody. (nobody, refl);
@@ -428,6 +466,7 @@ module _ {T : Type 0} (content : T → Content) (sizes : Sizes) (x : History T) 
           words = ap (λ k. set_word w.words (Partition p) (has_waiters_word k)) (sym shown);
           none_beyond = steps.none_beyond;
           few_counted = steps.few_counted x.number;
+          keeps = keeps-flagging w x.number todo flagged (Partition p) n;
         };
         home = λ q none. (none, refl);
         lists = λ l nobody. (nobody, refl);
@@ -446,6 +485,7 @@ module _ {T : Type 0} (content : T → Content) (sizes : Sizes) (x : History T) 
           words = ap (λ k. set_word w.words (Fast o) (has_waiters_word k)) (sym shown);
           none_beyond = steps.none_beyond;
           few_counted = steps.few_counted x.number;
+          keeps = keeps-flagging w x.number todo flagged (Fast o) n;
         };
         home = λ q none. (none, refl);
         lists = λ l nobody. (nobody, refl);
@@ -457,16 +497,17 @@ module _ {T : Type 0} (content : T → Content) (begun : T → Option Request) (
   at_word = index_of_word (word_of_lock lock)
 
   -- The fetch-or takes the list in hand where it finds its bit not set.
-  locks_list : LockExists sizes.sessions lock → MayLockListBy (told content x.number x.marks)
+  locks_list : LockExists sizes.sessions lock → MayLockListBy (told content x.number x.marks) → NoneOr (todo_told_by x.number x.marks).due (lock_number lock)
+      → TellsNobodyBy (told content x.number x.marks)
       → Allows (Ruled content begun sizes) slots id me at_word (λ n. bit_or n (2 ^ 28)) (LockedListOr content (step slots at_word (2 ^ 28) 0 none) me)
-  locks_list exists may s r many at_view below = elim (cases_eq (n / 2 ^ 28 % 2) 0) [
+  locks_list exists may fits nobody s r many at_view below = elim (cases_eq (n / 2 ^ 28 % 2) 0) [
     | inl unlocked ↦
         let w : World = r.world in
         let steps = ruled-steps content begun sizes s r id me.0 x others at_view is in
         let shown : word_in w.words (word_of_lock lock) ≡ n = sym (r.words.word (word_of_lock lock) (lock-word_there lock there most_groups)) in
         let free : word_in w.words (word_of_lock lock) / 2 ^ 28 % 2 ≡ 0 = ap (λ k. k / 2 ^ 28 % 2) shown ∙ unlocked in
         let home = r.lists (lock_number lock) (lock-below lock there) (unlocked-in_no_hand w r.safe lock free) in
-        let changes = locking-noted content sizes x lock w steps exists may free home.list.value home.is_list in
+        let changes = locking-noted content sizes x lock w steps exists may free fits nobody home.list.value home.is_list in
         let none_had : w.sessions.has_list x.number ≡ None = no_list-known (w.sessions.has_list x.number) w.words.list
         (ap (λ (b : Account). b.lists.in_hand) (sym steps.account) ∙ may.no_list) in (
           noting me.0 (mark.LockedList (lock_number lock) home.list.value),
@@ -499,12 +540,18 @@ module _ {T : Type 0} (content : T → Content) (begun : T → Option Request) (
           ),
         )
     | inr locked ↦ (
-      me.0,
+      noting me.0 (mark.SawListLocked (lock_number lock)),
       keeps,
       tt,
-      subst (λ k. Ruled content begun sizes (record { words = slice_set s.words at_word k; homes = s.homes; views = slice_set s.views id me.0 })) (sym (or-locked n locked))
-          (nothing-changes content begun sizes id at_word me.0 s r at_view),
-      ((λ unlocked. absurd (locked unlocked)), λ _. refl),
+      subst (λ k. Ruled content begun sizes (record { words = slice_set s.words at_word k; homes = s.homes; views = slice_set s.views id (noting me.0 (mark.SawListLocked (lock_number lock))) })) (sym (or-locked n locked))
+          (looks-only content begun sizes id at_word me.0 x others is s r at_view (mark.SawListLocked (lock_number lock))
+          (lock_number lock, inl (refl, shown-locked r.world lock n (sym (r.words.word (word_of_lock lock) (lock-word_there lock there most_groups))) locked, fits))),
+      (
+        (λ unlocked. absurd (locked unlocked)),
+        (λ _ other also same.
+            let one : lock ≡ other = same-lock lock other there also same in
+            λ i. (noting me.0 (mark.SawListLocked (lock_number (one i))), me.1)),
+      ),
     )
   ] where
     n : ℕ
@@ -514,10 +561,11 @@ module _ {T : Type 0} (content : T → Content) (begun : T → Option Request) (
   unlocks_list :
       (has_waiters release_ok : Bool) (list : Box (List LwWaiter)) → slots ≡ TABLE_SLOTS
       → (told content x.number x.marks).lists.in_hand ≡ Some (record { lock = lock_number lock; waiters = list.value })
-      → me.1 ≡ (list_slot_of (lock_number lock), kept.List list) ∷ rest me.1
-      → (step : Step (Kept T))
+      → me.1 ≡ (list_slot_of (lock_number lock), kept.List list) ∷ rest me.1 → (has_waiters ≡ false → list.value ≡ [])
+      → (release_ok ≡ false → (other : ℕ) × ((told content x.number x.marks).lists.off other ≡ true))
+      → IsLeftWellBy (told content x.number x.marks) (todo_told_by x.number x.marks) lock list.value → (step : Step (Kept T))
       → Allows (Ruled content begun sizes) slots id me at_word (λ n. bit_and n (kept_bits has_waiters release_ok)) (WentHome (λ _. mark.UnlockedList) step me)
-  unlocks_list has_waiters release_ok list sized known carried step s r many at_view below =
+  unlocks_list has_waiters release_ok list sized known carried waiters_stay release_stays well step s r many at_view below =
       let w : World = r.world in
       let n : ℕ = slice_index s.words at_word in
       let number : ℕ = lock_number lock in
@@ -527,7 +575,7 @@ module _ {T : Type 0} (content : T → Content) (begun : T → Option Request) (
       let known' : (account w x.number).lists.in_hand ≡ Some mine = ap (λ (b : Account). b.lists.in_hand) (sym steps.account) ∙ known in
       let its = known-list (w.sessions.has_list x.number) w.words.list mine known' in
       let has = has_list-lawful w steps.safe x.number steps.makes mine known' in
-      let changes = unlocking-noted content sizes x lock has_waiters release_ok w steps has in
+      let changes = unlocking-noted content sizes x lock has_waiters release_ok w steps has list.value its.1 waiters_stay release_stays well in
       let homes : List (maybe.Option (Kept T)) = slice_set s.homes (list_slot_of number) (some (kept.List list)) in
       let back : put_back s.homes me.1 ≡ homes = ap (put_back s.homes) carried in (
         noting me.0 mark.UnlockedList,
@@ -549,19 +597,53 @@ module _ {T : Type 0} (content : T → Content) (begun : T → Option Request) (
       )
 
   -- The same of the word at an index.
-  pub locks_list_at : LockExists sizes.sessions lock → MayLockListBy (told content x.number x.marks) → (i : ℕ) → i ≡ at_word
+  pub locks_list_at : LockExists sizes.sessions lock → MayLockListBy (told content x.number x.marks) → NoneOr (todo_told_by x.number x.marks).due (lock_number lock)
+      → TellsNobodyBy (told content x.number x.marks) → (i : ℕ) → i ≡ at_word
       → Allows (Ruled content begun sizes) slots id me i (λ n. bit_or n (2 ^ 28)) (LockedListOr content (step slots i (2 ^ 28) 0 none) me)
-  locks_list_at exists may i at =
-      subst (λ k. Allows (Ruled content begun sizes) slots id me k (λ n. bit_or n (2 ^ 28)) (LockedListOr content (step slots k (2 ^ 28) 0 none) me)) (sym at) (locks_list exists may)
+  locks_list_at exists may fits nobody i at =
+      subst (λ k. Allows (Ruled content begun sizes) slots id me k (λ n. bit_or n (2 ^ 28)) (LockedListOr content (step slots k (2 ^ 28) 0 none) me)) (sym at) (locks_list exists may fits nobody)
 
   pub unlocks_list_at :
       (has_waiters release_ok : Bool) (list : Box (List LwWaiter)) → slots ≡ TABLE_SLOTS
       → (told content x.number x.marks).lists.in_hand ≡ Some (record { lock = lock_number lock; waiters = list.value })
-      → me.1 ≡ (list_slot_of (lock_number lock), kept.List list) ∷ rest me.1 → (i : ℕ) → i ≡ at_word → (mask : ℕ) → mask ≡ kept_bits has_waiters release_ok
+      → me.1 ≡ (list_slot_of (lock_number lock), kept.List list) ∷ rest me.1 → (has_waiters ≡ false → list.value ≡ [])
+      → (release_ok ≡ false → (other : ℕ) × ((told content x.number x.marks).lists.off other ≡ true))
+      → IsLeftWellBy (told content x.number x.marks) (todo_told_by x.number x.marks) lock list.value → (i : ℕ) → i ≡ at_word → (mask : ℕ) → mask ≡ kept_bits has_waiters release_ok
       → (mark' : ℕ → Mark T) → mark' ≡ (λ _. mark.UnlockedList)
       → Allows (Ruled content begun sizes) slots id me i (λ n. bit_and n mask) (WentHome mark' (step slots i mask 0 none) me)
-  unlocks_list_at has_waiters release_ok list sized known carried i at mask is_mask mark' marked =
+  unlocks_list_at has_waiters release_ok list sized known carried waiters_stay release_stays well i at mask is_mask mark' marked =
       subst (λ k. Allows (Ruled content begun sizes) slots id me i (λ n. bit_and n k) (WentHome mark' (step slots i k 0 none) me)) (sym is_mask)
       (subst (λ k. Allows (Ruled content begun sizes) slots id me k (λ n. bit_and n (kept_bits has_waiters release_ok)) (WentHome mark' (step slots k (kept_bits has_waiters release_ok) 0 none) me)) (sym at)
       (subst (λ (m : ℕ → Mark T). Allows (Ruled content begun sizes) slots id me at_word (λ n. bit_and n (kept_bits has_waiters release_ok)) (WentHome m (step slots at_word (kept_bits has_waiters release_ok) 0 none) me)) (sym marked)
-      (unlocks_list has_waiters release_ok list sized known carried (step slots at_word (kept_bits has_waiters release_ok) 0 none))))
+      (unlocks_list has_waiters release_ok list sized known carried waiters_stay release_stays well (step slots at_word (kept_bits has_waiters release_ok) 0 none))))
+
+  -- A load sees whether the lock is held.
+  sees_held : NoneOr (todo_told_by x.number x.marks).tries (lock_number lock) → (its : Step (Kept T)) → its.word ≡ at_word → Allows (Ruled content begun sizes) slots id me at_word (λ n. n) (SawHeldOr its me)
+  sees_held fits its word s r many at_view below = elim (cases_eq (n % 2 ^ 25) 0) [
+    | inl free ↦ (
+      me.0,
+      keeps,
+      tt,
+      nothing-changes content begun sizes id at_word me.0 s r at_view,
+      ((λ _. refl), λ held. absurd (held free)),
+    )
+    | inr held ↦ (
+      noting me.0 (mark.SawHeld (lock_number lock)),
+      keeps,
+      tt,
+      looks-only content begun sizes id at_word me.0 x others is s r at_view (mark.SawHeld (lock_number lock))
+          (lock_number lock, inr (refl, shown-held r.world lock n (sym (r.words.word (word_of_lock lock) (lock-word_there lock there most_groups))) held, fits)),
+      (
+        (λ free. absurd (held free)),
+        (λ _ other also same.
+            let one : lock ≡ other = same-lock lock other there also (sym word ∙ same) in
+            λ i. (noting me.0 (mark.SawHeld (lock_number (one i))), me.1)),
+      ),
+    )
+  ] where
+    n : ℕ
+    n = slice_index s.words at_word
+
+  pub sees_held_at : NoneOr (todo_told_by x.number x.marks).tries (lock_number lock) → (i : ℕ) → i ≡ at_word → Allows (Ruled content begun sizes) slots id me i (λ n. n) (SawHeldOr (step slots i 0 0 none) me)
+  sees_held_at fits i at =
+      subst (λ k. Allows (Ruled content begun sizes) slots id me k (λ n. n) (SawHeldOr (step slots k 0 0 none) me)) (sym at) (sees_held fits (step slots at_word 0 0 none) refl)

@@ -1,5 +1,5 @@
 use Rattle.std.proofs.Common.{◌≡◌, ℕ, zero, suc, ◌+◌, ◌-◌, ◌*◌, ◌%◌, ◌^◌, ◌<◌, ◌≤◌, ◌==◌, List, [], ◌∷◌, length}
-use Rattle.std.proofs.Common.{Option, refl, sym, ap, ◌∙◌, subst, arith}
+use Rattle.std.proofs.Common.{Option, None, refl, sym, ap, ◌∙◌, subst, arith}
 use Rattle.std.specs.Prelude.{slice_set, slice_index, slice_index_or}
 use mathlib.Core.Option.{some, none}
 use lib.ListN.{get_elem?}
@@ -34,6 +34,12 @@ use Rattle.lock_world.proofs.Accounts.Facts.{slots-told}
 use Rattle.lock_world.proofs.Accounts.Slots.{slots_now, account-taking_fast, account-putting_fast, account-passing}
 use Rattle.lock_world.proofs.Accounts.Slots.{account-sharing_fast, account-unsharing_fast}
 use Rattle.shared_rule.specs.declared.history.Mark.{Mark}
+use Rattle.lock_world.specs.Wakes.Waking.{NoneOr}
+use Rattle.shared_rule.specs.Todos.{Todo, todo_told_by, flagged_told_by}
+use Rattle.lock_world.specs.WaitLists.{fast_lock}
+use Rattle.lw_word.specs.declared.words.LwMode.TheVariants.{Exclusive, Shared}
+use Rattle.lw_word.specs.LockState.{state_of, put_in}
+use Rattle.shared_rule.proofs.Owings.{keeps-taking, keeps-sharing, keeps-putting, keeps-unsharing, keeps-passing, put-exclusive, put-shared}
 use Rattle.shared_rule.specs.Marks as mark
 use Rattle.shared_rule.specs.declared.history.History.{History}
 use Rattle.shared_rule.specs.declared.rule.Sizes.{Sizes}
@@ -87,10 +93,10 @@ beyond-all groups few slot rest j later = rest j (omega (arith, few, later))
 abbrev taking_fast-noted :
     {T : Type 0} (content : T → Content) (sizes : Sizes) (x : History T) (owner : ℕ) (w : World)
     → Stepper sizes w x.number (told content x.number x.marks) → owner < w.numbers.limit
-    → IsHeldByNobody (w.words.fast owner)
-    → IsNoted content sizes.groups w x.number (told content x.number x.marks) (mark.TookFast owner (w.words.database owner)
+    → IsHeldByNobody (w.words.fast owner) → NoneOr (todo_told_by x.number x.marks).tries (fast_lock owner)
+    → IsNoted content sizes.groups w x.number (told content x.number x.marks) (todo_told_by x.number x.marks) (flagged_told_by x.marks) (mark.TookFast owner (w.words.database owner)
     (listed slot_count (w.words.slot owner))) (set_word w.words (Fast owner) (taken_word (w.words.fast owner)))
-taking_fast-noted content sizes x owner w steps exists free = record {
+taking_fast-noted content sizes x owner w steps exists free tries = record {
   step = TakeExclusive (Fast owner);
   tells = refl;
   after = after_taking_fast w x.number owner;
@@ -102,16 +108,17 @@ taking_fast-noted content sizes x owner w steps exists free = record {
   words = refl;
   none_beyond = steps.none_beyond;
   few_counted = steps.few_counted x.number;
+  keeps = keeps-taking w x.number (todo_told_by x.number x.marks) (flagged_told_by x.marks) (Fast owner) tries;
 }
 
 -- So is sharing it.
 abbrev sharing_fast-noted :
     {T : Type 0} (content : T → Content) (sizes : Sizes) (x : History T) (owner : ℕ) (w : World)
     → Stepper sizes w x.number (told content x.number x.marks) → owner < w.numbers.limit
-    → IsFreeToShare (w.words.fast owner) → MayShareFastBy (told content x.number x.marks) owner
-    → IsNoted content sizes.groups w x.number (told content x.number x.marks) (mark.SharedFast owner (w.words.database owner)
+    → IsFreeToShare (w.words.fast owner) → MayShareFastBy (told content x.number x.marks) owner → NoneOr (todo_told_by x.number x.marks).tries (fast_lock owner)
+    → IsNoted content sizes.groups w x.number (told content x.number x.marks) (todo_told_by x.number x.marks) (flagged_told_by x.marks) (mark.SharedFast owner (w.words.database owner)
     (listed slot_count (w.words.slot owner))) (set_word w.words (Fast owner) (shared_word (w.words.fast owner)))
-sharing_fast-noted content sizes x owner w steps exists free may = record {
+sharing_fast-noted content sizes x owner w steps exists free may tries = record {
   step = TakeShared (Fast owner);
   tells = refl;
   after = after_sharing_fast w x.number owner;
@@ -127,13 +134,14 @@ sharing_fast-noted content sizes x owner w steps exists free may = record {
   words = refl;
   none_beyond = steps.none_beyond;
   few_counted = steps.few_counted x.number;
+  keeps = keeps-sharing w x.number (todo_told_by x.number x.marks) (flagged_told_by x.marks) (Fast owner) tries;
 }
 
 -- Whatever is so noted, with the word next, leaves the contents as they are.
 record Sees {T : Type 0} (content : T → Content) (groups : ℕ) (x : History T) (owner : ℕ) (w : World)
     (mark : ℕ → ℕ → List ℕ → Mark T) (next : ℕ) : Type 0 where
   noted :
-      IsNoted content groups w x.number (told content x.number x.marks) (mark owner (w.words.database owner)
+      IsNoted content groups w x.number (told content x.number x.marks) (todo_told_by x.number x.marks) (flagged_told_by x.marks) (mark owner (w.words.database owner)
       (listed slot_count (w.words.slot owner))) (set_word w.words (Fast owner) next)
   contents : noted.after.contents ≡ w.contents
   lists : KeepsLists w noted.after
@@ -218,34 +226,36 @@ module _ {T : Type 0} (content : T → Content) (begun : T → Option Request) (
   -- Taking it,
   taking-sees :
       (old new : ℕ) → ((w : World) → Stepper sizes w x.number (told content x.number x.marks) → owner < w.numbers.limit)
-      → IsHeldByNobody old → new ≡ taken_word old
+      → IsHeldByNobody old → new ≡ taken_word old → NoneOr (todo_told_by x.number x.marks).tries (fast_lock owner)
       → (w : World) → Stepper sizes w x.number (told content x.number x.marks) → w.words.fast owner ≡ old
       → Sees content sizes.groups x owner w mark.TookFast new
-  taking-sees old new there free is_new w steps shown =
+  taking-sees old new there free is_new tries w steps shown =
       subst (Sees content sizes.groups x owner w mark.TookFast) (ap taken_word shown ∙ sym is_new)
       (record {
-        noted = taking_fast-noted content sizes x owner w steps (there w steps) (subst IsHeldByNobody (sym shown) free);
+        noted = taking_fast-noted content sizes x owner w steps (there w steps) (subst IsHeldByNobody (sym shown) free) tries;
         contents = refl;
         lists = λ lock nobody. (nobody, refl);
       })
 
   -- of a session that there can be
-  pub takes_fast_at : (groups old new : ℕ) → groups ≡ sizes.groups → owner < sizes.sessions → IsHeldByNobody old → new ≡ taken_word old → (i : ℕ) → i ≡ at_word
+  pub takes_fast_at : (groups old new : ℕ) → groups ≡ sizes.groups → owner < sizes.sessions → IsHeldByNobody old → new ≡ taken_word old
+      → NoneOr (todo_told_by x.number x.marks).tries (fast_lock owner) → (i : ℕ) → i ≡ at_word
       → Allows (Ruled content begun sizes) slots id me i (λ n. either (n == old) new n)
       (TookSlotsOr content groups unnoted (step slots i old new none) me)
-  takes_fast_at groups old new same exists free is_new i at =
+  takes_fast_at groups old new same exists free is_new tries i at =
       subst (λ k. Allows (Ruled content begun sizes) slots id me i (λ n. either (n == old) new n)
       (TookSlotsOr content k unnoted (step slots i old new none) me)) (sym same)
       (sees_slots_or mark.TookFast unnoted old new
-      (taking-sees old new (λ w steps. subst (λ n. owner < n) (sym steps.is_limit) exists) free is_new)
+      (taking-sees old new (λ w steps. subst (λ n. owner < n) (sym steps.is_limit) exists) free is_new tries)
       (λ s r at_view below. nothing-changes content begun sizes id at_word me.0 s r at_view) i at)
 
   -- of the session's own slots
-  pub tries_fast_at : (groups old new : ℕ) → groups ≡ sizes.groups → owner ≡ x.number → IsHeldByNobody old → new ≡ taken_word old → (i : ℕ)
+  pub tries_fast_at : (groups old new : ℕ) → groups ≡ sizes.groups → owner ≡ x.number → IsHeldByNobody old → new ≡ taken_word old
+      → NoneOr (todo_told_by x.number x.marks).tries (fast_lock owner) → (i : ℕ)
       → i ≡ at_word
       → Allows (Ruled content begun sizes) slots id me i (λ n. either (n == old) new n)
       (TookSlotsOr content groups noted_load (step slots i old new none) me)
-  tries_fast_at groups old new same own free is_new i at =
+  tries_fast_at groups old new same own free is_new tries i at =
       subst (λ k. Allows (Ruled content begun sizes) slots id me i (λ n. either (n == old) new n)
       (TookSlotsOr content k noted_load (step slots i old new none) me)) (sym same)
       (sees_slots_or mark.TookFast noted_load old new
@@ -255,7 +265,7 @@ module _ {T : Type 0} (content : T → Content) (begun : T → Option Request) (
       let issued = numbers.live_is_issued x.number steps.makes.live in
       let all = numbers.within in
       omega (arith, issued, all, own))
-      free is_new)
+      free is_new tries)
       (λ s r at_view below. rule-after content begun sizes slots id me x others is (Fast owner) (tt, inside) (λ n. n)
       mark.LoadedFast (λ _. Unit {0})
       (subst (λ k. IsAlwaysLawful content sizes x (Fast k) (λ _. Unit {0}) (λ n. n) mark.LoadedFast) (sym own)
@@ -265,10 +275,10 @@ module _ {T : Type 0} (content : T → Content) (begun : T → Option Request) (
   -- and sharing it.
   pub shares_fast_at :
       (groups old new : ℕ) → groups ≡ sizes.groups → owner < sizes.sessions → IsFreeToShare old → new ≡ shared_word old
-      → MayShareFastBy (told content x.number x.marks) owner → (i : ℕ) → i ≡ at_word
+      → MayShareFastBy (told content x.number x.marks) owner → NoneOr (todo_told_by x.number x.marks).tries (fast_lock owner) → (i : ℕ) → i ≡ at_word
       → Allows (Ruled content begun sizes) slots id me i (λ n. either (n == old) new n)
       (SharedSlotsOr content groups unnoted (step slots i old new none) me)
-  shares_fast_at groups old new same exists free is_new may i at =
+  shares_fast_at groups old new same exists free is_new may tries i at =
       subst (λ k. Allows (Ruled content begun sizes) slots id me i (λ n. either (n == old) new n)
       (SharedSlotsOr content k unnoted (step slots i old new none) me)) (sym same)
       (sees_slots_or mark.SharedFast unnoted old new
@@ -276,7 +286,7 @@ module _ {T : Type 0} (content : T → Content) (begun : T → Option Request) (
       subst (Sees content sizes.groups x owner w mark.SharedFast) (ap shared_word shown ∙ sym is_new)
       (record {
         noted = sharing_fast-noted content sizes x owner w steps (subst (λ n. owner < n) (sym steps.is_limit) exists)
-            (subst IsFreeToShare (sym shown) free) may;
+            (subst IsFreeToShare (sym shown) free) may tries;
         contents = refl;
         lists = λ lock nobody. (nobody, refl);
       }))
@@ -293,9 +303,9 @@ module _ {T : Type 0} (content : T → Content) (sizes : Sizes) (x : History T) 
       (steps.safe.but_slots.locks.fast_words owner).held_is_shown x.number
       (slots-known (w.sessions.holds_fast x.number owner) (w.words.database owner) (w.words.slot owner) slots known).0
 
-  pub putting_fast-lawful : (slots : SlotsInHand) → MayPutFastBy (told content x.number x.marks) owner slots
-      → IsAlwaysLawful content sizes x (Fast owner) (λ _. Unit {0}) (λ n. (n + (2 ^ 64 - 2 ^ 24)) % 2 ^ 64) (λ _. mark.PutFast owner)
-  putting_fast-lawful slots may w steps n below shown _ =
+  pub putting_fast-lawful : (slots : SlotsInHand) → MayPutFastBy (told content x.number x.marks) owner slots → (todo_told_by x.number x.marks).due ≡ None
+      → IsAlwaysLawful content sizes x (Fast owner) (λ _. Unit {0}) (λ n. (n + (2 ^ 64 - 2 ^ 24)) % 2 ^ 64) (mark.PutFast owner)
+  putting_fast-lawful slots may undue w steps n below shown _ =
       let may' = subst (λ a. MayPutFastBy a owner slots) steps.account may in
       let held = subst IsHeldExclusively (sym shown) (shows-held w steps slots may'.in_hand) in
       record {
@@ -310,15 +320,16 @@ module _ {T : Type 0} (content : T → Content) (sizes : Sizes) (x : History T) 
           words = ap (λ k. set_word w.words (Fast owner) (put_word k)) (sym shown) ∙ ap (set_word w.words (Fast owner)) (put_word-wraps n below held);
           none_beyond = steps.none_beyond;
           few_counted = steps.few_counted x.number;
+          keeps = keeps-putting w x.number (todo_told_by x.number x.marks) (flagged_told_by x.marks) (Fast owner) Keep (put_in Exclusive (state_of n)) (put-exclusive (w.words.fast owner) n shown (shows-held w steps slots may'.in_hand)) undue;
         };
         home = λ p none. (none, refl);
         lists = λ lock nobody. (nobody, refl);
       }
 
   -- Whoever knows slots that it shares is counted in the word.
-  pub unsharing_fast-lawful : (slots : SlotsInHand) → MayUnshareFastBy (told content x.number x.marks) owner slots
-      → IsAlwaysLawful content sizes x (Fast owner) (λ _. Unit {0}) (λ n. (n + (2 ^ 64 - 1)) % 2 ^ 64) (λ _. mark.UnsharedFast owner)
-  unsharing_fast-lawful slots may w steps n below shown _ =
+  pub unsharing_fast-lawful : (slots : SlotsInHand) → MayUnshareFastBy (told content x.number x.marks) owner slots → (todo_told_by x.number x.marks).due ≡ None
+      → IsAlwaysLawful content sizes x (Fast owner) (λ _. Unit {0}) (λ n. (n + (2 ^ 64 - 1)) % 2 ^ 64) (mark.UnsharedFast owner)
+  unsharing_fast-lawful slots may undue w steps n below shown _ =
       let may' = unshare_fast-lawful w steps.safe x.number steps.makes owner slots
       (subst (λ a. MayUnshareFastBy a owner slots) steps.account may) in
       let some : 0 < shared_count (w.words.fast owner) =
@@ -338,14 +349,15 @@ module _ {T : Type 0} (content : T → Content) (sizes : Sizes) (x : History T) 
               ∙ ap (set_word w.words (Fast owner)) (unshared_word-wraps n below some_shown);
           none_beyond = steps.none_beyond;
           few_counted = steps.few_counted x.number;
+          keeps = keeps-unsharing w x.number (todo_told_by x.number x.marks) (flagged_told_by x.marks) (Fast owner) (put_in Shared (state_of n)) (put-shared (w.words.fast owner) n shown some) undue;
         };
         home = λ p none. (none, refl);
         lists = λ lock nobody. (nobody, refl);
       }
 
-  pub passing-lawful : (slots : SlotsInHand) (tag : Tag) (mode : Mode) → MayPassBy (told content x.number x.marks) owner slots tag mode
-      → IsAlwaysLawful content sizes x (Fast owner) (λ _. Unit {0}) (λ n. (n + (2 ^ 64 - 2 ^ 24)) % 2 ^ 64) (λ _. mark.Passed owner tag mode)
-  passing-lawful slots tag mode may w steps n below shown _ =
+  pub passing-lawful : (slots : SlotsInHand) (tag : Tag) (mode : Mode) → MayPassBy (told content x.number x.marks) owner slots tag mode → (todo_told_by x.number x.marks).due ≡ None
+      → IsAlwaysLawful content sizes x (Fast owner) (λ _. Unit {0}) (λ n. (n + (2 ^ 64 - 2 ^ 24)) % 2 ^ 64) (mark.Passed owner tag mode)
+  passing-lawful slots tag mode may undue w steps n below shown _ =
       let may' = subst (λ a. MayPassBy a owner slots tag mode) steps.account may in
       let held = subst IsHeldExclusively (sym shown) (shows-held w steps slots may'.in_hand) in
       record {
@@ -361,6 +373,7 @@ module _ {T : Type 0} (content : T → Content) (sizes : Sizes) (x : History T) 
           none_beyond = steps.none_beyond;
           few_counted = subst (λ list. length list ≤ most_counted) (sym (set_at-here w.sessions.counted x.number (passing (w.sessions.counted x.number) tag mode owner) x.number refl))
               (subst (λ k. k ≤ most_counted) (sym (lib.ListN.length-map (w.sessions.counted x.number) (passed tag mode owner))) (steps.few_counted x.number));
+          keeps = keeps-passing w x.number (todo_told_by x.number x.marks) (flagged_told_by x.marks) owner tag mode (put_in Exclusive (state_of n)) (put-exclusive (w.words.fast owner) n shown (shows-held w steps slots may'.in_hand)) undue;
         };
         home = λ p none. (none, refl);
         lists = λ lock nobody. (nobody, refl);

@@ -32,6 +32,13 @@ use Rattle.lock_world.proofs.Words.Holders.{free-not_held}
 use Rattle.lock_world.proofs.Accounts.Lawful.{put-lawful, put_recorded-lawful, hand-known}
 use Rattle.lock_world.proofs.Accounts.Partitions.{account-taking, account-putting}
 use Rattle.lock_world.proofs.Accounts.Facts.{content-known}
+use Rattle.lock_world.specs.Wakes.Waking.{NoneOr}
+use Rattle.shared_rule.specs.Todos.{Todo, todo_told_by, flagged_told_by}
+use Rattle.shared_rule.specs.Todos.{todo_putting}
+use Rattle.lock_world.specs.WaitLists.{partition_lock}
+use Rattle.lw_word.specs.declared.words.LwMode.TheVariants.{Exclusive}
+use Rattle.lw_word.specs.LockState.{state_of, put_in}
+use Rattle.shared_rule.proofs.Owings.{KeepsOwed, keeps-taking, keeps-putting, put-exclusive}
 use Rattle.shared_rule.specs.Marks.{TookPart, PutPart}
 use Rattle.shared_rule.specs.declared.history.Mark.{Mark}
 use Rattle.shared_rule.specs.declared.history.History.{History}
@@ -131,9 +138,9 @@ module _ {T : Type 0} (content : T → Content) (begun : T → Option Request) (
   at_home s r free = subst (λ h. IsHomeUnlessInHand content begun h (r.world.contents.now p) (get_elem? s.homes (content_slot_of p))) (free-in_no_hand r.world r.safe p free) (r.contents p exists)
 
   -- Taking it is noted so.
-  abbrev taking-noted : (w : World) → Stepper sizes w x.number (told content x.number x.marks) → IsHeldByNobody (w.words.partition p) → (part : T) → content part ≡ w.contents.now p
-      → IsNoted content sizes.groups w x.number (told content x.number x.marks) (TookPart p part) (set_word w.words (Partition p) (taken_word (w.words.partition p)))
-  taking-noted w steps free part is_content = record {
+  abbrev taking-noted : (w : World) → Stepper sizes w x.number (told content x.number x.marks) → IsHeldByNobody (w.words.partition p) → NoneOr (todo_told_by x.number x.marks).tries (partition_lock p) → (part : T) → content part ≡ w.contents.now p
+      → IsNoted content sizes.groups w x.number (told content x.number x.marks) (todo_told_by x.number x.marks) (flagged_told_by x.marks) (TookPart p part) (set_word w.words (Partition p) (taken_word (w.words.partition p)))
+  taking-noted w steps free tries part is_content = record {
     step = TakeExclusive (Partition p);
     tells = refl;
     after = after_taking_partition w x.number p;
@@ -143,12 +150,14 @@ module _ {T : Type 0} (content : T → Content) (begun : T → Option Request) (
     words = refl;
     none_beyond = steps.none_beyond;
     few_counted = steps.few_counted x.number;
+    keeps = keeps-taking w x.number (todo_told_by x.number x.marks) (flagged_told_by x.marks) (Partition p) tries;
   }
 
   -- The exchange takes it where it finds the number of a free word.
   pub takes_part : (old new : ℕ) (step : Step (Kept T)) → step.first ≡ old → step.word ≡ index_of_word (Partition p) → IsHeldByNobody old → new ≡ taken_word old
+      → NoneOr (todo_told_by x.number x.marks).tries (partition_lock p)
       → Allows (Ruled content begun sizes) TABLE_SLOTS id me (index_of_word (Partition p)) (λ n. either (n == old) new n) (TookPartition content begun step me)
-  takes_part old new step first word free is_new s r many at below =
+  takes_part old new step first word free is_new tries s r many at below =
       exchanged n old new (λ m. (view : View T) × (act : Act (Kept T)) × Valid s.homes me.1 act
       × Ruled content begun sizes (stepped s (index_of_word (Partition p)) m id me.1 view act)
       × TookPartition content begun step me n (view, carried_after me.1 act))
@@ -157,7 +166,7 @@ module _ {T : Type 0} (content : T → Content) (begun : T → Option Request) (
       let is_free : IsHeldByNobody (r.world.words.partition p) = subst IsHeldByNobody (sym shown) free in
       let home = at_home s r is_free in
       let steps = ruled-steps content begun sizes s r id me.0 x others at is in
-      let noted = taking-noted r.world steps is_free home.part home.is_content in
+      let noted = taking-noted r.world steps is_free tries home.part home.is_content in
       let next : taken_word (r.world.words.partition p) ≡ new = ap taken_word shown ∙ sym is_new in (
         noting me.0 (TookPart p home.part),
         takes (content_slot_of p) (Part home.part),
@@ -210,10 +219,11 @@ module _ {T : Type 0} (content : T → Content) (begun : T → Option Request) (
       )
 
   -- Putting it is noted so.
-  abbrev putting-noted : (w : World) → Stepper sizes w x.number (told content x.number x.marks) → (its : InHand) (done : Move) (part : T)
+  abbrev putting-noted : (w : World) → Stepper sizes w x.number (told content x.number x.marks) → (its : InHand) (done : Move) (part : T) (found : ℕ)
       → MayPutPart sizes.sessions x.number (told content x.number x.marks) p its done (content part)
-      → IsNoted content sizes.groups w x.number (told content x.number x.marks) (PutPart p done part) (set_word w.words (Partition p) (put_word (w.words.partition p)))
-  putting-noted w steps its done part may =
+      → found ≡ w.words.partition p → IsHeldExclusively (w.words.partition p) → (todo_told_by x.number x.marks).due ≡ None
+      → IsNoted content sizes.groups w x.number (told content x.number x.marks) (todo_told_by x.number x.marks) (flagged_told_by x.marks) (PutPart p done part found) (set_word w.words (Partition p) (put_word (w.words.partition p)))
+  putting-noted w steps its done part found may shown held undue =
       let may' : MayPutPart sizes.sessions x.number (account w x.number) p its done (content part) = subst (λ a. MayPutPart sizes.sessions x.number a p its done (content part)) steps.account may in
       let had = may_put-in_hand (told content x.number x.marks) its done (content part) may in
       let made = put-happens w steps.safe steps.makes steps.is_limit its done part may' in
@@ -230,26 +240,29 @@ module _ {T : Type 0} (content : T → Content) (begun : T → Option Request) (
         words = refl;
         none_beyond = steps.none_beyond;
         few_counted = steps.few_counted x.number;
+        keeps = subst (λ (k : event.Step). KeepsOwed w x.number (todo_told_by x.number x.marks) (flagged_told_by x.marks) (todo_putting (todo_told_by x.number x.marks) (partition_lock p) (put_in Exclusive (state_of found))) (flagged_told_by x.marks) k) (sym made.1.1)
+            (keeps-putting w x.number (todo_told_by x.number x.marks) (flagged_told_by x.marks) (Partition p) made.1.0 (put_in Exclusive (state_of found)) (put-exclusive (w.words.partition p) found shown held) undue);
       }
 
   pub puts_part : (step : Step (Kept T)) (its : InHand) (done : Move) (part : T) → MayPutPart sizes.sessions x.number (told content x.number x.marks) p its done (content part)
-      → begun part ≡ None → me.1 ≡ (content_slot_of p, Part part) ∷ rest me.1
-      → Allows (Ruled content begun sizes) TABLE_SLOTS id me (index_of_word (Partition p)) (λ n. (n + (2 ^ 64 - 2 ^ 24)) % 2 ^ 64) (WentHome (λ _. PutPart p done part) step me)
-  puts_part step its done part may none_begun carried s r many at below =
+      → begun part ≡ None → me.1 ≡ (content_slot_of p, Part part) ∷ rest me.1 → (todo_told_by x.number x.marks).due ≡ None
+      → Allows (Ruled content begun sizes) TABLE_SLOTS id me (index_of_word (Partition p)) (λ n. (n + (2 ^ 64 - 2 ^ 24)) % 2 ^ 64) (WentHome (PutPart p done part) step me)
+  puts_part step its done part may none_begun carried undue s r many at below =
       let steps = ruled-steps content begun sizes s r id me.0 x others at is in
-      let noted = putting-noted r.world steps its done part may in
       let own = hand-known (r.world.contents.hand p) (r.world.contents.now p) x.number its (subst (λ (a : Account). a.hand p ≡ Some its) steps.account (may_put-in_hand (told content x.number x.marks) its done (content part) may)) in
       let holds : r.world.sessions.holds_partition x.number p ≡ Rattle.std.proofs.Common.true =
       r.safe.but_slots.table.carriers.hands p x.number ∙ ap (λ h. is_hand_of h x.number) own.is_hand ∙ Rattle.std.proofs.Common.eq-eqb own.hand_of.holder x.number own.whose in
       let shown = r.words.word (Partition p) (exists, tt) in
       let held : IsHeldExclusively (slice_index s.words (index_of_word (Partition p))) =
       subst IsHeldExclusively (sym shown) ((r.safe.but_slots.table.promise.words p).held_is_shown x.number holds) in
+      let held_there : IsHeldExclusively (r.world.words.partition p) = (r.safe.but_slots.table.promise.words p).held_is_shown x.number holds in
+      let noted = putting-noted r.world steps its done part (slice_index s.words (index_of_word (Partition p))) may shown held_there undue in
       let next : put_word (r.world.words.partition p) ≡ (slice_index s.words (index_of_word (Partition p)) + (2 ^ 64 - 2 ^ 24)) % 2 ^ 64 =
       ap put_word (sym shown) ∙ put_word-wraps (slice_index s.words (index_of_word (Partition p))) below held in (
-        noting me.0 (PutPart p done part),
+        noting me.0 (PutPart p done part (slice_index s.words (index_of_word (Partition p)))),
         gives,
         tt,
-        ruled-noted content begun sizes s r id me.0 x others at is (PutPart p done part)
+        ruled-noted content begun sizes s r id me.0 x others at is (PutPart p done part (slice_index s.words (index_of_word (Partition p))))
             (set_word r.world.words (Partition p) (put_word (r.world.words.partition p))) (slice_set s.words (index_of_word (Partition p)) ((slice_index s.words (index_of_word (Partition p)) + (2 ^ 64 - 2 ^ 24)) % 2 ^ 64))
             (Rattle.atomic_table.specs.Table.put_back s.homes me.1) noted
             (subst (λ k. Rattle.shared_rule.specs.Shown.WordsAreShown sizes.groups (slice_set s.words (index_of_word (Partition p)) k) (set_word r.world.words (Partition p) (put_word (r.world.words.partition p)))) next
@@ -264,18 +277,18 @@ module _ {T : Type 0} (content : T → Content) (begun : T → Option Request) (
 -- The same of the word at an index, in a table with this many slots.
 module _ {T : Type 0} (content : T → Content) (begun : T → Option Request) (sizes : Sizes) (id : ℕ) (me : Side T) (x : History T) (others : List (History T)) (is : me.0.sessions ≡ x ∷ others)
     (p : ℕ) (exists : p < 16) (slots i : ℕ) (many : slots ≡ TABLE_SLOTS) (at : i ≡ index_of_word (Partition p)) where
-  pub takes_part_at : (old new : ℕ) → IsHeldByNobody old → new ≡ taken_word old
+  pub takes_part_at : (old new : ℕ) → IsHeldByNobody old → new ≡ taken_word old → NoneOr (todo_told_by x.number x.marks).tries (partition_lock p)
       → Allows (Ruled content begun sizes) slots id me i (λ n. either (n == old) new n) (TookPartition content begun (step slots i old new none) me)
-  takes_part_at old new free is_new =
+  takes_part_at old new free is_new tries =
       subst (λ n. Allows (Ruled content begun sizes) n id me i (λ n. either (n == old) new n) (TookPartition content begun (step n i old new none) me)) (sym many)
       (subst (λ k. Allows (Ruled content begun sizes) TABLE_SLOTS id me k (λ n. either (n == old) new n) (TookPartition content begun (step TABLE_SLOTS k old new none) me)) (sym at)
-      (takes_part content begun sizes id me x others is p exists old new (step TABLE_SLOTS (index_of_word (Partition p)) old new none) refl refl free is_new))
+      (takes_part content begun sizes id me x others is p exists old new (step TABLE_SLOTS (index_of_word (Partition p)) old new none) refl refl free is_new tries))
 
   pub puts_part_at : (its : InHand) (done : Move) (part : T) → MayPutPart sizes.sessions x.number (told content x.number x.marks) p its done (content part)
-      → begun part ≡ None → me.1 ≡ (content_slot_of p, Part part) ∷ rest me.1 → (mark : ℕ → Mark T) → mark ≡ (λ _. PutPart p done part)
+      → begun part ≡ None → me.1 ≡ (content_slot_of p, Part part) ∷ rest me.1 → (todo_told_by x.number x.marks).due ≡ None → (mark : ℕ → Mark T) → mark ≡ PutPart p done part
       → Allows (Ruled content begun sizes) slots id me i (λ n. (n + (2 ^ 64 - 16777216)) % 2 ^ 64) (WentHome mark (step slots i 16777216 0 none) me)
-  puts_part_at its done part may none_begun carried mark marked =
+  puts_part_at its done part may none_begun carried undue mark marked =
       subst (λ n. Allows (Ruled content begun sizes) n id me i (λ n. (n + (2 ^ 64 - 16777216)) % 2 ^ 64) (WentHome mark (step n i 16777216 0 none) me)) (sym many)
       (subst (λ k. Allows (Ruled content begun sizes) TABLE_SLOTS id me k (λ n. (n + (2 ^ 64 - 16777216)) % 2 ^ 64) (WentHome mark (step TABLE_SLOTS k 16777216 0 none) me)) (sym at)
       (subst (λ (m : ℕ → Mark T). Allows (Ruled content begun sizes) TABLE_SLOTS id me (index_of_word (Partition p)) (λ n. (n + (2 ^ 64 - 16777216)) % 2 ^ 64) (WentHome m (step TABLE_SLOTS (index_of_word (Partition p)) 16777216 0 none) me)) (sym marked)
-      (puts_part content begun sizes id me x others is p exists (step TABLE_SLOTS (index_of_word (Partition p)) 16777216 0 none) its done part may none_begun carried)))
+      (puts_part content begun sizes id me x others is p exists (step TABLE_SLOTS (index_of_word (Partition p)) 16777216 0 none) its done part may none_begun carried undue)))

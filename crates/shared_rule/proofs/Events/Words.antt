@@ -30,7 +30,8 @@ use Rattle.shared_rule.specs.Ruled.{IsHomeUnlessInHand, ContentsAreHome, IsInNoH
 use Rattle.shared_rule.specs.Slots.{HasOrShares, KnowsWord}
 use Rattle.shared_rule.specs.Plays.{Side, Marked, Looked}
 use Rattle.shared_rule.proofs.Shown.{may_be, words-set}
-use Rattle.shared_rule.proofs.Frame.{Stepper, IsNoted, ruled-steps, ruled-noted}
+use Rattle.shared_rule.specs.Todos.{todo_told_by, flagged_told_by}
+use Rattle.shared_rule.proofs.Frame.{Stepper, IsNoted, IsSeen, ruled-steps, ruled-noted, ruled-looked}
 
 -- A step that only leaves a mark is allowed where in each World it is lawful and makes that of the account, and no content comes or goes.
 
@@ -113,7 +114,7 @@ module _ {T : Type 0} (content : T → Content) where
     -- who stands in lists after it
     pub list : ℕ → List LwWaiter
     pub noted :
-        IsNoted content sizes.groups w x.number (told content x.number x.marks) mark
+        IsNoted content sizes.groups w x.number (told content x.number x.marks) (todo_told_by x.number x.marks) (flagged_told_by x.marks) mark
         (record (set_word w.words word next) { list = list })
     pub home : KeepsHome w.contents noted.after.contents
     pub lists : KeepsLists w noted.after
@@ -215,3 +216,12 @@ pub stores_at :
 stores_at {T} content begun sizes slots id me x others is word exists i at new mark left same lawful =
     subst (λ (m : ℕ → Mark T). Allows (Ruled content begun sizes) slots id me i (λ _. new) (λ _. Marked m (step 0 0 0 0 none) me new)) (sym same)
     (marks_at content begun sizes slots id me x others is word exists i at (λ _. new) (λ _. left) lawful)
+
+-- A look at a word that stays as it is.
+pub looks-only :
+    {T : Type 0} (content : T → Content) (begun : T → Option Request) (sizes : Sizes) (id i : ℕ) (view : View T) (x : History T) (others : List (History T)) → view.sessions ≡ x ∷ others
+    → (s : State (Kept T) (View T)) (r : Ruled content begun sizes s) → get_elem? s.views id ≡ some view → (mark : Mark T) → IsSeen r.world (todo_told_by x.number x.marks) mark
+    → Ruled content begun sizes (record { words = slice_set s.words i (slice_index s.words i); homes = s.homes; views = slice_set s.views id (noting view mark) })
+looks-only {T} content begun sizes id i view x others is s r at mark seen =
+    subst (λ (words : List ℕ). Ruled content begun sizes (record { words = words; homes = s.homes; views = slice_set s.views id (noting view mark) })) (sym (set-get_or s.words i 0))
+    (ruled-looked content begun sizes s r id view x others at is mark seen)

@@ -1,4 +1,6 @@
-use Rattle.std.proofs.Common.{◌+◌, ap, sym, subst, arith}
+use Rattle.std.proofs.Common.{◌+◌, ap, ◌∙◌, sym, subst, arith}
+use Rattle.lock_world.specs.Account.{Account}
+use Rattle.shared_rule.proofs.Led.{led-further}
 use Rattle.lock_table.specs.Content.{Content}
 use Rattle.lock_table.proofs.PartitionRows.{rows-then, rows-refused}
 use Rattle.shared_rule.specs.Audits.{holding_steps, all_slot_loads}
@@ -34,7 +36,7 @@ returns-clause-counts g t c =
     counts-more content c.args.sizes.now.groups c.args.sizes.now.sessions c.args.part c.args.place.now.me.0 c.take_next-content.new.place.me.0 c.count_from-counted.new.place.me.0 c.put_back.new.place.me.0
     c.args.rows.now.items c.count_from-counted.new.rows.items c.if-is_ok.rows.items c.count_from-counted.result c.if-is_ok.counted c.count_from-counted.new.fast
     c.requires.session c.take_next-content.result (ap (λ (m : Side g.row.T.Denot). m.0) c.take_next-content.ensures.side) counts
-    (ap (λ (m : Side g.row.T.Denot). m.0) c.put_back.ensures.side) (c.requires.none_in_hand c.args.part (omega arith)) c.take_next-content.ensures.knows
+    (led-further content c.count_from-counted.new.place c.put_back.new.place _ c.put_back.ensures.led) c.put_back.ensures.led.account (c.requires.none_in_hand c.args.part (omega arith)) c.take_next-content.ensures.knows
     (elim c.if-is_ok.branch [
       | then-is_ok w ↦
           rw w.rows-is
@@ -42,3 +44,9 @@ returns-clause-counts g t c =
           c.count_from-counted.result w.rows-counted.result c.if-is_ok.counted (sym w.if-is_ok.ensures.value) counts.rows w.counted-is w.rows-counted.ensures.ok)
       | else-is_ok w ↦ rows-refused c.count_from-counted.result c.if-is_ok.counted _ (sym w.if-is_ok.ensures.value) w.counted-is
     ])
+
+pub put_back-requires-clause-idle : goal.put_back-requires-clause-idle
+put_back-requires-clause-idle g t c = ap (λ (a : Account). a.lists) c.count_from-counted.ensures.counts.account ∙ c.take_next-content.ensures.lists ∙ c.requires.idle
+
+pub put_back-requires-clause-todo : goal.put_back-requires-clause-todo
+put_back-requires-clause-todo g t c = c.count_from-counted.ensures.counts.further.free c.take_next-content.ensures.todo

@@ -1,4 +1,4 @@
-use Rattle.std.proofs.Common.{rules, ◌≡◌, ◌<◌, List, sym, ap, ◌∙◌, subst}
+use Rattle.std.proofs.Common.{rules, ◌≡◌, ◌<◌, List, Some, sym, ap, ◌∙◌, subst}
 use Rattle.lock_world.specs.declared.events.Word.TheVariants.{Sleep}
 use Rattle.lock_world.specs.Account.{ListInHand}
 use Rattle.lock_world.specs.AccountSteps.{account_joining_list}
@@ -8,9 +8,12 @@ use Rattle.shared_rule.specs.Marks.{JoinedList}
 use Rattle.shared_rule.specs.Layout.{index_of_word}
 use Rattle.shared_rule.specs.History.{first_account, first_number, list_here}
 use Rattle.shared_rule.specs.Plays.{Side, account_at}
+use Rattle.lock_world.specs.Wakes.Waking.{NoneOr}
+use Rattle.shared_rule.specs.Todos.{first_todo}
+use Rattle.shared_rule.proofs.Taken.{flagged-known, owes-known}
 use Rattle.shared_rule.proofs.Events.Words.{stores_at}
 use Rattle.shared_rule.proofs.Events.Lists.{joining-lawful}
-use Rattle.shared_rule.proofs.Led.{led-noted, led-as}
+use Rattle.shared_rule.proofs.Led.{led-noted, led_to-as}
 use Rattle.shared_rule.proofs.lists.join_list.Goals as goal
 
 pub store_as-requires-clause-allowed : goal.store_as-requires-clause-allowed
@@ -27,14 +30,17 @@ store_as-requires-clause-allowed g c =
     stores_at content g.T.PartTable.begun c.args.top.now.key c.args.top.now.table_id.slots place.id place.me
     session.history session.others session.sessions
     (Sleep session.history.number) (tt, exists) c.sleep_word.result at 1 g.M.Marking.mark _ c.requires.mark
-    (joining-lawful content c.args.top.now.key session.history may.0 c.args.mode may.1)
+    (joining-lawful content c.args.top.now.key session.history may.0 c.args.mode may.1
+    (flagged-known place.me.0 session c.requires.flagged) (owes-known place.me.0 session c.requires.owes_no_ok)
+    (subst (λ (sessions : List (History g.row.T.Denot)). (mine : ListInHand) → (first_account content sessions).lists.in_hand ≡ Some mine → NoneOr (first_todo sessions).tries mine.lock)
+    session.sessions c.requires.no_other))
 
 pub returns-clause-led : goal.returns-clause-led
 returns-clause-led g c =
     let content = g.T.PartTable.content in
     let place = c.args.place.now in
     let a = account_at content place in
-    led-as content place c.store_as.new.place _ _
+    led_to-as content place c.store_as.new.place _ _ _
     (led-noted content place c.store_as.new.place (JoinedList c.args.mode) c.requires.session c.store_as.ensures.seat
     (ap (λ (side : Side g.row.T.Denot). side.0) (c.store_as.ensures.side
     ∙ ap (λ m. (Rattle.shared_rule.specs.History.noting place.me.0 (m 1), place.me.1)) c.requires.mark)))

@@ -10,7 +10,7 @@ use Rattle.shared_rule.specs.History.{first_account, first_number, list_here}
 use Rattle.shared_rule.specs.Plays.{Side, account_at}
 use Rattle.shared_rule.proofs.Events.Words.{stores_at}
 use Rattle.shared_rule.proofs.Events.Lists.{leaving-lawful}
-use Rattle.shared_rule.proofs.Led.{led-noted, led-as}
+use Rattle.shared_rule.proofs.Led.{led-noted, led_to-as}
 use Rattle.shared_rule.proofs.lists.leave_list.Goals as goal
 
 pub store_as-requires-clause-allowed : goal.store_as-requires-clause-allowed
@@ -34,7 +34,7 @@ returns-clause-led g c =
     let content = g.T.PartTable.content in
     let place = c.args.place.now in
     let a = account_at content place in
-    led-as content place c.store_as.new.place _ _
+    led_to-as content place c.store_as.new.place _ _ _
     (led-noted content place c.store_as.new.place LeftList c.requires.session c.store_as.ensures.seat
     (ap (λ (side : Side g.row.T.Denot). side.0) c.store_as.ensures.side))
     (ap (λ number. account_leaving_list a (list_here a.lists.in_hand) number) (sym c.requires.own))

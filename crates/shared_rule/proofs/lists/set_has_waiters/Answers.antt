@@ -7,6 +7,8 @@ use Rattle.shared_rule.specs.LwLocks.{word_of_lock, lock_number}
 use Rattle.shared_rule.specs.Plays.{Side}
 use Rattle.shared_rule.proofs.Events.Words.{IsAlwaysLawful, looks_at}
 use Rattle.shared_rule.proofs.Events.Lists.{lock-word_there, setting_has_waiters-lawful}
+use Rattle.shared_rule.specs.Todos.{first_flagged}
+use Rattle.shared_rule.proofs.Taken.{flagged-noted}
 use Rattle.shared_rule.proofs.Led.{led-noted}
 use Rattle.shared_rule.proofs.lists.set_has_waiters.Goals as goal
 
@@ -37,3 +39,10 @@ returns-clause-led g c =
 
 pub returns-clause-slots : goal.returns-clause-slots
 returns-clause-slots g c = ap (λ (side : Side g.row.T.Denot). side.1) c.fetch_or_as.ensures.side
+
+pub returns-clause-flagged : goal.returns-clause-flagged
+returns-clause-flagged g c =
+    let place = c.args.place.now in
+    ap (λ (side : Side g.row.T.Denot). first_flagged side.0.sessions) (c.fetch_or_as.ensures.side
+    ∙ ap (λ m. (noting place.me.0 (m c.fetch_or_as.result), place.me.1)) c.requires.mark)
+    ∙ flagged-noted place.me.0 (SetHasWaiters (lock_number c.args.lock.now)) c.requires.session

@@ -1,4 +1,8 @@
-use Rattle.std.proofs.Common.{◌^◌, bit_or, sym, ap, ◌∙◌, subst}
+use Rattle.std.proofs.Common.{◌≡◌, ◌≢◌, ◌^◌, bit_or, List, Some, None, sym, ap, ◌∙◌, subst}
+use Rattle.lock_world.specs.Wakes.Waking.{NoneOr}
+use Rattle.shared_rule.specs.declared.history.History.{History}
+use Rattle.shared_rule.specs.History.{first_account}
+use Rattle.shared_rule.specs.Todos.{first_todo, TellsNobodyBy}
 use Rattle.shared_rule.specs.Marks.{SetReleaseOk}
 use Rattle.shared_rule.specs.History.{noting}
 use Rattle.shared_rule.specs.LwLocks.{word_of_lock, lock_number}
@@ -20,7 +24,11 @@ fetch_or_as-requires-clause-allowed g c =
     (λ n. bit_or n (2 ^ 29)) g.M.Marking.mark
     (subst (IsAlwaysLawful content c.args.top.now.key session.history (word_of_lock lock) (λ _. Unit {0})
     (λ n. bit_or n (2 ^ 29))) (sym c.requires.mark)
-    (setting_release_ok-lawful content c.args.top.now.key session.history lock c.requires.exists))
+    (setting_release_ok-lawful content c.args.top.now.key session.history lock c.requires.exists
+    (subst (λ (sessions : List (History g.row.T.Denot)). (first_todo sessions).owes_release_ok ≡ Some (lock_number lock) → (first_account content sessions).lists.stands ≡ None
+    → NoneOr (first_todo sessions).tries (lock_number lock)) session.sessions c.requires.no_other)
+    (subst (λ (sessions : List (History g.row.T.Denot)). (first_todo sessions).owes_release_ok ≡ Some (lock_number lock) → (first_account content sessions).lists.in_hand ≢ None
+    → TellsNobodyBy (first_account content sessions)) session.sessions c.requires.tells_nobody)))
 
 pub returns-clause-led : goal.returns-clause-led
 returns-clause-led g c =

@@ -1,17 +1,19 @@
 use Rattle.std.proofs.Common.{rules, ◌≡◌, List, None, sym, ap, ◌∙◌, subst}
 use Rattle.lock_world.specs.AccountSteps.{account_locking_list}
 use Rattle.shared_rule.specs.declared.history.History.{History}
-use Rattle.shared_rule.specs.Marks.{LockedList}
+use Rattle.shared_rule.specs.Marks.{LockedList, SawListLocked}
 use Rattle.shared_rule.specs.declared.kept.Kept.TheVariants as kept
 use Rattle.shared_rule.specs.Layout.{list_slot_of}
 use Rattle.shared_rule.specs.LwLocks.{lock_number}
 use Rattle.shared_rule.specs.History.{noting, first_account}
+use Rattle.shared_rule.specs.Todos.{TellsNobodyBy}
+use Rattle.shared_rule.proofs.Taken.{look-known}
 use Rattle.shared_rule.proofs.Events.Lists.{locks_list_at, list-same}
 use Rattle.std.specs.Global.{Box}
 use Rattle.lw_word.specs.declared.wait_lists.LwWaiter.{LwWaiter}
 use Rattle.lw_word.specs.WaitList.{stands_in}
 use Rattle.shared_rule.specs.Plays.{Side, account_at, number_at}
-use Rattle.shared_rule.proofs.Led.{led-noted, led-as}
+use Rattle.shared_rule.proofs.Led.{led-noted, led_to-as}
 use Rattle.shared_rule.proofs.Sides.{last-slot, last-came, last-set}
 use Rattle.shared_rule.proofs.lists.try_lock_list.Goals as goal
 
@@ -26,7 +28,9 @@ fetch_or-found-requires g c =
       search rules,
       locks_list_at content g.T.PartTable.begun c.args.top.now.key c.args.top.now.table_id.slots place.id place.me
           session.history session.others session.sessions c.args.lock.now c.requires.there c.requires.exists
-          (record { no_list = free }) c.word.result c.word.ensures.index,
+          (record { no_list = free }) (look-known place.me.0 session (lock_number c.args.lock.now) c.requires.no_other_look)
+          (subst (λ (sessions : List (History g.row.T.Denot)). TellsNobodyBy (first_account content sessions)) session.sessions c.requires.tells_nobody)
+          c.word.result c.word.ensures.index,
     )
 
 pub exchange-kept-requires : goal.exchange-kept-requires
@@ -62,7 +66,7 @@ returns-then-found-eq0-clause-led g c =
     let set = last-set c.fetch_or-found.new.seat.me c.exchange-kept.new.seat.me
     (noting place.me.0 (LockedList n took.list.value)) c.list_slot.result (list_slot_of n) (kept.List took.list) kept.Nothing
     place.me.1 took.side c.list_slot.ensures.slot c.exchange-kept.ensures.3 in
-    led-as content place c.exchange-kept.new.seat _ _
+    led_to-as content place c.exchange-kept.new.seat _ _ _
     (led-noted content place c.exchange-kept.new.seat (LockedList n took.list.value) c.requires.session
     (record {
       table_id = c.exchange-kept.ensures.0 ∙ c.fetch_or-found.ensures.0;
@@ -89,3 +93,14 @@ returns-then-found-eq0-clause-stands g c = λ there.
     (list_slot_of n) (kept.List took.list) c.exchange-kept.result place.me.1 took.side c.exchange-kept.ensures.2 in
     let same : took.list ≡ c.into_list.result = list-same took.list c.into_list.result (sym came ∙ c.into_list.ensures) in
     took.stands (ap (λ (list : Box (List LwWaiter)). stands_in (number_at place) list.value) same ∙ there)
+
+pub returns-else-found-eq0-clause-none : goal.returns-else-found-eq0-clause-none
+returns-else-found-eq0-clause-none g c =
+    let place = c.args.place.now in
+    let n = lock_number c.args.lock.now in
+    let saw = c.fetch_or-found.ensures.2.1 c.if-found-eq0.false c.args.lock.now c.requires.there c.word.ensures.index in
+    record {
+      led = led-noted g.T.PartTable.content place c.fetch_or-found.new.seat (SawListLocked n) c.requires.session
+          (record { table_id = c.fetch_or-found.ensures.0; id = c.fetch_or-found.ensures.1 }) (ap (λ (side : Side g.row.T.Denot). side.0) saw);
+      slots = ap (λ (side : Side g.row.T.Denot). side.1) saw;
+    }

@@ -1,4 +1,4 @@
-use Rattle.std.proofs.Common.{◌≡◌, List, Some, refl, sym, ap, ◌∙◌, subst}
+use Rattle.std.proofs.Common.{◌≡◌, ℕ, true, false, List, Some, refl, sym, ap, ◌∙◌, subst}
 use Rattle.atomic_table.specs.Table.{rest}
 use Rattle.shared_rule.specs.declared.history.History.{History}
 use Rattle.shared_rule.specs.Marks.{UnlockedList}
@@ -7,6 +7,7 @@ use Rattle.shared_rule.specs.Layout.{list_slot_of}
 use Rattle.shared_rule.specs.LwLocks.{lock_number}
 use Rattle.shared_rule.specs.History.{first_account, noting}
 use Rattle.shared_rule.specs.Plays.{Side}
+use Rattle.shared_rule.specs.Todos.{IsLeftWellBy, first_todo}
 use Rattle.shared_rule.proofs.Events.Lists.{unlocks_list_at}
 use Rattle.shared_rule.proofs.Led.{led-noted}
 use Rattle.shared_rule.proofs.Sides.{last-slot}
@@ -26,7 +27,9 @@ unlock_as-requires-clause-allowed g c =
     session.history session.others is c.args.lock.now c.requires.there c.args.has_waiters c.args.release_ok c.args.list
     c.requires.table.sized.slots known
     (last-slot place.me c.args.place.now.me.0 (list_slot_of n) c.list_slot.result (kept.List c.args.list)
-    (rest c.args.place.now.me.1) set (sym c.list_slot.ensures.slot))
+    (rest c.args.place.now.me.1) set (sym c.list_slot.ensures.slot)) c.requires.waiters_stay
+    (subst (λ (sessions : List (History g.row.T.Denot)). c.args.release_ok ≡ false → (other : ℕ) × ((first_account content sessions).lists.off other ≡ true)) session.sessions c.requires.release_stays)
+    (subst (λ (sessions : List (History g.row.T.Denot)). IsLeftWellBy (first_account content sessions) (first_todo sessions) c.args.lock.now c.args.list.value) session.sessions c.requires.left_well)
     c.word.result c.word.ensures.index c.kept_bits.result c.kept_bits.ensures (λ _. UnlockedList) refl
 
 pub returns-clause-led : goal.returns-clause-led

@@ -5,6 +5,7 @@ use Rattle.lock_world.specs.AccountLaw.{MayPassBy}
 use Rattle.shared_rule.specs.declared.history.History.{History}
 use Rattle.shared_rule.specs.Marks.{Passed}
 use Rattle.shared_rule.specs.History.{first_account, noting}
+use Rattle.shared_rule.proofs.Taken.{due-known}
 use Rattle.shared_rule.proofs.Events.Words.{IsAlwaysLawful, marks_at}
 use Rattle.shared_rule.proofs.Events.Locks.{passing-lawful}
 use Rattle.shared_rule.specs.Plays.{Side}
@@ -20,12 +21,12 @@ fetch_sub_as-requires-clause-allowed g c =
     marks_at content g.T.PartTable.begun c.args.top.now.key c.args.top.now.table_id.slots place.id place.me session.history session.others session.sessions
     (Fast c.args.owner) (tt, search rules) c.fast_word.result c.fast_word.ensures.index (λ n. (n + (2 ^ 64 - c.amount.result)) % 2 ^ 64) g.M.Marking.mark
     (subst (IsAlwaysLawful content c.args.top.now.key session.history (Fast c.args.owner) (λ _. Unit {0}) (λ n. (n + (2 ^ 64 - c.amount.result)) % 2 ^ 64)) (sym c.requires.mark)
-    (subst (λ k. IsAlwaysLawful content c.args.top.now.key session.history (Fast c.args.owner) (λ _. Unit {0}) (λ n. (n + (2 ^ 64 - k)) % 2 ^ 64) (λ _. Passed c.args.owner c.args.tag.now c.args.mode)) (sym c.amount.ensures)
-    (passing-lawful content c.args.top.now.key session.history c.args.owner c.requires.exists may.0 c.args.tag.now c.args.mode may.1)))
+    (subst (λ k. IsAlwaysLawful content c.args.top.now.key session.history (Fast c.args.owner) (λ _. Unit {0}) (λ n. (n + (2 ^ 64 - k)) % 2 ^ 64) (Passed c.args.owner c.args.tag.now c.args.mode)) (sym c.amount.ensures)
+    (passing-lawful content c.args.top.now.key session.history c.args.owner c.requires.exists may.0 c.args.tag.now c.args.mode may.1 (due-known place.me.0 session c.requires.no_look))))
 
 pub returns-clause-led : goal.returns-clause-led
 returns-clause-led g c =
     let place = c.args.place.now in
-    led-noted g.T.PartTable.content place c.fetch_sub_as.new.place (Passed c.args.owner c.args.tag.now c.args.mode) c.requires.session c.fetch_sub_as.ensures.seat
+    led-noted g.T.PartTable.content place c.fetch_sub_as.new.place (Passed c.args.owner c.args.tag.now c.args.mode c.fetch_sub_as.result) c.requires.session c.fetch_sub_as.ensures.seat
     (ap (λ (side : Side g.row.T.Denot). side.0) c.fetch_sub_as.ensures.side
     ∙ ap (λ m. noting place.me.0 (m c.fetch_sub_as.result)) c.requires.mark)

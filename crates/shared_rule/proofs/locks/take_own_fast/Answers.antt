@@ -2,6 +2,8 @@ use Rattle.std.proofs.Common.{rules, ◌≡◌, List, ap, ◌∙◌, subst}
 use Rattle.shared_rule.specs.declared.history.History.{History}
 use Rattle.shared_rule.specs.History.{first_number}
 use Rattle.shared_rule.specs.Plays.{TookSlots}
+use Rattle.lock_world.specs.WaitLists.{fast_lock}
+use Rattle.shared_rule.proofs.Taken.{tries-known}
 use Rattle.shared_rule.proofs.Events.Locks.{tries_fast_at}
 use Rattle.shared_rule.proofs.locks.take_own_fast.Goals as goal
 
@@ -15,7 +17,7 @@ compare_exchange-requires g c =
       search rules,
       tries_fast_at g.T.PartTable.content g.T.PartTable.begun c.args.top.now.key c.args.top.now.table_id.slots
           place.id place.me session.history session.others session.sessions
-          c.args.number (search rules) g.G.Grouping.groups c.args.shown c.args.taken c.requires.groups own c.requires.free.0 c.requires.free.1
+          c.args.number (search rules) g.G.Grouping.groups c.args.shown c.args.taken c.requires.groups own c.requires.free.0 c.requires.free.1 (tries-known place.me.0 session (fast_lock c.args.number) c.requires.no_other_try)
           c.fast_word.result c.fast_word.ensures.index,
     )
 

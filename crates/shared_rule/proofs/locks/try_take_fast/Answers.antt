@@ -1,10 +1,17 @@
-use Rattle.std.proofs.Common.{sym, subst}
+use Rattle.std.proofs.Common.{sym, ap, ◌∙◌, inl, subst}
+use Rattle.shared_rule.specs.Todos.{Todo, first_todo}
 use Rattle.shared_rule.specs.Marks.{LoadedFast}
 use Rattle.shared_rule.specs.Plays.{Side, HasSession}
-use Rattle.shared_rule.proofs.Taken.{session-noted}
+use Rattle.shared_rule.proofs.Taken.{session-noted, todo-noted}
 use Rattle.shared_rule.proofs.locks.try_take_fast.Goals as goal
 
 pub take_own_fast-requires-clause-session : goal.take_own_fast-requires-clause-session
 take_own_fast-requires-clause-session g c =
     subst (λ (side : Side g.row.T.Denot). HasSession side.0) (sym c.load_fast-shown.ensures.side)
     (session-noted c.args.place.now.me.0 (LoadedFast c.load_fast-shown.result) c.requires.session)
+
+pub take_own_fast-requires-clause-no_other_try : goal.take_own_fast-requires-clause-no_other_try
+take_own_fast-requires-clause-no_other_try g c =
+    inl (ap (λ (todo : Todo). todo.tries)
+    (ap (λ (side : Side g.row.T.Denot). first_todo side.0.sessions) c.load_fast-shown.ensures.side
+    ∙ todo-noted c.args.place.now.me.0 (LoadedFast c.load_fast-shown.result) c.requires.session ∙ c.requires.todo))

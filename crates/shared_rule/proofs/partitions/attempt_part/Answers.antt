@@ -4,10 +4,12 @@ use Rattle.shared_rule.specs.Marks.{TookPart}
 use Rattle.shared_rule.specs.declared.kept.Kept.TheVariants.{Part, Nothing}
 use Rattle.shared_rule.specs.Layout.{content_slot_of}
 use Rattle.shared_rule.specs.History.{noting}
+use Rattle.lock_world.specs.WaitLists.{partition_lock}
+use Rattle.shared_rule.proofs.Taken.{tries-known}
 use Rattle.shared_rule.proofs.Events.Partitions.{takes_part_at, part-same}
 use Rattle.lock_world.specs.AccountSteps.{account_taking}
 use Rattle.shared_rule.specs.Plays.{Side, account_at, number_at}
-use Rattle.shared_rule.proofs.Led.{led-noted, led-as}
+use Rattle.shared_rule.proofs.Led.{led-noted, led_to-as}
 use Rattle.shared_rule.proofs.Sides.{last-slot, last-came, last-set}
 use Rattle.shared_rule.proofs.partitions.attempt_part.Goals as goal
 
@@ -20,7 +22,7 @@ compare_exchange-requires g c =
       search rules,
       takes_part_at g.T.PartTable.content g.T.PartTable.begun c.args.top.now.key place.id place.me session.history session.others session.sessions
           c.args.part c.requires.exists c.args.top.now.table_id.slots c.partition_word.result sized.slots c.partition_word.ensures.index
-          c.args.shown c.args.taken c.requires.free.0 c.requires.free.1,
+          c.args.shown c.args.taken c.requires.free.0 c.requires.free.1 (tries-known place.me.0 session (partition_lock c.args.part) c.requires.no_other_try),
     )
 
 pub exchange-requires : goal.exchange-requires
@@ -56,7 +58,7 @@ returns-clause-won g c =
     let side = last-set c.compare_exchange.new.seat.me after.me (noting place.me.0 (TookPart part took.part)) c.content_slot.result
     (content_slot_of part) (Part took.part) Nothing place.me.1 took.side c.content_slot.ensures.slot c.exchange.ensures.3 in
     record {
-      led = led-as content place after _ _
+      led = led_to-as content place after _ _ _
           (led-noted content place after (TookPart part took.part) c.requires.session
           (record {
             table_id = c.exchange.ensures.0 ∙ c.compare_exchange.ensures.0;

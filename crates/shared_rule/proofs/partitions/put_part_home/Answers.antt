@@ -7,6 +7,7 @@ use Rattle.shared_rule.specs.declared.kept.Kept.TheVariants.{Part}
 use Rattle.shared_rule.specs.Plays.{Side}
 use Rattle.shared_rule.specs.Layout.{content_slot_of}
 use Rattle.shared_rule.specs.History.{first_account, first_number, noting}
+use Rattle.shared_rule.proofs.Taken.{due-known}
 use Rattle.shared_rule.proofs.Events.Partitions.{puts_part_at}
 use Rattle.shared_rule.specs.Marks.{PutPart}
 use Rattle.shared_rule.proofs.Led.{led-noted}
@@ -27,13 +28,13 @@ put_home_as-requires-clause-allowed g c =
     c.args.part c.requires.exists c.args.top.now.table_id.slots c.partition_word.result c.requires.table.sized.slots c.partition_word.ensures.index
     may.0 c.args.done.now c.args.content may.1 c.requires.none_begun
     (last-slot place.me c.args.place.now.me.0 (content_slot_of c.args.part) c.content_slot.result (Part c.args.content) (rest c.args.place.now.me.1) set (sym slot))
-    g.M.Marking.mark c.requires.mark
+    (due-known c.args.place.now.me.0 session c.requires.no_look) g.M.Marking.mark c.requires.mark
 
 pub returns-clause-led : goal.returns-clause-led
 returns-clause-led g c =
     let place = c.args.place.now in
     let set = c.exchange.ensures.3 in
-    led-noted g.T.PartTable.content place c.put_home_as.new.place (PutPart c.args.part c.args.done.now c.args.content)
+    led-noted g.T.PartTable.content place c.put_home_as.new.place (PutPart c.args.part c.args.done.now c.args.content c.put_home_as.result)
     c.requires.session
     (record {
       table_id = c.put_home_as.ensures.seat.table_id ∙ c.exchange.ensures.0;
@@ -43,10 +44,7 @@ returns-clause-led g c =
     ∙ ap (λ (s : Side g.row.T.Denot). noting s.0 (g.M.Marking.mark c.put_home_as.result)) set
     ∙ ap (λ m. noting place.me.0 (m c.put_home_as.result)) c.requires.mark)
 
-pub returns-clause-side : goal.returns-clause-side
-returns-clause-side g c =
-    let place = c.args.place.now in
-    let set = c.exchange.ensures.3 in
-    c.put_home_as.ensures.side
-    ∙ ap (λ (s : Side g.row.T.Denot). (noting s.0 (g.M.Marking.mark c.put_home_as.result), rest s.1)) set
-    ∙ ap (λ m. (noting place.me.0 (m c.put_home_as.result), rest place.me.1)) c.requires.mark
+pub returns-clause-slots : goal.returns-clause-slots
+returns-clause-slots g c =
+    ap (λ (s : Side g.row.T.Denot). s.1) (c.put_home_as.ensures.side
+    ∙ ap (λ (s : Side g.row.T.Denot). (noting s.0 (g.M.Marking.mark c.put_home_as.result), rest s.1)) c.exchange.ensures.3)

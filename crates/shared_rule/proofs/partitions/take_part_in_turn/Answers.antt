@@ -1,11 +1,13 @@
-use Rattle.shared_rule.proofs.Acquires.{nothing-then, nothing-then_part, where-some, where-none}
+use Rattle.lock_world.specs.WaitLists.{partition_lock}
+use Rattle.shared_rule.specs.Todos.{todo_back}
+use Rattle.shared_rule.proofs.Acquires.{nothing-then_got, nothing-then_part, at_most-still, where-some, where-none}
 use Rattle.shared_rule.proofs.partitions.take_part_in_turn.Goals as goal
 
 pub returns-in-None-clause-lost : goal.returns-in-None-clause-lost
 returns-in-None-clause-lost g c =
     where-none c.take_part_or_sleep.result _ _
-    (nothing-then g.T.PartTable.content c.args.place.now c.attempt_part_a_while.new.place
-    c.take_part_or_sleep.new.place (c.in-None.ensures {u = tt}).lost)
+    (nothing-then_got g.T.PartTable.content c.args.place.now c.attempt_part_a_while.new.place
+    c.take_part_or_sleep.new.place (c.in-None.ensures {u = tt}).lost (λ _. todo_back (partition_lock c.args.part)))
     c.take_part_or_sleep.ensures.lost
 
 pub returns-in-None-clause-won : goal.returns-in-None-clause-won
@@ -14,3 +16,8 @@ returns-in-None-clause-won g c =
     (nothing-then_part g.T.PartTable.content c.args.place.now c.attempt_part_a_while.new.place
     c.take_part_or_sleep.new.place (c.in-None.ensures {u = tt}).lost g.T.PartTable.begun c.args.part)
     c.take_part_or_sleep.ensures.won
+
+pub take_part_or_sleep-requires-clause-todo : goal.take_part_or_sleep-requires-clause-todo
+take_part_or_sleep-requires-clause-todo g c =
+    at_most-still g.T.PartTable.content c.args.place.now c.attempt_part_a_while.new.place c.attempt_part_a_while.new.place (c.in-None.ensures {u = tt}).lost
+    (partition_lock c.args.part) c.requires.todo

@@ -1,9 +1,14 @@
-use Rattle.std.proofs.Common.{◌≡◌, false, List, Some, sym, ap, ◌∙◌}
+use Rattle.std.proofs.Common.{◌≡◌, false, List, Some, inl, refl, sym, ap, ◌∙◌}
 use Rattle.lw_word.specs.declared.wait_lists.LwWaiter.{LwWaiter}
 use Rattle.lw_word.specs.WaitList.{stands_in, without}
 use Rattle.shared_rule.specs.LwLocks.{lock_number}
 use Rattle.shared_rule.proofs.TakenOff.{left-alone}
-use Rattle.shared_rule.proofs.Queueing.{list-in_hand, dequeued, taken_off-told}
+use Rattle.lock_world.specs.Account.{Account, ListAccount}
+use Rattle.lock_world.specs.AccountSteps.{account_unlocking_list, account_leaving_list}
+use Rattle.shared_rule.specs.History.{list_here}
+use Rattle.shared_rule.specs.Plays.{account_at, number_at}
+use Rattle.shared_rule.specs.Todos.{Todo, still_has}
+use Rattle.shared_rule.proofs.Queueing.{list-in_hand, dequeued, taken_off-told, won-todo, got-left}
 use Rattle.shared_rule.proofs.queues.dequeue_self.Goals as goal
 
 pub leave_list-requires-clause-lawful : goal.leave_list-requires-clause-lawful
@@ -26,7 +31,8 @@ unlock_list-requires-else-leave-clause-in_hand g c =
     let waiters = c.lock_list-list.result.value in
     let missing : stands_in c.args.number waiters ≡ false =
     ap (stands_in c.args.number) (sym c.deref_mut.ensures.value) ∙ sym c.leave.ensures.found ∙ c.if-leave.false in
-    list-in_hand g.T.PartTable.content c.args.place.now c.lock_list-list.new.place n waiters c.lock_list-list.ensures.led
+    ap (λ (a : Account). a.lists.in_hand) c.set_release_ok.ensures.led.account
+    ∙ list-in_hand g.T.PartTable.content c.args.place.now c.lock_list-list.new.place n waiters c.lock_list-list.ensures.led
     ∙ ap (λ (ws : List LwWaiter). Some (record { lock = n; waiters = ws }))
     (sym (c.leave.ensures.left ∙ ap (without c.args.number) c.deref_mut.ensures.value ∙ left-alone c.args.number waiters missing))
 
@@ -34,12 +40,52 @@ pub returns-then-leave-clause-led : goal.returns-then-leave-clause-led
 returns-then-leave-clause-led g c =
     dequeued g.T.PartTable.content c.args.place.now c.lock_list-list.new.place (lock_number c.args.lock.now)
     c.lock_list-list.result.value c.lock_list-list.ensures.led
-    c.leave_list.new.place c.unlock_list.new.place c.args.number c.requires.queued
+    c.leave_list.new.place c.unlock_list.new.place c.args.number c.requires.queued c.requires.todo
     c.leave_list.ensures.led c.unlock_list.ensures.led
 
 pub returns-else-leave-clause-led : goal.returns-else-leave-clause-led
 returns-else-leave-clause-led g c =
+    let waiters = c.lock_list-list.result.value in
+    let number = c.lock_list-list.ensures.led.number ∙ sym c.requires.own in
+    let missing : stands_in c.args.number waiters ≡ false =
+    ap (stands_in c.args.number) (sym c.deref_mut.ensures.value) ∙ sym c.leave.ensures.found ∙ c.if-leave.false in
     taken_off-told g.T.PartTable.content c.args.place.now c.lock_list-list.new.place (lock_number c.args.lock.now)
-    c.lock_list-list.result.value c.lock_list-list.ensures.led
-    c.unlock_list-else-leave.new.place c.set_release_ok.new.place c.sleep_until_told.new.place c.requires.queued
-    c.unlock_list-else-leave.ensures.led c.set_release_ok.ensures.led c.sleep_until_told.ensures.led
+    waiters c.lock_list-list.ensures.led
+    c.set_release_ok.new.place c.unlock_list-else-leave.new.place c.sleep_until_told.new.place (number_at c.lock_list-list.new.place) c.requires.queued c.requires.todo
+    (ap (λ n. stands_in n waiters) number ∙ missing)
+    c.set_release_ok.ensures.led c.unlock_list-else-leave.ensures.led c.sleep_until_told.ensures.led
+
+pub unlock_list-requires-clause-left_well : goal.unlock_list-requires-clause-left_well
+unlock_list-requires-clause-left_well g c =
+    still_has (got-left c.args.lock.now (account_at g.T.PartTable.content c.args.place.now) _ _
+    (c.leave_list.ensures.led.account ∙ ap (λ (a : Account). account_leaving_list a (list_here a.lists.in_hand) c.args.number) c.lock_list-list.ensures.led.account) c.requires.got)
+
+pub unlock_list-requires-else-leave-clause-left_well : goal.unlock_list-requires-else-leave-clause-left_well
+unlock_list-requires-else-leave-clause-left_well g c =
+    still_has (got-left c.args.lock.now (account_at g.T.PartTable.content c.args.place.now) _ _
+    (c.set_release_ok.ensures.led.account ∙ c.lock_list-list.ensures.led.account) c.requires.got)
+
+pub set_release_ok-requires-clause-no_other : goal.set_release_ok-requires-clause-no_other
+set_release_ok-requires-clause-no_other g c = λ owes stands. inl (ap (λ (todo : Todo). todo.tries) (c.lock_list-list.ensures.led.todo ∙ c.requires.todo))
+
+pub set_release_ok-requires-clause-tells_nobody : goal.set_release_ok-requires-clause-tells_nobody
+set_release_ok-requires-clause-tells_nobody g c = λ owes in_hand other.
+    ap (λ (a : Account). a.lists.off other) c.lock_list-list.ensures.led.account ∙ ap (λ (lists : ListAccount). lists.off other) c.requires.queued
+
+pub sleep_until_told-requires-clause-may : goal.sleep_until_told-requires-clause-may
+sleep_until_told-requires-clause-may g c =
+    let waiters = c.lock_list-list.result.value in
+    let number = c.lock_list-list.ensures.led.number ∙ sym c.requires.own in
+    let missing : stands_in c.args.number waiters ≡ false =
+    ap (stands_in c.args.number) (sym c.deref_mut.ensures.value) ∙ sym c.leave.ensures.found ∙ c.if-leave.false in
+    let done = c.unlock_list-else-leave.ensures.led.todo ∙ c.set_release_ok.ensures.led.todo
+    ∙ won-todo g.T.PartTable.content c.args.place.now c.lock_list-list.new.place (lock_number c.args.lock.now) waiters c.lock_list-list.ensures.led
+    (number_at c.lock_list-list.new.place) c.requires.queued c.requires.todo (ap (λ n. stands_in n waiters) number ∙ missing) in
+    record {
+      no_look = ap (λ (todo : Todo). todo.due) done;
+      no_try = ap (λ (todo : Todo). todo.tries) done;
+      no_list = ap (λ (a : Account). a.lists.in_hand) c.unlock_list-else-leave.ensures.led.account;
+      tells_nobody = λ other.
+          ap (λ (a : Account). a.lists.off other) (c.unlock_list-else-leave.ensures.led.account ∙ ap account_unlocking_list (c.set_release_ok.ensures.led.account ∙ c.lock_list-list.ensures.led.account))
+          ∙ ap (λ (lists : ListAccount). lists.off other) c.requires.queued;
+    }

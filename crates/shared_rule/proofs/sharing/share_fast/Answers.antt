@@ -1,5 +1,8 @@
 use Rattle.lw_word.specs.declared.words.LwMode.TheVariants.{Shared}
-use Rattle.shared_rule.proofs.Acquires.{nothing-then_slots, may-still}
+use Rattle.std.proofs.Common.{◌∙◌}
+use Rattle.lock_world.specs.WaitLists.{fast_lock}
+use Rattle.shared_rule.specs.Plays.{todo_at}
+use Rattle.shared_rule.proofs.Acquires.{free-at_most, nothing-then_slots, may-still}
 use Rattle.shared_rule.proofs.sharing.share_fast.Goals as goal
 
 pub get_slots_held-requires-clause-lawful : goal.get_slots_held-requires-clause-lawful
@@ -11,3 +14,10 @@ pub returns-then-not-attempt_free_share : goal.returns-then-not-attempt_free_sha
 returns-then-not-attempt_free_share g c =
     nothing-then_slots g.T.PartTable.content c.args.place.now c.attempt_free_share.new.place c.get_slots_held.new.place
     (c.if-not-attempt_free_share.ensures {u = tt}).lost c.args.top.now.key.groups Shared c.args.owner c.get_slots_held.ensures
+
+pub attempt_free_share-requires-clause-no_other_try : goal.attempt_free_share-requires-clause-no_other_try
+attempt_free_share-requires-clause-no_other_try g c = (free-at_most (fast_lock c.args.owner) (todo_at c.args.place.now) c.requires.todo).no_other
+
+pub get_slots_held-requires-clause-todo : goal.get_slots_held-requires-clause-todo
+get_slots_held-requires-clause-todo g c =
+    free-at_most (fast_lock c.args.owner) (todo_at c.attempt_free_share.new.place) ((c.if-not-attempt_free_share.ensures {u = tt}).lost.led.todo ∙ c.requires.todo)

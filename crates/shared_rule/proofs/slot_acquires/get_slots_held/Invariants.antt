@@ -1,5 +1,8 @@
-use Rattle.shared_rule.specs.Acquires.{IsAsBefore}
+use Rattle.lock_world.specs.WaitLists.{fast_lock}
+use Rattle.shared_rule.specs.Acquires.{GotNothing}
+use Rattle.shared_rule.specs.Plays.{todo_at}
+use Rattle.shared_rule.specs.Todos.{TriesAtMost}
 use Rattle.shared_rule.proofs.slot_acquires.get_slots_held.Given as goal
 
 abbrev pub invariant-loop : goal.invariant-loop
-invariant-loop g l = IsAsBefore g.T.PartTable.content l.fn.place l.place
+invariant-loop g l = GotNothing g.T.PartTable.content l.fn.place l.place (todo_at l.place) × TriesAtMost (fast_lock l.owner) (todo_at l.place)

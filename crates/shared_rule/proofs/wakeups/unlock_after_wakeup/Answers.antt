@@ -1,5 +1,6 @@
 use Rattle.lock_world.specs.AccountSteps.{account_unlocking_list}
-use Rattle.shared_rule.specs.Plays.{account_at}
+use Rattle.shared_rule.specs.Plays.{account_at, todo_at}
+use Rattle.shared_rule.proofs.Woken.{well-then}
 use Rattle.shared_rule.proofs.Led.{led-then}
 use Rattle.shared_rule.proofs.wakeups.unlock_after_wakeup.Goals as goal
 
@@ -9,3 +10,9 @@ returns-clause-led g c =
     let place = c.args.place.now in
     led-then content place c.set_release_ok_if.new.place c.unlock_list.new.place (account_at content place)
     account_unlocking_list c.set_release_ok_if.ensures.led c.unlock_list.ensures.led
+
+pub unlock_list-requires-clause-left_well : goal.unlock_list-requires-clause-left_well
+unlock_list-requires-clause-left_well g c =
+    well-then (account_at g.T.PartTable.content c.args.place.now) (account_at g.T.PartTable.content c.set_release_ok_if.new.place)
+    (todo_at c.args.place.now) (todo_at c.set_release_ok_if.new.place) c.args.lock.now c.args.list.value
+    c.set_release_ok_if.ensures.led.account c.set_release_ok_if.ensures.led.todo c.requires.left_well

@@ -2,10 +2,12 @@ use Rattle.std.proofs.Common.{◌≡◌, ℕ, ◌≤◌, List, ap, ◌∙◌, su
 use Rattle.lw_word.specs.declared.wait_lists.LwWaiter.{LwWaiter}
 use Rattle.lw_word.specs.WaitList.{times_in, taken_off, left_waiting}
 use Rattle.shared_rule.specs.LwLocks.{lock_number}
-use Rattle.shared_rule.specs.Plays.{account_at, number_at}
+use Rattle.shared_rule.specs.Plays.{account_at, number_at, todo_at}
+use Rattle.lock_world.specs.Account.{ListAccount}
+use Rattle.shared_rule.specs.Todos.{Todo, todo_looked}
 use Rattle.std.proofs.Common.{false, sym}
 use Rattle.std.proofs.lemmas.Bool.{both_ways}
-use Rattle.shared_rule.proofs.Woken.{some-off, taken-none, not-there, may-take_all_off, left-in_hand, may-tell_all, woken}
+use Rattle.shared_rule.proofs.Woken.{some-off, taken-none, not-there, may-take_all_off, left-in_hand, may-tell_all, woken, left-well}
 use Rattle.shared_rule.proofs.wakeups.wake_waiters.Goals as goal
 
 pub take_all_off-requires-clause-lawful : goal.take_all_off-requires-clause-lawful
@@ -22,7 +24,7 @@ take_all_off-requires-clause-lawful g c =
     (c.in-Some.ensures {u = tt}).stands in
     let taken : c.wake_split-wakeup.result.taken.items ≡ taken_off ws =
     c.wake_split-wakeup.ensures.taken ∙ ap taken_off c.deref_mut.ensures.value in
-    may-take_all_off content place c.try_lock_list.new.place n ws locks c.requires.idle once other c.as_slice.result.now (c.as_slice.ensures.value ∙ taken)
+    may-take_all_off content place c.try_lock_list.new.place n ws (todo_looked (todo_at place)) locks c.requires.idle once other c.as_slice.result.now (c.as_slice.ensures.value ∙ taken)
 
 pub unlock_after_wakeup-requires-clause-in_hand : goal.unlock_after_wakeup-requires-clause-in_hand
 unlock_after_wakeup-requires-clause-in_hand g c =
@@ -38,7 +40,7 @@ unlock_after_wakeup-requires-clause-in_hand g c =
     (c.in-Some.ensures {u = tt}).stands in
     let taken : c.wake_split-wakeup.result.taken.items ≡ taken_off ws =
     c.wake_split-wakeup.ensures.taken ∙ ap taken_off c.deref_mut.ensures.value in
-    left-in_hand content place c.try_lock_list.new.place n ws locks c.requires.idle once other c.as_slice.result.now (c.as_slice.ensures.value ∙ taken)
+    left-in_hand content place c.try_lock_list.new.place n ws (todo_looked (todo_at place)) locks c.requires.idle once other c.as_slice.result.now (c.as_slice.ensures.value ∙ taken)
     c.take_all_off.new.place c.take_all_off.ensures.led c.wake_split-wakeup.new.self
     (c.wake_split-wakeup.ensures.left ∙ ap left_waiting c.deref_mut.ensures.value)
 
@@ -56,7 +58,7 @@ tell_all-requires-clause-lawful g c =
     (c.in-Some.ensures {u = tt}).stands in
     let taken : c.wake_split-wakeup.result.taken.items ≡ taken_off ws =
     c.wake_split-wakeup.ensures.taken ∙ ap taken_off c.deref_mut.ensures.value in
-    may-tell_all content place c.try_lock_list.new.place n ws locks c.requires.idle once other c.as_slice.result.now (c.as_slice.ensures.value ∙ taken)
+    may-tell_all content place c.try_lock_list.new.place n ws (todo_looked (todo_at place)) locks c.requires.idle once other c.as_slice.result.now (c.as_slice.ensures.value ∙ taken)
     c.take_all_off.new.place c.take_all_off.ensures.led c.unlock_after_wakeup.new.place c.unlock_after_wakeup.ensures.led
     c.as_slice-2.result.now (c.as_slice-2.ensures.value ∙ taken)
 
@@ -74,7 +76,7 @@ returns-clause-led g c =
     (c.in-Some.ensures {u = tt}).stands in
     let taken : c.wake_split-wakeup.result.taken.items ≡ taken_off ws =
     c.wake_split-wakeup.ensures.taken ∙ ap taken_off c.deref_mut.ensures.value in
-    woken content place c.try_lock_list.new.place n ws locks c.requires.idle once other c.as_slice.result.now (c.as_slice.ensures.value ∙ taken)
+    woken content place c.try_lock_list.new.place n ws (todo_looked (todo_at place)) locks c.requires.idle once other c.as_slice.result.now (c.as_slice.ensures.value ∙ taken)
     c.take_all_off.new.place c.take_all_off.ensures.led c.unlock_after_wakeup.new.place c.unlock_after_wakeup.ensures.led
     c.tell_all.new.place c.as_slice-2.result.now (c.as_slice-2.ensures.value ∙ taken) c.tell_all.ensures.led
 
@@ -88,3 +90,20 @@ unlock_after_wakeup-requires-clause-release_stays g c = λ clear.
     (λ none. both_ways c.wake_split-wakeup.result.release_ok clear
     (c.wake_split-wakeup.ensures.release_ok.1 (c.deref_mut.ensures.value ∙ taken-none ws (sym (c.as_slice.ensures.value ∙ taken) ∙ none)))) in
     (f.0, ap (λ a. a.lists.off (f.0)) (c.take_all_off.ensures.led).account ∙ f.1)
+
+pub try_lock_list-requires-clause-tells_nobody : goal.try_lock_list-requires-clause-tells_nobody
+try_lock_list-requires-clause-tells_nobody g c = λ other. ap (λ (lists : ListAccount). lists.off other) c.requires.idle
+
+pub unlock_after_wakeup-requires-clause-owes_no_ok : goal.unlock_after_wakeup-requires-clause-owes_no_ok
+unlock_after_wakeup-requires-clause-owes_no_ok g c =
+    ap (λ (todo : Todo). todo.owes_release_ok) (c.take_all_off.ensures.led.todo ∙ (c.in-Some.ensures {u = tt}).led.todo) ∙ c.requires.owes_no_ok
+
+pub unlock_after_wakeup-requires-clause-left_well : goal.unlock_after_wakeup-requires-clause-left_well
+unlock_after_wakeup-requires-clause-left_well g c =
+    let content = g.T.PartTable.content in
+    let ws = c.in-Some.list.value in
+    let taken : c.wake_split-wakeup.result.taken.items ≡ taken_off ws =
+    c.wake_split-wakeup.ensures.taken ∙ ap taken_off c.deref_mut.ensures.value in
+    left-well (account_at content c.try_lock_list.new.place) (account_at content c.take_all_off.new.place) (todo_at c.take_all_off.new.place) c.args.lock.now ws
+    c.as_slice.result.now c.wake_split-wakeup.new.self (c.as_slice.ensures.value ∙ taken)
+    (c.wake_split-wakeup.ensures.left ∙ ap left_waiting c.deref_mut.ensures.value) c.take_all_off.ensures.led.account

@@ -2,4 +2,4 @@ use Rattle.shared_rule.specs.Marks.{Passed}
 use Rattle.shared_rule.proofs.one_thread.OneThreadBoard.pass_fast.Given as goal
 
 abbrev pub ghosts-pass_fast : goal.ghosts-pass_fast
-ghosts-pass_fast g a = record { mark = λ _. Passed a.owner a.tag.now a.mode }
+ghosts-pass_fast g a = record { mark = Passed a.owner a.tag.now a.mode }

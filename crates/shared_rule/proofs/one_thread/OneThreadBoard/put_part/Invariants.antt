@@ -2,4 +2,4 @@ use Rattle.shared_rule.specs.Marks.{PutPart}
 use Rattle.shared_rule.proofs.one_thread.OneThreadBoard.put_part.Given as goal
 
 abbrev pub ghosts-put_part : goal.ghosts-put_part
-ghosts-put_part g a = record { mark = λ _. PutPart a.part a.done.now a.content }
+ghosts-put_part g a = record { mark = PutPart a.part a.done.now a.content }

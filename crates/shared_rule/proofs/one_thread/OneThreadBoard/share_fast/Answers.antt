@@ -1,6 +1,7 @@
 use Rattle.std.proofs.Common.{◌≡◌, sym, ap, ◌∙◌, subst}
 use Rattle.lock_world.specs.Account.{Account}
 use Rattle.shared_rule.specs.Boards.{parts_in_hand, slots_out}
+use Rattle.shared_rule.specs.Todos.{todo_attempted}
 use Rattle.shared_rule.proofs.Idle.{lists-told, idle-still}
 use Rattle.shared_rule.proofs.one_thread.OneThreadBoard.share_fast.Goals as goal
 
@@ -13,7 +14,7 @@ invariant_of-self-clause-lone g c = c.share_fast.ensures.led.lone c.args.self.no
 pub invariant_of-self-clause-idle : goal.invariant_of-self-clause-idle
 invariant_of-self-clause-idle g c =
     idle-still g.T.PartTable.content c.args.self.now.place.me.0.sessions c.share_fast.new.place.me.0.sessions
-    (ap (λ (a : Account). a.lists) c.share_fast.ensures.led.account) c.args.self.now.idle
+    (ap (λ (a : Account). a.lists) c.share_fast.ensures.led.account) (c.share_fast.ensures.led.todo ∙ ap todo_attempted c.args.self.now.idle.free) c.args.self.now.idle
 
 pub invariant_of-self-clause-out : goal.invariant_of-self-clause-out
 invariant_of-self-clause-out g c =

@@ -1,5 +1,6 @@
 use Rattle.std.proofs.Common.{ap, ◌∙◌}
 use Rattle.lock_world.specs.Account.{Account}
+use Rattle.shared_rule.specs.Todos.{todo_attempted}
 use Rattle.shared_rule.proofs.Idle.{lists-told, idle-still}
 use Rattle.shared_rule.proofs.one_thread.OneThreadBoard.take_part.Goals as goal
 
@@ -12,4 +13,4 @@ invariant_of-self-clause-lone g c = c.take_part.ensures.led.lone c.args.self.now
 pub invariant_of-self-clause-idle : goal.invariant_of-self-clause-idle
 invariant_of-self-clause-idle g c =
     idle-still g.T.PartTable.content c.args.self.now.place.me.0.sessions c.take_part.new.place.me.0.sessions
-    (ap (λ (a : Account). a.lists) c.take_part.ensures.led.account) c.args.self.now.idle
+    (ap (λ (a : Account). a.lists) c.take_part.ensures.led.account) (c.take_part.ensures.led.todo ∙ ap todo_attempted c.args.self.now.idle.free) c.args.self.now.idle

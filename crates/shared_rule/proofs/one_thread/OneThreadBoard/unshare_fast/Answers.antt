@@ -13,7 +13,7 @@ invariant_of-self-clause-lone g c = c.unshare_fast.ensures.led.lone c.args.self.
 pub invariant_of-self-clause-idle : goal.invariant_of-self-clause-idle
 invariant_of-self-clause-idle g c =
     idle-still g.T.PartTable.content c.args.self.now.place.me.0.sessions c.unshare_fast.new.place.me.0.sessions
-    (ap (λ (a : Account). a.lists) c.unshare_fast.ensures.led.account) c.args.self.now.idle
+    (ap (λ (a : Account). a.lists) c.unshare_fast.ensures.led.account) (c.unshare_fast.ensures.led.todo ∙ c.args.self.now.idle.free) c.args.self.now.idle
 
 pub invariant_of-self-clause-out : goal.invariant_of-self-clause-out
 invariant_of-self-clause-out g c =

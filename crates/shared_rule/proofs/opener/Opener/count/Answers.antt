@@ -7,7 +7,7 @@ use Rattle.shared_rule.specs.Gatherings.{NoneWaits, AreAll, gathered_in}
 use Rattle.shared_rule.specs.Openers.{OpenerState}
 use Rattle.shared_rule.specs.Plays.{HasGroups, HasSession, IsSized}
 use Rattle.lock_world.specs.Account.{Account}
-use Rattle.shared_rule.proofs.Idle.{idle-further}
+use Rattle.shared_rule.proofs.Idle.{idle-further, first-idle, first-free, lists-told}
 use Rattle.shared_rule.proofs.AuditSums.{counts-all, has-first, are-all}
 use Rattle.shared_rule.proofs.opener.Opener.count.Goals as goal
 
@@ -75,3 +75,13 @@ invariant_of-self-2 g c =
           (idle-further content v0 v1 seen.further (ap (λ (a : Account). a.lists) seen.account) c.self.invariant.4),
       subst (λ (t : TableId). HasGroups t c.self.inside.sizes.groups) (sym (c.count_from.ensures.seat.table_id ∙ c.count_counters-strong.ensures.seat.table_id)) c.self.invariant.5,
     )
+
+pub count_from-requires-clause-idle : goal.count_from-requires-clause-idle
+count_from-requires-clause-idle g c =
+    let content = g.T.PartTable.content in
+    ap (λ (a : Account). a.lists) c.count_counters-strong.ensures.seen.account
+    ∙ lists-told content c.self.inside.place.me.0.sessions ∙ first-idle c.self.inside.place.me.0.sessions c.self.invariant.4
+
+pub count_from-requires-clause-todo : goal.count_from-requires-clause-todo
+count_from-requires-clause-todo g c =
+    c.count_counters-strong.ensures.seen.further.free (first-free c.self.inside.place.me.0.sessions c.self.invariant.4)

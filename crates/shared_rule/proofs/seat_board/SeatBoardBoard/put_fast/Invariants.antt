@@ -2,4 +2,4 @@ use Rattle.shared_rule.specs.Marks.{PutFast}
 use Rattle.shared_rule.proofs.seat_board.SeatBoardBoard.put_fast.Given as goal
 
 abbrev pub ghosts-put_fast : goal.ghosts-put_fast
-ghosts-put_fast g a = record { mark = λ _. PutFast a.owner }
+ghosts-put_fast g a = record { mark = PutFast a.owner }

@@ -17,4 +17,4 @@ invariant_of-self-clause-idle g c =
     let after = c.try_take_fast.new.place in
     idle-still g.T.PartTable.content before.me.0.sessions after.me.0.sessions
     (tries-lists _ _ (account_at g.T.PartTable.content before) c.try_take_fast.result (account_at g.T.PartTable.content after)
-    c.try_take_fast.ensures.tried) c.args.self.now.idle
+    c.try_take_fast.ensures.tried) c.try_take_fast.ensures.todo c.args.self.now.idle

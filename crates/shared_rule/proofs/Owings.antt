@@ -1,0 +1,448 @@
+use Rattle.std.proofs.Common.{◌≡◌, ◌≢◌, ◌⊎◌, ℕ, ◌+◌, ◌*◌, ◌/◌, ◌%◌, ◌^◌, ◌-◌, ◌<◌, arith, Bool, true, false, not, List, [], Option, Some, None, refl, sym, ap, ◌∙◌, subst, inl, inr}
+use Rattle.std.specs.Prelude.{◌==◌, ◌&&◌, is_some, if◌then◌else◌}
+use Rattle.std.proofs.lemmas.Bool.{cases_Bool, both_ways, cond-true, cond-false, eq-eqb, eqb-true, false≢true}
+use Rattle.lw_word.specs.declared.words.LwMode.{LwMode}
+use Rattle.lw_word.specs.declared.words.LwMode.TheVariants.{Exclusive, Shared}
+use Rattle.lw_word.specs.declared.wait_lists.LwWaiter.{LwWaiter}
+use Rattle.lw_word.specs.LightweightWord.{IsHeldExclusively, shared_count, put_word, unshared_word}
+use Rattle.lw_word.specs.LockState.{LockState, state_of, put_in, must_wake, amount_of}
+use Rattle.lw_word.specs.WaitList.{stands_in}
+use Rattle.lw_word.proofs.StateLemmas.{state_of-put}
+use Rattle.modes_core.specs.declared.modes.Mode.{Mode}
+use Rattle.modes_core.specs.declared.tags.Tag.{Tag}
+use Rattle.lock_table.specs.declared.moves.Move.{Move}
+use Rattle.lock_table.specs.Content.{Content}
+use Rattle.lock_table.specs.Put.{set_at}
+use Rattle.lock_table.proofs.PutLemmas.{set_at-here, set_at-else}
+use Rattle.lock_world.specs.declared.events.Step.{Step}
+use Rattle.lock_world.specs.declared.events.Step.TheVariants.{TakeExclusive, PutExclusive, TakeShared, PutShared, SplitSeat, JoinSeat, AskCancel, LoadWait, SetWaiting, MarkGranted, ClearWait, PutPassing, LoadStrong, LoadWord, SetSlot, ClearSlot, StoreDatabase, Count, Uncount, TransferSlot, LockList, UnlockList, JoinList, LeaveList, TakeOff, Tell, LoadSleep, SetReleaseOk, SetHasWaiters}
+use Rattle.lock_world.specs.declared.events.Word.{Word}
+use Rattle.lock_world.specs.declared.events.Word.TheVariants.{Partition, Fast}
+use Rattle.lock_world.specs.Safe.{is_hand_of}
+use Rattle.lock_world.specs.World.{World, Hand, word_in}
+use Rattle.lock_world.specs.WaitLists.{partition_lock, fast_lock}
+use Rattle.lock_world.specs.SafeWorld.{SafeWorld}
+use Rattle.lock_world.specs.Account.{Account, ListAccount, ListInHand, account, own_hand, list_in_hand, known_slots}
+use Rattle.lock_world.specs.Happens.{HappensStep}
+use Rattle.lock_world.specs.Wakes.{MakesNoStep, Beside, Turn, happened, saw_list_locked, saw_held}
+use Rattle.lock_world.specs.Wakes.Waking.{NobodyIsForgotten, TellsNobody, NoneOr, IsLeftWell, HasLock}
+use Rattle.lock_world.specs.Wakes.Waking as waking_of
+use Rattle.lock_world.specs.Wakes.Owing.{Duties, waking, lock_bit, lock_row, HasIn, lock_of, is_lock, look_due, after_putting, after_setting_ok, ok_set_as_owed, ok_set_before_told, ok_set_by_told, ok_set_by_winner, duties_after, AsksTaking, AsksLocking, AsksUnlocking, AsksJoining, AsksSettingOk, HasNothingToDo, Asks}
+use Rattle.lock_world.specs.Wakes.Calling.{Calls, no_calls}
+use Rattle.lock_world.proofs.Wakes.Rows.{even-bit, odd-bit}
+use Rattle.shared_rule.specs.declared.lw_lock.LwLock.{LwLock}
+use Rattle.shared_rule.specs.declared.lw_lock.LwLock.TheVariants.{OfPart, OfSlots}
+use Rattle.shared_rule.specs.LwLocks.{word_of_lock, lock_number}
+use Rattle.shared_rule.specs.History.{list_here}
+use Rattle.shared_rule.specs.Ruled.{todo_of}
+use Rattle.shared_rule.specs.Todos.{Todo, nothing_to_do, todo_attempted, todo_looked, todo_putting, todo_queueing, todo_leaving, todo_told, todo_setting_ok, is_off_list_in_hand, lock_of_list, HasBy, IsLeftWellBy, nobody_waits, took_off, still_has, tries_next, TellsNobodyBy}
+
+-- What a session's step asks, from what the session has to do and knows; and what its step makes of that.
+
+-- A step keeps to what is owed: the session, with this to do, may make it, and has that to do then.
+pub record KeepsOwed (w : World) (number : ℕ) (todo : Todo) (flagged : Bool) (next : Todo) (next_flagged : Bool) (step : Step) : Type 0 where
+  pub asks : (x : Duties) → todo ≡ todo_of x number → flagged ≡ x.flagged number → Asks w x no_calls no_calls number step
+  pub todo_ : (x : Duties) → todo ≡ todo_of x number → next ≡ todo_of (duties_after w x number step) number
+  pub flagged_ : (x : Duties) → flagged ≡ x.flagged number → next_flagged ≡ (duties_after w x number step).flagged number
+
+-- The duties of all others stay.
+module _ (w : World) (x : Duties) (s k : ℕ) (other : k ≢ s) where
+  setting-others : (lock : ℕ) → todo_of (after_setting_ok w x s lock) k ≡ todo_of x k
+  setting-others lock = elim (cases_Bool (is_lock (x.owes_release_ok s) lock)) [
+    | inr free ↦ ap at (cond-false (is_lock (x.owes_release_ok s) lock) (ok_set_as_owed w x s lock) x free)
+    | inl owed ↦ ap at (cond-true (is_lock (x.owes_release_ok s) lock) (ok_set_as_owed w x s lock) x owed) ∙ elim (cases_Bool (not (is_some (w.sessions.stands s)))) [
+      | inl told ↦ ap at (cond-true (not (is_some (w.sessions.stands s))) (ok_set_by_told x s lock) (ok_set_before_told w x s lock) told)
+          ∙ (λ i. record { due = x.due k; tries = set_at-else x.tries s (Some lock) k other i; owes_release_ok = set_at-else x.owes_release_ok s None k other i })
+      | inr stands ↦ ap at (cond-false (not (is_some (w.sessions.stands s))) (ok_set_by_told x s lock) (ok_set_before_told w x s lock) stands) ∙ elim (cases_Bool won) [
+        | inl got ↦ ap at (cond-true won (ok_set_by_winner x s) x got) ∙ (λ i. record { due = x.due k; tries = x.tries k; owes_release_ok = set_at-else x.owes_release_ok s None k other i })
+        | inr not_got ↦ ap at (cond-false won (ok_set_by_winner x s) x not_got)
+      ]
+    ]
+  ] where
+    at : Duties → Todo
+    at y = todo_of y k
+
+    won : Bool
+    won = is_lock (w.sessions.has_list s) lock && not (stands_in s (w.words.list lock))
+
+  setting-flags : (lock : ℕ) → (after_setting_ok w x s lock).flagged ≡ x.flagged
+  setting-flags lock = elim (cases_Bool (is_lock (x.owes_release_ok s) lock)) [
+    | inr free ↦ ap of (cond-false (is_lock (x.owes_release_ok s) lock) (ok_set_as_owed w x s lock) x free)
+    | inl owed ↦ ap of (cond-true (is_lock (x.owes_release_ok s) lock) (ok_set_as_owed w x s lock) x owed) ∙ elim (cases_Bool (not (is_some (w.sessions.stands s)))) [
+      | inl told ↦ ap of (cond-true (not (is_some (w.sessions.stands s))) (ok_set_by_told x s lock) (ok_set_before_told w x s lock) told)
+      | inr stands ↦ ap of (cond-false (not (is_some (w.sessions.stands s))) (ok_set_by_told x s lock) (ok_set_before_told w x s lock) stands) ∙ elim (cases_Bool won) [
+        | inl got ↦ ap of (cond-true won (ok_set_by_winner x s) x got)
+        | inr not_got ↦ ap of (cond-false won (ok_set_by_winner x s) x not_got)
+      ]
+    ]
+  ] where
+    of : Duties → ℕ → Bool
+    of y = y.flagged
+
+    won : Bool
+    won = is_lock (w.sessions.has_list s) lock && not (stands_in s (w.words.list lock))
+
+  pub due-others : (its : Option ℕ) → todo_of (record x { due = set_at x.due s its }) k ≡ todo_of x k
+  due-others its = λ i. record { due = set_at-else x.due s its k other i; tries = x.tries k; owes_release_ok = x.owes_release_ok k }
+
+  pub tries-others : (its : Option ℕ) → todo_of (record x { tries = set_at x.tries s its }) k ≡ todo_of x k
+  tries-others its = λ i. record { due = x.due k; tries = set_at-else x.tries s its k other i; owes_release_ok = x.owes_release_ok k }
+
+  pub todo-others : (step : Step) → todo_of (duties_after w x s step) k ≡ todo_of x k
+  todo-others (TakeExclusive word) = tries-others None
+  todo-others (PutExclusive word done) = due-others _
+  todo-others (TakeShared word) = tries-others None
+  todo-others (PutShared word) = due-others _
+  todo-others SplitSeat = refl
+  todo-others (JoinSeat joiner) = refl
+  todo-others (AskCancel o) = refl
+  todo-others (LoadWait n) = refl
+  todo-others (SetWaiting t m) = refl
+  todo-others (MarkGranted o done) = refl
+  todo-others (ClearWait leaving) = refl
+  todo-others (PutPassing o t m) = due-others _
+  todo-others (LoadStrong i n) = refl
+  todo-others (LoadWord word n) = refl
+  todo-others (SetSlot i t m) = refl
+  todo-others (ClearSlot i t m) = refl
+  todo-others (StoreDatabase d) = refl
+  todo-others (Count t m) = refl
+  todo-others (Uncount t m) = refl
+  todo-others (TransferSlot q i t m z) = refl
+  todo-others (LockList word) = due-others None
+  todo-others (UnlockList word waiters release) = refl
+  todo-others (JoinList mode) = λ i. record {
+    due = x.due k;
+    tries = set_at-else x.tries s (w.sessions.has_list s) k other i;
+    owes_release_ok = set_at-else x.owes_release_ok s (w.sessions.has_list s) k other i;
+  }
+  todo-others LeaveList = λ i. record { due = x.due k; tries = x.tries k; owes_release_ok = set_at-else x.owes_release_ok s None k other i }
+  todo-others (TakeOff o) = refl
+  todo-others (Tell o) = refl
+  todo-others (LoadSleep n) = refl
+  todo-others (SetReleaseOk word n) = setting-others (lock_of word)
+  todo-others (SetHasWaiters word n) = refl
+
+  pub flagged-others : (step : Step) → (duties_after w x s step).flagged k ≡ x.flagged k
+  flagged-others (TakeExclusive word) = refl
+  flagged-others (PutExclusive word done) = refl
+  flagged-others (TakeShared word) = refl
+  flagged-others (PutShared word) = refl
+  flagged-others SplitSeat = refl
+  flagged-others (JoinSeat joiner) = refl
+  flagged-others (AskCancel o) = refl
+  flagged-others (LoadWait n) = refl
+  flagged-others (SetWaiting t m) = refl
+  flagged-others (MarkGranted o done) = refl
+  flagged-others (ClearWait leaving) = refl
+  flagged-others (PutPassing o t m) = refl
+  flagged-others (LoadStrong i n) = refl
+  flagged-others (LoadWord word n) = refl
+  flagged-others (SetSlot i t m) = refl
+  flagged-others (ClearSlot i t m) = refl
+  flagged-others (StoreDatabase d) = refl
+  flagged-others (Count t m) = refl
+  flagged-others (Uncount t m) = refl
+  flagged-others (TransferSlot q i t m z) = refl
+  flagged-others (LockList word) = set_at-else x.flagged s false k other
+  flagged-others (UnlockList word waiters release) = refl
+  flagged-others (JoinList mode) = refl
+  flagged-others LeaveList = refl
+  flagged-others (TakeOff o) = refl
+  flagged-others (Tell o) = refl
+  flagged-others (LoadSleep n) = refl
+  flagged-others (SetReleaseOk word n) = ap (λ (f : ℕ → Bool). f k) (setting-flags (lock_of word))
+  flagged-others (SetHasWaiters word n) = set_at-else x.flagged s true k other
+
+-- Attempts, puts and looks, by the part of the duties that each changes.
+module _ (x : Duties) (number : ℕ) (todo : Todo) (is : todo ≡ todo_of x number) where
+  pub due-here : (its : Option ℕ) → record todo { due = its } ≡ todo_of (record x { due = set_at x.due number its }) number
+  due-here its = λ i. record { due = sym (set_at-here x.due number its number refl) i; tries = ap (λ (t : Todo). t.tries) is i; owes_release_ok = ap (λ (t : Todo). t.owes_release_ok) is i }
+
+  pub tries-here : (its : Option ℕ) → record todo { tries = its } ≡ todo_of (record x { tries = set_at x.tries number its }) number
+  tries-here its = λ i. record { due = ap (λ (t : Todo). t.due) is i; tries = sym (set_at-here x.tries number its number refl) i; owes_release_ok = ap (λ (t : Todo). t.owes_release_ok) is i }
+
+  owes-here : (its : Option ℕ) → record todo { owes_release_ok = its } ≡ todo_of (record x { owes_release_ok = set_at x.owes_release_ok number its }) number
+  owes-here its = λ i. record { due = ap (λ (t : Todo). t.due) is i; tries = ap (λ (t : Todo). t.tries) is i; owes_release_ok = sym (set_at-here x.owes_release_ok number its number refl) i }
+
+  both-here : (its other : Option ℕ) → record todo { tries = its; owes_release_ok = other } ≡ todo_of (record x { tries = set_at x.tries number its; owes_release_ok = set_at x.owes_release_ok number other }) number
+  both-here its other = λ i. record {
+    due = ap (λ (t : Todo). t.due) is i;
+    tries = sym (set_at-here x.tries number its number refl) i;
+    owes_release_ok = sym (set_at-here x.owes_release_ok number other number refl) i;
+  }
+
+-- What a put leaves to do.
+pub put-exclusive : (word found : ℕ) → found ≡ word → IsHeldExclusively word → put_in Exclusive (state_of found) ≡ state_of (put_word word)
+put-exclusive word found is held = ap (λ n. put_in Exclusive (state_of n)) is ∙ sym (state_of-put Exclusive word (eq-eqb (word / 2 ^ 24 % 2) 1 held))
+
+pub put-shared : (word found : ℕ) → found ≡ word → 0 < shared_count word → put_in Shared (state_of found) ≡ state_of (unshared_word word)
+put-shared word found is some = ap (λ n. put_in Shared (state_of n)) is ∙ sym (state_of-put Shared word some)
+
+module _ (w : World) (number : ℕ) (todo : Todo) (flagged : Bool) where
+  -- No lock to attempt but this one: it may be taken, or shared.
+  pub keeps-taking : (word : Word) → NoneOr todo.tries (lock_of word) → KeepsOwed w number todo flagged (todo_attempted todo) flagged (TakeExclusive word)
+  keeps-taking word none = record {
+    asks = λ x is was. subst (λ (t : Todo). NoneOr t.tries (lock_of word)) is none;
+    todo_ = λ x is. tries-here x number todo is None;
+    flagged_ = λ x was. was;
+  }
+
+  pub keeps-sharing : (word : Word) → NoneOr todo.tries (lock_of word) → KeepsOwed w number todo flagged (todo_attempted todo) flagged (TakeShared word)
+  keeps-sharing word none = record {
+    asks = λ x is was. subst (λ (t : Todo). NoneOr t.tries (lock_of word)) is none;
+    todo_ = λ x is. tries-here x number todo is None;
+    flagged_ = λ x was. was;
+  }
+
+  due-put : (lock : ℕ) (state : LockState) (word : ℕ) → state ≡ state_of word → (x : Duties) → todo ≡ todo_of x number → todo_putting todo lock state ≡ todo_of (after_putting x number lock word) number
+  due-put lock state word same x is =
+      ap (todo_putting todo lock) same ∙ due-here x number todo is (look_due lock word)
+
+  -- No look is due: a lock may be put.
+  pub keeps-putting : (word : Word) (done : Move) (state : LockState) → state ≡ state_of (put_word (word_in w.words word)) → todo.due ≡ None
+      → KeepsOwed w number todo flagged (todo_putting todo (lock_of word) state) flagged (PutExclusive word done)
+  keeps-putting word done state same none = record {
+    asks = λ x is was. sym (ap (λ (t : Todo). t.due) is) ∙ none;
+    todo_ = λ x is. due-put (lock_of word) state (put_word (word_in w.words word)) same x is;
+    flagged_ = λ x was. was;
+  }
+
+  pub keeps-unsharing : (word : Word) (state : LockState) → state ≡ state_of (unshared_word (word_in w.words word)) → todo.due ≡ None
+      → KeepsOwed w number todo flagged (todo_putting todo (lock_of word) state) flagged (PutShared word)
+  keeps-unsharing word state same none = record {
+    asks = λ x is was. sym (ap (λ (t : Todo). t.due) is) ∙ none;
+    todo_ = λ x is. due-put (lock_of word) state (unshared_word (word_in w.words word)) same x is;
+    flagged_ = λ x was. was;
+  }
+
+  pub keeps-passing : (owner : ℕ) (tag : Tag) (mode : Mode) (state : LockState) → state ≡ state_of (put_word (w.words.fast owner)) → todo.due ≡ None
+      → KeepsOwed w number todo flagged (todo_putting todo (fast_lock owner) state) flagged (PutPassing owner tag mode)
+  keeps-passing owner tag mode state same none = record {
+    asks = λ x is was. sym (ap (λ (t : Todo). t.due) is) ∙ none;
+    todo_ = λ x is. due-put (fast_lock owner) state (put_word (w.words.fast owner)) same x is;
+    flagged_ = λ x was. was;
+  }
+
+  -- Lists.
+  pub keeps-locking : (word : Word) → NoneOr todo.due (lock_of word) → TellsNobody w.sessions.off number → KeepsOwed w number todo flagged (todo_looked todo) false (LockList word)
+  keeps-locking word none nobody = record {
+    asks = λ x is was. record { no_other = subst (λ (t : Todo). NoneOr t.due (lock_of word)) is none; tells_nobody = nobody };
+    todo_ = λ x is. due-here x number todo is None;
+    flagged_ = λ x was. sym (set_at-here x.flagged number false number refl);
+  }
+
+  pub keeps-joining : (mode : LwMode) (its : Option ℕ) → its ≡ w.sessions.has_list number → flagged ≡ true → todo.owes_release_ok ≡ None
+      → ((lock : ℕ) → w.sessions.has_list number ≡ Some lock → NoneOr todo.tries lock) → KeepsOwed w number todo flagged (todo_queueing todo its) flagged (JoinList mode)
+  keeps-joining mode its same set none no_other = record {
+    asks = λ x is was. record {
+      flagged = sym was ∙ set;
+      owes_no_ok = sym (ap (λ (t : Todo). t.owes_release_ok) is) ∙ none;
+      no_other = λ lock has. subst (λ (t : Todo). NoneOr t.tries lock) is (no_other lock has);
+    };
+    todo_ = λ x is. ap (todo_queueing todo) same ∙ both-here x number todo is (w.sessions.has_list number) (w.sessions.has_list number);
+    flagged_ = λ x was. was;
+  }
+
+  pub keeps-leaving : KeepsOwed w number todo flagged (todo_leaving todo) flagged LeaveList
+  keeps-leaving = record { asks = λ x is was. tt; todo_ = λ x is. owes-here x number todo is None; flagged_ = λ x was. was }
+
+  pub keeps-flagging : (word : Word) (shown : ℕ) → KeepsOwed w number todo flagged todo true (SetHasWaiters word shown)
+  keeps-flagging word shown = record { asks = λ x is was. tt; todo_ = λ x is. is; flagged_ = λ x was. sym (set_at-here x.flagged number true number refl) }
+
+-- What the account has of lists and locks is so in the World.
+pub lock-in_hand : (has : Option ℕ) (list : ℕ → List LwWaiter) → lock_of_list (list_in_hand has list) ≡ has
+lock-in_hand None list = refl
+lock-in_hand (Some lock) list = refl
+
+off-in_hand : (number : ℕ) (has : Option ℕ) (list : ℕ → List LwWaiter) (lock : ℕ)
+    → is_off_list_in_hand number (list_in_hand has list) lock ≡ (is_lock has lock && not (stands_in number (list lock)))
+off-in_hand number None list lock = refl
+off-in_hand number (Some its) list lock = elim (cases_Bool (its == lock)) [
+  | inl same ↦ ap (λ l. (its == lock) && not (stands_in number (list l))) (eqb-true its lock same)
+  | inr other ↦ ap (λ b. b && not (stands_in number (list its))) other ∙ sym (ap (λ b. b && not (stands_in number (list lock))) other)
+]
+
+-- Release-ok.
+module _ (w : World) (number : ℕ) (a : Account) (todo : Todo) (flagged : Bool) (shows : a ≡ account w number) where
+  lists_are : a.lists ≡ (account w number).lists
+  lists_are = ap (λ (b : Account). b.lists) shows
+
+  setting-is : (x : Duties) (lock : ℕ) → todo ≡ todo_of x number → todo_setting_ok number a.lists todo lock ≡ todo_of (after_setting_ok w x number lock) number
+  setting-is x lock is = (λ i. todo_setting_ok number (lists_are i) todo lock) ∙ elim (cases_Bool owed) [
+    | inr free ↦ cond-false owed (if not (is_some (w.sessions.stands number)) then todo_told todo lock else (if off then todo_leaving todo else todo)) todo free
+        ∙ is ∙ ap at (sym (cond-false (is_lock (x.owes_release_ok number) lock) (ok_set_as_owed w x number lock) x (sym same ∙ free)))
+    | inl owes ↦ cond-true owed (if not (is_some (w.sessions.stands number)) then todo_told todo lock else (if off then todo_leaving todo else todo)) todo owes
+        ∙ elim (cases_Bool (not (is_some (w.sessions.stands number)))) [
+          | inl told ↦ cond-true (not (is_some (w.sessions.stands number))) (todo_told todo lock) (if off then todo_leaving todo else todo) told
+              ∙ both-here x number todo is (Some lock) None
+              ∙ ap at (sym (cond-true (not (is_some (w.sessions.stands number))) (ok_set_by_told x number lock) (ok_set_before_told w x number lock) told))
+          | inr stands ↦ cond-false (not (is_some (w.sessions.stands number))) (todo_told todo lock) (if off then todo_leaving todo else todo) stands
+              ∙ elim (cases_Bool off) [
+                | inl won ↦ cond-true off (todo_leaving todo) todo won ∙ owes-here x number todo is None
+                    ∙ ap at (sym (cond-true won_ (ok_set_by_winner x number) x (sym its ∙ won)))
+                | inr lost ↦ cond-false off (todo_leaving todo) todo lost ∙ is
+                    ∙ ap at (sym (cond-false won_ (ok_set_by_winner x number) x (sym its ∙ lost)))
+              ]
+              ∙ ap at (sym (cond-false (not (is_some (w.sessions.stands number))) (ok_set_by_told x number lock) (ok_set_before_told w x number lock) stands))
+        ]
+        ∙ ap at (sym (cond-true (is_lock (x.owes_release_ok number) lock) (ok_set_as_owed w x number lock) x (sym same ∙ owes)))
+  ] where
+    at : Duties → Todo
+    at y = todo_of y number
+
+    owed : Bool
+    owed = is_lock todo.owes_release_ok lock
+
+    same : owed ≡ is_lock (x.owes_release_ok number) lock
+    same = ap (λ (t : Todo). is_lock t.owes_release_ok lock) is
+
+    off : Bool
+    off = is_off_list_in_hand number (list_in_hand (w.sessions.has_list number) w.words.list) lock
+
+    won_ : Bool
+    won_ = is_lock (w.sessions.has_list number) lock && not (stands_in number (w.words.list lock))
+
+    its : off ≡ won_
+    its = off-in_hand number (w.sessions.has_list number) w.words.list lock
+
+  some-list : (lock : ℕ) → w.sessions.has_list number ≡ Some lock → a.lists.in_hand ≢ None
+  some-list lock has none =
+      let never : ◌≡◌ {A = Option ListInHand} None (Some (record { lock = lock; waiters = w.words.list lock })) =
+      sym none ∙ ap (λ (l : ListAccount). l.in_hand) lists_are ∙ ap (λ its. list_in_hand its w.words.list) has in cc (never)
+
+  pub keeps-setting_ok : (word : Word) (shown lock : ℕ) → lock_of word ≡ lock → (todo.owes_release_ok ≡ Some lock → a.lists.stands ≡ None → NoneOr todo.tries lock)
+      → (todo.owes_release_ok ≡ Some lock → a.lists.in_hand ≢ None → TellsNobodyBy a)
+      → KeepsOwed w number todo flagged (todo_setting_ok number a.lists todo lock) flagged (SetReleaseOk word shown)
+  keeps-setting_ok word shown lock its no_other nobody = subst (λ l. KeepsOwed w number todo flagged (todo_setting_ok number a.lists todo l) flagged (SetReleaseOk word shown)) its (record {
+    asks = λ x is was. record {
+      no_other = λ owes stands. subst (λ (t : Todo). NoneOr t.tries (lock_of word)) is
+          (subst (NoneOr todo.tries) (sym its) (no_other (ap (λ (t : Todo). t.owes_release_ok) is ∙ owes ∙ ap Some its) (ap (λ (l : ListAccount). l.stands) lists_are ∙ stands)));
+      tells_nobody = λ owes has other. sym (ap (λ (l : ListAccount). l.off other) lists_are)
+          ∙ nobody (ap (λ (t : Todo). t.owes_release_ok) is ∙ owes ∙ ap Some its) (some-list (lock_of word) has) other;
+    };
+    todo_ = λ x is. setting-is x (lock_of word) is;
+    flagged_ = λ x was. was ∙ sym (kept x (lock_of word));
+  }) where
+    kept : (x : Duties) (l : ℕ) → (after_setting_ok w x number l).flagged number ≡ x.flagged number
+    kept x l = elim (cases_Bool (is_lock (x.owes_release_ok number) l)) [
+      | inr free ↦ ap of (cond-false (is_lock (x.owes_release_ok number) l) (ok_set_as_owed w x number l) x free)
+      | inl owed ↦ ap of (cond-true (is_lock (x.owes_release_ok number) l) (ok_set_as_owed w x number l) x owed) ∙ elim (cases_Bool (not (is_some (w.sessions.stands number)))) [
+        | inl told ↦ ap of (cond-true (not (is_some (w.sessions.stands number))) (ok_set_by_told x number l) (ok_set_before_told w x number l) told)
+        | inr stands ↦ ap of (cond-false (not (is_some (w.sessions.stands number))) (ok_set_by_told x number l) (ok_set_before_told w x number l) stands) ∙ elim (cases_Bool (won l)) [
+          | inl got ↦ ap of (cond-true (won l) (ok_set_by_winner x number) x got)
+          | inr not_got ↦ ap of (cond-false (won l) (ok_set_by_winner x number) x not_got)
+        ]
+      ]
+    ] where
+      of : Duties → Bool
+      of y = y.flagged number
+
+      won : ℕ → Bool
+      won j = is_lock (w.sessions.has_list number) j && not (stands_in number (w.words.list j))
+
+-- What the account has of locks the session has.
+if-some : {A : Type 0} (b : Bool) (x : A) → is_some (if b then Some x else None) ≡ b
+if-some true x = refl
+if-some false x = refl
+
+own-hand : (hand : Option Hand) (now : Content) (k : ℕ) → is_some (own_hand hand now k) ≡ is_hand_of hand k
+own-hand None now k = refl
+own-hand (Some h) now k = if-some (h.holder == k) (record { taken = h.taken; now = now; recorded = h.recorded; unmarked = h.unmarked })
+
+known : (has : Bool) (database : ℕ) (slot : ℕ → ℕ) → is_some (known_slots has database slot) ≡ has
+known has database slot = if-some has _
+
+even-lock : (partition fast : ℕ → Bool) (p : ℕ) → lock_bit partition fast (partition_lock p) ≡ partition p
+even-lock partition fast p = even-bit partition fast (2 * p) (omega arith) ∙ ap partition (let half : 2 * p / 2 ≡ p = omega arith in half)
+
+odd-lock : (partition fast : ℕ → Bool) (o : ℕ) → lock_bit partition fast (fast_lock o) ≡ fast o
+odd-lock partition fast o = odd-bit partition fast (2 * o + 1) (λ even. omega (arith, even)) ∙ ap fast (let half : (2 * o + 1) / 2 ≡ o = omega arith in half)
+
+pub lock-is : (l : LwLock) → lock_of (word_of_lock l) ≡ lock_number l
+lock-is (OfPart p) = refl
+lock-is (OfSlots o) = refl
+
+module _ (w : World) (number : ℕ) (a : Account) (shows : a ≡ account w number) (safe : SafeWorld w) where
+  pub has-lock : (x : Duties) (l : LwLock) → HasBy a l → HasLock (waking w x) number (lock_number l)
+  has-lock x (OfPart p) (inl has) =
+      inl (even-lock (w.sessions.holds_partition number) (w.sessions.holds_fast number) p ∙ safe.but_slots.table.carriers.hands p number
+      ∙ sym (own-hand (w.contents.hand p) (w.contents.now p) number) ∙ ap (λ (b : Account). is_some (b.hand p)) (sym shows) ∙ has)
+  has-lock x (OfPart p) (inr has) =
+      inr (even-lock (w.sessions.shares_partition number) (w.sessions.shares_fast number) p ∙ ap (λ (b : Account). b.shares p) (sym shows) ∙ has)
+  has-lock x (OfSlots o) (inl has) =
+      inl (odd-lock (w.sessions.holds_partition number) (w.sessions.holds_fast number) o
+      ∙ sym (known (w.sessions.holds_fast number o) (w.words.database o) (w.words.slot o)) ∙ ap (λ (b : Account). is_some (b.fast.slots o)) (sym shows) ∙ has)
+  has-lock x (OfSlots o) (inr has) =
+      inr (odd-lock (w.sessions.shares_partition number) (w.sessions.shares_fast number) o
+      ∙ sym (known (w.sessions.shares_fast number o) (w.words.database o) (w.words.slot o)) ∙ ap (λ (b : Account). is_some (b.fast.shared_slots o)) (sym shows) ∙ has)
+
+  off-told : (other : ℕ) → a.lists.off other ≡ true → w.sessions.off number other ≡ true
+  off-told other off = ap (λ (b : Account). b.lists.off other) (sym shows) ∙ off
+
+  pub tells-told : TellsNobodyBy a → TellsNobody w.sessions.off number
+  tells-told nobody other = ap (λ (b : Account). b.lists.off other) (sym shows) ∙ nobody other
+
+  left-well : (x : Duties) (todo : Todo) (l : LwLock) (waiters : List LwWaiter) → todo ≡ todo_of x number → w.words.list (lock_number l) ≡ waiters → IsLeftWellBy a todo l waiters
+      → IsLeftWell (waking w x) (lock_number l) number
+  left-well x todo l waiters is list (nobody_waits none) = waking_of.nobody_waits (list ∙ none)
+  left-well x todo l waiters is list (took_off other off) = waking_of.took_off other (off-told other off)
+  left-well x todo l waiters is list (still_has has) = waking_of.still_has (has-lock x l has)
+  left-well x todo l waiters is list (tries_next tries) = waking_of.tries_next (sym (ap (λ (t : Todo). t.tries) is) ∙ tries)
+
+  -- Unlocking a list.
+  pub keeps-unlocking : (todo : Todo) (flagged : Bool) (l : LwLock) (has_waiters release_ok : Bool) (waiters : List LwWaiter) → w.words.list (lock_number l) ≡ waiters
+      → (has_waiters ≡ false → waiters ≡ []) → (release_ok ≡ false → (other : ℕ) × (a.lists.off other ≡ true)) → IsLeftWellBy a todo l waiters
+      → KeepsOwed w number todo flagged todo flagged (UnlockList (word_of_lock l) has_waiters release_ok)
+  keeps-unlocking todo flagged l has_waiters release_ok waiters list waiters_stay release_stays well = record {
+    asks = λ x is was. subst (λ n. AsksUnlocking w x number n has_waiters release_ok) (sym (lock-is l)) (record {
+      waiters_stay = elim (cases_Bool has_waiters) [
+        | inl stay ↦ inl stay
+        | inr go ↦ inr (list ∙ waiters_stay go)
+      ];
+      release_stays = elim (cases_Bool release_ok) [
+        | inl stay ↦ inl stay
+        | inr go ↦ let off = release_stays go in inr (off.0, off-told off.0 off.1)
+      ];
+      left_well = left-well x todo l waiters is list well;
+    });
+    todo_ = λ x is. is;
+    flagged_ = λ x was. was;
+  }
+
+-- A session without a lock, with no list in hand and nothing to do has nothing left.
+none-row : (partition fast : ℕ → Bool) → ((p : ℕ) → partition p ≡ false) → ((o : ℕ) → fast o ≡ false) → (lock : ℕ) → lock_bit partition fast lock ≡ false
+none-row partition fast none clear lock = elim (cases_Bool (lock % 2 == 0)) [
+  | inl even ↦ cond-true (lock % 2 == 0) (partition (lock / 2)) (fast (lock / 2)) even ∙ none (lock / 2)
+  | inr odd ↦ cond-false (lock % 2 == 0) (partition (lock / 2)) (fast (lock / 2)) odd ∙ clear (lock / 2)
+]
+
+pub nothing-left : (w : World) (x : Duties) (k : ℕ) → ((p : ℕ) → w.sessions.holds_partition k p ≡ false) → ((o : ℕ) → w.sessions.holds_fast k o ≡ false)
+    → ((p : ℕ) → w.sessions.shares_partition k p ≡ false) → ((o : ℕ) → w.sessions.shares_fast k o ≡ false)
+    → nothing_to_do ≡ todo_of x k → w.sessions.has_list k ≡ None → TellsNobody w.sessions.off k → HasNothingToDo w x no_calls no_calls k
+nothing-left w x k no_part no_fast no_shared no_shared_fast free no_list nobody = record {
+  no_lock = λ lock has. elim has [
+    | inl held ↦ both_ways (lock_row w.sessions.holds_partition w.sessions.holds_fast k lock) (none-row (w.sessions.holds_partition k) (w.sessions.holds_fast k) no_part no_fast lock) held
+    | inr shared ↦ both_ways (lock_row w.sessions.shares_partition w.sessions.shares_fast k lock) (none-row (w.sessions.shares_partition k) (w.sessions.shares_fast k) no_shared no_shared_fast lock) shared
+  ];
+  no_look = sym (ap (λ (t : Todo). t.due) free);
+  no_try = sym (ap (λ (t : Todo). t.tries) free);
+  no_ok = sym (ap (λ (t : Todo). t.owes_release_ok) free);
+  no_list = no_list;
+  tells_nobody = nobody;
+  calls_no_waiter = λ other. refl;
+  calls_no_sleeper = λ other. refl;
+}
+
+-- Calls aside, whoever has nothing to do has it still.
+pub calls-aside : (w : World) (x : Duties) (waits sleeps : Calls) (k : ℕ) → HasNothingToDo w x waits sleeps k → HasNothingToDo w x no_calls no_calls k
+calls-aside w x waits sleeps k has = record {
+  no_lock = has.no_lock;
+  no_look = has.no_look;
+  no_try = has.no_try;
+  no_ok = has.no_ok;
+  no_list = has.no_list;
+  tells_nobody = has.tells_nobody;
+  calls_no_waiter = λ other. refl;
+  calls_no_sleeper = λ other. refl;
+}

@@ -1,0 +1,168 @@
+use Rattle.std.specs.Prelude.{◌≡◌, ◌⊎◌, ℕ, ◌&&◌, not, Bool, true, false, List, [], ◌∷◌, Option, Some, None, is_some, if◌then◌else◌}
+use Rattle.lw_word.specs.declared.words.LwMode.TheVariants.{Exclusive, Shared}
+use Rattle.lw_word.specs.LockState.{LockState, state_of, put_in, must_wake}
+use Rattle.lw_word.specs.WaitList.{stands_in}
+use Rattle.lw_word.specs.declared.wait_lists.LwWaiter.{LwWaiter}
+use Rattle.lock_table.specs.Content.{Content, empty_content}
+use Rattle.lock_world.specs.WaitLists.{partition_lock, fast_lock}
+use Rattle.lock_world.specs.Account.{Account, ListAccount, ListInHand}
+use Rattle.lock_world.specs.Wakes.Waking.{NoneOr}
+use Rattle.lock_world.specs.Wakes.Owing.{is_lock}
+use Rattle.shared_rule.specs.declared.history.Mark.{Mark}
+use Rattle.shared_rule.specs.declared.history.Mark.TheVariants.{TookPart, PutPart, OfWords}
+use Rattle.shared_rule.specs.declared.history.WordMark.{WordMark}
+use Rattle.shared_rule.specs.declared.history.WordMark.TheVariants.{TookFast, PutFast, SharedFast, UnsharedFast, Passed, LockedList, JoinedList, LeftList, SetReleaseOk, SetHasWaiters, SawListLocked, SawHeld}
+use Rattle.shared_rule.specs.declared.history.History.{History}
+use Rattle.shared_rule.specs.declared.lw_lock.LwLock.{LwLock}
+use Rattle.shared_rule.specs.declared.lw_lock.LwLock.TheVariants.{OfPart, OfSlots}
+use Rattle.shared_rule.specs.History.{told, list_here}
+use Rattle.shared_rule.specs.LwLocks.{lock_number}
+
+-- What a session has still to do for those who wait for lightweight locks, as its history tells it. `Duties` of the World's wake laws
+-- tell the same of all sessions.
+
+-- By lock numbers.
+pub record Todo : Type 0 where
+  -- the lock that it put so that it must wake, and whose list it has not looked at since
+  pub due : Option ℕ
+  -- the lock that it queued for, or came back from the list of, and has not attempted since
+  pub tries : Option ℕ
+  -- the lock whose release-ok flag it has to set once it is off the list: from its joining on
+  pub owes_release_ok : Option ℕ
+
+abbrev pub nothing_to_do : Todo
+nothing_to_do = record { due = None; tries = None; owes_release_ok = None }
+
+-- the lock was taken, or seen held; its list was looked at
+abbrev pub todo_attempted : Todo → Todo
+todo_attempted todo = record todo { tries = None }
+
+abbrev pub todo_looked : Todo → Todo
+todo_looked todo = record todo { due = None }
+
+-- a lock was put, and its word says this since
+abbrev pub todo_putting : Todo → ℕ → LockState → Todo
+todo_putting todo lock state = record todo { due = if must_wake state then Some lock else None }
+
+-- the list in hand was joined, or left
+abbrev pub todo_queueing : Todo → Option ℕ → Todo
+todo_queueing todo lock = record todo { tries = lock; owes_release_ok = lock }
+
+abbrev pub todo_leaving : Todo → Todo
+todo_leaving todo = record todo { owes_release_ok = None }
+
+-- the lock whose list is in hand
+abbrev pub lock_of_list : Option ListInHand → Option ℕ
+lock_of_list None = None
+lock_of_list (Some mine) = Some mine.lock
+
+-- Release-ok was set, by a session that owes it: it was told, and attempts the lock next; or it has the list in hand, and finds itself
+-- off it.
+abbrev pub todo_told : Todo → ℕ → Todo
+todo_told todo lock = record todo { tries = Some lock; owes_release_ok = None }
+
+abbrev pub is_off_list_in_hand : ℕ → Option ListInHand → ℕ → Bool
+is_off_list_in_hand number in_hand lock = is_lock (lock_of_list in_hand) lock && not (stands_in number (list_here in_hand).waiters)
+
+abbrev pub todo_setting_ok : ℕ → ListAccount → Todo → ℕ → Todo
+todo_setting_ok number lists todo lock =
+    if is_lock todo.owes_release_ok lock
+    then
+      (if not (is_some lists.stands)
+      then todo_told todo lock
+      else (if is_off_list_in_hand number lists.in_hand lock then todo_leaving todo else todo))
+    else todo
+
+-- What a step makes of it, of the session of this number, which knows this of lists.
+abbrev pub todo_words : ℕ → ListAccount → Todo → WordMark → Todo
+todo_words number lists todo (TookFast owner database words) = todo_attempted todo
+todo_words number lists todo (SharedFast owner database words) = todo_attempted todo
+todo_words number lists todo (PutFast owner found) = todo_putting todo (fast_lock owner) (put_in Exclusive (state_of found))
+todo_words number lists todo (UnsharedFast owner found) = todo_putting todo (fast_lock owner) (put_in Shared (state_of found))
+todo_words number lists todo (Passed owner tag mode found) = todo_putting todo (fast_lock owner) (put_in Exclusive (state_of found))
+todo_words number lists todo (LockedList lock waiters) = todo_looked todo
+todo_words number lists todo (SawListLocked lock) = todo_looked todo
+todo_words number lists todo (SawHeld lock) = todo_attempted todo
+todo_words number lists todo (JoinedList mode) = todo_queueing todo (lock_of_list lists.in_hand)
+todo_words number lists todo LeftList = todo_leaving todo
+todo_words number lists todo (SetReleaseOk lock) = todo_setting_ok number lists todo lock
+todo_words number lists todo mark = todo
+
+-- whether it has set has-waiters in the word of the list that it locked last
+abbrev pub flagged_words : Bool → WordMark → Bool
+flagged_words flagged (LockedList lock waiters) = false
+flagged_words flagged (SetHasWaiters lock) = true
+flagged_words flagged mark = flagged
+
+-- what a session knows of lists; how contents are read makes no difference
+abbrev pub no_content : {T : Type 0} → T → Content
+no_content part = empty_content
+
+module _ {T : Type 0} where
+  abbrev pub todo_noted : ℕ → ListAccount → Todo → Mark T → Todo
+  todo_noted number lists todo (TookPart part taken) = todo_attempted todo
+  todo_noted number lists todo (PutPart part done put found) =
+      todo_putting todo (partition_lock part) (put_in Exclusive (state_of found))
+  todo_noted number lists todo (OfWords step) = todo_words number lists todo step
+  todo_noted number lists todo mark = todo
+
+  abbrev pub flagged_noted : Bool → Mark T → Bool
+  flagged_noted flagged (OfWords step) = flagged_words flagged step
+  flagged_noted flagged mark = flagged
+
+  -- what these steps tell of it, the last one first
+  abbrev pub todo_told_by : ℕ → List (Mark T) → Todo
+  todo_told_by number [] = nothing_to_do
+  todo_told_by number (mark ∷ marks) = todo_noted number (told no_content number marks).lists (todo_told_by number marks) mark
+
+  abbrev pub flagged_told_by : List (Mark T) → Bool
+  flagged_told_by [] = false
+  flagged_told_by (mark ∷ marks) = flagged_noted (flagged_told_by marks) mark
+
+  -- what the session has to do that makes its steps with the seat
+  abbrev pub first_todo : List (History T) → Todo
+  first_todo [] = nothing_to_do
+  first_todo (history ∷ others) = todo_told_by history.number history.marks
+
+  abbrev pub first_flagged : List (History T) → Bool
+  first_flagged [] = false
+  first_flagged (history ∷ others) = flagged_told_by history.marks
+
+-- A session on its way to a lock has at most an attempt at it to make.
+pub record TriesAtMost (lock : ℕ) (todo : Todo) : Type 0 where
+  pub no_look : todo.due ≡ None
+  pub no_other : NoneOr todo.tries lock
+  pub no_ok : todo.owes_release_ok ≡ None
+
+-- What it has to do once it stands in the list of a lock, and once it has got the lock then, and once it was told and is back.
+abbrev pub todo_in_list : ℕ → Todo
+todo_in_list lock = record { due = None; tries = Some lock; owes_release_ok = Some lock }
+
+abbrev pub todo_got : ℕ → Todo
+todo_got lock = record { due = None; tries = None; owes_release_ok = Some lock }
+
+abbrev pub todo_back : ℕ → Todo
+todo_back lock = record { due = None; tries = Some lock; owes_release_ok = None }
+
+-- By its account the session has the lock, exclusively or shared.
+abbrev pub HasBy : Account → LwLock → Type 0
+HasBy a (OfPart part) = (is_some (a.hand part) ≡ true) ⊎ (a.shares part ≡ true)
+HasBy a (OfSlots owner) = (is_some (a.fast.slots owner) ≡ true) ⊎ (is_some (a.fast.shared_slots owner) ≡ true)
+
+-- It has nobody to tell.
+abbrev pub TellsNobodyBy : Account → Type 0
+TellsNobodyBy a = (other : ℕ) → a.lists.off other ≡ false
+
+-- Why it may unlock a list: nobody waits there, it has taken somebody off, it has the lock, or it attempts the lock next.
+pub data IsLeftWellBy (a : Account) (todo : Todo) (lock : LwLock) (waiters : List LwWaiter) : Type 0 where
+  nobody_waits : waiters ≡ [] → IsLeftWellBy a todo lock waiters
+  took_off : (other : ℕ) → a.lists.off other ≡ true → IsLeftWellBy a todo lock waiters
+  still_has : HasBy a lock → IsLeftWellBy a todo lock waiters
+  tries_next : todo.tries ≡ Some (lock_number lock) → IsLeftWellBy a todo lock waiters
+
+-- Sleeping until it is told, which is no step: the session has done first what it has to do for others.
+pub record MaySleepBy (a : Account) (todo : Todo) : Type 0 where
+  pub no_look : todo.due ≡ None
+  pub no_try : todo.tries ≡ None
+  pub no_list : a.lists.in_hand ≡ None
+  pub tells_nobody : TellsNobodyBy a
