@@ -50,12 +50,14 @@ fn add_round(events: &mut Vec<Event>, round: u32) -> Result<bool> {
     Ok(true)
 }
 
+/// The step that takes `partition`.
 fn take(partition: u8) -> Step {
     Step::TakeExclusive {
         word: Word::Partition(partition),
     }
 }
 
+/// The step that puts `partition` back, with the move `done`.
 fn put(partition: u8, done: Move) -> Step {
     Step::PutExclusive {
         word: Word::Partition(partition),

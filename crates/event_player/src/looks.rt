@@ -46,6 +46,7 @@ fn words_show(plain: &Plain, words: &mut Words) -> Option<bool> {
     Some(true)
 }
 
+/// The word of the shared table of this `kind` with the number `number`.
 fn numbered_word(kind: &str, number: u8) -> Option<Word> {
     match kind {
         "partition" => Some(Word::Partition(number)),
@@ -78,6 +79,7 @@ fn holds_in_table(plain: &Plain) -> u64 {
         .count() as u64
 }
 
+/// Whether the hold of `plain` at a place is the one that `words` say.
 fn hold_is(plain: &Plain, words: &mut Words) -> Option<bool> {
     let place = usize::from(small_number(words)?);
     let expected = Hold {
@@ -89,6 +91,7 @@ fn hold_is(plain: &Plain, words: &mut Words) -> Option<bool> {
     Some(plain.holds().get(place) == Some(&expected))
 }
 
+/// Where a hold is recorded, by the next of `words`: in the table, or in the slot of a number.
 fn spot(words: &mut Words) -> Option<Spot> {
     match words.next()? {
         "table" => Some(Spot::Table),
@@ -97,6 +100,7 @@ fn spot(words: &mut Words) -> Option<Spot> {
     }
 }
 
+/// Whether the wait of `plain` at a place is the one that `words` say.
 fn wait_is(plain: &Plain, words: &mut Words) -> Option<bool> {
     let place = usize::from(small_number(words)?);
     let session = session(words)?;
@@ -118,6 +122,7 @@ fn wait_held_is(plain: &Plain, words: &mut Words) -> Option<bool> {
     }
 }
 
+/// Whether the sleeper of `plain` at a place is the one that `words` say.
 fn sleeper_is(plain: &Plain, words: &mut Words) -> Option<bool> {
     let place = usize::from(small_number(words)?);
     let lock = small_number(words)?;

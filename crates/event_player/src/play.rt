@@ -19,9 +19,9 @@ use std::alloc::Global;
 struct Test {
     /// How many groups of slots each session has.
     groups: u8,
-    /// Those that all cases begin with.
+    /// The events that all cases begin with.
     given: Vec<Event>,
-    /// Those of the case, with the given ones.
+    /// The events of the case, after the given ones.
     events: Vec<Event>,
 }
 
@@ -63,6 +63,7 @@ pub fn play_script(rt: &(impl AllocGlobal + Print), script: &str) -> Result<bool
     Ok(is_right)
 }
 
+/// Plays `line` of a script: a step or a look of `test`, or the beginning of another test.
 fn play_line(alloc: Global, test: &mut Test, line: &str) -> Result<Played> {
     let (verb, rest) = line.split_once(' ').unwrap_or((line, ""));
     match verb {

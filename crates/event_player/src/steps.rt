@@ -1,4 +1,4 @@
-//! The steps of a script: a verb, and the words behind it.
+//! The steps of a script: a verb, and the words after it.
 
 use crate::words::{
     Words, answer, database, done, index, mode, number, session, shown, small_number, tag, word,
@@ -6,7 +6,7 @@ use crate::words::{
 use lock_world::Step;
 use lw_word::LwMode;
 
-/// The step of `verb` and the `words` behind it, or `None` where there is no such step.
+/// The step of `verb` and the `words` after it, or `None` where there is no such step.
 pub fn parse_step(verb: &str, words: &mut Words) -> Option<Step> {
     match verb {
         "opens" | "closes" | "is_kept_by" => seat_step(verb, words),
@@ -19,6 +19,7 @@ pub fn parse_step(verb: &str, words: &mut Words) -> Option<Step> {
     }
 }
 
+/// The step of `verb` on sessions' seats, with its `words`.
 fn seat_step(verb: &str, words: &mut Words) -> Option<Step> {
     match verb {
         "opens" => Some(Step::SplitSeat),
@@ -33,6 +34,7 @@ fn seat_step(verb: &str, words: &mut Words) -> Option<Step> {
     }
 }
 
+/// The step of `verb` on a lightweight lock, with its `words`.
 fn word_step(verb: &str, words: &mut Words) -> Option<Step> {
     match verb {
         "takes" => Some(Step::TakeExclusive { word: word(words)? }),
@@ -53,6 +55,7 @@ fn word_step(verb: &str, words: &mut Words) -> Option<Step> {
     }
 }
 
+/// The step of `verb` on a wait, with its `words`.
 fn wait_step(verb: &str, words: &mut Words) -> Option<Step> {
     match verb {
         "asks" => Some(Step::AskCancel {
@@ -77,6 +80,7 @@ fn wait_step(verb: &str, words: &mut Words) -> Option<Step> {
     }
 }
 
+/// The step of `verb` on a session's slots, with its `words`.
 fn slot_step(verb: &str, words: &mut Words) -> Option<Step> {
     match verb {
         "reads" => {
@@ -108,6 +112,7 @@ fn slot_step(verb: &str, words: &mut Words) -> Option<Step> {
     }
 }
 
+/// The step of `verb` for a strong lock, with its `words`.
 fn strong_step(verb: &str, words: &mut Words) -> Option<Step> {
     match verb {
         "counts" => {
@@ -138,6 +143,7 @@ fn strong_step(verb: &str, words: &mut Words) -> Option<Step> {
     }
 }
 
+/// The step of `verb` on a flag of a lightweight lock, with its `words`.
 fn flag_step(verb: &str, words: &mut Words) -> Option<Step> {
     let word = word(words)?;
     let shown = shown(words)?;
@@ -148,6 +154,7 @@ fn flag_step(verb: &str, words: &mut Words) -> Option<Step> {
     }
 }
 
+/// The step of `verb` on a wait list, with its `words`.
 fn list_step(verb: &str, words: &mut Words) -> Option<Step> {
     match verb {
         "locks_list" => Some(Step::LockList { word: word(words)? }),

@@ -9,18 +9,22 @@ use std::str::SplitWhitespace;
 /// The words of a line that are left.
 pub type Words<'a> = SplitWhitespace<'a>;
 
+/// A number up to 255, by the next of `words`.
 pub fn small_number(words: &mut Words) -> Option<u8> {
     words.next()?.parse::<u8>().ok()
 }
 
+/// A number up to 65,535, by the next of `words`.
 pub fn index(words: &mut Words) -> Option<u16> {
     words.next()?.parse::<u16>().ok()
 }
 
+/// A number, by the next of `words`.
 pub fn number(words: &mut Words) -> Option<u64> {
     words.next()?.parse::<u64>().ok()
 }
 
+/// A session, by its number in the next of `words`.
 pub fn session(words: &mut Words) -> Option<SessionId> {
     SessionId::new(small_number(words)?)
 }
@@ -39,6 +43,7 @@ pub fn shown(words: &mut Words) -> Option<u64> {
     Some(sum)
 }
 
+/// What `part` adds to what a word shows: a number, or a name of bits.
 fn part_of_shown(part: &str) -> Option<u64> {
     match part {
         "free" => Some(0x2000_0000),
@@ -62,6 +67,7 @@ pub fn answer(words: &mut Words) -> Option<bool> {
     }
 }
 
+/// A mode, by its name in the next of `words`.
 pub fn mode(words: &mut Words) -> Option<Mode> {
     Mode::from_name(words.next()?)
 }

@@ -13,7 +13,7 @@ use Rattle.shared_rule.specs.Seats.{MayCloseBy}
 use Rattle.shared_rule.specs.Slots.{TakesFast, SharesFast}
 use Rattle.shared_rule.proofs.Episodes.{fresh_hand, taken-put, may_keep, kept-idle}
 
--- Whoever has nothing, takes a lock and puts it has nothing again.
+-- A session that has nothing, takes a lock and puts it back has nothing again.
 
 -- A partition that was just taken may be put as it was,
 pub may_put : (limit number : ℕ) (a b : Account) (p : ℕ) (content : Content) → b ≡ account_taking a p content
@@ -65,7 +65,7 @@ slots-put groups number its owner a b c idle took put =
       none_untold = idle.none_untold;
     })
 
--- So has whoever shares it and gives it back.
+-- A session that has nothing, shares a lock and gives it back has nothing again.
 pub may_give_back : (groups number owner : ℕ) (a b : Account) → SharesFast groups number a owner b → (slots : SlotsInHand) × MayUnshareFastBy b owner slots
 may_give_back groups number owner a b shares = (
   shares.slots,

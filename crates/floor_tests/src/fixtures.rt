@@ -20,11 +20,12 @@ pub const ANOTHER_OBJECT: Tag = Tag::Object {
     sub_object: 0,
 };
 
+/// The session with the number `number`.
 pub fn session(rt: &impl Abort, number: u8) -> SessionId {
     SessionId::new(number).expect(rt, "a session number")
 }
 
-/// A part with nothing in it, at the second attempt where there was no memory.
+/// An empty part, at the second attempt where there was no memory.
 pub fn new_part(alloc: Global) -> Result<PlainPart, NoMemory>
     ensures { IfOk result (λ part. part.begun ≡ None) }
 {

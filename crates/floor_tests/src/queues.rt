@@ -16,11 +16,11 @@ use wait_queue::{Decision, Kind, awaited_in_conflict, decide, remove_waiter, tak
 /// What the session of a number does, and what that leads to.
 #[derive(Clone, Copy)]
 enum Step {
-    /// It asks, and is answered this.
+    /// The session asks, and is answered this.
     Asks(u8, Mode, Kind, Told),
-    /// It releases a hold, which wakes these, in this order.
+    /// The session releases a hold, which wakes these, in this order.
     Releases(u8, Mode, &'static [(u8, Mode)]),
-    /// Its wait is taken out; whether it had been granted, and whom that wakes.
+    /// The session's wait is taken out; whether it had been granted, and whom that wakes.
     Leaves(u8, bool, &'static [(u8, Mode)]),
     /// Whether somebody waits for a mode in conflict with this one.
     Awaited(Mode, bool),
@@ -35,7 +35,7 @@ enum Told {
     Held(u8, Mode),
     /// This session waits for this mode.
     Ahead(u8, Mode),
-    /// It and this session would wait for one another.
+    /// The session and this one would wait for one another.
     Deadlock(u8),
 }
 
@@ -137,7 +137,7 @@ fn asked<P: PartTable>(
     }
 }
 
-/// The answer that `told` means.
+/// The answer that `told` says.
 fn meant(rt: &impl Abort, told: Told) -> Result<Decision, Refusal> {
     match told {
         Granted => Ok(Decision::Granted),

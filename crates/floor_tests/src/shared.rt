@@ -21,8 +21,9 @@ mod latecomers;
 mod slots;
 
 // The indexes in these tests are worked by hand: 16 times 16 words for partitions, 1,024 for counters, 16 unused,
-// and 36 for each session, and again for each group of slots behind the first.
+// and 36 for each session, and again for each group of slots after the first.
 
+/// The session with the number `number`.
 fn session(number: u8) -> Result<SessionId, Fail> {
     Ok(SessionId::new(number).ok_or("no session")?)
 }

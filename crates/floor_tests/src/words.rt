@@ -17,8 +17,8 @@ fn word(rt: &impl Abort, number: u64) -> LwWord
     LwWord::from_number(number).expect(rt, "a lightweight word")
 }
 
-/// A number; what its word says: how many share it, whether it is held exclusively, whether its list is locked, and the
-/// flags release-ok and has-waiters; and whether whoever made it by a release must wake.
+/// A number, and what its word says: how many share it, whether it is held exclusively, whether its list is locked, the
+/// flags release-ok and has-waiters, and whether the session that made it by a release must wake.
 type Bits = (u64, u64, bool, [bool; 3], bool);
 
 const BITS: [Bits; 14] = [
@@ -203,7 +203,7 @@ fn a_flag_is_set_alone(rt: HostRuntime) {
 /// Sessions by their numbers, and how they wait.
 type Waiters = &'static [(u8, LwMode)];
 
-/// Who stands in a wait list, whom a wakeup takes off, whom it leaves, and whether release-ok is to be set.
+/// Who waits in a wait list, whom a wakeup takes off, whom it leaves, and whether release-ok is to be set.
 type WaitsAndWakeup = (Waiters, Waiters, Waiters, bool);
 
 const WAKEUPS: [WaitsAndWakeup; 3] = [
@@ -269,7 +269,7 @@ fn a_wakeup_takes_sharers_off_together_and_an_exclusive_first_alone(rt: HostRunt
     }
 }
 
-/// A list with all sessions, each behind those with lower numbers.
+/// A list with all sessions, each after those with lower numbers.
 fn all_sessions(rt: &impl Abort) -> WaitList {
     let mut list = WaitList::new();
     for number in 0..64 {

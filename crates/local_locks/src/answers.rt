@@ -10,7 +10,7 @@ pub enum Acquired {
 /// What a release left.
 #[derive(Clone, Copy, Debug, PartialEq, Eq)]
 pub enum Unlocked {
-    /// That was the last count: the session no longer has the mode.
+    /// The last count was released: the session no longer has the mode.
     Released,
     /// Other counts are left, so the session still has the mode.
     StillHeld,
@@ -23,6 +23,6 @@ pub enum AtOnce {
     AlreadyHeld,
     /// The session hasn't the mode.
     NotHeld,
-    /// It takes a whole look to say.
+    /// Only a whole look can say.
     Unknown,
 }

@@ -11,11 +11,11 @@ use place_index::PlaceIndex;
 /// do, and none with those.
 const MULTIPLIER: u64 = 0x6A09_E667_9E37_79B9;
 
-/// What a glance at an index tells of an object and mode.
+/// What a glance at an index says of an object and mode.
 pub(crate) enum Glance {
-    /// It has no entry.
+    /// The index has no entry for them.
     Nothing,
-    /// Its slot is at this place, which may be empty.
+    /// Their slot is at this place, which may be empty.
     Place(u32),
     /// Only a whole look says.
     Unknown,

@@ -100,7 +100,7 @@ pub record ShowsWords (shown : Words) (words : world.Words) : Type 0 where
   pub fast : (session : ℕ) → ShowsLock (slice_index_or shown.fast session opening_state) (words.fast session)
   pub wait : (session : ℕ) → slice_index_or shown.waits session 0 ≡ words.wait session
 
--- The marks of so many locks, 64 of each, tell which sessions have which of them in the World.
+-- The marks of some locks, 64 of each, show which sessions have which of them in the World.
 pub record ShowsMarks (shown : List (List Bool)) (locks : ℕ) (has : ℕ → ℕ → Bool) : Type 0 where
   pub as_many : length shown ≡ locks
   pub sixty_four : (lock : ℕ) → lock < locks → length (slice_index_or shown lock []) ≡ 64

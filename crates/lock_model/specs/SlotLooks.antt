@@ -33,7 +33,7 @@ abbrev pub has_own_slots : Machine → ℕ → Bool
 has_own_slots machine session =
     makes_steps machine session && slice_index_or (slice_index_or machine.locks.fast_holders session []) session false
 
--- whether a grant for the relation takes the slot, with so many groups: it is of the relation's group, and in use for the
+-- whether a grant for the relation takes the slot, with this number of groups: it is of the relation's group, and in use for the
 -- relation, or not in use and none is for it
 abbrev pub is_slot_to_grant : ℕ → List ℕ → ℕ → ℕ → Bool
 is_slot_to_grant groups slots relation place =

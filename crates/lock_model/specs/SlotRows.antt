@@ -9,7 +9,7 @@ use Rattle.lock_model.specs.declared.machine.plain.Spot.TheVariants.{Slot}
 
 -- What sessions' fast-path slots show, as entries of the plain list that a run answers with.
 
--- so many lists, one behind another
+-- the first lists, one after another
 unfoldable pub lists_below : {X : Type 0} → ℕ → (ℕ → List X) → List X
 lists_below zero list = []
 lists_below (suc limit) list = lists_below limit list ++ list limit

@@ -79,7 +79,7 @@ pub(crate) fn link_first(heads: &mut [u32], links: &mut [Link], hash: u32, place
     heads[start] = place;
 }
 
-/// Notes `place` under `hash` behind `head`, the first place of its chain. Mostly a chain has no second one.
+/// Notes `place` under `hash` right after `head`, the first place of its chain. Mostly a chain has no second one.
 #[cold]
 #[inline(never)]
 fn link_behind(heads: &[u32], links: &mut [Link], head: u32, hash: u32, place: u32)

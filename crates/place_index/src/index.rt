@@ -174,7 +174,8 @@ impl PlaceIndex {
         );
     }
 
-    /// Notes `place`, which is behind all that are noted and has room, under `hash`, with neither a loop nor a call.
+    /// Notes `place`, which is higher than all that are noted and has room, under `hash`, with neither a loop nor a
+    /// call.
     #[inline(always)]
     pub fn insert_last(&mut self, hash: u32, place: u32)
         requires room { place < self.old.places }

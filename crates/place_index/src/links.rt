@@ -1,9 +1,9 @@
 ghost use Rattle.std.specs.Prelude.{◌≡◌};
 
-/// What stands for a place where a chain ends.
+/// The number that says that a chain ends: it is no place.
 pub(crate) const END: u32 = u32::MAX;
 
-/// What stands behind a place that isn't noted. So neither this place nor the one that stands for an end can be noted.
+/// The next place of a place that isn't noted. Neither this number nor `END` can be noted as a place.
 const FREE: u32 = u32::MAX - 1;
 
 /// What is kept of a place: the hash that it is noted under and the next place of its chain, or that it isn't noted.
@@ -59,7 +59,7 @@ impl Link {
         self.next
     }
 
-    /// Puts the place `next` behind this one in its chain.
+    /// Makes `next` the place after this one in its chain.
     #[inline(always)]
     pub(crate) fn set_next(&mut self, next: u32)
         ensures { self.new ≡ record { hash = self.old.hash; next = next } }

@@ -10,7 +10,7 @@ same_at n k xs ys below e =
     let second : slice_index (take n ys) k ≡ slice_index ys k = get_or-take n ys k 0 below in
     sym first ∙ (ap (λ zs. slice_index zs k) e ∙ second)
 
--- a swap with a later session behind, and a turn of what stands behind both
+-- a swap with a later session that comes after it, and a turn of what comes after both
 pub comes_later : (old swapped new : List ℕ) (place other : ℕ) → place < other → other < length old
     → slice_index old place < slice_index old other → SwappedAt old swapped place other
     → take (place + 1) new ≡ take (place + 1) swapped → ComesLater old new

@@ -1,4 +1,4 @@
-//! How orders end: what is told of each way, and how many orders lead there.
+//! How orders end: what is written of each way, and how many orders lead there.
 ghost use Rattle.std.specs.Prelude.{◌≡◌, ◌<◌, ◌+◌, ◌-◌, ◌^◌, ◌≤◌, OnOk, OnErr, length};
 ghost use Rattle.std.specs.List.{sum_by};
 ghost use Rattle.indexmap.specs.IndexSet.{index_set_len};
@@ -10,7 +10,7 @@ use std::alloc::{AllocError, Global};
 use std::fmt;
 use std::io::{self, Write};
 
-/// What is said behind the ways where all orders were run.
+/// What is written below the ways where all orders were run.
 const ALL_RUN: &str = "
 # all were run, but for those that differ from one of these only in neighbouring
 # lines of different sessions that have nothing to do with one another";
@@ -38,7 +38,7 @@ impl fmt::Display for Orders {
 /// Ways to end, in the order in which they came first. Each order that is counted leads to one of them.
 #[derive(Drop)]
 pub struct Ways {
-    /// What is told of each.
+    /// What is written of each way.
     tellings: IndexSet<String>,
     ways: Vec<Way>,
     /// How many orders lead to one of them.
@@ -48,7 +48,7 @@ pub struct Ways {
 }
 
 impl Ways {
-    /// None.
+    /// No way to end.
     pub fn new(alloc: Global) -> Self
         ensures { result.orders ≡ 0 }
     {
@@ -59,7 +59,8 @@ impl Ways {
         }
     }
 
-    /// Counts an order that ended as is told, of which `script` is the script.
+    /// Counts an order whose end is described by `told`, and of which `script` is the script. Where there is no memory
+    /// nothing is counted.
     pub fn count(&mut self, told: String, script: String) -> Result<(), AllocError>
         requires { self.old.orders < 2 ^ 32 - 1 }
         ensures counted { OnOk result (self.new.orders ≡ self.old.orders + 1) }
@@ -83,7 +84,7 @@ impl Ways {
 }
 
 impl Ways {
-    /// Writes them, with numbers behind `before`, and with these words behind the head of each.
+    /// Writes the ways to `output`, with numbers from `before` plus one on, and with `words` after the head of each.
     fn write<W: Write>(&self, output: &mut W, before: usize, words: &str) -> io::Result<()> {
         for (place, (told, way)) in self.tellings.iter().zip(&self.ways).enumerate() {
             let number = before.saturating_add(place).saturating_add(1);
@@ -114,7 +115,7 @@ pub struct Endings {
 pub enum Extent {
     /// All, but for those that differ only in neighbouring lines that have nothing to do with one another.
     All,
-    /// So many of the first ones, and others that were drawn by this seed.
+    /// The first `first` ones, and others that were drawn by `seed`.
     Drawn { first: u64, seed: u32 },
 }
 
@@ -147,8 +148,8 @@ impl Endings {
         self.run() + u64::from(self.given_up)
     }
 
-    /// Counts an order that was run and ended as is told, of which `script` is the script. `is_stuck` says whether lines
-    /// are left.
+    /// Counts an order that was run, whose end is described by `told`, and of which `script` is the script. `is_stuck`
+    /// says whether lines are left. Where there is no memory nothing is counted.
     pub fn count(&mut self, told: String, script: String, is_stuck: bool) -> Result<(), AllocError>
         requires { run_of self.old < 2 ^ 32 - 1 }
         ensures counted { OnOk result (run_of self.new ≡ run_of self.old + 1) }

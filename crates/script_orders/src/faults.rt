@@ -6,7 +6,7 @@ use std::alloc::AllocError;
 /// A line of a script that is bad.
 #[derive(Debug, Drop)]
 pub struct BadLine {
-    /// Its number in the script, from 1.
+    /// The line's number in the script, from 1.
     pub number: u32,
     /// What is wrong with it.
     pub what: Defect,
@@ -18,7 +18,7 @@ pub struct BadLine {
 /// A line that opens a session, which is refused since all that may be opened were.
 #[derive(Clone, Copy, Debug, PartialEq, Eq)]
 pub struct RefusedSession {
-    /// Its number in the script, from 1.
+    /// The line's number in the script, from 1.
     pub number: u32,
     /// How many sessions the script opens.
     pub wanted: u32,

@@ -5,8 +5,8 @@ ghost use Rattle.std.specs.Prelude.{◌≡◌, ℕ, ◌<◌, ◌≤◌, ◌+◌,
 ghost use Rattle.std.specs.List.Sorted.{IsPermutation};
 ghost use Rattle.script_orders.specs.Merges.{ComesLater, LiesBetween, IsDescendingFrom, IsInDescendingOrder};
 
-/// Goes on to the next merge of the same sessions, or answers that there is none. The first merge of all has the
-/// sessions in ascending order. Each merge comes later than the one before, so none comes twice.
+/// Makes `merge` the next merge of its sessions, or answers that there is none. The first merge of all has the sessions
+/// in ascending order. Each merge comes later than the one before, so none comes twice.
 pub fn next_merge(merge: &mut [usize]) -> bool
     ensures same { IsPermutation merge.old merge.new }
     ensures later { result ≡ true → ComesLater merge.old merge.new }
@@ -23,7 +23,7 @@ pub fn next_merge(merge: &mut [usize]) -> bool
     true
 }
 
-/// The last place whose session comes before the one behind it.
+/// The last place of `merge` whose session comes before that of the next place.
 fn last_ascent(merge: &[usize]) -> Option<usize>
     ensures ascent { IfSome result (λ place. (place + 1 < length merge.now)
         × (slice_index merge.now place < slice_index merge.now (place + 1))) }
@@ -39,7 +39,7 @@ fn last_ascent(merge: &[usize]) -> Option<usize>
     found
 }
 
-/// The last place behind this one with a session that comes after this one's.
+/// The last place of `merge` after `place` with a session that comes after the one at `place`.
 fn last_above(merge: &[usize], place: usize) -> usize
     requires behind { place + 1 < length merge.now }
     requires ascent { slice_index merge.now place < slice_index merge.now (place + 1) }
@@ -57,7 +57,7 @@ fn last_above(merge: &[usize], place: usize) -> usize
     found
 }
 
-/// Turns round what stands from this place on.
+/// Turns round what `merge` has from the place `from` on.
 fn turn_round(merge: &mut [usize], from: usize)
     requires { from ≤ length merge.old }
     ensures same { IsPermutation merge.old merge.new }

@@ -1,6 +1,6 @@
-//! How orders are run and told.
+//! How orders are run and described.
 
-/// How many orders are run, which are drawn, and what is told of how they end.
+/// How many orders are run, which are drawn, and what is written of how they end.
 #[derive(Clone, Copy, Debug, PartialEq, Eq)]
 pub struct OrdersOptions {
     /// How many are begun at most.

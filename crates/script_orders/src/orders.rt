@@ -1,6 +1,8 @@
-//! The orders of a script, one after another: which line is played next, and what came of each order.
+//! The orders of a script, one after another: which line is played next, and how each order ended.
 ghost use Rattle.std.specs.Prelude.{◌≡◌, ◌<◌, ◌+◌, ◌-◌, ◌^◌, ◌&&◌, nat_lt, length, slice_index, if◌then◌else◌, IfOk, IfSome, IsSome, OnOk};
 ghost use Rattle.script_orders.specs.Steps.{IsInOwnOrder};
+
+mod choices;
 
 use crate::ends::{Endings, Extent};
 use crate::faults::{BadLine, RefusedSession};
@@ -11,14 +13,15 @@ use crate::search::Search;
 use crate::steps::{Order, Step};
 use crate::stories::{Story, StoryLine};
 use crate::totals::Total;
+use choices::Choice;
 use lock_script::{Defect, Name};
-use rand_core::{Rng, SeedableRng};
+use rand_core::SeedableRng;
 use rand_xoshiro::Xoshiro256PlusPlus;
 use std::alloc::{AllocError, Global};
 use std::fmt::Display;
 use std::io::{self, Write};
 
-/// So many orders are played at most against one lock manager.
+/// How many orders are played at most against one lock manager.
 const ORDERS_A_MANAGER: u32 = 128;
 
 /// What a player is to do next.
@@ -45,20 +48,10 @@ enum Phase {
     Over,
 }
 
-/// Whose line comes next in an order.
-enum Choice {
-    /// This session's.
-    Of(usize),
-    /// Nobody's: nobody who has lines left can go on.
-    Ended,
-    /// Nobody's: the rest of this order is run in another one's place.
-    GivenUp,
-}
-
 /// A line that was given to the player.
 #[derive(Clone, Copy)]
 enum Given {
-    /// The line with this place among those that stand before all orders.
+    /// The line with this place among those that come before all orders.
     Opening(usize),
     /// A session's line.
     Step(Step),
@@ -73,7 +66,7 @@ pub struct Orders<'a> {
     options: OrdersOptions,
     total: Total,
     phase: Phase,
-    /// How many of the lines that stand before all orders were given.
+    /// How many of the lines that come before all orders were given.
     opened: usize,
     given: Given,
     order: Order,
@@ -96,7 +89,8 @@ impl<'a> Orders<'a> {
     ghost use Rattle.script_orders.specs.Ends.{begun_of, run_of};
     ghost use Rattle.script_orders.specs.Turns.{Begins, Goes, IsLineAt, KeepsOrder, steps_of};
 
-    /// The orders of a story, none of which was run yet.
+    /// The orders of `story`, none of which was run yet; `ties` says which of its lines have to do with one another.
+    /// Refused only where memory ran out.
     pub fn new(
         alloc: Global,
         story: &'a Story,
@@ -136,7 +130,7 @@ impl<'a> Orders<'a> {
         self.endings.run()
     }
 
-    /// What is to be done next. Where there is no memory, nothing is.
+    /// Answers what the player is to do next. Where there is no memory, nothing is.
     pub fn next_turn(&mut self) -> Result<Turn<'a>, AllocError>
         ensures goes { IfOk result (Goes self.old self.new) }
         ensures in_order { IsInOwnOrder (steps_of self.new) }
@@ -145,7 +139,7 @@ impl<'a> Orders<'a> {
         self.go_on()
     }
 
-    /// The next turn.
+    /// Answers the next turn.
     fn go_on(&mut self) -> Result<Turn<'a>, AllocError>
         ensures goes { IfOk result (Goes self.old self.new) }
         ensures same_story { self.new.story.now ≡ self.old.story.now }
@@ -163,7 +157,7 @@ impl<'a> Orders<'a> {
         }
     }
 
-    /// The next of the lines that stand before all orders.
+    /// Gives the next of the lines that come before all orders.
     fn give_opening(&mut self) -> Turn<'a>
         requires { self.old.opened < length self.old.story.now.opening.items }
         ensures goes { Goes self.old self.new result }
@@ -176,7 +170,7 @@ impl<'a> Orders<'a> {
         Turn::Line(line.text.as_str())
     }
 
-    /// The next line of this session. Where it has none, the order is given up.
+    /// Gives the next line of `session`. Where it has none, the order is given up.
     fn give_line(&mut self, session: usize) -> Result<Turn<'a>, AllocError>
         ensures goes { IfOk result (Goes self.old self.new) }
         ensures same_story { self.new.story.now ≡ self.old.story.now }
@@ -189,7 +183,7 @@ impl<'a> Orders<'a> {
         Ok(Turn::Line(line.text.as_str()))
     }
 
-    /// The next line of a session, if it has one left.
+    /// The next line of `session`, if it has one left.
     fn next_line_of(&self, session: usize) -> Option<&'a StoryLine>
         ensures there { IsSome result → session < length self.now.order.taken.items }
         ensures fits { IsSome result → slice_index self.now.order.taken.items session < 2 ^ 64 - 1 }
@@ -200,164 +194,7 @@ impl<'a> Orders<'a> {
         self.story.line(Step { session, line })
     }
 
-    /// Whose line comes next.
-    fn choose(&mut self) -> Result<Choice, AllocError>
-        ensures { KeepsOrder self.old self.new }
-    {
-        match self.phase {
-            Phase::Own => Ok(self.choose_own()),
-            Phase::All => self.choose_untried(),
-            Phase::Drawn => Ok(self.draw()),
-            Phase::Over => Ok(Choice::GivenUp),
-        }
-    }
-
-    /// Whose line comes next in the script's own order. The lines of a session that waits are put off.
-    fn choose_own(&mut self) -> Choice
-        ensures { KeepsOrder self.old self.new }
-    {
-        for (session, lines) in self.put_off.iter_mut().enumerate() {
-            if *lines > 0 && !self.played.waits(session) {
-                *lines = (*lines).saturating_sub(1);
-                return Choice::Of(session);
-            }
-        }
-        for _ in self.looked_at..self.story.own_merge.len() {
-            let Some(session) = self.story.own_merge.get(self.looked_at).copied() else {
-                return Choice::Ended;
-            };
-            self.looked_at = self.looked_at.saturating_add(1);
-            if !self.played.waits(session) {
-                return Choice::Of(session);
-            }
-            if let Some(lines) = self.put_off.get_mut(session) {
-                *lines = (*lines).saturating_add(1);
-            }
-        }
-        Choice::Ended
-    }
-
-    /// Whose line comes next in the next order of all.
-    fn choose_untried(&mut self) -> Result<Choice, AllocError>
-        ensures { KeepsOrder self.old self.new }
-    {
-        if let Some(session) = self.search.session_at(self.order.steps.len()) {
-            return Ok(Choice::Of(session));
-        }
-        let mut sessions = Vec::new(self.alloc);
-        let mut is_any = false;
-        for session in (0..self.order.taken.len()).rev() {
-            if self.can_go_on(session) {
-                is_any = true;
-                if !self.comes_late(session) && !self.passes_one_over(session) {
-                    sessions.push(session)?;
-                }
-            }
-        }
-        if !is_any {
-            return Ok(Choice::Ended);
-        }
-        match self.search.add(sessions)? {
-            Some(session) => Ok(Choice::Of(session)),
-            None => Ok(Choice::GivenUp),
-        }
-    }
-
-    /// Whose line comes next in an order that is drawn: each session that can go on as likely as it has lines left.
-    fn draw(&mut self) -> Choice
-        ensures { KeepsOrder self.old self.new }
-    {
-        let mut left = 0usize;
-        for session in 0..self.order.taken.len() {
-            left = left.saturating_add(self.lines_to_draw(session));
-        }
-        if left == 0 {
-            return Choice::Ended;
-        }
-        let mut drawn = (self.generator.next_u64() % (left as u64)) as usize;
-        for session in 0..self.order.taken.len() {
-            let lines = self.lines_to_draw(session);
-            if drawn < lines {
-                return Choice::Of(session);
-            }
-            drawn = drawn.saturating_sub(lines);
-        }
-        Choice::Ended
-    }
-
-    /// How many lines a session has left, if it can go on.
-    fn lines_to_draw(&self, session: usize) -> usize {
-        if !self.can_go_on(session) {
-            return 0;
-        }
-        let lines = self
-            .story
-            .actors
-            .get(session)
-            .map_or(0, |actor| actor.lines.len());
-        let taken = self.order.taken.get(session).copied().unwrap_or(0);
-        lines.saturating_sub(taken)
-    }
-
-    /// Whether a session has a line left, doesn't wait, and names no session there that is closed.
-    fn can_go_on(&self, session: usize) -> bool {
-        let Some(line) = self.next_line_of(session) else {
-            return false;
-        };
-        if self.played.waits(session) {
-            return false;
-        }
-        match line.named().and_then(|name| self.story.place_of(name)) {
-            Some(other) => other == session || self.played.is_open(other),
-            None => true,
-        }
-    }
-
-    /// Whether the next line of a session could have come before a line of a later session, with no line between that
-    /// it has to do with: then the order in which it does ends alike, and comes earlier.
-    fn comes_late(&self, session: usize) -> bool {
-        let Some(line) = self.order.taken.get(session).copied() else {
-            return false;
-        };
-        let told_at = self.played.told_at(session);
-        for place in (told_at..self.order.steps.len()).rev() {
-            if let Some(step) = self.order.steps.get(place) {
-                if step.session == session
-                    || self.ties.meet(session, line, step.session, step.line)
-                {
-                    return false;
-                }
-                if step.session > session {
-                    return true;
-                }
-            }
-        }
-        false
-    }
-
-    /// Whether with the next line of this session the next line of an earlier one comes late for good: no line is left
-    /// that it has to do with.
-    fn passes_one_over(&self, session: usize) -> bool {
-        let Some(own) = self.order.taken.get(session).copied() else {
-            return false;
-        };
-        for other in 0..session {
-            if self.can_go_on(other) {
-                if let Some(line) = self.order.taken.get(other).copied() {
-                    if !self.ties.meet(other, line, session, own)
-                        && !self
-                            .ties
-                            .meets_one_left(other, line, self.order.taken.as_slice())
-                    {
-                        return true;
-                    }
-                }
-            }
-        }
-        false
-    }
-
-    /// The order that is played is over, by its end or since it was given up. Begins the next one.
+    /// Ends the order that is played, which came to its end if `has_ended`, and else was given up. Begins the next one.
     fn end_order(&mut self, has_ended: bool) -> Result<Turn<'a>, AllocError>
         ensures begins { IfOk result (Begins self.new) }
         ensures same_story { self.new.story.now ≡ self.old.story.now }
@@ -386,7 +223,8 @@ impl<'a> Orders<'a> {
         self.begin_order()
     }
 
-    /// Counts the order that is played, if it came to its end. No more are counted than are to be begun.
+    /// Counts the order that is played: as run to its end if `has_ended`, and else as given up. No more are counted
+    /// than are to be begun.
     fn close_order(&mut self, has_ended: bool) -> Result<(), AllocError>
         ensures kept { KeepsOrder self.old self.new }
         ensures counted { OnOk result (run_of self.new.endings ≡ run_of self.old.endings
@@ -448,9 +286,9 @@ impl<'a> Orders<'a> {
         self.endings.count(told, script, is_stuck)
     }
 
-    /// The line that was given last is answered, or a session goes on behind it. `session` is the session that is
-    /// answered with what that says of it, and `text` the answer without its name. None is for a row, which is its
-    /// asker's.
+    /// Notes the answer to the line that was given last, or that a session goes on after it. `session` is the session
+    /// that is answered, with what that says of it, and `text` the answer without its name. A row of a list has none:
+    /// it is for the session whose line it is.
     pub fn tell<D: Display + Drop>(
         &mut self,
         session: Option<(Name, News)>,
@@ -474,7 +312,7 @@ impl<'a> Orders<'a> {
         }
     }
 
-    /// Whether the answers to a line are left out: it looks at locks, and only ends are told.
+    /// Whether the answers to the line of `step` are left out: it looks at locks, and only ends are described.
     fn is_left_out(&self, step: Step) -> bool {
         self.options.ends && self.story.line(step).is_some_and(|line| line.looks())
     }
@@ -487,7 +325,7 @@ impl<'a> Orders<'a> {
         }
     }
 
-    /// What is told of the line that was given last, which is bad.
+    /// Describes the line that was given last, of which `what` is wrong. Refused only where memory ran out.
     pub fn bad_line(&self, what: Defect) -> Result<BadLine, AllocError> {
         let line = self.given_line();
         Ok(BadLine {
@@ -509,7 +347,7 @@ impl<'a> Orders<'a> {
         })
     }
 
-    /// Writes how the orders ended that were run.
+    /// Writes to `output` how the orders ended that were run.
     pub fn write<W: Write>(&self, output: &mut W) -> io::Result<()> {
         let extent = if self.is_whole {
             Extent::All

@@ -20,16 +20,16 @@ pub enum News {
     Rests,
 }
 
-/// How a session stands in an order that is played, and what it was answered.
+/// Where a session has got to in an order that is played, and what it was answered.
 #[derive(Drop)]
 struct Standing {
-    /// The session's name, once it was told something.
+    /// The session's name, once it was answered something.
     name: Option<Name>,
     is_open: bool,
     waits: bool,
-    /// Its answers, one behind the other.
+    /// What the session was answered, one answer after the other.
     answers: String,
-    /// How many lines were run when it was told something last, that one too.
+    /// How many lines were run when it was answered something last, that one too.
     told_at: usize,
 }
 
@@ -42,7 +42,7 @@ pub struct Played {
 }
 
 impl Played {
-    /// Nothing was played, by so many sessions.
+    /// An order of `sessions` sessions, of which nothing was played yet.
     pub fn new(alloc: Global, sessions: usize) -> Result<Self, AllocError> {
         let mut standings = Vec::new(alloc);
         for _ in 0..sessions {
@@ -60,7 +60,7 @@ impl Played {
         })
     }
 
-    /// Begins another order. Who is open stays so.
+    /// Begins another order. The sessions that are open stay so.
     pub fn begin_order(&mut self) {
         for standing in &mut self.standings {
             standing.waits = false;
@@ -69,28 +69,30 @@ impl Played {
         }
     }
 
-    /// Whether the session at this place of the story waits.
+    /// Whether the session at the place `session` of the story waits.
     pub fn waits(&self, session: usize) -> bool {
         self.standings
             .get(session)
             .is_some_and(|standing| standing.waits)
     }
 
-    /// Whether that session is open.
+    /// Whether the session at the place `session` of the story is open.
     pub fn is_open(&self, session: usize) -> bool {
         self.standings
             .get(session)
             .is_some_and(|standing| standing.is_open)
     }
 
-    /// How many lines were run when that session was told something last, the line of that too.
+    /// How many lines were run when the session at the place `session` was answered something last, the line of that
+    /// too.
     pub fn told_at(&self, session: usize) -> usize {
         self.standings
             .get(session)
             .map_or(0, |standing| standing.told_at)
     }
 
-    /// The session of this place was told something by the line with which so many were run.
+    /// Notes what the session at the place `session`, called `name`, was answered: `news` says what has become of it,
+    /// and `lines` how many lines were run by then.
     pub fn hear(&mut self, session: usize, name: Name, news: News, lines: usize) {
         if news == News::NotOpened {
             self.was_refused = true;
@@ -107,7 +109,7 @@ impl Played {
         }
     }
 
-    /// Adds the text of an answer to those of a session.
+    /// Adds `text` to the answers of the session at the place `session`.
     pub fn add_answer<D: Display + Drop>(
         &mut self,
         session: usize,
@@ -135,8 +137,8 @@ impl Played {
         Ok(names)
     }
 
-    /// What is told of an order behind which so many lines of each session were run: the answers of each session, who
-    /// waits, and the lines that were not reached.
+    /// Describes an order in which the first lines of each session of `story` were run, as many as `taken` says: the
+    /// answers of each session, who waits, and the lines that were not reached.
     pub fn tell(
         &self,
         alloc: Global,
@@ -156,7 +158,7 @@ impl Played {
         Ok(told)
     }
 
-    /// Adds who waits, where somebody does.
+    /// Adds to `told` which sessions of `story` wait, if one does.
     fn tell_who_waits(&self, told: &mut String, story: &Story) -> Result<(), AllocError> {
         let mut is_any = false;
         for (actor, standing) in story.actors.iter().zip(&self.standings) {
@@ -170,7 +172,8 @@ impl Played {
     }
 }
 
-/// Adds the lines that were not reached, session by session, where there are any.
+/// Adds to `told` the lines of `story` that were not reached, session by session, if there are any. Of each session the
+/// first lines were run, as many as `taken` says.
 fn tell_what_is_left(told: &mut String, story: &Story, taken: &[usize]) -> Result<(), AllocError> {
     let mut is_any = false;
     for (actor, lines) in story.actors.iter().zip(taken) {
@@ -183,7 +186,7 @@ fn tell_what_is_left(told: &mut String, story: &Story, taken: &[usize]) -> Resul
     end_line(told, is_any)
 }
 
-/// The answers of a session, or that there are none.
+/// The `answers` of a session, or that there are none.
 fn or_nothing(answers: &str) -> &str {
     if answers.is_empty() {
         "nothing"
@@ -192,7 +195,7 @@ fn or_nothing(answers: &str) -> &str {
     }
 }
 
-/// Ends a line, where there is one.
+/// Ends the line of `told`, if `is_any`.
 fn end_line(told: &mut String, is_any: bool) -> Result<(), AllocError> {
     if is_any { told.push('\n') } else { Ok(()) }
 }

@@ -10,7 +10,7 @@ pub struct OrdersLine<'a, E> {
 }
 
 impl<E: Write> OrdersLine<'_, E> {
-    /// So many orders were run.
+    /// Shows that `orders` orders were run.
     pub fn renew(&mut self, orders: u64) {
         if self.is_terminal {
             // Where the line can't be written, the orders are run all the same.
@@ -19,7 +19,7 @@ impl<E: Write> OrdersLine<'_, E> {
         }
     }
 
-    /// All are run, and the line is gone.
+    /// Takes the line away: all orders are run.
     pub fn end(&mut self) {
         if self.is_terminal {
             let _ = write!(self.writer, "\r\x1b[K");

@@ -11,7 +11,7 @@ use lock_script::{parse_strong_index, parse_tag, split_words};
 use modes_core::{Mode, Tag, is_strong};
 use std::alloc::{AllocError, Global};
 
-/// Beyond so many lines it is not told which lines are left that have to do with one.
+/// How many lines a story has at most for which is noted which lines are left that have to do with one.
 const MOST_LINES: usize = 1000;
 
 /// Objects, by their strong lock counters: bit `i % 64` of word `i / 64` is counter `i`.
@@ -39,7 +39,7 @@ impl Objects {
         Objects(words)
     }
 
-    /// Whether some are among both.
+    /// Whether one object is among these and among those of `other`.
     fn meet(&self, other: &Objects) -> bool {
         for (word, its) in self.0.iter().zip(&other.0) {
             if *word & *its != 0 {
@@ -89,7 +89,7 @@ impl Reach {
         }
     }
 
-    /// Whether two lines of different sessions have to do with one another.
+    /// Whether this line has to do with that of `other`, which is another session's.
     fn meets(&self, other: &Reach) -> bool {
         self.is_all
             || other.is_all
@@ -128,7 +128,7 @@ fn reach_of(story: &Story, line: &str, asked: Objects, ends: bool) -> Reach {
     }
 }
 
-/// The object that the second of these words names.
+/// The object that the second of `words` names in `story`.
 fn object_of(story: &Story, words: &[&str]) -> Option<Tag> {
     let word = words.get(1)?;
     match parse_tag(*word) {
@@ -137,12 +137,13 @@ fn object_of(story: &Story, words: &[&str]) -> Option<Tag> {
     }
 }
 
-/// The strong lock counter that the second of these words names.
+/// The strong lock counter that the second of `words` names.
 fn counter_of(words: &[&str]) -> Option<u16> {
     parse_strong_index(*words.get(1)?)
 }
 
-/// What a request for a lock has to do with.
+/// What a request for a lock has to do with, whose line has `words`, where its session asked for the objects `asked`
+/// before.
 fn reach_of_request(story: &Story, words: &[&str], asked: Objects) -> Reach {
     let Some(tag) = object_of(story, words) else {
         return Reach::ALL;
@@ -164,7 +165,7 @@ fn reach_of_request(story: &Story, words: &[&str], asked: Objects) -> Reach {
     }
 }
 
-/// What each line of a session has to do with.
+/// What each line of `actor` has to do with.
 fn reaches_of(
     alloc: Global,
     story: &Story,
@@ -212,7 +213,7 @@ impl Ties {
         Ok(ties)
     }
 
-    /// For each line of a session, how many lines of each other session there are up to the last one that has to do
+    /// For each line of `session`, how many lines of each other session there are up to the last one that has to do
     /// with it.
     fn last_of_session(
         &self,
@@ -228,7 +229,7 @@ impl Ties {
         Ok(lines)
     }
 
-    /// How many lines of each other session there are up to the last one that has to do with this one.
+    /// How many lines of each session but `session` there are up to the last one that has to do with `reach`.
     fn last_of(
         &self,
         alloc: Global,
@@ -263,8 +264,9 @@ impl Ties {
         }
     }
 
-    /// Whether a line is left, of another session than its own, that has to do with this line of `session`, where so
-    /// many lines of each session were run. It answers yes where the story is large.
+    /// Whether a line is left, of another session than `session`, that has to do with the line numbered `line` of
+    /// `session`, where of each session the first lines were run, as many as `taken` says. Answers yes where the story
+    /// is large.
     pub fn meets_one_left(&self, session: usize, line: usize, taken: &[usize]) -> bool {
         let last = self.last.get(session).and_then(|lines| lines.get(line));
         let Some(last) = last else {

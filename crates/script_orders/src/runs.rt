@@ -12,8 +12,8 @@ use std::sync::Wait;
 
 /// Plays the lines of orders against a lock manager.
 pub trait Player {
-    /// Plays the lines that `orders` gives turn by turn, against one lock manager that is made first, until it says that
-    /// this is the end. `orders` is told each answer. A line that is bad ends it.
+    /// Plays the lines that `orders` gives turn by turn, against one lock manager that is made first, until they say
+    /// that this is the end. Each answer goes to `orders`. A line that is bad ends it.
     fn play<H: AllocGlobal + Wait>(&self, rt: &H, orders: &mut Orders<'_>) -> Result<(), Fault>;
 }
 
@@ -41,7 +41,7 @@ pub fn run_orders<P: Player, H: AllocGlobal + Wait, R: Read + Drop, W: Write + D
         .map_err(|_| OrdersFault::Other(Fault::WriteFailed))
 }
 
-/// Has the player play until all orders were run that are to be.
+/// Has `player` play `orders` until all were run that are to be, and shows on `line` how many were.
 fn play_all<P: Player, H: AllocGlobal + Wait, E: Write>(
     rt: &H,
     player: &P,

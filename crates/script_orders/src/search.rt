@@ -24,13 +24,13 @@ impl Search {
         }
     }
 
-    /// Whose line comes at this place, if that was looked at.
+    /// Whose line comes at `place`, if that was looked at.
     pub fn session_at(&self, place: usize) -> Option<usize> {
         Some(self.forks.get(place)?.session)
     }
 
-    /// Looks at the next place, where the lines of these sessions may come, and answers whose comes first: the last
-    /// one's. None where there is none.
+    /// Looks at the next place, where the lines of `sessions` may come, and answers whose comes first: the last one's.
+    /// None where there is none.
     pub fn add(&mut self, sessions: Vec<usize>) -> Result<Option<usize>, AllocError> {
         let mut to_try = sessions;
         let Some(session) = to_try.pop() else {

@@ -1,4 +1,4 @@
-//! A script taken apart: the lines that stand before all orders, and each session's own.
+//! A script taken apart: the lines that come before all orders, and each session's own.
 
 ghost use Rattle.std.specs.Prelude.{◌≡◌, ◌<◌, ◌-◌, ◌^◌, IfSome, IsSome};
 ghost use Rattle.script_orders.specs.Turns.{IsLineAt};
@@ -26,7 +26,7 @@ pub struct Actor {
 /// A script taken apart. Lines with no word and comments are left out.
 #[derive(Drop)]
 pub struct Story {
-    /// What stands before all orders: the lines that open sessions, and those that address none.
+    /// The lines that come before all orders: those that open sessions, and those that address none.
     pub opening: Vec<StoryLine>,
     /// The sessions, in the order of their first lines.
     pub actors: Vec<Actor>,
@@ -37,17 +37,17 @@ pub struct Story {
 /// What a line is to the orders.
 #[derive(Clone, Copy)]
 enum LineKind<'a> {
-    /// It says nothing.
+    /// The line has no word, or is a comment.
     Silent,
-    /// It addresses no session.
+    /// The line addresses no session.
     Free,
-    /// It opens a session.
+    /// The line opens the session of this name.
     Opens(&'a str),
-    /// It is this session's.
+    /// The line is of the session of this name.
     Of(&'a str),
 }
 
-/// The kind of a line.
+/// The kind of `line`.
 fn kind_of(line: &str) -> LineKind<'_> {
     let words = split_words(line);
     let Some((verb, words)) = words.as_slice().split_first() else {
@@ -69,14 +69,14 @@ fn kind_of(line: &str) -> LineKind<'_> {
     }
 }
 
-/// The word of a line that names another session than the one that acts, if its command has one.
+/// The one of `words`, those of a line, that names another session than the one that acts, if its command has one.
 fn named_word<'a>(words: &[&'a str]) -> Option<&'a str> {
     let verb = words.first()?;
     let place = command_row(*verb)?.place_of(WordKind::OpenName)?;
     words.get(place).copied()
 }
 
-/// Whether a line opens a session.
+/// Whether `line` opens a session.
 fn opens(line: &str) -> bool {
     matches!(kind_of(line), LineKind::Opens(_))
 }
@@ -102,7 +102,7 @@ impl StoryLine {
 }
 
 impl Story {
-    /// The script of this reader, taken apart.
+    /// Reads the script of `reader`, and takes it apart. Refused where it can't be read, and where memory ran out.
     pub fn read<R: Read + Drop>(alloc: Global, reader: R) -> Result<Story, Fault> {
         let mut story = Story {
             opening: Vec::new(alloc),
@@ -121,8 +121,8 @@ impl Story {
         Ok(story)
     }
 
-    /// Adds a line of the script. The line that opens a session of a new name stands before all orders; where the
-    /// name was closed before, it is that session's.
+    /// Adds `line`, numbered `number` in the script. The line that opens a session of a new name comes before all
+    /// orders; where the name was closed before, it is that session's.
     fn add(&mut self, alloc: Global, number: u32, line: &str) -> Result<(), AllocError> {
         let text = String::from_str(alloc, line)?;
         let added = StoryLine { number, text };
@@ -144,14 +144,14 @@ impl Story {
         Ok(())
     }
 
-    /// Where the session of a name stands among all.
+    /// The place of the session `name` among all.
     pub fn place_of(&self, name: &str) -> Option<usize> {
         self.actors
             .iter()
             .position(|actor| actor.name.as_str() == name)
     }
 
-    /// The place of the session of this name, which is added where it is new.
+    /// The place of the session `name`, which is added where it is new.
     fn place_or_add(&mut self, alloc: Global, name: &str) -> Result<usize, AllocError> {
         if let Some(place) = self.place_of(name) {
             return Ok(place);
@@ -163,7 +163,7 @@ impl Story {
         Ok(place)
     }
 
-    /// Adds a line of a session.
+    /// Adds `line` to those of the session at `place`.
     fn add_line(&mut self, place: usize, line: StoryLine) -> Result<(), AllocError> {
         if let Some(actor) = self.actors.get_mut(place) {
             actor.lines.push(line)?;
@@ -172,7 +172,7 @@ impl Story {
         Ok(())
     }
 
-    /// The object that a line which stands before all orders gives this name, if one does.
+    /// The object to which a line that comes before all orders gives `name`, if one does.
     pub fn object_named(&self, name: &str) -> Option<Tag> {
         for line in &self.opening {
             let words = split_words(line.text.as_str());
@@ -185,7 +185,7 @@ impl Story {
         None
     }
 
-    /// A line of a session, if there is one.
+    /// The line of a session that `step` names, if there is one.
     pub fn line(&self, step: Step) -> Option<&StoryLine>
         ensures found { IfSome result (λ line. IsLineAt self.now step line.now) }
         ensures fits { IsSome result → step.line < 2 ^ 64 - 1 }
@@ -216,8 +216,8 @@ impl Story {
         wanted
     }
 
-    /// Whether all is as it was behind the lines that stand before all orders, once each session has aborted: no
-    /// session opens or closes within the orders, and none has a lock of its own that an abort leaves it.
+    /// Whether all is as after the lines that come before all orders, once each session has aborted: no session opens
+    /// or closes within the orders, and none has a lock of its own that an abort leaves it.
     pub fn is_undone_by_aborts(&self) -> bool {
         for actor in &self.actors {
             for line in &actor.lines {
@@ -231,7 +231,7 @@ impl Story {
         true
     }
 
-    /// The script in which these lines of the sessions come behind those that stand before all orders.
+    /// The script in which the lines of `steps` follow those that come before all orders.
     pub fn script(&self, alloc: Global, steps: &[Step]) -> Result<String, AllocError> {
         let mut script = String::new(alloc);
         for line in &self.opening {
@@ -246,7 +246,7 @@ impl Story {
     }
 }
 
-/// Adds a line to a script.
+/// Adds `line` to `script`.
 fn add_text(script: &mut String, line: &StoryLine) -> Result<(), AllocError> {
     script.push_str(line.text.as_str())?;
     script.push('\n')

@@ -3,10 +3,10 @@
 use crate::stories::Story;
 use std::fmt;
 
-/// A number beyond this one is told by its magnitude.
+/// The largest number that is written with all its digits.
 const LARGEST_SHOWN: u64 = 1_000_000_000_000_000;
 
-/// A number, or where it is large its leading digits and how many zeros stand behind them.
+/// A number, or where it is large its leading digits and how many zeros follow them.
 #[derive(Clone, Copy, Debug, PartialEq, Eq)]
 pub struct Total {
     leading: u64,
@@ -14,7 +14,8 @@ pub struct Total {
 }
 
 impl Total {
-    /// In how many ways the lines of a story's sessions can be merged. A session that waits leaves some of them out.
+    /// In how many ways the lines of the sessions of `story` can be merged. A session that waits leaves some of them
+    /// out.
     pub fn of_merges(story: &Story) -> Self {
         let mut total = Total {
             leading: 1,
@@ -54,7 +55,7 @@ impl Total {
         }
     }
 
-    /// Whether it is at most `limit`.
+    /// Whether the number is at most `limit`.
     pub fn is_at_most(self, limit: u64) -> bool {
         self.zeros == 0 && self.leading <= limit
     }

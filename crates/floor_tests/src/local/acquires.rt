@@ -18,6 +18,7 @@ pub fn new_table(rt: &impl Abort, alloc: Global, max_local: u32) -> LocalTable
     }
 }
 
+/// Acquires `tag` in `mode` for `owner` by `reserve` and `add`.
 fn acquire_once(
     table: &mut LocalTable,
     tag: Tag,
@@ -47,6 +48,8 @@ pub fn acquire(
     }
 }
 
+/// Acquires `tag` in `mode` for `owner` by `add_held` or, where `table` doesn't hold it, by `reserve_new` and
+/// `add_new`.
 fn acquire_once_in_one_look(
     table: &mut LocalTable,
     tag: Tag,

@@ -26,6 +26,7 @@ impl Held {
         sum
     }
 
+    /// Whether neither the session nor its transaction has it.
     fn is_nothing(&self) -> bool {
         self.session == 0 && self.transaction() == 0
     }
@@ -38,6 +39,7 @@ struct Plain {
     depth: usize,
 }
 
+/// A list with room, at the second attempt where there was no memory.
 fn new_list(rt: &impl Abort, alloc: Global) -> Vec<Held> {
     match Vec::with_capacity(alloc, 200) {
         Ok(list) => list,
@@ -45,6 +47,7 @@ fn new_list(rt: &impl Abort, alloc: Global) -> Vec<Held> {
     }
 }
 
+/// The place of `tag` in `mode` in the list `plain`.
 fn place_of(plain: &Plain, tag: Tag, mode: Mode) -> Option<usize> {
     for place in 0..plain.list.len() {
         if plain.list[place].tag == tag && plain.list[place].mode == mode {
@@ -189,6 +192,7 @@ fn hand_up_both(rt: &impl Abort, table: &mut LocalTable, plain: &mut Plain) -> b
     table.hand_up() == Ok(level_of(plain))
 }
 
+/// The number of the innermost level of `plain`.
 fn level_of(plain: &Plain) -> u8 {
     let mut level = 1u8;
     for _ in 0..plain.depth {

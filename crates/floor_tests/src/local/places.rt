@@ -12,6 +12,7 @@ fn new_index(rt: &impl Abort, alloc: Global) -> PlaceIndex {
     }
 }
 
+/// Whether `index` has `place` under `hash`.
 fn is_noted(index: &PlaceIndex, hash: u32, place: u16) -> bool {
     index
         .find(hash, |found| found == u32::from(place))
@@ -128,6 +129,7 @@ fn a_place_is_noted_until_it_is_forgotten_or_all_are_cleared(rt: HostRuntime) {
     play(&rt, &mut index, NOTED_UNTIL_FORGOTTEN_OR_CLEARED.as_slice());
 }
 
+/// The hash of `place`, one of `hashes`.
 fn hash_of(place: u16, hashes: u32) -> u32 {
     u32::from(place)
         .wrapping_mul(2_654_435_761)

@@ -17,6 +17,7 @@ fn new_list(rt: &impl Abort, alloc: Global) -> Plain {
     }
 }
 
+/// The place of `tag` in `mode` in `list`.
 fn place_of(list: &Plain, tag: Tag, mode: Mode) -> Option<usize> {
     for place in 0..list.len() {
         if list[place].tag == tag && list[place].mode == mode {
@@ -129,6 +130,7 @@ pub(super) fn random_tag(random: u32) -> Tag {
     }
 }
 
+/// One of four modes, by the number `random`.
 pub(super) fn random_mode(random: u32) -> Mode {
     match random >> 17 & 3 {
         0 => Mode::AccessShare,
@@ -138,6 +140,7 @@ pub(super) fn random_mode(random: u32) -> Mode {
     }
 }
 
+/// An owner by the number `random`: in a quarter of the cases the session.
 pub(super) fn random_owner(random: u32) -> Owner {
     if random >> 15 & 3 == 0 {
         Owner::Session

@@ -44,7 +44,7 @@ pub enum Answer {
 /// A call that is made so often, and what it is answered each time.
 pub type Turn = (u32, Call, Answer);
 
-/// What is told of `answer`, to an acquire.
+/// What a list of turns says of `answer`, to an acquire.
 fn acquired(answer: Result<Acquired, Refusal>) -> Answer {
     match answer {
         Ok(Acquired::Granted) => Answer::Granted,
@@ -53,7 +53,7 @@ fn acquired(answer: Result<Acquired, Refusal>) -> Answer {
     }
 }
 
-/// What is told of `answer`, to a try at a held one.
+/// What a list of turns says of `answer`, to a try at a held one.
 fn counted(answer: Result<bool, Refusal>) -> Answer {
     match answer {
         Ok(true) => Answer::AlreadyHeld,
@@ -62,7 +62,7 @@ fn counted(answer: Result<bool, Refusal>) -> Answer {
     }
 }
 
-/// What is told of `answer`, of what is known at once.
+/// What a list of turns says of `answer`, of what is known at once.
 fn known(answer: AtOnce) -> Answer {
     match answer {
         AtOnce::AlreadyHeld => Answer::AlreadyHeld,
@@ -71,7 +71,7 @@ fn known(answer: AtOnce) -> Answer {
     }
 }
 
-/// What is told of `answer`, to a release.
+/// What a list of turns says of `answer`, to a release.
 fn released(answer: Result<Unlocked, Refusal>) -> Answer {
     match answer {
         Ok(Unlocked::Released) => Answer::Released,
@@ -80,7 +80,7 @@ fn released(answer: Result<Unlocked, Refusal>) -> Answer {
     }
 }
 
-/// What is told of `answer`, to a release as far as one slot goes.
+/// What a list of turns says of `answer`, to a release as far as one slot goes.
 fn released_at_once(answer: Option<Unlocked>) -> Answer {
     match answer {
         Some(answer) => released(Ok(answer)),
@@ -88,7 +88,7 @@ fn released_at_once(answer: Option<Unlocked>) -> Answer {
     }
 }
 
-/// What is told of `answer`, to the next step of an end.
+/// What a list of turns says of `answer`, to the next step of an end.
 fn ended(answer: Option<(Tag, Mode)>) -> Answer {
     match answer {
         Some((tag, mode)) => Answer::Ends(tag, mode),
@@ -105,7 +105,7 @@ fn count(table: &LocalTable) -> u32 {
     number
 }
 
-/// Makes `call` on `table`, and answers what is told of it.
+/// Makes `call` on `table`, and answers what a list of turns says of it.
 fn make(rt: &impl Abort, table: &mut LocalTable, call: Call) -> Answer {
     match call {
         Call::Acquire(tag, mode, owner) => acquired(acquire(rt, table, tag, mode, owner)),

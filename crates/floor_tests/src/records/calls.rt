@@ -13,6 +13,7 @@ pub const OBJECT: Tag = Tag::Relation {
     relation: 16384,
 };
 
+/// The session with the number `number`.
 pub fn session(rt: &impl Abort, number: u8) -> SessionId {
     SessionId::new(number).expect(rt, "a session number")
 }

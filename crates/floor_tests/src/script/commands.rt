@@ -105,7 +105,7 @@ fn expect_commands(rt: &impl Abort, sessions: &OpenSessions<u32, u32>, rows: &[(
     }
 }
 
-/// Ends the test where a line that asks for nothing is answered.
+/// Ends the test where a line that asks for nothing is answered, with sessions called as in `sessions`.
 fn expect_silence(rt: &impl Abort, sessions: &OpenSessions<u32, u32>) {
     for line in ["", " \t", "#", "#session a 5"] {
         assert!(rt; parse(line, sessions) == Ok(None), "{line}");

@@ -3,8 +3,8 @@
 use lock_script::{Defect, Fault, LineReader};
 use std::io::{self, ErrorKind, Read};
 
-/// A reader of a text that gives so many bytes a read, is interrupted before each, and fails where the text ends if it
-/// is to.
+/// A reader of a text that gives a fixed number of bytes a read, is interrupted before each, and fails where the text
+/// ends if it is to.
 #[derive(Drop)]
 struct Text<'a> {
     left: &'a [u8],
@@ -27,7 +27,7 @@ impl Read for Text<'_> {
     }
 }
 
-/// A text, whether reading fails at its end, its lines, and the fault behind them.
+/// A text, whether reading fails at its end, its lines, and the fault after them.
 type Lines = (&'static str, bool, &'static [&'static str], Option<Fault>);
 
 const LINES: [Lines; 6] = [
@@ -72,7 +72,7 @@ fn is_over<R: Read>(reader: &mut LineReader<R>, fault: Option<Fault>) -> bool {
     }
 }
 
-/// Whether the lines of `reader` are `lines`, and `fault` comes behind them.
+/// Whether the lines of `reader` are `lines`, and `fault` comes after them.
 fn are_read<R: Read>(reader: &mut LineReader<R>, lines: &[&str], fault: Option<Fault>) -> bool {
     for line in lines {
         if !is_next(reader, line) {

@@ -8,6 +8,7 @@ use std::alloc::{AllocError, Global};
 use std::process::Abort;
 use std::test::Fail;
 
+/// The name `text`.
 pub fn name(rt: &impl Abort, text: &str) -> Name {
     Name::from(text).expect(rt, "a name")
 }

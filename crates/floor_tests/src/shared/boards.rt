@@ -19,7 +19,7 @@ use std::time::Clock;
 
 const ROUNDS: u32 = 10_000;
 
-/// Takes partition `part` in hand, and puts it home as it was.
+/// Takes partition `part`, and puts it back as it was.
 pub fn keep_once<T: PartTable, B: Board<T>, R: Wait>(rt: &R, board: &mut B, part: u8)
     requires exists { part < 16 }
     requires idle { MayCloseBy (B.view board.old) }
@@ -32,7 +32,7 @@ pub fn keep_once<T: PartTable, B: Board<T>, R: Wait>(rt: &R, board: &mut B, part
     board.put_part(part, &Move::Keep, content);
 }
 
-// Does so over and over.
+/// Takes partition 3 by `board` and puts it back as it was, over and over.
 fn keep_often<T: PartTable, B: Board<T>, R: Wait>(rt: &R, board: &mut B)
     requires idle { MayCloseBy (B.view board.old) }
     requires stack { B.stack board.old ≡ nothing_due }
@@ -45,7 +45,7 @@ fn keep_often<T: PartTable, B: Board<T>, R: Wait>(rt: &R, board: &mut B)
     }
 }
 
-// Each in a thread of its own.
+/// Has `first` and `second` take a partition and put it back over and over, each in a thread of its own.
 fn in_two_threads<B: Board<PlainPart> + Send, R: Threads + Wait + Sync>(
     rt: &R,
     first: &mut B,
@@ -69,22 +69,22 @@ fn in_two_threads<B: Board<PlainPart> + Send, R: Threads + Wait + Sync>(
     );
 }
 
-// What two sessions do side by side.
+/// What two sessions do side by side.
 #[derive(Clone, Copy)]
-enum Story {
+enum SideBySide {
     /// Both take one partition over and over.
     Together,
     /// One comes for a lock as the other one puts it.
     Latecomer,
 }
 
-// Tells a story of two sessions.
-fn tell<B: Board<PlainPart> + Send, R: Abort + Clock + Threads + Wait + Sync>(
+/// Has `first` and `second` do side by side what `what` says; `owner` is the session whose slots' lock they race for.
+fn run_both<B: Board<PlainPart> + Send, R: Abort + Clock + Threads + Wait + Sync>(
     rt: &R,
     first: &mut B,
     second: &mut B,
     owner: SessionId,
-    story: Story,
+    what: SideBySide,
 )
     requires exists { owner < (B.seat first.old).limit }
     requires its_exists { owner < (B.seat second.old).limit }
@@ -99,17 +99,17 @@ fn tell<B: Board<PlainPart> + Send, R: Abort + Clock + Threads + Wait + Sync>(
     ensures its_stack { B.stack second.new ≡ nothing_due }
     ensures its_seat { B.seat second.new ≡ B.seat second.old }
 {
-    match story {
-        Story::Together => in_two_threads(rt, first, second),
-        Story::Latecomer => race(rt, first, second, owner),
+    match what {
+        SideBySide::Together => in_two_threads(rt, first, second),
+        SideBySide::Latecomer => race(rt, first, second, owner),
     }
 }
 
-// Two sessions open, make their steps side by side, meet, part and close.
+/// Opens two sessions, has them do what `what` says, and closes them.
 fn of_two<R: Abort + Clock + Threads + Wait + Sync>(
     rt: &R,
     alloc: Global,
-    story: Story,
+    what: SideBySide,
 ) -> Result<(), Fail> {
     let Ok((table, mut opener)) = open(alloc, &SIZES, empty_slots(alloc)?) else {
         return Err("out of memory".into());
@@ -122,7 +122,7 @@ fn of_two<R: Abort + Clock + Threads + Wait + Sync>(
         return Err("no second session".into());
     };
     let owner = first.number();
-    tell(rt, &mut first, &mut second, owner, story);
+    run_both(rt, &mut first, &mut second, owner, what);
     let second = first.meet(second);
     opener.close(second);
     opener.close(first);
@@ -131,15 +131,16 @@ fn of_two<R: Abort + Clock + Threads + Wait + Sync>(
 
 #[test]
 fn two_threads_take_one_partition(rt: HostRuntime) -> Result<(), Fail> {
-    of_two(&rt, rt.alloc(), Story::Together)
+    of_two(&rt, rt.alloc(), SideBySide::Together)
 }
 
 #[test]
 fn who_comes_for_a_lock_as_it_is_put_is_not_left_asleep(rt: HostRuntime) -> Result<(), Fail> {
-    of_two(&rt, rt.alloc(), Story::Latecomer)
+    of_two(&rt, rt.alloc(), SideBySide::Latecomer)
 }
 
-// Keeps it twice, on the board of a session that has nothing. What the wait word shows then.
+/// Takes partition 3 by `board`, that of a session that has nothing, and puts it back, twice. Answers what the
+/// session's wait word shows then.
 fn keep_twice<T: PartTable, B: Board<T>, R: Wait>(rt: &R, board: &mut B) -> u64
     requires blank { B.view board.old ≡ blank_account }
     requires stack { B.stack board.old ≡ nothing_due }

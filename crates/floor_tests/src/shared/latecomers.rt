@@ -1,55 +1,31 @@
-//! A session has a lightweight lock and puts it just as another one, which came for it, goes on its way from its
-//! last attempt to the lock's wait list. There no release wakes it. So it attempts once more behind that, and
-//! nobody is left asleep.
+//! A session holds a lightweight lock and puts it back just as another one, which came for it, goes on its way from its
+//! last attempt to the lock's wait list. There no release wakes it. So it attempts once more after that, and nobody is
+//! left asleep.
 
 ghost use Rattle.std.specs.Prelude.{◌≡◌, ◌<◌};
 ghost use Rattle.shared_rule.specs.Boards.{nothing_due};
 ghost use Rattle.shared_rule.specs.Seats.{MayCloseBy};
 
+mod rounds;
+
 use super::boards::keep_once;
 use lock_table::{Move, PartTable, PlainPart};
 use modes_core::SessionId;
+use rounds::{ROUNDS, Rounds, round_of};
 use shared_rule::Board;
 use std::process::Abort;
 use std::sync::Wait;
-use std::sync::atomic::{AtomicU64, Ordering};
-use std::thread::{self, Threads, join_mut, sleep};
-use std::time::{Clock, Duration};
+use std::thread::{Threads, join_mut};
+use std::time::Clock;
 
-/// How often two threads begin for a lock, and how many rounds they have each time. Threads that begin are given
-/// processors of their own; later on whoever is woken often shares the waker's, and then no step of one falls
-/// between two of the other.
+/// How often two threads begin for a lock. Threads that begin are given processors of their own; later on a session that
+/// is woken often shares the waker's, and then no step of one falls between two of the other.
 const BEGINNINGS: u64 = 2_500;
 
-const ROUNDS: u64 = 8;
-
-/// The partition that they race for.
+/// The partition that two sessions race for.
 const PART: u8 = 3;
 
-/// How often a session looks for the other one before it leaves its processor between looks, and before it sleeps
-/// between them. Whoever sleeps for a lock has it later than after so many looks, and whoever attempts it once more
-/// has it sooner.
-const SOON: u64 = 4_000;
-
-const LATE: u64 = 8_000;
-
-/// How often it sleeps, for so many milliseconds, before it gives up.
-const PAUSES: u32 = 2_000;
-
-const PAUSE: u64 = 10;
-
-/// The lock stays in hand for so many looks more after a round in which the other one had it soon, and for so many
-/// fewer after one in which it slept. So rounds end close to the moment at which it goes to sleep, some looks
-/// sooner or later by chance.
-const LONGER: u64 = 16;
-
-const SHORTER: u64 = 96;
-
-const CHANCE: u64 = 128;
-
-const LONGEST: u64 = 65_536;
-
-/// For which lightweight lock they race, and how the one that comes late wants it.
+/// Which lightweight lock two sessions race for, and how the one that comes late wants it.
 #[derive(Clone, Copy)]
 enum Lock {
     Partition,
@@ -59,122 +35,7 @@ enum Lock {
 
 static LOCKS: [Lock; 3] = [Lock::Partition, Lock::Slots, Lock::SharedSlots];
 
-/// Whether `word` comes to show `round` soon.
-fn comes_soon(word: &AtomicU64, round: u64) -> bool {
-    for _ in 0..SOON {
-        if word.load(Ordering::SeqCst) >= round {
-            return true;
-        }
-    }
-    false
-}
-
-/// Whether `word` comes to show `round` within a time that is long beside all that a round takes.
-fn comes<R: Clock>(rt: &R, word: &AtomicU64, round: u64) -> bool {
-    if comes_soon(word, round) {
-        return true;
-    }
-    for _ in SOON..LATE {
-        thread::yield_now();
-        if word.load(Ordering::SeqCst) >= round {
-            return true;
-        }
-    }
-    for _ in 0..PAUSES {
-        sleep(rt, Duration::from_millis(PAUSE));
-        if word.load(Ordering::SeqCst) >= round {
-            return true;
-        }
-    }
-    false
-}
-
-/// The number of the round at `place`, from 1 on, of the rounds that `beginning` counts before it.
-fn round_of(beginning: u64, place: u64) -> u64 {
-    beginning.wrapping_mul(ROUNDS).wrapping_add(place)
-}
-
-/// A number that looks random, another one for each `seed` (splitmix).
-fn mixed(seed: u64) -> u64 {
-    let mixed = seed.wrapping_add(1).wrapping_mul(0x9E37_79B9_7F4A_7C15);
-    let mixed = (mixed ^ mixed >> 30).wrapping_mul(0xBF58_476D_1CE4_E5B9);
-    mixed ^ mixed >> 27
-}
-
-/// The round that they are in.
-#[derive(Drop)]
-struct Rounds {
-    /// The last one in which the lock was in hand.
-    held: AtomicU64,
-    /// The last one in which the other session came for it.
-    came: AtomicU64,
-    /// The last one in which the other session had it too.
-    over: AtomicU64,
-    /// For how many looks the lock stays in hand.
-    looks: AtomicU64,
-}
-
-impl Rounds {
-    fn new() -> Rounds {
-        Rounds {
-            held: AtomicU64::new(0),
-            came: AtomicU64::new(0),
-            over: AtomicU64::new(0),
-            looks: AtomicU64::new(0),
-        }
-    }
-
-    /// Has the lock in hand for some looks once the other session comes in `round`, and answers whether that came
-    /// soon.
-    fn hold<R: Abort + Clock>(&self, rt: &R, round: u64) -> bool {
-        self.held.store(round, Ordering::SeqCst);
-        let is_soon = comes_soon(&self.came, round);
-        assert!(rt;
-            is_soon || comes(rt, &self.came, round),
-            "round {round}: nobody comes for the lock"
-        );
-        for _ in 0..self.looks.load(Ordering::SeqCst) {
-            self.over.load(Ordering::SeqCst);
-        }
-        for _ in 0..mixed(round) % CHANCE {
-            self.over.load(Ordering::SeqCst);
-        }
-        is_soon
-    }
-
-    /// Ends the test unless the lock was put, and the other session has had it too, in `round`. Where that
-    /// `came_soon`, how soon it had the lock says how long the lock stays in hand in the next round.
-    fn expect_over<R: Abort + Clock>(&self, rt: &R, round: u64, came_soon: bool) {
-        let is_soon = comes_soon(&self.over, round);
-        assert!(rt;
-            is_soon || comes(rt, &self.over, round),
-            "round {round}: who came for the lock as it was put sleeps for ever"
-        );
-        let looks = self.looks.load(Ordering::SeqCst);
-        if came_soon && is_soon {
-            self.looks.store(looks.saturating_add(LONGER).min(LONGEST), Ordering::SeqCst);
-        } else if came_soon {
-            self.looks
-                .store(looks.saturating_sub(SHORTER), Ordering::SeqCst);
-        }
-    }
-
-    /// Comes for the lock once it is in hand in `round`.
-    fn come<R: Abort + Clock>(&self, rt: &R, round: u64) {
-        assert!(rt;
-            comes(rt, &self.held, round),
-            "round {round}: nobody holds the lock"
-        );
-        self.came.store(round, Ordering::SeqCst);
-    }
-
-    /// Notes that the one that came has had the lock in `round`.
-    fn end(&self, round: u64) {
-        self.over.store(round, Ordering::SeqCst);
-    }
-}
-
-// Has the partition in hand for a while.
+/// Holds the partition by `board` in `round`, for as long as `rounds` says.
 fn hold_part<T: PartTable, B: Board<T>, R: Abort + Clock + Wait>(
     rt: &R,
     board: &mut B,
@@ -193,7 +54,7 @@ fn hold_part<T: PartTable, B: Board<T>, R: Abort + Clock + Wait>(
     rounds.expect_over(rt, round, came_soon);
 }
 
-// Has the lock of a session's slots for a while.
+/// Holds the lock of the slots of `owner` by `board` in `round`, for as long as `rounds` says.
 fn hold_slots<T: PartTable, B: Board<T>, R: Abort + Clock + Wait>(
     rt: &R,
     board: &mut B,
@@ -214,7 +75,7 @@ fn hold_slots<T: PartTable, B: Board<T>, R: Abort + Clock + Wait>(
     rounds.expect_over(rt, round, came_soon);
 }
 
-// Takes that lock and puts it.
+/// Takes the lock of the slots of `owner` by `board`, and puts it back.
 fn take_slots<T: PartTable, B: Board<T>, R: Wait>(rt: &R, board: &mut B, owner: SessionId)
     requires exists { owner < (B.seat board.old).limit }
     requires idle { MayCloseBy (B.view board.old) }
@@ -227,7 +88,7 @@ fn take_slots<T: PartTable, B: Board<T>, R: Wait>(rt: &R, board: &mut B, owner: 
     board.put_fast(owner);
 }
 
-// Shares that lock and gives it back.
+/// Shares the lock of the slots of `owner` by `board`, and gives it back.
 fn share_slots<T: PartTable, B: Board<T>, R: Wait>(rt: &R, board: &mut B, owner: SessionId)
     requires exists { owner < (B.seat board.old).limit }
     requires idle { MayCloseBy (B.view board.old) }
@@ -240,7 +101,7 @@ fn share_slots<T: PartTable, B: Board<T>, R: Wait>(rt: &R, board: &mut B, owner:
     board.unshare_fast(owner);
 }
 
-// The same of either lock.
+/// Holds `lock` by `board` in `round`, for as long as `rounds` says; where it is of slots, of those of `owner`.
 fn hold_once<T: PartTable, B: Board<T>, R: Abort + Clock + Wait>(
     rt: &R,
     board: &mut B,
@@ -262,7 +123,7 @@ fn hold_once<T: PartTable, B: Board<T>, R: Abort + Clock + Wait>(
     }
 }
 
-// Comes for it once.
+/// Comes for `lock` by `board` once it is held in `round`, and takes it; where it is of slots, of those of `owner`.
 fn come_once<T: PartTable, B: Board<T>, R: Abort + Clock + Wait>(
     rt: &R,
     board: &mut B,
@@ -287,7 +148,7 @@ fn come_once<T: PartTable, B: Board<T>, R: Abort + Clock + Wait>(
     rounds.end(round);
 }
 
-// Has it in hand some times.
+/// Holds `lock` by `board` in each round of `beginning`; where it is of slots, of those of `owner`.
 fn hold_some<T: PartTable, B: Board<T>, R: Abort + Clock + Wait>(
     rt: &R,
     board: &mut B,
@@ -308,7 +169,7 @@ fn hold_some<T: PartTable, B: Board<T>, R: Abort + Clock + Wait>(
     }
 }
 
-// Comes for it as often.
+/// Comes for `lock` by `board` in each round of `beginning`; where it is of slots, of those of `owner`.
 fn come_some<T: PartTable, B: Board<T>, R: Abort + Clock + Wait>(
     rt: &R,
     board: &mut B,
@@ -329,7 +190,8 @@ fn come_some<T: PartTable, B: Board<T>, R: Abort + Clock + Wait>(
     }
 }
 
-// The two have some rounds, each in a thread of its own.
+/// Has `first` hold `lock` and `second` come for it in each round of `beginning`, each in a thread of its own; where it is
+/// of slots, of those of `owner`.
 fn race_some<B: Board<PlainPart> + Send, R: Abort + Clock + Threads + Wait + Sync>(
     rt: &R,
     first: &mut B,
@@ -359,7 +221,8 @@ fn race_some<B: Board<PlainPart> + Send, R: Abort + Clock + Threads + Wait + Syn
     );
 }
 
-// They race for a lock, with threads that begin over and over.
+/// Has `first` and `second` race for `lock`, with threads that begin over and over; where it is of slots, of those of
+/// `owner`.
 fn race_for<B: Board<PlainPart> + Send, R: Abort + Clock + Threads + Wait + Sync>(
     rt: &R,
     first: &mut B,

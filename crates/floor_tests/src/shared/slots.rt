@@ -12,8 +12,9 @@ use std::process::Abort;
 use std::sync::Wait;
 use std::test::Fail;
 
-// The number that the first slot shows once a session that has nothing has set two modes of a relation there, one
-// after the other; `None` where somebody has counted a strong lock of the relation's index.
+/// Sets two modes of a relation in the first slot by `board`, that of a session that has nothing, one after the other,
+/// and answers the number that the slot shows then; `None` where somebody has counted a strong lock of the relation's
+/// index.
 fn set_twice<T: PartTable, B: Board<T>, R: Wait>(rt: &R, board: &mut B) -> Option<u64>
     requires blank { B.view board.old ≡ blank_account }
     requires stack { B.stack board.old ≡ nothing_due }
@@ -38,8 +39,8 @@ fn set_twice<T: PartTable, B: Board<T>, R: Wait>(rt: &R, board: &mut B) -> Optio
     Some(board.load_slot(own, 0).number())
 }
 
-// What the lock of its own slots lets a session that has nothing see while it is shared: its database, and the
-// number of its last slot. The lock is given back.
+/// Shares the lock of its own slots by `board`, that of a session that has nothing, and answers what it sees then: its
+/// database, and the number of its last slot. The lock is given back.
 fn read_shared<T: PartTable, B: Board<T>, R: Wait>(rt: &R, board: &mut B) -> (u64, u64)
     requires blank { B.view board.old ≡ blank_account }
     requires stack { B.stack board.old ≡ nothing_due }
@@ -58,7 +59,8 @@ fn read_shared<T: PartTable, B: Board<T>, R: Wait>(rt: &R, board: &mut B) -> (u6
     (database, shown.number())
 }
 
-// What the counter of a relation shows once a session that has nothing has counted a strong lock on it.
+/// Counts a strong lock on a relation by `board`, that of a session that has nothing, and answers what the relation's
+/// counter shows then.
 fn count_once<T: PartTable, B: Board<T>>(board: &mut B) -> u64
     requires blank { B.view board.old ≡ blank_account }
 {

@@ -17,7 +17,7 @@ pub struct InHand {
     pub holder: SessionId,
     /// The move that the session has made on the content, if any.
     pub recorded: Option<Move>,
-    /// Those whom that move granted and whose wait words are not yet marked so.
+    /// The sessions whom that move granted and whose wait words are not yet marked so.
     pub unmarked: [bool; 64],
 }
 
@@ -181,7 +181,7 @@ pub fn is_among(woken: &Woken, session: SessionId) -> bool
     woken.iter().any(|(other, _)| *other == session)
 }
 
-/// Those in `woken`, by session number: their grants are unmarked so far.
+/// The sessions in `woken`, by number: none of their grants is marked yet.
 pub fn unmarked_of(woken: &Woken) -> [bool; 64]
     ensures { (session : ℕ) → is_unmarked_in result session ≡ names_in woken.now.items session }
 {

@@ -12,7 +12,7 @@ impl Machine {
     ghost use Rattle.lock_model.specs.Shows.{Follows};
     ghost use Rattle.lock_model.specs.ListWords.{may_lock_list, has_list};
 
-    /// Locks the wait list of the lightweight lock `word`, where nobody has it and `session` has no other in hand
+    /// Locks the wait list of the lightweight lock `word`, where nobody has locked it and `session` has locked no other
     /// (`LWLockWaitListLock` in lwlock.c).
     pub fn lock_list(&mut self, session: SessionId, word: Word)
         ensures { Follows self.old session (Step.LockList word) self.new }

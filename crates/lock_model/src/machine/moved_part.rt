@@ -21,12 +21,12 @@ use wait_queue::{remove_waiter, take_hold_out};
 pub struct MovedPart {
     /// The part after the move.
     pub part: PlainPart,
-    /// Those whose waits the move granted.
+    /// The sessions whose waits the move granted.
     pub woken: Woken,
 }
 
 impl MovedPart {
-    // A part whose move granted nobody.
+    /// The part `part` after a move that granted nobody.
     fn alone(part: PlainPart) -> Self
         ensures part { result.part ≡ part }
         ensures nobody { result.woken.items ≡ [] }

@@ -2,7 +2,7 @@ use super::state::{CountedBy, FastPath, Lists, Sleeper, Words};
 use lock_world::Word;
 use modes_core::{Mode, ModeSet, SessionId, Tag};
 
-/// Where a hold stands.
+/// Where a hold is recorded.
 #[derive(Clone, Copy, Debug, PartialEq, Eq, PartialOrd, Ord)]
 pub enum Spot {
     /// In a fast-path slot of its session.
@@ -21,7 +21,7 @@ pub struct Hold {
     pub tag: Tag,
     /// The mode.
     pub mode: Mode,
-    /// Where it stands.
+    /// Where the hold is recorded.
     pub spot: Spot,
 }
 
@@ -57,8 +57,8 @@ impl Plain {
     ghost use Rattle.lock_world.specs.SlotHolds.{group_size};
     ghost use Rattle.lock_world.specs.World.{WordExists};
 
-    /// All holds, those in fast-path slots and those in the lock table, each once, with where it stands: by
-    /// session, then by the tag's numbers, then by the mode's number, then by where they stand.
+    /// All holds, those in fast-path slots and those in the lock table, each once, with where it is recorded: by
+    /// session, then by the tag's numbers, then by the mode's number, then by where they are recorded.
     pub fn holds(&self) -> &[Hold]
         ensures { result.now ≡ holds_of self.now }
     {

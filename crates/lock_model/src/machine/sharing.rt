@@ -26,7 +26,7 @@ impl Machine {
         }
     }
 
-    /// Gives a shared word back (`LWLockRelease` in lwlock.c).
+    /// Releases `word` by `session`, which shares it (`LWLockRelease` in lwlock.c).
     pub fn put_shared(&mut self, session: SessionId, word: Word)
         ensures { Follows self.old session (Step.PutShared word) self.new }
     {

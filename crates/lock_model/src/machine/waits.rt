@@ -21,7 +21,7 @@ impl Machine {
     ghost use Rattle.lock_model.specs.CountedLists.{counted_for};
     ghost use Rattle.lock_model.specs.Shows.{ShowsSafe, Follows, FollowsMarking, IsWaking, IsOwnFor, CannotMake, makes_steps, hand_of};
 
-    /// Asks `other`, whoever it is, to cancel: bit 2 of its wait word is set.
+    /// Asks `other`, which may be any session, to cancel: bit 2 of its wait word is set.
     pub fn ask_cancel(&mut self, session: SessionId, other: SessionId)
         ensures { Follows self.old session (Step.AskCancel other) self.new }
     {

@@ -1,0 +1,148 @@
+//! The rounds of a race for a lock, which two threads count together: one holds it for a while, and the other one comes
+//! for it.
+
+use std::process::Abort;
+use std::sync::atomic::{AtomicU64, Ordering};
+use std::thread::{self, sleep};
+use std::time::{Clock, Duration};
+
+/// How many rounds two threads have each time that they begin.
+pub const ROUNDS: u64 = 8;
+
+/// How often a session looks for the other one before it leaves its processor between looks, and before it sleeps
+/// between them. A session that sleeps for a lock has it later than after `SOON` looks, and one that attempts it once
+/// more has it sooner.
+const SOON: u64 = 4_000;
+
+const LATE: u64 = 8_000;
+
+/// How often a session sleeps, for as many milliseconds as it says below, before it gives up.
+const PAUSES: u32 = 2_000;
+
+const PAUSE: u64 = 10;
+
+/// How many looks longer the lock is held after a round in which the other session had it soon, and how many shorter
+/// after one in which it slept. So rounds end close to the moment at which it goes to sleep, some looks sooner or later
+/// by chance.
+const LONGER: u64 = 16;
+
+const SHORTER: u64 = 96;
+
+const CHANCE: u64 = 128;
+
+const LONGEST: u64 = 65_536;
+
+/// Whether `word` comes to show `round` soon.
+fn comes_soon(word: &AtomicU64, round: u64) -> bool {
+    for _ in 0..SOON {
+        if word.load(Ordering::SeqCst) >= round {
+            return true;
+        }
+    }
+    false
+}
+
+/// Whether `word` comes to show `round` within a time that is long beside all that a round takes.
+fn comes<R: Clock>(rt: &R, word: &AtomicU64, round: u64) -> bool {
+    if comes_soon(word, round) {
+        return true;
+    }
+    for _ in SOON..LATE {
+        thread::yield_now();
+        if word.load(Ordering::SeqCst) >= round {
+            return true;
+        }
+    }
+    for _ in 0..PAUSES {
+        sleep(rt, Duration::from_millis(PAUSE));
+        if word.load(Ordering::SeqCst) >= round {
+            return true;
+        }
+    }
+    false
+}
+
+/// The number of the round at `place`, from 1 on, of the rounds that `beginning` counts before it.
+pub fn round_of(beginning: u64, place: u64) -> u64 {
+    beginning.wrapping_mul(ROUNDS).wrapping_add(place)
+}
+
+/// A number that looks random, another one for each `seed` (splitmix).
+fn mixed(seed: u64) -> u64 {
+    let mixed = seed.wrapping_add(1).wrapping_mul(0x9E37_79B9_7F4A_7C15);
+    let mixed = (mixed ^ mixed >> 30).wrapping_mul(0xBF58_476D_1CE4_E5B9);
+    mixed ^ mixed >> 27
+}
+
+/// The round that they are in.
+#[derive(Drop)]
+pub struct Rounds {
+    /// The last round in which the lock was held.
+    held: AtomicU64,
+    /// The last one in which the other session came for it.
+    came: AtomicU64,
+    /// The last one in which the other session had it too.
+    over: AtomicU64,
+    /// For how many looks the lock is held.
+    looks: AtomicU64,
+}
+
+impl Rounds {
+    /// Rounds of which none was begun.
+    pub fn new() -> Rounds {
+        Rounds {
+            held: AtomicU64::new(0),
+            came: AtomicU64::new(0),
+            over: AtomicU64::new(0),
+            looks: AtomicU64::new(0),
+        }
+    }
+
+    /// Holds the lock for some looks once the other session comes in `round`, and answers whether that came soon.
+    pub fn hold<R: Abort + Clock>(&self, rt: &R, round: u64) -> bool {
+        self.held.store(round, Ordering::SeqCst);
+        let is_soon = comes_soon(&self.came, round);
+        assert!(rt;
+            is_soon || comes(rt, &self.came, round),
+            "round {round}: nobody comes for the lock"
+        );
+        for _ in 0..self.looks.load(Ordering::SeqCst) {
+            self.over.load(Ordering::SeqCst);
+        }
+        for _ in 0..mixed(round) % CHANCE {
+            self.over.load(Ordering::SeqCst);
+        }
+        is_soon
+    }
+
+    /// Ends the test unless the lock was put back, and the other session has had it too, in `round`. Where that
+    /// `came_soon`, how soon it had the lock says for how long the lock is held in the next round.
+    pub fn expect_over<R: Abort + Clock>(&self, rt: &R, round: u64, came_soon: bool) {
+        let is_soon = comes_soon(&self.over, round);
+        assert!(rt;
+            is_soon || comes(rt, &self.over, round),
+            "round {round}: who came for the lock as it was put sleeps for ever"
+        );
+        let looks = self.looks.load(Ordering::SeqCst);
+        if came_soon && is_soon {
+            self.looks.store(looks.saturating_add(LONGER).min(LONGEST), Ordering::SeqCst);
+        } else if came_soon {
+            self.looks
+                .store(looks.saturating_sub(SHORTER), Ordering::SeqCst);
+        }
+    }
+
+    /// Comes for the lock once it is held in `round`.
+    pub fn come<R: Abort + Clock>(&self, rt: &R, round: u64) {
+        assert!(rt;
+            comes(rt, &self.held, round),
+            "round {round}: nobody holds the lock"
+        );
+        self.came.store(round, Ordering::SeqCst);
+    }
+
+    /// Notes that the one that came has had the lock in `round`.
+    pub fn end(&self, round: u64) {
+        self.over.store(round, Ordering::SeqCst);
+    }
+}
