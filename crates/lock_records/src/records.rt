@@ -115,7 +115,7 @@ impl Records {
         self.conflict_of(session, tag, mode).is_none()
     }
 
-    /// What `conflict_of` answers: a function of its own, called seldom.
+    /// What `conflict_of` answers `session` for `tag` in `mode`: a function of its own, called seldom.
     #[cold]
     #[inline(never)]
     fn conflict_by_look(
@@ -318,13 +318,7 @@ impl PartTable for Records {
         if !self.known {
             return self.conflict_by_look(session, tag, mode);
         }
-        holder_in_the_way(
-            &self.locks[self.hint],
-            &self.holders,
-            tag,
-            session,
-            mode,
-        )
+        holder_in_the_way(&self.locks[self.hint], &self.holders, tag, session, mode)
     }
 
     #[inline(always)]

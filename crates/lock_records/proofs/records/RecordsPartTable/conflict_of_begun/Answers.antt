@@ -1,6 +1,5 @@
-use Rattle.std.proofs.Common.{◌≡◌, Some, refl, ap, ◌∙◌, subst}
+use Rattle.std.proofs.Common.{refl, ap, ◌∙◌, subst}
 use Rattle.std.proofs.lemmas.Bool.{both_ways}
-use Rattle.lock_table.specs.declared.request.Request.{Request}
 use Rattle.lock_records.specs.Holders.{holds_in}
 use Rattle.lock_records.specs.Objects.{IsHeldLock}
 use Rattle.lock_records.specs.View.{RecordView}

@@ -1,9 +1,8 @@
-use Rattle.std.proofs.Common.{sym, subst, ◌≡◌, false, ap, ◌∙◌, arith}
+use Rattle.std.proofs.Common.{◌≡◌, false, ap, ◌∙◌, arith}
 use Rattle.lock_table.specs.declared.request.Request.{Request}
 use Rattle.lock_table.specs.Queue.{awaits_mode}
 use Rattle.lock_records.specs.Queues.{queue_on}
 use Rattle.lock_records.specs.Holders.{holds_in}
-use Rattle.lock_records.specs.Locks.{HasNoLock}
 use Rattle.lock_records.specs.Objects.{HasRoom}
 use Rattle.lock_records.specs.View.{RecordView}
 use Rattle.lock_records.proofs.Changes.{objects-granted}

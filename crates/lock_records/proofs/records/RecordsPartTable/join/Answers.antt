@@ -1,10 +1,9 @@
-use Rattle.std.proofs.Common.{sym, subst, ◌≡◌, ◌<◌, false, ap, ◌∙◌, arith}
+use Rattle.std.proofs.Common.{◌≡◌, ◌<◌, false, ap, ◌∙◌, arith}
 use Rattle.modes_core.specs.ModeSet.{set_has}
 use Rattle.lock_table.specs.Content.{Wait}
 use Rattle.lock_table.specs.Queue.{awaits_mode, waits_there}
 use Rattle.lock_table.specs.declared.request.Request.{Request}
 use Rattle.lock_records.specs.Holders.{holds_in}
-use Rattle.lock_records.specs.Locks.{HasNoLock}
 use Rattle.lock_records.specs.Objects.{HasRoom}
 use Rattle.lock_records.specs.Queues.{queue_on}
 use Rattle.lock_records.specs.View.{RecordView}
