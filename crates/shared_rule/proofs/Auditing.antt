@@ -31,7 +31,7 @@ use Rattle.shared_rule.specs.declared.history.View.{View}
 use Rattle.shared_rule.specs.declared.kept.Kept.{Kept}
 use Rattle.shared_rule.specs.History.{noted, noting, noting_first, taken_of, first_account, first_number}
 use Rattle.atomic_table.specs.declared.shared.Seat.{Seat}
-use Rattle.shared_rule.specs.Marks.{LoadedSlot, LoadedStrong, TookPart, PutPart}
+use Rattle.shared_rule.specs.Marks.{LoadedSlot, LoadedStrong, TookPart}
 use Rattle.shared_rule.specs.Plays.{HasSession, IsSameSeat}
 use Rattle.shared_rule.specs.Lawful.{IsAboveHand}
 use Rattle.shared_rule.specs.Seats.{behind_of}
@@ -463,7 +463,7 @@ module _ {T : Type 0} (content : T → Content) (groups limit p : ℕ) (before m
     (has : HasSession before) (part : T) (took : mid ≡ noting before (TookPart p part)) (counts : CountsFrom content groups (p + 1) limit mid old first fast later new)
     (put : IsFurther later after)
     (last-account : first_account content after.sessions
-      ≡ account_putting (first_account content later.sessions) p (taken_of ((first_account content later.sessions).hand p)) (content part) Keep)
+    ≡ account_putting (first_account content later.sessions) p (taken_of ((first_account content later.sessions).hand p)) (content part) Keep)
     (none : (first_account content before.sessions).hand p ≡ None) where
   pub counts-more :
       KnowsContent (first_number before.sessions) (first_account content before.sessions) p (content part)

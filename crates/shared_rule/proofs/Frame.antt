@@ -41,7 +41,7 @@ use Rattle.shared_rule.specs.Todos.{Todo, no_content, todo_noted, flagged_noted,
 use Rattle.shared_rule.proofs.Idle.{told-lists}
 use Rattle.shared_rule.proofs.Owings.{KeepsOwed, todo-others, flagged-others, due-others, tries-others, due-here, tries-here, calls-aside}
 use Rattle.shared_rule.specs.Ruled.{todo_of, StandsAtSeat, WakesAreKept, OpenerHasClosed, NoneBeyondSlots, ContentsAreHome, ListsAreHome, IsClosed, HistoryIsShown, IsBehind, SeatsAreShown, StandsClosed, HasSeat, HasOpener, StepsAreTold, HasClosedSo, Ruled}
-use Rattle.shared_rule.proofs.Told.{leads-push, another's, told-push, told-beside, steps-beside, set-back, set-among, set-seat, seat-here, set-opener, opener-here, closed_so-push}
+use Rattle.shared_rule.proofs.Told.{leads-push, another's, told-push, steps-beside, set-back, set-among, set-seat, seat-here, set-opener, opener-here, closed_so-push}
 
 -- A step of the session that goes on by itself at a seat, noted there, keeps the rule.
 
@@ -448,10 +448,13 @@ module _ {T : Type 0} (content : T → Content) (begun : T → Option Request) (
       (λ k spent. calls-aside w _ _ _ k (subst (λ (b : Beside). HasNothingToDo w b.duties b.waits b.sleeps k) same (turn-live w w beside turn r.safe r.wakes.only_live keeps k spent)))
 
   seen-looks : (mark : Mark T) → IsSeen r.world (todo_told_by x.number x.marks) mark → LooksOnly mark
-  seen-looks mark seen = (seen.0, elim seen.1 [
-    | inl locked ↦ inl locked.0
-    | inr held ↦ inr held.0
-  ])
+  seen-looks mark seen = (
+    seen.0,
+    elim seen.1 [
+      | inl locked ↦ inl locked.0
+      | inr held ↦ inr held.0
+    ],
+  )
 
   wakes-seen : (mark : Mark T) → IsSeen r.world (todo_told_by x.number x.marks) mark → WakesAreKept (slice_set s.views id (noting view mark)) r.world
   wakes-seen mark seen = elim seen.1 [

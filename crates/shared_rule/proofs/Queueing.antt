@@ -18,7 +18,7 @@ use Rattle.shared_rule.specs.Plays.{account_at, todo_at}
 use Rattle.shared_rule.specs.Wakeups.{all_taken_off, all_told, MayTakeAllOff, MayTellAll}
 use Rattle.shared_rule.specs.declared.lw_lock.LwLock.{LwLock}
 use Rattle.shared_rule.specs.declared.lw_lock.LwLock.TheVariants.{OfPart, OfSlots}
-use Rattle.shared_rule.specs.Todos.{HasBy, Todo, TriesAtMost, nothing_to_do, todo_queueing, todo_leaving, todo_told, todo_setting_ok, todo_in_list, todo_got, lock_of_list, is_off_list_in_hand}
+use Rattle.shared_rule.specs.Todos.{HasBy, TriesAtMost, nothing_to_do, todo_queueing, todo_leaving, todo_told, todo_setting_ok, todo_in_list, todo_got, lock_of_list, is_off_list_in_hand}
 use Rattle.shared_rule.proofs.Led.{led-then, led_to-then, led_to-as, led_by-todo}
 
 -- What queueing, leaving a list and waking make of an account, step by step.

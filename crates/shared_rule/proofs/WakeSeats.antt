@@ -1,9 +1,9 @@
-use Rattle.std.proofs.Common.{◌≡◌, ℕ, ◌≤◌, List, sym, ap, ◌∙◌, subst}
+use Rattle.std.proofs.Common.{◌≡◌, ℕ, ◌≤◌, List, subst}
 use Rattle.lock_world.specs.declared.events.Event.{Event}
 use Rattle.lock_world.specs.World.{World}
 use Rattle.lock_world.specs.SafeWorld.{SafeWorld}
 use Rattle.lock_world.specs.Happens.{Happens}
-use Rattle.lock_world.specs.Wakes.{Beside, happened, MakesNoStep}
+use Rattle.lock_world.specs.Wakes.{Beside, happened}
 use Rattle.lock_world.specs.Wakes.Waking.{NobodyIsForgotten}
 use Rattle.lock_world.specs.Wakes.Owing.{Duties, waking, duties_after, HasNothingToDo, Asks}
 use Rattle.lock_world.specs.Wakes.Calling.{no_calls}

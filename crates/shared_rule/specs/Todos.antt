@@ -68,9 +68,9 @@ abbrev pub todo_setting_ok : ℕ → ListAccount → Todo → ℕ → Todo
 todo_setting_ok number lists todo lock =
     if is_lock todo.owes_release_ok lock
     then
-      (if not (is_some lists.stands)
-      then todo_told todo lock
-      else (if is_off_list_in_hand number lists.in_hand lock then todo_leaving todo else todo))
+    (if not (is_some lists.stands)
+    then todo_told todo lock
+    else (if is_off_list_in_hand number lists.in_hand lock then todo_leaving todo else todo))
     else todo
 
 -- What a step makes of it, of the session of this number, which knows this of lists.

@@ -47,12 +47,7 @@ fn attempt_slots<T: PartTable>(
 
 // Whether the word shows that somebody holds the lock in the way of this mode. Where it shows that somebody holds it at all,
 // that is noted.
-fn is_held<T: PartTable>(
-    top: &Top<T>,
-    place: &mut Place<T>,
-    owner: SessionId,
-    mode: LwMode,
-) -> bool
+fn is_held<T: PartTable>(top: &Top<T>, place: &mut Place<T>, owner: SessionId, mode: LwMode) -> bool
     requires table { FitsTable place.old top.now.table_id }
     requires exists { owner < top.now.key.sessions }
     requires session { HasSession place.old.me.0 }

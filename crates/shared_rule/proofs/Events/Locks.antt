@@ -35,7 +35,7 @@ use Rattle.lock_world.proofs.Accounts.Slots.{slots_now, account-taking_fast, acc
 use Rattle.lock_world.proofs.Accounts.Slots.{account-sharing_fast, account-unsharing_fast}
 use Rattle.shared_rule.specs.declared.history.Mark.{Mark}
 use Rattle.lock_world.specs.Wakes.Waking.{NoneOr}
-use Rattle.shared_rule.specs.Todos.{Todo, todo_told_by, flagged_told_by}
+use Rattle.shared_rule.specs.Todos.{todo_told_by, flagged_told_by}
 use Rattle.lock_world.specs.WaitLists.{fast_lock}
 use Rattle.lw_word.specs.declared.words.LwMode.TheVariants.{Exclusive, Shared}
 use Rattle.lw_word.specs.LockState.{state_of, put_in}

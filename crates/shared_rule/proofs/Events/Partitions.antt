@@ -33,7 +33,7 @@ use Rattle.lock_world.proofs.Accounts.Lawful.{put-lawful, put_recorded-lawful, h
 use Rattle.lock_world.proofs.Accounts.Partitions.{account-taking, account-putting}
 use Rattle.lock_world.proofs.Accounts.Facts.{content-known}
 use Rattle.lock_world.specs.Wakes.Waking.{NoneOr}
-use Rattle.shared_rule.specs.Todos.{Todo, todo_told_by, flagged_told_by}
+use Rattle.shared_rule.specs.Todos.{todo_told_by, flagged_told_by}
 use Rattle.shared_rule.specs.Todos.{todo_putting}
 use Rattle.lock_world.specs.WaitLists.{partition_lock}
 use Rattle.lw_word.specs.declared.words.LwMode.TheVariants.{Exclusive}

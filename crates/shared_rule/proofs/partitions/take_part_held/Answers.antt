@@ -1,8 +1,7 @@
-use Rattle.std.proofs.Common.{refl, sym, ap, ◌∙◌, subst}
+use Rattle.std.proofs.Common.{ap, ◌∙◌}
 use Rattle.lock_world.specs.Account.{Account}
 use Rattle.lock_world.specs.WaitLists.{partition_lock}
 use Rattle.shared_rule.specs.Plays.{todo_at}
-use Rattle.shared_rule.specs.Todos.{TriesAtMost}
 use Rattle.shared_rule.proofs.Acquires.{tried-then_part, round-lost, round-first, at_most-attempted}
 use Rattle.shared_rule.proofs.partitions.take_part_held.Goals as goal
 

@@ -1,5 +1,3 @@
-use Rattle.std.proofs.Common.{◌∙◌, ap, inl}
-use Rattle.lock_world.specs.Account.{Account}
 use Rattle.lock_world.specs.WaitLists.{partition_lock}
 use Rattle.shared_rule.proofs.Acquires.{took_part-between, nothing-between, may-sleep, tries-queued, told-tries, told-hand, has-part}
 use Rattle.shared_rule.proofs.partitions.take_part_or_sleep.Goals as goal

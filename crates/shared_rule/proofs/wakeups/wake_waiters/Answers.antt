@@ -5,7 +5,7 @@ use Rattle.shared_rule.specs.LwLocks.{lock_number}
 use Rattle.shared_rule.specs.Plays.{account_at, number_at, todo_at}
 use Rattle.lock_world.specs.Account.{ListAccount}
 use Rattle.shared_rule.specs.Todos.{Todo, todo_looked}
-use Rattle.std.proofs.Common.{false, sym}
+use Rattle.std.proofs.Common.{sym}
 use Rattle.std.proofs.lemmas.Bool.{both_ways}
 use Rattle.shared_rule.proofs.Woken.{some-off, taken-none, not-there, may-take_all_off, left-in_hand, may-tell_all, woken, left-well}
 use Rattle.shared_rule.proofs.wakeups.wake_waiters.Goals as goal
