@@ -1,4 +1,4 @@
-use Rattle.std.specs.Prelude.{ℕ, Bool, false, not, ◌==◌, ◌&&◌, ◌||◌, nat_lt, List, [], None, is_none, slice_index_or}
+use Rattle.std.specs.Prelude.{ℕ, Bool, false, not, ◌&&◌, ◌||◌, nat_lt, List, [], None, is_none, slice_index_or}
 use Rattle.std.specs.List.{list_any}
 use Rattle.modes_core.specs.declared.modes.Mode.{Mode}
 use Rattle.modes_core.specs.declared.tags.Tag.{Tag}
@@ -60,5 +60,4 @@ may_clear_slot machine session place tag mode =
 -- whether the session may store its database
 abbrev pub may_store_database : Machine → ℕ → Bool
 may_store_database machine session =
-    (makes_steps machine session && slice_index_or machine.fast_path.databases session 0 == 0)
-    && not (list_any in_use (slots_at machine session))
+    makes_steps machine session && not (list_any in_use (slots_at machine session))

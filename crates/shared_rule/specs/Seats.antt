@@ -15,10 +15,14 @@ use Rattle.shared_rule.specs.Openers.{HaveClosed}
 
 -- Seats that are cut in two and joined: sessions open and close, and meet at one seat, each behind those that came before it.
 
+-- By its account the session holds nothing.
+abbrev pub HoldsNothing : Account → Type 0
+HoldsNothing a = (tag : Tag) (mode : Mode) → a.own tag mode ≡ false
+
 -- Closing, by the session's account: nothing is held, awaited or counted, it has no wait list nor stands in one, and nobody whom it
 -- took off a list is untold.
 pub record MayCloseBy (a : Account) : Type 0 where
-  pub no_hold : (tag : Tag) (mode : Mode) → a.own tag mode ≡ false
+  pub no_hold : HoldsNothing a
   pub no_wait : a.awaited ≡ None
   pub no_partition : (partition : ℕ) → a.hand partition ≡ None
   pub no_shared_partition : (partition : ℕ) → a.shares partition ≡ false

@@ -32,6 +32,7 @@ ghost use Rattle.shared_rule.specs.Boards.{Seated, Stack, nothing_due, stack_tak
 ghost use Rattle.shared_rule.specs.Boards.{stack_owing, stack_asking, stack_waking};
 ghost use Rattle.shared_rule.specs.Lawful.{MayPutPart, IsGrantingIn, MayMarkBy, MayClearBy, HasJustLooked};
 ghost use Rattle.shared_rule.specs.Lawful.{IsAboveHand};
+ghost use Rattle.shared_rule.specs.Seats.{HoldsNothing};
 
 use crate::busy::Busy;
 use lock_table::{Move, PartTable, Woken};
@@ -197,9 +198,10 @@ pub trait Board<T: PartTable> {
             → slots.holds ≡ slot_holds result slots.word }
         ensures own { owner ≡ (seat self.old).number → result ≡ (view self.old).fast.database };
 
-    /// Stores `database` as its own database, once (`InitPostgres` in postinit.c).
+    /// Stores `database` as that of the session, which holds nothing: as it is new (`InitPostgres` in postinit.c), or goes on to serve
+    /// somebody else.
     fn store_database(&mut self, database: u32)
-        requires unset { (view self.old).fast.database ≡ 0 }
+        requires no_hold { HoldsNothing (view self.old) }
         ensures seat { seat self.new ≡ seat self.old }
         ensures view { view self.new ≡ account_storing (view self.old) database }
         ensures stack { stack self.new ≡ stack self.old }

@@ -8,6 +8,7 @@ ghost use Rattle.shared_rule.specs.Plays.{account_at, number_at, FitsTable, HasG
 ghost use Rattle.lock_table.specs.Content.{add_hold};
 ghost use Rattle.lock_world.specs.SlotHolds.{group_size, slot_holds};
 ghost use Rattle.lock_world.specs.AccountLaw.{MaySetSlotBy, MayClearSlotBy, MayTransferBy};
+ghost use Rattle.shared_rule.specs.Seats.{HoldsNothing};
 ghost use Rattle.shared_rule.specs.Marks.{LoadedDatabase, LoadedSlot, SetSlot};
 ghost use Rattle.shared_rule.specs.Marks.{ClearedSlot, TransferredSlot, StoredDatabase};
 
@@ -145,7 +146,7 @@ pub(crate) fn transfer_slot<T: PartTable, M: Marking<T>>(
     store_as::<T, M>(top, place, slot_word(owner, slot), word.number());
 }
 
-/// Stores `database` as that of the session `number`, its own, once (`InitPostgres` in postinit.c).
+/// Stores `database` as that of the session `number`, its own, which holds nothing (`InitPostgres` in postinit.c).
 pub(crate) fn store_database<T: PartTable, M: Marking<T>>(
     top: &Top<T>,
     place: &mut Place<T>,
@@ -155,7 +156,7 @@ pub(crate) fn store_database<T: PartTable, M: Marking<T>>(
     requires table { FitsTable place.old top.now.table_id }
     requires session { HasSession place.old.me.0 }
     requires own { number ≡ number_at place.old }
-    requires unset { (account_at T.content place.old).fast.database ≡ 0 }
+    requires no_hold { HoldsNothing (account_at T.content place.old) }
     requires mark { M.mark ≡ (λ _. StoredDatabase database) }
     ensures seat { IsSameSeat place.old place.new }
     ensures side { place.new.me ≡ (noting place.old.me.0 (StoredDatabase database), place.old.me.1) }

@@ -1,7 +1,7 @@
 use Rattle.std.proofs.Common.{◌≡◌, ◌⊎◌, ℕ, ◌^◌, ◌<◌, ◌≤◌, true, false, List, [], length, get_or, nat_lt, None, ◌*◌, refl, sym, ap, ◌∙◌, subst, inl, inr}
 use Rattle.std.specs.List.{list_any}
 use Rattle.std.proofs.Math.ListN.{set}
-use Rattle.std.proofs.lemmas.Bool.{cases_Bool, cases_eq, both_ways, and_parts, and_from, eqb-true, eq-eqb, ltb-true, lt-ltb, false_from_ne_true, not-true, not_from_false}
+use Rattle.std.proofs.lemmas.Bool.{cases_Bool, cases_eq, both_ways, and_parts, and_from, ltb-true, lt-ltb, false_from_ne_true, not-true, not_from_false}
 use Rattle.modes_core.specs.declared.modes.Mode.{Mode}
 use Rattle.modes_core.specs.declared.tags.Tag.{Tag}
 use Rattle.modes_core.specs.Mode.{number_of}
@@ -248,10 +248,8 @@ module _ (m : Machine) (w : World) (safe : SafeWorld w) (shows_w : Shows m w) wh
       × Shows (record m { fast_path = record (m.fast_path) { databases = set m.fast_path.databases s d } }) v
   database_was_stored s d below may =
       let unused = and_parts _ _ may in
-      let unset = and_parts _ _ unused.0 in
       let its : MayStoreDatabase w s = record {
-        steps = steps_from m w safe shows_w s unset.0;
-        unset = sym (shows_w.fast_path.database s) ∙ eqb-true (get_or m.fast_path.databases s 0) 0 unset.1;
+        steps = steps_from m w safe shows_w s unused.0;
         unused = unused_from m w safe shows_w s (not-true _ unused.1);
       } in (
         after_storing_database w s d,
@@ -273,7 +271,6 @@ module _ (m : Machine) (w : World) (safe : SafeWorld w) (shows_w : Shows m w) wh
       skipped m w safe shows_w s (StoreDatabase d)
       (λ lawful. let its : MayStoreDatabase w s = lawful.1.0 in
       both_ways (may_store_database m s) may_not
-      (and_from _ _
-      (and_from _ _ (steps_kept m w safe shows_w s its.steps) (eq-eqb (get_or m.fast_path.databases s 0) 0 (shows_w.fast_path.database s ∙ its.unset)))
+      (and_from _ _ (steps_kept m w safe shows_w s its.steps)
       (not_from_false _ (false_from_ne_true (list_any in_use (slots_at m s)) (λ any.
       let used = used_from m w safe shows_w s below any in both_ways (in_use (w.words.slot s used.0)) (its.unused used.0 used.1) used.2)))))

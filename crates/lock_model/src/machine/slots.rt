@@ -207,8 +207,6 @@ impl Machine {
     fn may_store_database(&self, session: SessionId) -> bool
         ensures { result ≡ may_store_database self.now session }
     {
-        self.makes_steps(session)
-            && self.fast_path.databases[usize::from(session.number())] == 0
-            && !self.has_a_slot(session)
+        self.makes_steps(session) && !self.has_a_slot(session)
     }
 }

@@ -1,5 +1,7 @@
 use Rattle.std.proofs.Common.{◌≡◌, ℕ, true, false, [], None, sym}
 use Rattle.std.proofs.lemmas.Bool.{false≢true, both_ways, false_from_ne_true}
+use Rattle.modes_core.specs.declared.modes.Mode.{Mode}
+use Rattle.modes_core.specs.declared.tags.Tag.{Tag}
 use Rattle.lock_table.specs.Put.{set_at}
 use Rattle.lock_table.proofs.PutLemmas.{set_at-each}
 use Rattle.lock_world.specs.World.{World}
@@ -11,6 +13,15 @@ use Rattle.lock_world.proofs.WaitLists.{forgetting-safe}
 use Rattle.lock_world.proofs.Safe.Seats.{issuing-safe, going_on-safe, keeping_apart-safe, closing-safe}
 use Rattle.lock_world.proofs.Slots.Remembered.{no_hold-no_slot, remembered-closed}
 use Rattle.lock_world.proofs.SafeWorld.Tabled.{own_but-false}
+
+-- Who holds nothing has no slot in use.
+pub holding_nothing-unused :
+    (w : World) (s : ℕ) → SafeWorld w → ((tag : Tag) (mode : Mode) → w.sessions.own s tag mode ≡ false)
+    → NoSlotInUse (w.words.slot s)
+holding_nothing-unused w s safe none =
+    no_hold-no_slot (w.words.database s) (w.words.slot s) (safe.slots.has_database s)
+    (λ tag mode. false_from_ne_true (slots_of w.words.database w.words.slot s tag mode)
+    (λ shown. both_ways (w.sessions.own s tag mode) (none tag mode) (safe.slots.are_own s tag mode shown)))
 
 -- Issuing a number is safe.
 pub issuing-safe_world : (w : World) (s : ℕ) → SafeWorld w → MayBeIssued w s → SafeWorld (after_issuing w s)
@@ -106,9 +117,5 @@ closing-safe_world w s safe may = record {
   past = safe.past;
   done = safe.done;
   zero = safe.zero;
-  remembered = remembered-closed w.words.slot w.sessions.remembered s none_used safe.remembered;
-} where
-  none_used : NoSlotInUse (w.words.slot s)
-  none_used = no_hold-no_slot (w.words.database s) (w.words.slot s) (safe.slots.has_database s)
-      (λ o n. false_from_ne_true (slots_of w.words.database w.words.slot s o n) (λ shown.
-      both_ways (w.sessions.own s o n) (may.no_hold o n) (safe.slots.are_own s o n shown)))
+  remembered = remembered-closed w.words.slot w.sessions.remembered s (holding_nothing-unused w s safe may.no_hold) safe.remembered;
+}

@@ -149,10 +149,9 @@ after_clearing_slot w session place tag mode = record {
   numbers = w.numbers;
 }
 
--- Storing one's own database, once, with no slot in use (InitPostgres in postinit.c).
+-- Storing one's own database with no slot in use: the first one (InitPostgres in postinit.c), or that of the next one whom the session serves.
 pub record MayStoreDatabase (w : World) (session : ℕ) : Type 0 where
   pub steps : MakesSteps w.numbers session
-  pub unset : w.words.database session ≡ 0
   pub unused : NoSlotInUse (w.words.slot session)
 
 -- the World once the session's database is stored

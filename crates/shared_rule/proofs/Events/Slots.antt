@@ -1,16 +1,16 @@
 use Rattle.std.proofs.Common.{◌≡◌, ℕ, ◌*◌, ◌<◌, Some, refl, sym, ap, ◌∙◌, subst, inl, inr, arith}
-use Rattle.std.proofs.lemmas.Bool.{cases_eq, false_from_ne_true}
+use Rattle.std.proofs.lemmas.Bool.{cases_eq}
 use Rattle.modes_core.specs.declared.modes.Mode.{Mode}
 use Rattle.modes_core.specs.declared.tags.Tag.{Tag}
 use Rattle.modes_core.specs.Tag.{partition_of}
-use Rattle.lw_word.specs.SlotWord.{in_use, word_with, word_without}
+use Rattle.lw_word.specs.SlotWord.{word_with, word_without}
 use Rattle.lock_table.specs.declared.moves.Move.TheVariants.{Adopt}
 use Rattle.lock_table.specs.Content.{Content, add_hold}
 use Rattle.lock_table.specs.Put.{set_at}
 use Rattle.lock_table.proofs.PutLemmas.{set_at-here, set_at-else}
 use Rattle.lock_world.specs.declared.events.Word.TheVariants.{Database, Slot}
 use Rattle.lock_world.specs.declared.events.Step.TheVariants as step
-use Rattle.lock_world.specs.SlotHolds.{group_size, relation_of, InUseHasDatabase, NoSlotInUse}
+use Rattle.lock_world.specs.SlotHolds.{group_size, relation_of}
 use Rattle.lock_world.specs.World.{World, Words, is_unmarked}
 use Rattle.lock_world.specs.Happens.Slots.{after_setting_slot, after_clearing_slot, MayStoreDatabase}
 use Rattle.lock_world.specs.Happens.Slots.{after_storing_database}
@@ -23,12 +23,14 @@ use Rattle.lock_world.proofs.Accounts.Lawful.{transfer-lawful}
 use Rattle.lock_world.proofs.Accounts.Parts.{mine}
 use Rattle.lock_world.proofs.Accounts.Slots.{slots_now, account-setting, account-unsetting, account-transferring}
 use Rattle.lock_world.proofs.Accounts.Slots.{account-storing}
+use Rattle.lock_world.proofs.SafeWorld.Seats.{holding_nothing-unused}
 use Rattle.shared_rule.specs.Marks as mark
 use Rattle.shared_rule.specs.declared.rule.Sizes.{Sizes}
 use Rattle.shared_rule.specs.declared.history.History.{History}
 use Rattle.shared_rule.specs.Shown.{set_word}
 use Rattle.shared_rule.specs.Ruled.{NoneBeyondSlots}
 use Rattle.shared_rule.specs.History.{told, in_hand, slots_here}
+use Rattle.shared_rule.specs.Seats.{HoldsNothing}
 use Rattle.shared_rule.proofs.Events.Words.{IsAlwaysLawful}
 use Rattle.shared_rule.proofs.Events.Waits.{home-recorded}
 
@@ -47,11 +49,6 @@ set-none_beyond groups words session place n within none k j later =
       | inr other ↦ ap (λ row. row j) (set_at-else words.slot session (set_at (words.slot session) place n) k other)
           ∙ none k j later
     ]
-
--- Where the database is 0 no slot is in use.
-unset-unused : (database : ℕ) (slot : ℕ → ℕ) → InUseHasDatabase database slot → database ≡ 0 → NoSlotInUse slot
-unset-unused database slot has unset place within = false_from_ne_true (in_use (slot place))
-    (λ used. has place within used unset)
 
 -- The slots in hand are what the words show.
 known-here : (w : World) (s owner : ℕ) (its : SlotsInHand) → (account w s).fast.slots owner ≡ Some its
@@ -173,18 +170,16 @@ module _ {T : Type 0} (content : T → Content) (sizes : Sizes) (x : History T) 
             (set_at-else w.contents.now p (add_hold (w.contents.now p) owner tag mode));
       }
 
-  pub storing-lawful : (database : ℕ) → (told content x.number x.marks).fast.database ≡ 0
+  pub storing-lawful : (database : ℕ) → HoldsNothing (told content x.number x.marks)
       → IsAlwaysLawful content sizes x (Database x.number) (λ _. Unit {0}) (λ _. database)
       (λ _. mark.StoredDatabase database)
-  storing-lawful database unset w steps n below _ _ =
+  storing-lawful database nothing w steps n below _ _ =
       let s : ℕ = x.number in
-      let unset' : w.words.database s ≡ 0 = ap (λ (a : Account). a.fast.database) (sym steps.account) ∙ unset in
       let may : MayStoreDatabase w s =
       record {
         steps = steps.makes;
-        unset = unset';
-        unused = unset-unused (w.words.database s) (w.words.slot s)
-            (steps.safe.slots.has_database s) unset';
+        unused = holding_nothing-unused w s steps.safe (λ tag mode.
+            ap (λ (a : Account). a.own tag mode) (sym steps.account) ∙ nothing tag mode);
       } in
       record {
         list = w.words.list;

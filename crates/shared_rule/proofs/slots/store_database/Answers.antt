@@ -4,6 +4,7 @@ use Rattle.shared_rule.specs.declared.history.History.{History}
 use Rattle.shared_rule.specs.Marks.{StoredDatabase}
 use Rattle.shared_rule.specs.Layout.{index_of_word}
 use Rattle.shared_rule.specs.History.{first_account, first_number}
+use Rattle.shared_rule.specs.Seats.{HoldsNothing}
 use Rattle.shared_rule.proofs.Events.Words.{IsAlwaysLawful, stores_at}
 use Rattle.shared_rule.proofs.Events.Slots.{storing-lawful}
 use Rattle.shared_rule.proofs.slots.store_database.Goals as goal
@@ -17,12 +18,12 @@ store_as-requires-clause-allowed g c =
     ∙ ap (λ (sessions : List (History g.row.T.Denot)). first_number sessions) session.sessions in
     let exists : session.history.number < 64 = subst (λ n. n < 64) own (search rules) in
     let at = c.database_word.ensures.index ∙ ap (λ n. index_of_word (Database n)) own in
-    let unset = subst (λ (sessions : List (History g.row.T.Denot)).
-    (first_account content sessions).fast.database ≡ 0) session.sessions c.requires.unset in
+    let nothing = subst (λ (sessions : List (History g.row.T.Denot)).
+    HoldsNothing (first_account content sessions)) session.sessions c.requires.no_hold in
     stores_at content g.T.PartTable.begun c.args.top.now.key c.args.top.now.table_id.slots place.id place.me
     session.history session.others session.sessions
     (Database session.history.number) (tt, exists) c.database_word.result at c.from.result g.M.Marking.mark _
     c.requires.mark
     (subst (λ n. IsAlwaysLawful content c.args.top.now.key session.history (Database session.history.number)
     (λ _. Unit {0}) (λ _. n) (λ _. StoredDatabase c.args.database)) (sym c.from.ensures)
-    (storing-lawful content c.args.top.now.key session.history c.args.database unset))
+    (storing-lawful content c.args.top.now.key session.history c.args.database nothing))
