@@ -23,6 +23,7 @@ pub record Beside : Type 0 where
   pub waits : Calls
   pub sleeps : Calls
 
+-- beside the opening World: no duty and no call
 abbrev pub nothing_beside : Beside
 nothing_beside = record { duties = no_duties; waits = no_calls; sleeps = no_calls }
 
@@ -49,6 +50,7 @@ abbrev pub IsInOrder : World → Turn → Type 0
 IsInOrder w (happened event) = AsksInOrder w event.session event.step
 IsInOrder w turn = Unit {0}
 
+-- The turn keeps to what its session has to do, and to the order of lightweight locks.
 abbrev pub KeepsInOrder : World → Beside → Turn → World → Type 0
 KeepsInOrder w b turn v = Keeps w b turn v × IsInOrder w turn
 
@@ -69,19 +71,19 @@ abbrev pub RunsBy : (World → Beside → Turn → World → Type 0) → World �
 RunsBy each w b [] v d = (v ≡ w) × (d ≡ b)
 RunsBy each w b (turn ∷ turns) v d = (u : World) × each w b turn u × RunsBy each u (beside_after w b turn) turns v d
 
--- A run from the opening World, of so many sessions with so many groups of slots, whose turns keep to what their sessions have to do;
--- and one whose turns take lightweight locks in their order, too.
+-- A run from the opening World, of `limit` sessions with `groups` groups of slots, whose turns keep to what their sessions have to do.
 abbrev pub RunKeeps : ℕ → ℕ → List Turn → World → Beside → Type 0
 RunKeeps limit groups turns v d = (limit < 2 ^ 24) × RunsBy Keeps (opening limit groups) nothing_beside turns v d
 
+-- Such a run whose turns take lightweight locks in their order, too.
 abbrev pub RunKeepsInOrder : ℕ → ℕ → List Turn → World → Beside → Type 0
 RunKeepsInOrder limit groups turns v d = (limit < 2 ^ 24) × RunsBy KeepsInOrder (opening limit groups) nothing_beside turns v d
 
--- A number makes no step where it is not live, or its session is kept apart. Only those who make steps have a lightweight lock, or
--- something to do.
+-- A number makes no step where it is not live, or its session is kept apart.
 abbrev pub MakesNoStep : Numbers → ℕ → Type 0
 MakesNoStep numbers session = (numbers.live session ≡ false) ⊎ ((joiner : ℕ) × (numbers.kept_by session ≡ Some joiner))
 
+-- Only sessions that make steps have a lightweight lock, or something to do.
 abbrev pub OnlyLiveOwe : World → Beside → Type 0
 OnlyLiveOwe w b =
     (session : ℕ) → MakesNoStep w.numbers session → HasNothingToDo w b.duties b.waits b.sleeps session

@@ -64,9 +64,9 @@ pub fn one_world_comes()
         Runs (opening limit groups) events w → Runs (opening limit groups) events v → w ≡ v }
 {}
 
-/// Every safe World has the headline: no two sessions stand with conflicting modes on one object, wherever they
-/// stand; each hold is in one place, one slot or the content of one partition, so as many sessions have a mode on
-/// an object as slots show it and the content has it together; and each strong lock counter is how much is counted.
+/// Every safe World has the headline: no two sessions have conflicting modes on one object, wherever these are held;
+/// each hold is in one place, one slot or the content of one partition, so as many sessions have a mode on an object
+/// as slots show it and the content has it together; and each strong lock counter is how much is counted.
 pub fn no_two_sessions_conflict()
     ensures no_two_conflict { (w : World) → SafeWorld w → NoTwoConflict w }
     ensures whole { (w : World) → SafeWorld w → Headline w }
@@ -82,9 +82,9 @@ pub fn a_refusal_saw_what_it_names()
         RefusalsSawWhatTheyName (opening limit groups ∷ worlds) (last_of (opening limit groups) worlds) }
 {}
 
-/// In a safe World no two sessions hold conflicting modes on one object, wherever the holds stand: both in
-/// contents of partitions, one in a fast-path slot (two in slots never conflict by their modes), and so by the
-/// sessions' own accounts.
+/// In a safe World no two sessions hold conflicting modes on one object, wherever the holds are: both in contents of
+/// partitions, one in a fast-path slot (two in slots never conflict by their modes), and so by the sessions' own
+/// accounts.
 pub fn no_two_conflicting_holds()
     ensures in_contents { (w : World) → SafeWorld w →
         (p session other : ℕ) (tag : Tag) (mode its : Mode) → session ≢ other →
@@ -99,13 +99,13 @@ pub fn no_two_conflicting_holds()
         w.sessions.own session tag mode ≡ true → w.sessions.own other tag its ≡ true → conflict mode its ≡ false }
 {}
 
-/// In a safe World a hold stands in a content exactly where the object is of that partition and the hold is
-/// the session's own and in none of its slots, or its pending grant: what it awaits, where its wait word shows
-/// that this was granted, or that grant stands unmarked in the hand that has the partition. What a slot shows
-/// is own, and stands in no content and in no other slot; a relation has one slot of a session at most, whatever
-/// its modes, and that one is of the relation's group, so past the groups that there are none is in use. Each mode
-/// bit of a slot is such a hold, on the relation of that number in the session's database:
-/// whoever has a slot in use has a database. What a session awaits is no own hold of it, so no hold is both.
+/// In a safe World a hold is in a content exactly where the object is of that partition and the hold is the session's
+/// own and in none of its slots, or its pending grant: what it awaits, where its wait word shows that this was
+/// granted, or that grant is unmarked in the hand that has the partition. What a slot shows is own, and is in no
+/// content and in no other slot; a relation has one slot of a session at most, whatever its modes, and that one is of
+/// the relation's group, so past the groups that there are none is in use. Each mode bit of a slot is such a hold, on
+/// the relation of that number in the session's database: a session that has a slot in use has a database. What a
+/// session awaits is no own hold of it, so no hold is both.
 pub fn each_hold_in_one_place()
     ensures in_content { (w : World) → SafeWorld w →
         (p session : ℕ) (tag : Tag) (mode : Mode) →
@@ -184,8 +184,8 @@ pub fn nobody_who_waits_is_free()
         (p : ℕ) (tag : Tag) → NoneFree (w.contents.now p) tag }
 {}
 
-/// In a safe World each entry of a queue, at any place, is the wait that its session has recorded, on that
-/// object, which is of that partition. A session stands at most once in a queue, and in one queue at most.
+/// In a safe World each entry of a queue, at any place, is the wait that its session has recorded, on that object,
+/// which is of that partition. A session is at most once in a queue, and in one queue at most.
 pub fn a_session_waits_once()
     ensures recorded { (w : World) → SafeWorld w →
         (p place : ℕ) (tag : Tag) (entry : Wait) → slice_get ((w.contents.now p).waits tag) place ≡ Some entry →
@@ -201,10 +201,9 @@ pub fn a_session_waits_once()
         (p ≡ q) × (tag ≡ other) }
 {}
 
-/// In a safe World a wait word shows 0 exactly where its session has no wait. It shows waiting where the
-/// session stands in a queue, and where it shows that and the partition is at home, the session stands in
-/// its object's queue. Where it shows granted, what the session awaits is a hold in the content, and not
-/// its own yet.
+/// In a safe World a wait word shows 0 exactly where its session has no wait. It shows waiting where the session is
+/// in a queue, and where it shows that and the partition is at home, the session is in its object's queue. Where it
+/// shows granted, what the session awaits is a hold in the content, and not its own yet.
 pub fn wait_words_tell()
     ensures idle { (w : World) → SafeWorld w →
         (session : ℕ) → (wait_state (w.words.wait session) ≡ 0) ↔ (w.sessions.awaited session ≡ None) }
@@ -252,10 +251,10 @@ pub fn lightweight_words_show_who_holds_them()
         w.sessions.holds_fast session owner ≡ true → w.sessions.shares_fast other owner ≡ false }
 {}
 
-/// In a safe World the word of a lightweight lock shows that its wait list is locked exactly where a session has
-/// that list in hand, and no more than one has it. A session stands only in the list that its own account names,
-/// once, and its sleep word shows that it waits; where the account names none, that word shows 0. Whoever was
-/// taken off a list and not told yet shows that.
+/// In a safe World the word of a lightweight lock shows that its wait list is locked exactly where a session has that
+/// list in hand, and no more than one has it. A session is only in the list that its own account names, once, and its
+/// sleep word shows that it waits; where the account names none, that word shows 0. A session that was taken off a
+/// list and not woken yet shows that.
 pub fn wait_lists_are_in_order()
     ensures partition_locked { (w : World) → SafeWorld w → (p : ℕ) →
         IsListLocked (w.words.partition p) ↔ ((session : ℕ) × (w.sessions.has_list session ≡ Some (partition_lock p))) }
@@ -281,7 +280,7 @@ pub fn one_hand_at_a_time()
 
 /// In a safe World a session number that is not live has no hold, by its own account, in each content and in its
 /// slots, of which none is in use, no wait, recorded or in a queue, no partition in hand, no lightweight lock,
-/// exclusively or shared, nothing counted, no wait list in hand, and stands in none.
+/// exclusively or shared, nothing counted, no wait list in hand, and is in none.
 pub fn spent_sessions_have_nothing()
     ensures no_hold { (w : World) → SafeWorld w →
         (session p : ℕ) (tag : Tag) (mode : Mode) → w.numbers.live session ≡ false →
@@ -305,9 +304,9 @@ pub fn spent_sessions_have_nothing()
         (w.sessions.has_list session ≡ None) × (stands_in session (w.words.list lock) ≡ false) }
 {}
 
-/// In each World of a run the account of a number that is not live, not given out yet or closed, has nothing in it: no
-/// hold, no wait, nothing in hand, counted, read or remembered, nobody to tell, and no step in its trace. Its database
-/// is the one that its word shows.
+/// In each World of a run the account of a number that is not live, not given out yet or closed, has nothing in it:
+/// no hold, no wait, nothing in hand, counted, read or remembered, nobody to wake, and no step in its trace. Its
+/// database is the one that its word shows.
 pub fn closed_numbers_are_forgotten()
     ensures { (limit groups : ℕ) (events : List Event) (w : World) (session : ℕ) → limit < 2 ^ 24 →
         Runs (opening limit groups) events w → w.numbers.live session ≡ false →
@@ -327,15 +326,15 @@ pub fn each_episode_is_one_move()
         (first : List TraceEntry) × (since : List TraceEntry) × (before ≡ first ++ Took p taken ∷ since) }
 {}
 
-/// In a safe World a trace tells what its session has in hand: of each partition the content as it took it,
-/// and nothing where the partition is at home or in another's hand.
+/// In a safe World a trace shows what its session has in hand: of each partition the content as it took it, and
+/// nothing where the partition is at home or in another's hand.
 pub fn traces_tell_what_is_in_hand()
     ensures { (w : World) → SafeWorld w → (session p : ℕ) →
         taken_by (λ _. None) (w.sessions.trace session) p ≡ taken_in (w.contents.hand p) session }
 {}
 
-/// In a safe World a number that was not given out has no trace; whoever is kept apart is live, and so is
-/// who keeps it apart.
+/// In a safe World a number that was not given out has no trace; a session that is kept apart is live, and so is the
+/// one that keeps it apart.
 pub fn numbers_are_in_order()
     ensures new { (w : World) → SafeWorld w → (session : ℕ) →
         w.numbers.issued ≤ session → w.sessions.trace session ≡ [] }
@@ -343,10 +342,10 @@ pub fn numbers_are_in_order()
         (w.numbers.live session ≡ true) × (w.numbers.live joiner ≡ true) }
 {}
 
-/// A listing that loads slots first and takes partitions later misses no hold that stands throughout. Let a load of a
-/// slot not show a hold which stands then in that slot or in a content, and let it stand in a slot or in a content in
-/// each World of a run from then on: whoever takes its object's partition next tells a content that has it. So the
-/// hold stands in that content all the way, and whoever takes a partition takes just the content that is there.
+/// A listing that loads slots first and takes partitions later misses no hold that lasts throughout. Let a load of a
+/// slot not show a hold which is then in that slot or in a content, and let it be in a slot or in a content in each
+/// World of a run from then on: the session that takes its object's partition next gets a content that has it. So the
+/// hold is in that content all the way, and each session that takes a partition takes just the content that is there.
 pub fn a_listing_misses_no_hold_that_stands()
     ensures misses_none { (w v u : World) (lister session place shown taker : ℕ) (tag : Tag) (mode : Mode)
         (events : List Event) (worlds : List World) → SafeWorld w →
@@ -370,10 +369,10 @@ pub fn a_listing_misses_no_hold_that_stands()
         v.sessions.trace session ≡ w.sessions.trace session ++ Took p (w.contents.now p) ∷ [] }
 {}
 
-/// What an event adds to the trace of its session is true: a load that the trace tells shows the word as it was, one
-/// who asks a session to cancel tells the wait word before that, and the content that an episode put is the partition's
-/// after it. So of each entry of a trace at the end of a run: a World on the way had in the trace just what stands
-/// before the entry, and there, or in the next World, the entry was true.
+/// What an event adds to the trace of its session is true: a load in the trace has the word as it was, a request to a
+/// session to cancel its wait has the wait word before that, and the content that an episode put is the partition's
+/// after it. So of each entry of a trace at the end of a run: a World on the way had in the trace just what is before
+/// the entry, and there, or in the next World, the entry was true.
 pub fn a_trace_tells_what_was_there()
     ensures loaded { (w v : World) (event : Event) (word : Word) (shown : ℕ) → Happens w event v →
         v.sessions.trace event.session ≡ w.sessions.trace event.session ++ Loaded word shown ∷ [] →
@@ -413,10 +412,10 @@ pub fn others_are_untouched()
         ⊎ ((wait_state (w.words.wait other) ≡ 1) × (v.words.wait other ≡ granted_word (w.words.wait other)))) }
 {}
 
-/// In each World of a run the holds of a session that waits for nothing stand in its slots or in contents: what
-/// contents have of it is own, and the word of each of its slots shows just its own holds that it remembers there
-/// and that no content has. What it remembers has one slot at most for a relation, in its group, and there are as
-/// many groups all the time.
+/// In each World of a run the holds of a session that waits for nothing are in its slots or in contents: what
+/// contents have of it is own, and the word of each of its slots shows just its own holds that it remembers there and
+/// that no content has. What it remembers has one slot at most for a relation, in its group, and there are as many
+/// groups all the time.
 pub fn own_holds_are_in_slots_or_contents()
     ensures stand { (limit groups : ℕ) (events : List Event) (w : World) (session : ℕ) → limit < 2 ^ 24 →
         Runs (opening limit groups) events w → w.sessions.awaited session ≡ None →

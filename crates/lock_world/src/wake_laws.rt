@@ -17,10 +17,10 @@ ghost use Rattle.lock_world.specs.Wakes.{Beside, Turn, Keeps, beside_after, RunK
 ghost use Rattle.lock_world.specs.Wakes.{OnlyLiveOwe, IsLookedAfter, NoCallIsLost, SleepAndWakeup};
 
 /// No sleeper is forgotten, between any two turns of a run that keeps to what is owed. Where the wait list of a
-/// lightweight lock has a waiter, somebody has the lock or has something to do for it. A session that sleeps stands in
-/// its list, and a session that makes steps has that lock or something to do for it; or the sleeper was taken off, and a
-/// session that makes steps has it to tell. Only sessions that make steps have a lightweight lock, or something to do.
-/// One turn that keeps to what is owed forgets nobody, in a safe World where nobody is forgotten.
+/// lightweight lock has a waiter, somebody has the lock or has something to do for it. A session that sleeps is in
+/// its list, and a session that makes steps has that lock or something to do for it; or the sleeper was taken off,
+/// and a session that makes steps has it to wake. Only sessions that make steps have a lightweight lock, or something
+/// to do. One turn that keeps to what is owed forgets nobody, in a safe World where nobody is forgotten.
 pub fn no_sleeper_is_forgotten()
     ensures each_turn { (w v : World) (b : Beside) (turn : Turn) → SafeWorld w →
         NobodyIsForgotten (waking w b.duties) → Keeps w b turn v →
@@ -42,9 +42,9 @@ pub fn no_call_is_lost()
         NoCallIsLost v v.words.sleep d.sleeps }
 {}
 
-/// No circle of sleepers comes, in a run that takes lightweight locks in their order as well. Nobody stands in the list
-/// of a lock while it has a later one. So where anybody sleeps, not all of those sleep who have a lightweight lock, or
-/// something to do for one, or somebody to tell: a chain of waiting ends at a session that runs.
+/// No circle of sleepers comes, in a run that takes lightweight locks in their order as well. Nobody is in the list
+/// of a lock while it has a later one. So where anybody sleeps, not all of those sleep who have a lightweight lock,
+/// or something to do for one, or somebody to wake: a chain of waiting ends at a session that runs.
 pub fn no_circle_of_sleepers()
     ensures in_order { (limit groups : ℕ) (turns : List Turn) (v : World) (d : Beside) →
         RunKeepsInOrder limit groups turns v d → OrderIsKept (waking v d.duties) }

@@ -73,7 +73,7 @@ pub fn unlocking_clears_what_is_told()
     ensures waiters_go { (word : ℕ) (release : Bool) → list_unlocked_word word false release / 2 ^ 30 % 2 ≡ 0 }
 {}
 
-/// A wakeup takes off somebody wherever anybody waits, and whoever it doesn't take off stays.
+/// A wakeup takes off somebody wherever anybody waits, and each waiter that it doesn't take off remains in the list.
 pub fn a_wakeup_splits_the_list()
     ensures split { (waiters : _) → IsPermutation waiters (taken_off waiters ++ left_waiting waiters) }
     ensures somebody { (waiters : _) → taken_off waiters ≡ [] → waiters ≡ [] }

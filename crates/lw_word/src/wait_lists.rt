@@ -76,7 +76,7 @@ impl WaitList {
         self.waiters.is_empty()
     }
 
-    /// Whether `session` stands in the list.
+    /// Whether `session` is in the list.
     pub fn has(&self, session: SessionId) -> bool
         ensures { result ≡ stands_in session self.now }
     {

@@ -187,7 +187,7 @@ impl LwWord {
         self.number & Self::RELEASE_OK != 0
     }
 
-    /// Whether somebody may stand in the wait list.
+    /// Whether somebody may be in the wait list.
     pub fn has_waiters(self) -> bool
         ensures { result ≡ self.has_waiters }
     {
@@ -240,7 +240,7 @@ impl LwWord {
         !(Self::LIST_LOCKED | Self::flag_bits(!has_waiters, !release_ok))
     }
 
-    /// The word after release-ok was set, whether it was set or not: whoever was taken off a wait list does so
+    /// The word after release-ok was set, whether it was set or not: a session that was taken off a wait list sets it
     /// when it goes on (the end of the loop in `LWLockAcquire`).
     pub fn set_release_ok(self) -> Self
         ensures after { result ≡ record self { release_ok = true } }

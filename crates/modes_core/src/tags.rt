@@ -86,7 +86,8 @@ impl Tag {
     }
 
     /// The tag of an advisory lock (`SET_LOCKTAG_ADVISORY` in lock.h): `key1` and `key2` are numbers of the
-    /// application's own in `database`. By `sub` PostgreSQL's functions tell one key of 64 bits (1) from two of 32 (2).
+    /// application's own in `database`. By `sub` PostgreSQL's functions distinguish one key of 64 bits (1) from two
+    /// of 32 (2).
     pub fn advisory(database: u32, key1: u32, key2: u32, sub: u16) -> Self
         ensures { result ≡ Tag.Advisory sub database key1 key2 }
     {
@@ -130,7 +131,7 @@ impl Tag {
         }
     }
 
-    /// The number that tells objects of one kind apart most often: the relation's, the object's or the last key.
+    /// The number in which objects of one kind differ most often: the relation's, the object's or the last key.
     #[inline(always)]
     fn own_number(self) -> u32
         ensures { result ≡ own_number_of self }

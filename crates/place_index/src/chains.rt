@@ -4,8 +4,8 @@ ghost use Rattle.place_index.specs.Chains.{end_of_chain, free_link, link_at, is_
 
 use crate::links::{END, Link};
 
-/// Where the chain of `hash` begins, of `starts` starts: a multiplication parts the hashes among them in their
-/// order, so the highest bits of a hash tell.
+/// Where the chain of `hash` begins, of `starts` starts: a multiplication spreads the hashes over them in their
+/// order, so the highest bits of a hash decide.
 #[inline(always)]
 pub(crate) fn start_of(starts: usize, hash: u32) -> usize
     requires { starts ≤ 2 ^ 32 }
@@ -15,7 +15,8 @@ pub(crate) fn start_of(starts: usize, hash: u32) -> usize
     ((u64::from(hash) * starts as u64) >> 32) as usize
 }
 
-/// The place noted under `hash` that is the one looked for, by the caller's word on each.
+/// The place noted under `hash` in the chains of `heads` and `links` of which `is_it` says that it is the one looked
+/// for.
 #[inline(always)]
 pub(crate) fn find<F: Fn(u32) -> bool>(
     heads: &[u32],
@@ -40,7 +41,7 @@ pub(crate) fn find<F: Fn(u32) -> bool>(
     None
 }
 
-/// Notes `place`, which isn't noted, under `hash`.
+/// Notes `place`, which isn't noted, under `hash` in the chains of `heads` and `links`.
 #[inline(always)]
 pub(crate) fn link_in(heads: &mut [u32], links: &mut [Link], hash: u32, place: u32)
     requires linked { IsLinked heads.old links.old }
@@ -60,7 +61,7 @@ pub(crate) fn link_in(heads: &mut [u32], links: &mut [Link], hash: u32, place: u
     link_behind(heads, links, head, hash, place);
 }
 
-/// Notes `place` under `hash` where it comes first in its chain.
+/// Notes `place` under `hash` where it comes first in its chain of `heads` and `links`.
 #[inline(always)]
 pub(crate) fn link_first(heads: &mut [u32], links: &mut [Link], hash: u32, place: u32)
     requires linked { IsLinked heads.old links.old }
@@ -79,7 +80,8 @@ pub(crate) fn link_first(heads: &mut [u32], links: &mut [Link], hash: u32, place
     heads[start] = place;
 }
 
-/// Notes `place` under `hash` right after `head`, the first place of its chain. Mostly a chain has no second one.
+/// Notes `place` under `hash` in `links` right after `head`, which comes first in its chain of `heads`. Mostly a
+/// chain has no second one.
 #[cold]
 #[inline(never)]
 fn link_behind(heads: &[u32], links: &mut [Link], head: u32, hash: u32, place: u32)
@@ -103,7 +105,7 @@ fn link_behind(heads: &[u32], links: &mut [Link], head: u32, hash: u32, place: u
     links[before as usize].set_next(place);
 }
 
-/// Takes away the note of `place` under `hash`.
+/// Takes the note of `place` under `hash` out of the chains of `heads` and `links`.
 pub(crate) fn unlink(heads: &mut [u32], links: &mut [Link], hash: u32, place: u32)
     requires linked { IsLinked heads.old links.old }
     requires starts { HasStarts heads.old }
@@ -120,7 +122,7 @@ pub(crate) fn unlink(heads: &mut [u32], links: &mut [Link], hash: u32, place: u3
     }
 }
 
-/// Takes away the note of `place` under `hash` where its chain has it first.
+/// Takes the note of `place` under `hash` out of its chain of `heads` and `links` where it comes first in it.
 #[inline(always)]
 pub(crate) fn unlink_first(heads: &mut [u32], links: &mut [Link], hash: u32, place: u32)
     requires linked { IsLinked heads.old links.old }
@@ -137,7 +139,7 @@ pub(crate) fn unlink_first(heads: &mut [u32], links: &mut [Link], hash: u32, pla
     links[place as usize] = Link::free();
 }
 
-/// Takes away the note of `place` under `hash` where its chain has another place first.
+/// Takes the note of `place` under `hash` out of `links` where another place comes first in its chain of `heads`.
 fn unlink_behind(heads: &[u32], links: &mut [Link], hash: u32, place: u32)
     requires linked { IsLinked heads.now links.old }
     requires starts { HasStarts heads.now }

@@ -64,7 +64,7 @@ pub fn blockers_of<P: PartTable>(
     Ok(found)
 }
 
-/// The place of `session` in the queue of `tag`, counted from the front, and the mode that it awaits there.
+/// The place of `session` in the queue of `tag` in `part`, counted from the front, and the mode that it awaits there.
 fn wait_of<P: PartTable>(part: &P, tag: &Tag, session: SessionId) -> Option<(usize, Mode)>
     ensures none { IfNone result (wait_in ((P.content part.now).waits tag.now) session ≡ None) }
     ensures mode { IfSome result (λ found.
@@ -83,7 +83,8 @@ fn wait_of<P: PartTable>(part: &P, tag: &Tag, session: SessionId) -> Option<(usi
     None
 }
 
-/// Appends to `found` the sessions other than `session` that hold a mode in conflict with `mode`, which it awaits.
+/// Appends to `found` the sessions other than `session` that hold `tag` in `part` in a mode in conflict with `mode`,
+/// which `session` awaits.
 fn append_holding<P: PartTable>(
     part: &P,
     tag: &Tag,
@@ -100,7 +101,8 @@ fn append_holding<P: PartTable>(
     Ok(())
 }
 
-/// Appends `other` to `found` by each mode that it holds on `tag` in conflict with `mode`, unless it is `session`.
+/// Appends `other` to `found` by each mode that it holds on `tag` in `part` in conflict with `mode`, unless it is
+/// `session`.
 fn append_holding_of<P: PartTable>(
     part: &P,
     tag: &Tag,
@@ -159,7 +161,8 @@ fn append_mode(
     Ok(())
 }
 
-/// Appends to `found` the waiters before `place` in the queue of `tag` that await a mode in conflict with `mode`.
+/// Appends to `found` the waiters before `place` in the queue of `tag` in `part` that await a mode in conflict with
+/// `mode`.
 fn append_standing<P: PartTable>(
     part: &P,
     tag: &Tag,

@@ -16,8 +16,8 @@ pub struct Removed {
     pub woken: Woken,
 }
 
-/// Takes the wait of `session` out of the queue of `tag`, if it is still there, and grants the waits that are free to
-/// go then (`RemoveFromWaitQueue` in lock.c, for `LockErrorCleanup` in proc.c).
+/// Takes the wait of `session` out of the queue of `tag` in `part`, if it is still there, and grants the waits that
+/// are free to go then (`RemoveFromWaitQueue` in lock.c, for `LockErrorCleanup` in proc.c).
 pub fn remove_waiter<P: PartTable>(part: &mut P, session: SessionId, tag: &Tag) -> Removed
     ensures found { result.was_granted ≡ not (waits_there ((P.content part.old).waits tag.now) session) }
     ensures removed { OnFalse result.was_granted ((granted : List Wait)

@@ -56,7 +56,8 @@ pub fn decide<P: PartTable>(
     decide_begun(part, session, tag, mode, kind)
 }
 
-/// Decides a request of `session` that is begun in `part`, with the room that was made for it: no memory is taken.
+/// Decides the request of `session` for `tag` in `mode`, of kind `kind`, that is begun in `part`, with the room that
+/// was made for it: no memory is taken.
 #[inline(always)]
 fn decide_begun<P: PartTable>(
     part: &mut P,
@@ -98,8 +99,9 @@ fn decide_begun<P: PartTable>(
     }
 }
 
-/// Ends a begun request that something is in the way of, by its place in the queue: it is granted, queued, or
-/// withdrawn, since `session` and the one that the error names would wait for one another. No memory is taken.
+/// Ends the begun request of `session` for `tag` in `mode`, which something in `part` is in the way of, by its place
+/// in the queue: it is granted, queued, or withdrawn, since `session` and the one that the error names would wait for
+/// one another. No memory is taken.
 #[inline(never)]
 fn end_by_place<P: PartTable>(
     part: &mut P,

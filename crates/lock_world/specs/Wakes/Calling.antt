@@ -27,26 +27,29 @@ pub record IsParked (c : Calls) (session shown : ℕ) : Type 0 where
   pub uncalled : c.called session ≡ false
   pub owes_none : (other : ℕ) → c.owed session other ≡ false
 
--- A session loads its word, stores in it, changes another's word, and calls another.
+-- The session loads its word, which shows `shown`: a call before that counts no more.
 abbrev pub looking : Calls → ℕ → ℕ → Calls
 looking c session shown = record c { looked = set_at c.looked session (Some shown); called = set_at c.called session false }
 
+-- The session stores in its word: what it loaded before counts no more.
 abbrev pub storing : Calls → ℕ → Calls
 storing c session = record c { looked = set_at c.looked session None }
 
+-- The session changes the word of `other`, and owes it a call.
 abbrev pub changing : Calls → ℕ → ℕ → Calls
 changing c session other = record c {
   looked = set_at c.looked session None;
   owed = set_at c.owed session (set_at (c.owed session) other true);
 }
 
+-- The session calls `other`, and owes it no call any more.
 abbrev pub calling : Calls → ℕ → ℕ → Calls
 calling c session other = record c {
   called = set_at c.called other true;
   owed = set_at c.owed session (set_at (c.owed session) other false);
 }
 
--- What a step makes of the calls on wait words, and on sleep words.
+-- what a step makes of the calls on wait words
 abbrev pub wait_calls_after : Calls → ℕ → Step → Calls
 wait_calls_after c session (LoadWait shown) = looking c session shown
 wait_calls_after c session (SetWaiting tag mode) = storing c session
@@ -55,6 +58,7 @@ wait_calls_after c session (AskCancel other) = changing c session other
 wait_calls_after c session (MarkGranted other done) = changing c session other
 wait_calls_after c session step = c
 
+-- what a step makes of the calls on sleep words
 abbrev pub sleep_calls_after : Calls → ℕ → Step → Calls
 sleep_calls_after c session (LoadSleep shown) = looking c session shown
 sleep_calls_after c session (JoinList mode) = storing c session

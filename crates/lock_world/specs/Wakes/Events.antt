@@ -29,7 +29,7 @@ lock_put w session lock word due holds shares = record w {
   due = set_at w.due session due;
 }
 
--- Locking a list; seeing that another has it locked; unlocking it.
+-- Locking a list: no look at it is due any more.
 abbrev pub list_locked : Waking → ℕ → ℕ → ℕ → Waking
 list_locked w session lock word = record w {
   word = set_at w.word lock word;
@@ -38,13 +38,15 @@ list_locked w session lock word = record w {
   due = set_at w.due session None;
 }
 
+-- Seeing that another session has the list locked: no look is due any more.
 abbrev pub list_seen_locked : Waking → ℕ → Waking
 list_seen_locked w session = record w { due = set_at w.due session None }
 
+-- Unlocking a list.
 abbrev pub list_unlocked : Waking → ℕ → ℕ → ℕ → Waking
 list_unlocked w session lock word = record w { word = set_at w.word lock word; has_list = set_at w.has_list session None }
 
--- Joining the list in hand: an attempt comes next, and release-ok is to be set once the session is off the list. Leaving it.
+-- Joining the list in hand: an attempt comes next, and release-ok is to be set once the session is off the list.
 abbrev pub list_joined : Waking → ℕ → LwWaiter → Waking
 list_joined w lock waiter = record w {
   sleepers = after_joining w.sleepers lock waiter;
@@ -52,23 +54,26 @@ list_joined w lock waiter = record w {
   owes_release_ok = set_at w.owes_release_ok waiter.session (Some lock);
 }
 
+-- Leaving the list in hand: the session has no release-ok to set.
 abbrev pub list_left : Waking → ℕ → ℕ → Waking
 list_left w lock session = record w {
   sleepers = after_leaving_list w.sleepers lock session;
   owes_release_ok = set_at w.owes_release_ok session None;
 }
 
--- Taking another off, telling one that was taken off, and seeing that one was told.
+-- Taking `other` off a list.
 abbrev pub waiter_taken_off : Waking → ℕ → ℕ → ℕ → Waking
 waiter_taken_off w lock session other = record w { sleepers = after_taking_off w.sleepers lock session other }
 
+-- Telling `other`, which was taken off, that it waits no more.
 abbrev pub waiter_told : Waking → ℕ → ℕ → Waking
 waiter_told w session other = record w { sleepers = after_telling w.sleepers session other }
 
+-- Seeing that one was told: the session waits no more.
 abbrev pub told_seen : Waking → ℕ → Waking
 told_seen w session = record w { sleepers = after_seeing_none w.sleepers session }
 
--- Setting release-ok: once the session was told, and attempts the lock next; or with the list in hand, in which it stands no more.
+-- Setting release-ok once the session was told: it attempts the lock next.
 abbrev pub release_ok_set : Waking → ℕ → ℕ → ℕ → Waking
 release_ok_set w session lock word = record w {
   word = set_at w.word lock word;
@@ -76,6 +81,7 @@ release_ok_set w session lock word = record w {
   tries = set_at w.tries session (Some lock);
 }
 
+-- Setting release-ok with the list in hand, in which the session is no more.
 abbrev pub release_ok_set_in_hand : Waking → ℕ → ℕ → ℕ → Waking
 release_ok_set_in_hand w session lock word = record w {
   word = set_at w.word lock word;

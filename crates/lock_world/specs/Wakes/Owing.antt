@@ -23,13 +23,15 @@ pub record Duties : Type 0 where
   pub owes_release_ok : ℕ → Option ℕ
   pub flagged : ℕ → Bool
 
+-- nobody has anything to do
 abbrev pub no_duties : Duties
 no_duties = record { due = λ _. None; tries = λ _. None; owes_release_ok = λ _. None; flagged = λ _. false }
 
--- what a session has of a lock, by the lock's number
+-- what one session has of a lock, by the lock's number
 abbrev pub lock_bit : (ℕ → Bool) → (ℕ → Bool) → ℕ → Bool
 lock_bit partition fast lock = if lock % 2 == 0 then partition (lock / 2) else fast (lock / 2)
 
+-- what each session has of a lock, by the session's and the lock's number
 abbrev pub lock_row : (ℕ → ℕ → Bool) → (ℕ → ℕ → Bool) → ℕ → ℕ → Bool
 lock_row partition fast session lock = lock_bit (partition session) (fast session) lock
 
@@ -74,17 +76,19 @@ is_lock (Some its) lock = its == lock
 abbrev pub after_attempt : Duties → ℕ → Duties
 after_attempt x session = record x { tries = set_at x.tries session None }
 
--- A lock was put, whose word is this now: where it must wake, a look at its list is due.
+-- the look that is due at the list of a lock whose word is this: one where it must wake
 abbrev pub look_due : ℕ → ℕ → Option ℕ
 look_due lock word = if must_wake (state_of word) then Some lock else None
 
+-- A lock was put, whose word is this now: where it must wake, a look at its list is due.
 abbrev pub after_putting : Duties → ℕ → ℕ → ℕ → Duties
 after_putting x session lock word = record x { due = set_at x.due session (look_due lock word) }
 
--- The list is locked, or seen locked: no look is due. A list just locked has no has-waiters set by this hand.
+-- The list was seen locked: no look is due.
 abbrev pub after_looking : Duties → ℕ → Duties
 after_looking x session = record x { due = set_at x.due session None }
 
+-- The list was locked: no look is due, and has-waiters was not yet set by this hand.
 abbrev pub after_locking : Duties → ℕ → Duties
 after_locking x session = record x { due = set_at x.due session None; flagged = set_at x.flagged session false }
 
@@ -102,22 +106,25 @@ ok_set_by_told x session lock = record x {
   tries = set_at x.tries session (Some lock);
 }
 
--- One that has won the lock, and so has its list in hand and finds itself off it, attempts nothing. While it stands in the list it
--- owes release-ok as before.
+-- Release-ok is set by a session that has won the lock, and so has its list in hand and finds itself off it: it attempts nothing.
 abbrev pub ok_set_by_winner : Duties → ℕ → Duties
 ok_set_by_winner x session = record x { owes_release_ok = set_at x.owes_release_ok session None }
 
+-- Release-ok is set by a session that was not told: while it is in the list it owes release-ok as before.
 abbrev pub ok_set_before_told : World → Duties → ℕ → ℕ → Duties
 ok_set_before_told w x session lock =
     if is_lock (w.sessions.has_list session) lock && not (stands_in session (w.words.list lock)) then ok_set_by_winner x session else x
 
+-- Release-ok is set by a session that owes it, told or not.
 abbrev pub ok_set_as_owed : World → Duties → ℕ → ℕ → Duties
 ok_set_as_owed w x session lock =
     if not (is_some (w.sessions.stands session)) then ok_set_by_told x session lock else ok_set_before_told w x session lock
 
+-- Release-ok is set by any session, which may owe none for this lock.
 abbrev pub after_setting_ok : World → Duties → ℕ → ℕ → Duties
 after_setting_ok w x session lock = if is_lock (x.owes_release_ok session) lock then ok_set_as_owed w x session lock else x
 
+-- what a step makes of the duties of its session
 abbrev pub duties_after : World → Duties → ℕ → Step → Duties
 duties_after w x session (TakeExclusive word) = after_attempt x session
 duties_after w x session (TakeShared word) = after_attempt x session
@@ -198,6 +205,7 @@ pub record IsLatest (w : World) (session lock : ℕ) : Type 0 where
   pub bound : rank lock < 17
   pub earlier : (held : ℕ) → HasIn w session held → rank held < rank lock
 
+-- what the order asks of each step: to take an earlier lock, and to join the list of the latest alone
 abbrev pub AsksInOrder : World → ℕ → Step → Type 0
 AsksInOrder w session (TakeExclusive word) = IsEarlier w session (lock_of word)
 AsksInOrder w session (TakeShared word) = IsEarlier w session (lock_of word)

@@ -24,5 +24,6 @@ pub record IsBehindWaiter (content : Content) (session : ℕ) (wait : OwnWait) :
   pub among : slice_get ahead place ≡ Some before
   pub conflicting : conflict wait.mode before.mode ≡ true
 
+-- A session waits for a reason: a holder or a waiter before it.
 abbrev pub HasReason : Content → ℕ → OwnWait → Type 0
 HasReason content session wait = IsBehindHolder content session wait ⊎ IsBehindWaiter content session wait
