@@ -108,8 +108,9 @@ impl Machine {
         }
     }
 
-    /// Puts the lock of the slots of `owner` and goes past the owner, which is next and has no slot on `tag` (a turn
-    /// of the loop of `FastPathTransferRelationLocks` in lock.c).
+    /// Puts the lock of the slots of `owner`, which `session` holds, and goes past `owner`, which is next and has no
+    /// slot on `tag`, a strong lock in `mode` being asked for (a turn of the loop of `FastPathTransferRelationLocks`
+    /// in lock.c).
     pub fn put_passing(&mut self, session: SessionId, owner: SessionId, tag: Tag, mode: Mode)
         requires shown { ShowsSafe self.old }
         ensures { Follows self.old session (Step.PutPassing owner tag mode) self.new }
@@ -246,7 +247,7 @@ impl Machine {
             || self.slots_hold(session, tag, mode)
     }
 
-    /// Whether the content of `tag` has the hold of `session`.
+    /// Whether the content of the partition of `tag` has the hold of `session` in `mode`.
     fn in_content(&self, session: SessionId, tag: Tag, mode: Mode) -> bool
         requires shown { ShowsSafe self.now }
         ensures { result ≡ (contents_in self.now.contents.parts.items (partition_of tag)).holds session tag mode }

@@ -106,7 +106,7 @@ impl Machine {
         });
     }
 
-    /// Records the move `done` in the hand that has `partition`, with those whom it granted unmarked.
+    /// Records the move `done` in `hand`, which has `partition`, with those of `unmarked` whom it granted unmarked.
     pub fn record(&mut self, partition: u8, hand: InHand, done: Move, unmarked: [bool; 64])
         requires { partition < 16 }
         ensures { self.new ≡ record self.old {
@@ -123,8 +123,8 @@ impl Machine {
         });
     }
 
-    /// Marks the wait of `other`, which the move `done` granted: its wait word goes from waiting to granted, and it
-    /// is unmarked no more.
+    /// Marks the wait of `other`, which the move `done` in `hand` granted in `partition`: its wait word goes from
+    /// waiting to granted, and what is left of `unmarked` has it no more.
     pub fn mark(
         &mut self,
         partition: u8,

@@ -25,8 +25,8 @@ impl Machine {
         }
     }
 
-    /// Unlocks the wait list that `session` has in hand; of the flags those go that are not to stay
-    /// (`LWLockWaitListUnlock`).
+    /// Unlocks the wait list of the lock in `word`, which `session` has in hand; has-waiters and release-ok remain
+    /// set where `has_waiters` and `release_ok` say so (`LWLockWaitListUnlock`).
     pub fn unlock_list(
         &mut self,
         session: SessionId,
@@ -46,7 +46,7 @@ impl Machine {
         }
     }
 
-    /// Sets release-ok in a lock's word, which showed `shown` before (`LWLockAcquire`, once it was woken).
+    /// Sets release-ok in `word`, which showed `shown` before, for `session` (`LWLockAcquire`, once it was woken).
     pub fn set_release_ok(&mut self, session: SessionId, word: Word, shown: u64)
         ensures { Follows self.old session (Step.SetReleaseOk word shown) self.new }
     {
@@ -58,8 +58,8 @@ impl Machine {
         }
     }
 
-    /// Sets has-waiters in the word of the lock whose wait list `session` has in hand, which showed `shown` before
-    /// (`LWLockQueueSelf`).
+    /// Sets has-waiters in `word`, that of the lock whose wait list `session` has in hand, which showed `shown`
+    /// before (`LWLockQueueSelf`).
     pub fn set_has_waiters(&mut self, session: SessionId, word: Word, shown: u64)
         ensures { Follows self.old session (Step.SetHasWaiters word shown) self.new }
     {
@@ -86,7 +86,7 @@ impl Machine {
             && self.lists.has_list[usize::from(session.number())].is_some_and(|its| its == lock)
     }
 
-    /// Locks the wait list of the lock of `partition`.
+    /// Locks the wait list of the lock of `partition`, for `session`.
     fn lock_partition_list(&mut self, session: SessionId, partition: u8)
         ensures { Follows self.old session (Step.LockList (Word.Partition partition)) self.new }
     {
@@ -99,7 +99,7 @@ impl Machine {
         }
     }
 
-    /// Locks the wait list of the lock of the fast-path slots of `owner`.
+    /// Locks the wait list of the lock of the fast-path slots of `owner`, for `session`.
     fn lock_fast_list(&mut self, session: SessionId, owner: SessionId)
         ensures { Follows self.old session (Step.LockList (Word.Fast owner)) self.new }
     {
@@ -112,7 +112,8 @@ impl Machine {
         }
     }
 
-    /// Unlocks the wait list of the lock of `partition`.
+    /// Unlocks the wait list of the lock of `partition`, which `session` has in hand; has-waiters and release-ok
+    /// remain set where `has_waiters` and `release_ok` say so.
     fn unlock_partition_list(
         &mut self,
         session: SessionId,
@@ -131,7 +132,8 @@ impl Machine {
         }
     }
 
-    /// Unlocks the wait list of the lock of the fast-path slots of `owner`.
+    /// Unlocks the wait list of the lock of the fast-path slots of `owner`, which `session` has in hand; has-waiters
+    /// and release-ok remain set where `has_waiters` and `release_ok` say so.
     fn unlock_fast_list(
         &mut self,
         session: SessionId,
@@ -149,7 +151,7 @@ impl Machine {
         }
     }
 
-    /// Sets release-ok in the word of the lock of `partition`.
+    /// Sets release-ok in the word of the lock of `partition`, which showed `shown` before, for `session`.
     fn set_partition_release_ok(&mut self, session: SessionId, partition: u8, shown: u64)
         ensures { Follows self.old session (Step.SetReleaseOk (Word.Partition partition) shown) self.new }
     {
@@ -162,7 +164,8 @@ impl Machine {
         }
     }
 
-    /// Sets release-ok in the word of the lock of the fast-path slots of `owner`.
+    /// Sets release-ok in the word of the lock of the fast-path slots of `owner`, which showed `shown` before, for
+    /// `session`.
     fn set_fast_release_ok(&mut self, session: SessionId, owner: SessionId, shown: u64)
         ensures { Follows self.old session (Step.SetReleaseOk (Word.Fast owner) shown) self.new }
     {
@@ -172,7 +175,8 @@ impl Machine {
         }
     }
 
-    /// Sets has-waiters in the word of the lock of `partition`.
+    /// Sets has-waiters in the word of the lock of `partition`, which showed `shown` before and whose list `session`
+    /// has in hand.
     fn set_partition_has_waiters(&mut self, session: SessionId, partition: u8, shown: u64)
         ensures { Follows self.old session (Step.SetHasWaiters (Word.Partition partition) shown) self.new }
     {
@@ -185,7 +189,8 @@ impl Machine {
         }
     }
 
-    /// Sets has-waiters in the word of the lock of the fast-path slots of `owner`.
+    /// Sets has-waiters in the word of the lock of the fast-path slots of `owner`, which showed `shown` before and
+    /// whose list `session` has in hand.
     fn set_fast_has_waiters(&mut self, session: SessionId, owner: SessionId, shown: u64)
         ensures { Follows self.old session (Step.SetHasWaiters (Word.Fast owner) shown) self.new }
     {

@@ -17,7 +17,7 @@ impl Sleeper {
     }
 }
 
-/// Takes `session` out of the list of `lock`.
+/// Takes `session` out of the list of `lock` in `sleepers`.
 fn take_out(sleepers: &mut Vec<Sleeper>, lock: u8, session: SessionId)
     ensures { sleepers.new.items ≡ filter (λ sleeper. not (is_at lock session sleeper)) sleepers.old.items }
 {
@@ -56,8 +56,7 @@ impl Machine {
         Ok(())
     }
 
-    /// Takes `session` out of the wait list that it has in hand, where it stands in it (`LWLockDequeueSelf` in
-    /// lwlock.c).
+    /// Takes `session` out of the wait list that it has in hand, where it is in it (`LWLockDequeueSelf` in lwlock.c).
     pub fn leave_list(&mut self, session: SessionId)
         requires shown { ShowsSafe self.old }
         ensures { Follows self.old session Step.LeaveList self.new }
@@ -73,7 +72,8 @@ impl Machine {
         }
     }
 
-    /// Takes `other` off the wait list in hand, to be told later (the first loop of `LWLockWakeup` in lwlock.c).
+    /// Takes `other` off the wait list that `session` has in hand, to be woken later (the first loop of
+    /// `LWLockWakeup` in lwlock.c).
     pub fn take_off(&mut self, session: SessionId, other: SessionId)
         requires shown { ShowsSafe self.old }
         ensures { Follows self.old session (Step.TakeOff other) self.new }
@@ -106,8 +106,8 @@ impl Machine {
         }
     }
 
-    /// Loads the sleep word of `session`, which must show `shown`: where that is 0, the session stands in no list
-    /// (the sleep in `LWLockAcquire` in lwlock.c).
+    /// Loads the sleep word of `session`, which must show `shown`: where that is 0, the session is in no list (the
+    /// sleep in `LWLockAcquire` in lwlock.c).
     pub fn load_sleep(&mut self, session: SessionId, shown: u8)
         requires shown { ShowsSafe self.old }
         ensures { Follows self.old session (Step.LoadSleep shown) self.new }
@@ -129,14 +129,14 @@ impl Machine {
         }
     }
 
-    /// Whether `session` stands in the list of `lock`, and its sleep word shows waiting.
+    /// Whether `session` is in the list of `lock`, and its sleep word shows waiting.
     fn waits_at(&self, lock: u8, session: SessionId) -> bool
         ensures { result ≡ waits_at self.now lock session }
     {
         self.stands_at(lock, session) && self.lists.sleep[usize::from(session.number())] == 1
     }
 
-    /// Whether `session` stands in the list of `lock`.
+    /// Whether `session` is in the list of `lock`.
     fn stands_at(&self, lock: u8, session: SessionId) -> bool
         ensures { result ≡ list_any (is_at lock session) self.now.lists.sleepers.items }
     {
@@ -146,7 +146,7 @@ impl Machine {
             .any(|sleeper| sleeper.is_at(lock, session))
     }
 
-    /// Whether `session` has `other` to tell, which it took off.
+    /// Whether `session` has `other` to wake, which it took off.
     fn may_tell(&self, session: SessionId, other: SessionId) -> bool
         ensures { result ≡ may_tell self.now session other }
     {
@@ -163,7 +163,7 @@ impl Machine {
         self.makes_steps(session) && shown == self.lists.sleep[usize::from(session.number())]
     }
 
-    /// Whether `session` sees that it stands in no list.
+    /// Whether `session`, whose sleep word shows `shown`, sees by it that it is in no list.
     fn sees_no_sleep(&self, session: SessionId, shown: u8) -> bool
         ensures { result ≡ sees_no_sleep self.now session shown }
     {

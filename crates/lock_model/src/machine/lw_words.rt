@@ -21,7 +21,7 @@ pub fn share(word: LwWord) -> Option<LwWord>
     }
 }
 
-/// Whether somebody holds the lock in `mode`.
+/// Whether `word` shows that somebody holds the lock in `mode`.
 fn is_held_in(word: LwWord, mode: LwMode) -> bool
     ensures { IsTrue result ↔ IsHeldIn mode word }
 {
@@ -42,7 +42,8 @@ pub fn put(word: LwWord, mode: LwMode) -> LwWord
     }
 }
 
-/// `word` with its wait list unlocked, and without the flags that are not to stay.
+/// `word` with its wait list unlocked: has-waiters and release-ok remain set where `has_waiters` and `release_ok` say
+/// so.
 pub fn unlocked(word: LwWord, has_waiters: bool, release_ok: bool) -> LwWord
     ensures { result ≡ unlocked_in word has_waiters release_ok }
 {

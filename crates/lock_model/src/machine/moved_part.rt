@@ -38,8 +38,8 @@ impl MovedPart {
     }
 }
 
-/// `part` once the hold of `session` is released, with those woken whom that lets go. Nothing where it has no such
-/// hold.
+/// `part` once the hold of `session` on `tag` in `mode` is released, with those woken whom that lets go. Nothing
+/// where it has no such hold.
 pub fn after_release(
     part: &PlainPart,
     session: SessionId,

@@ -39,7 +39,7 @@ impl Machine {
         self.may_ask_table(session, tag, mode) && !self.slots_hold(session, tag, mode)
     }
 
-    /// Whether `session` waits for nothing, and hasn't the hold in a content.
+    /// Whether `session` waits for nothing, and no content has its hold on `tag` in `mode`.
     fn may_ask_table(&self, session: SessionId, tag: Tag, mode: Mode) -> bool
         requires shown { ShowsSafe self.now }
         ensures { result ≡ (is_none (slice_index_or self.now.waits.awaited session None)
@@ -50,7 +50,7 @@ impl Machine {
             && !part.held(session, &tag).has(mode)
     }
 
-    /// `session` waits from now on, by its own account and by its wait word.
+    /// Makes `session` wait for `tag` in `mode` from now on, by its own account and by its wait word.
     pub fn begin_wait(&mut self, session: SessionId, tag: Tag, mode: Mode)
         ensures { self.new ≡ record self.old {
           words = record (self.old.words) { waits = slice_set self.old.words.waits session 1 };

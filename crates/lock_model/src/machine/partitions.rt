@@ -51,7 +51,7 @@ impl Machine {
         }
     }
 
-    /// Takes `partition`, where nobody holds its word.
+    /// Takes `partition` into the hand of `session`, where nobody holds its word.
     fn take_partition(&mut self, session: SessionId, partition: u8)
         ensures { Follows self.old session (Step.TakeExclusive (Word.Partition partition)) self.new }
     {
@@ -63,8 +63,8 @@ impl Machine {
         }
     }
 
-    /// Puts `partition` back: with the move `done` that stands recorded in the hand, or with one that is made as it
-    /// is put.
+    /// Puts `partition`, which `session` has in hand, back: with the move `done` that is recorded in the hand, or
+    /// with one that is made as it is put.
     fn put_partition(
         &mut self,
         session: SessionId,
@@ -99,7 +99,7 @@ impl Machine {
         }
     }
 
-    /// Puts `partition` back with the move `done`, which is made as it is put.
+    /// Puts `partition`, which `session` has in hand, back with the move `done`, which is made as it is put.
     fn put_made(&mut self, session: SessionId, partition: u8, done: Move) -> Result<(), NoMemory>
         requires shown { ShowsSafe self.old }
         requires in_hand { HasUnmoved self.old session partition }
@@ -118,7 +118,8 @@ impl Machine {
         }
     }
 
-    /// Puts `partition` back with one hold of `session` more, where the request for it is granted.
+    /// Puts `partition` back with one hold of `session` more, on `tag` in `mode`, where the request for it is
+    /// granted.
     fn put_granting(
         &mut self,
         session: SessionId,
@@ -149,7 +150,7 @@ impl Machine {
         Ok(())
     }
 
-    /// Puts `partition` back with one hold of `session` less, where that wakes nobody.
+    /// Puts `partition` back with one hold of `session` less, on `tag` in `mode`, where that wakes nobody.
     fn put_releasing(
         &mut self,
         session: SessionId,

@@ -114,7 +114,7 @@ impl Plain {
         }
     }
 
-    /// What a fast-path slot of `session` shows, and 0 where there is no slot of this place.
+    /// What the fast-path slot of `session` at `place` shows, and 0 where there is no such slot.
     fn slot(&self, session: SessionId, place: u8) -> u64
         ensures shown { place < group_size * groups_of self.now → result ≡ word_of self.now (Slot session place) }
         ensures absent { group_size * groups_of self.now ≤ place → result ≡ 0 }

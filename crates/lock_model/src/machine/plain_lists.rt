@@ -41,8 +41,8 @@ pub fn gather_holds(
     Ok(holds)
 }
 
-/// The waits of all `parts`, by tag. Where each object's waits stand in the partition that it lies in, those on one
-/// object are its queue, in its order.
+/// The waits of all `parts`, by tag. Where each object's waits are in the object's own partition, those on one object
+/// are its queue, in its order.
 pub fn gather_waits(alloc: Global, parts: &[PlainPart]) -> Result<Vec<QueuedWait>, NoMemory>
     ensures all { IfOk result (λ list. AreAtHome parts.now → (tag : Tag) →
         map as_wait (filter (λ queued. tag_eq queued.tag tag) list.items)
@@ -58,7 +58,7 @@ pub fn gather_waits(alloc: Global, parts: &[PlainPart]) -> Result<Vec<QueuedWait
     Ok(waits)
 }
 
-/// Appends the holds of `part`. Each request is held there once at most.
+/// Appends the holds of `part` to `list`. Each request is held there once at most.
 fn append_holds(part: &PlainPart, list: &mut Vec<Hold>) -> Result<(), NoMemory>
     ensures added { OnOk result (list.new.items ≡ list.old.items ++ map table_hold_of part.now.holds) }
     ensures each_once { EachOnce part.now.holds part.now.waits }
@@ -74,7 +74,7 @@ fn append_holds(part: &PlainPart, list: &mut Vec<Hold>) -> Result<(), NoMemory>
     Ok(())
 }
 
-/// Appends the waits of `part`.
+/// Appends the waits of `part` to `list`.
 fn append_waits(part: &PlainPart, list: &mut Vec<QueuedWait>) -> Result<(), NoMemory>
     ensures { OnOk result (list.new.items ≡ list.old.items ++ map queued_of part.now.waits) }
 {

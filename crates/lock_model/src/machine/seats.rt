@@ -8,7 +8,7 @@ use super::state::Machine;
 use lock_table::PartTable;
 use modes_core::SessionId;
 
-/// Whether it is the hand of `session`.
+/// Whether `hand` is that of `session`.
 fn is_holder(hand: &Option<InHand>, session: SessionId) -> bool
     ensures { result ≡ is_holder session hand.now }
 {
@@ -37,7 +37,8 @@ impl Machine {
         }
     }
 
-    /// Joins the seat of `session` to another one, which keeps it apart, or closes the session.
+    /// Joins the seat of `session` to that of `joiner`, which keeps it apart, or closes the session where there is
+    /// none.
     pub fn join_seat(&mut self, session: SessionId, joiner: Option<SessionId>)
         ensures { Follows self.old session (Step.JoinSeat joiner) self.new }
     {
@@ -84,7 +85,7 @@ impl Machine {
         }
     }
 
-    /// Whether `session` has no wait list in hand and stands in none.
+    /// Whether `session` has no wait list in hand and is in none.
     fn has_no_list(&self, session: SessionId) -> bool
         ensures { result ≡ has_no_list self.now session }
     {
@@ -92,7 +93,7 @@ impl Machine {
         self.lists.has_list[index].is_none() && self.lists.stands[index].is_none()
     }
 
-    /// Whether `session` has taken somebody off a wait list and not told it.
+    /// Whether `session` has taken somebody off a wait list and not woken it.
     fn owes_a_telling(&self, session: SessionId) -> bool
         ensures { result ≡ owes_a_telling self.now session }
     {

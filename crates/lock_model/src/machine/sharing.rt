@@ -38,7 +38,7 @@ impl Machine {
         }
     }
 
-    /// Shares the word of `partition`.
+    /// Shares the word of `partition`, for `session`.
     fn share_partition(&mut self, session: SessionId, partition: u8)
         ensures { Follows self.old session (Step.TakeShared (Word.Partition partition)) self.new }
     {
@@ -52,7 +52,7 @@ impl Machine {
         }
     }
 
-    /// Gives the word of `partition` back.
+    /// Gives the word of `partition`, which `session` shares, back.
     fn unshare_partition(&mut self, session: SessionId, partition: u8)
         ensures { Follows self.old session (Step.PutShared (Word.Partition partition)) self.new }
     {
@@ -64,7 +64,7 @@ impl Machine {
         }
     }
 
-    /// Shares the word of the fast-path slots of `owner`.
+    /// Shares the word of the fast-path slots of `owner`, for `session`.
     fn share_fast(&mut self, session: SessionId, owner: SessionId)
         ensures { Follows self.old session (Step.TakeShared (Word.Fast owner)) self.new }
     {
@@ -78,7 +78,7 @@ impl Machine {
         }
     }
 
-    /// Gives the word of the fast-path slots of `owner` back.
+    /// Gives the word of the fast-path slots of `owner`, which `session` shares, back.
     fn unshare_fast(&mut self, session: SessionId, owner: SessionId)
         ensures { Follows self.old session (Step.PutShared (Word.Fast owner)) self.new }
     {

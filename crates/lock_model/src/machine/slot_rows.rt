@@ -22,7 +22,7 @@ pub fn append_slot_holds(fast_path: &FastPath, list: &mut Vec<Hold>) -> Result<(
     Ok(())
 }
 
-/// Appends the holds that the slots of `session` show, by place.
+/// Appends to `list` the holds that the slots of `session` in `fast_path` show, by place.
 fn append_session(
     session: SessionId,
     fast_path: &FastPath,
@@ -39,7 +39,7 @@ fn append_session(
     Ok(())
 }
 
-/// The word of the slot of `session` at `place`.
+/// The word of the slot of `session` at `place` in `fast_path`.
 fn word_at(fast_path: &FastPath, session: SessionId, place: u8) -> SlotWord
     requires { place < 128 }
     ensures { result ≡ slice_index_or (slice_index_or fast_path.now.slots session []) place 0 }
@@ -47,7 +47,8 @@ fn word_at(fast_path: &FastPath, session: SessionId, place: u8) -> SlotWord
     fast_path.slots[usize::from(session.number())][usize::from(place)]
 }
 
-/// Appends to `list` the holds that the slot with `word` at `place` shows, by mode.
+/// Appends to `list` the holds of `session` that its slot with `word` at `place` shows, on a relation in `database`,
+/// by mode.
 fn append_slot(
     session: SessionId,
     database: u32,
@@ -62,7 +63,8 @@ fn append_slot(
     append_shown(session, database, place, word, Mode::RowExclusive, list)
 }
 
-/// Appends the hold that the slot shows in `mode`, if it shows one.
+/// Appends to `list` the hold of `session` that its slot with `word` at `place` shows in `mode`, on a relation in
+/// `database`, if it shows one.
 fn append_shown(
     session: SessionId,
     database: u32,

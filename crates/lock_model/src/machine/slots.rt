@@ -65,8 +65,8 @@ impl Machine {
     ghost use Rattle.lock_model.specs.Shows.{ShowsSafe, Follows, has_a_mark, is_number};
     ghost use Rattle.lock_model.specs.SlotLooks.{slots_at, has_own_slots, may_set_slot, may_clear_slot, may_store_database};
 
-    /// Takes the lock of the slots of `owner` exclusively, where nobody has it (`LWLockAcquire` with `LW_EXCLUSIVE`
-    /// in lwlock.c). The owner is any session number, issued or not, its own too.
+    /// Takes the lock of the slots of `owner` exclusively for `session`, where nobody has it (`LWLockAcquire` with
+    /// `LW_EXCLUSIVE` in lwlock.c). `owner` is any session number, issued or not, that of `session` too.
     pub fn take_fast(&mut self, session: SessionId, owner: SessionId)
         ensures { Follows self.old session (Step.TakeExclusive (Word.Fast owner)) self.new }
     {
@@ -80,7 +80,7 @@ impl Machine {
         }
     }
 
-    /// Puts the lock of the slots of `owner` back, which `session` holds exclusively; no move comes with it
+    /// Puts the lock of the slots of `owner` back, which `session` holds exclusively, with `done`, which is no move
     /// (`LWLockRelease` in lwlock.c). With its own lock put, a counter that was read as 0 counts no more.
     pub fn put_fast(&mut self, session: SessionId, owner: SessionId, done: Move)
         ensures { Follows self.old session (Step.PutExclusive (Word.Fast owner) done) self.new }
@@ -106,14 +106,14 @@ impl Machine {
         has_a_mark(self.locks.fast_holders.as_slice(), session)
     }
 
-    /// Loads `word`, which must show `shown`: any slot, any session's database, or the lock of its own slots. No
-    /// step of the machine keeps what a load showed.
+    /// Loads `word` for `session`, which must show `shown`: any slot, any session's database, or the lock of its own
+    /// slots. No step of the machine keeps what a load showed.
     pub fn load_word(&mut self, session: SessionId, word: Word, shown: u64)
         ensures { Follows self.old session (Step.LoadWord word shown) self.new }
     {}
 
-    /// Sets `mode` in `slot` of `session`, with the lock of its slots held, after its counter was read as 0
-    /// (`FastPathGrantRelationLock` in lock.c).
+    /// Sets `mode` on the relation of `tag` in `slot` of `session`, with the lock of its slots held, after its
+    /// counter was read as 0 (`FastPathGrantRelationLock` in lock.c).
     pub fn set_slot(&mut self, session: SessionId, slot: u8, tag: Tag, mode: Mode)
         requires shown { ShowsSafe self.old }
         ensures { Follows self.old session (Step.SetSlot slot tag mode) self.new }
@@ -126,8 +126,8 @@ impl Machine {
         }
     }
 
-    /// Clears `mode` in `slot` of `session`, with the lock of its slots held (`FastPathUnGrantRelationLock` in
-    /// lock.c).
+    /// Clears `mode` on the relation of `tag` in `slot` of `session`, with the lock of its slots held
+    /// (`FastPathUnGrantRelationLock` in lock.c).
     pub fn clear_slot(&mut self, session: SessionId, slot: u8, tag: Tag, mode: Mode)
         ensures { Follows self.old session (Step.ClearSlot slot tag mode) self.new }
     {

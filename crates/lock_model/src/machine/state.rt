@@ -49,7 +49,7 @@ pub struct Locks {
     pub partition_sharers: [[bool; 64]; 16],
 }
 
-/// Whether `session` has a mark of any lock.
+/// Whether `marks` has one of `session`, of any lock.
 pub fn has_a_mark(marks: &[[bool; 64]], session: SessionId) -> bool
     ensures { result ≡ has_a_mark session marks.now }
 {
@@ -145,7 +145,7 @@ pub struct Lists {
 impl Lists {
     ghost use Rattle.std.specs.Prelude.{◌≡◌, replicate, [], false, None};
 
-    /// Nobody waits, and no list is in hand.
+    /// Lists, with room from `alloc`, in which nobody waits and none is in hand.
     fn empty(alloc: Global) -> Self
         ensures sleep { result.sleep ≡ replicate 64 0 }
         ensures sleepers { result.sleepers.items ≡ [] }
@@ -290,7 +290,7 @@ impl Machine {
         Ok(())
     }
 
-    /// What the machine shows, with its holds and waits in order.
+    /// What the machine shows, with its holds and waits in order, in lists that grow by `alloc`.
     pub fn into_plain(self, alloc: Global) -> Result<Plain, NoMemory>
         ensures shown { IfOk result (λ plain. (w : World) → SafeWorld w → Shows self w → IsPlainOf plain w) }
         ensures in_order { IfOk result (λ plain. IsSorted hold_cmp (holds_of plain)) }

@@ -57,7 +57,8 @@ impl Machine {
         Ok(())
     }
 
-    /// Whether `session` may move `mode` out of the slot of `owner` at `place`, where it has the partition in hand.
+    /// Whether `session` may move `mode` on `tag` out of the slot of `owner` at `place` for its lock in the mode
+    /// `strong`, where it has the partition in hand.
     fn may_transfer(
         &self,
         session: SessionId,
@@ -74,7 +75,7 @@ impl Machine {
             && self.is_in_slot(owner, place, tag, mode)
     }
 
-    /// Whether the slot of `owner` shows that it holds `mode` on `tag`.
+    /// Whether the slot of `owner` at `place` shows that it holds `mode` on `tag`.
     fn is_in_slot(&self, owner: SessionId, place: usize, tag: Tag, mode: Mode) -> bool
         ensures { result ≡ is_in_slot self.now owner place tag mode }
     {

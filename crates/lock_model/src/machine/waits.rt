@@ -21,7 +21,8 @@ impl Machine {
     ghost use Rattle.lock_model.specs.CountedLists.{counted_for};
     ghost use Rattle.lock_model.specs.Shows.{ShowsSafe, Follows, FollowsMarking, IsWaking, IsOwnFor, CannotMake, makes_steps, hand_of};
 
-    /// Asks `other`, which may be any session, to cancel: bit 2 of its wait word is set.
+    /// Asks `other`, which may be any session, on behalf of `session` to cancel its wait: bit 2 of its wait word is
+    /// set.
     pub fn ask_cancel(&mut self, session: SessionId, other: SessionId)
         ensures { Follows self.old session (Step.AskCancel other) self.new }
     {
@@ -108,7 +109,7 @@ impl Machine {
         }
     }
 
-    /// Makes the join: the wait of `session` for `mode` goes into the queue of `tag`, at `place`.
+    /// Makes the join in `hand`: the wait of `session` for `mode` goes into the queue of `tag`, at `place`.
     fn join_now(
         &mut self,
         session: SessionId,
@@ -165,8 +166,8 @@ impl Machine {
         Ok(())
     }
 
-    /// Makes the move `done` of `session` in `partition`, where it grants the wait of `other`, and marks that one
-    /// first.
+    /// Makes the move `done` of `session` in `hand`, which has `partition`, where it grants the wait of `other`, and
+    /// marks that one first.
     fn mark_first(
         &mut self,
         session: SessionId,
@@ -208,8 +209,8 @@ impl Machine {
         }
     }
 
-    /// Takes the wait of `session` out of the queue of `tag`, and clears its wait word. Where that leave stands
-    /// recorded already, it clears the word.
+    /// Takes the wait of `session` out of the queue of `tag`, and clears its wait word. Where that leave is recorded
+    /// already, it only clears the word.
     fn leave_queue(&mut self, session: SessionId, tag: Tag)
         requires shown { ShowsSafe self.old }
         requires steps { makes_steps self.old session ≡ true }
@@ -234,7 +235,7 @@ impl Machine {
         }
     }
 
-    /// Makes the leave: takes the wait of `session` out of the queue of `tag`, and clears its wait word.
+    /// Makes the leave in `hand`: takes the wait of `session` out of the queue of `tag`, and clears its wait word.
     fn leave_now(&mut self, session: SessionId, tag: Tag, hand: InHand)
         requires shown { ShowsSafe self.old }
         requires awaited { (wait : Awaited)
