@@ -8,7 +8,7 @@ use lock_world::{Event, Step, Word};
 use modes_core::{Mode, SessionId, Tag};
 use std::alloc::Global;
 
-/// Whether 2,000 rounds of 64 sessions lead to what they are to lead to.
+/// Whether 2,000 rounds of 64 sessions, played with room from `alloc`, lead to what they are to lead to.
 pub fn is_right(alloc: Global) -> Result<bool> {
     let mut events = Vec::new(alloc);
     for number in 0..64u8 {

@@ -32,7 +32,7 @@ pub fn look(plain: &Plain, words: &mut Words) -> Option<bool> {
     }
 }
 
-/// Whether the words of one kind, from a first number to a last one, all show what `words` say.
+/// Whether in `plain` the words of one kind, from a first number to a last one, all show what `words` say.
 fn words_show(plain: &Plain, words: &mut Words) -> Option<bool> {
     let kind = words.next()?;
     let first = small_number(words)?;
@@ -57,7 +57,7 @@ fn numbered_word(kind: &str, number: u8) -> Option<Word> {
     }
 }
 
-/// Whether the strong lock counters, from a first index to a last one, all show what `words` say.
+/// Whether in `plain` the strong lock counters, from a first index to a last one, all show what `words` say.
 fn counters_show(plain: &Plain, words: &mut Words) -> Option<bool> {
     let first = index(words)?;
     let last = index(words)?;
@@ -112,7 +112,7 @@ fn wait_is(plain: &Plain, words: &mut Words) -> Option<bool> {
     }
 }
 
-/// Whether the mask of the modes that a session held when it joined a queue is the one that `words` say.
+/// Whether the mask of the modes that a session held when it joined a queue of `plain` is the one that `words` say.
 fn wait_held_is(plain: &Plain, words: &mut Words) -> Option<bool> {
     let place = usize::from(small_number(words)?);
     let mask = index(words)?;

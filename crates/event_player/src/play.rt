@@ -133,8 +133,8 @@ pub fn add(events: &mut Vec<Event>, session: SessionId, step: Step) -> Result<()
     Ok(())
 }
 
-/// Adds to `events` those by which the session `whose` goes past others: it takes the lock of each one's slots, and
-/// puts it passing.
+/// Adds to `events` those by which the session `whose` goes past the others that `words` name: it takes the lock of
+/// each one's slots, and puts it passing.
 fn add_walk(events: &mut Vec<Event>, whose: SessionId, words: &mut Words) -> Result<bool> {
     let Some((first, last, tag, mode)) = parse_walk(words) else {
         return Ok(false);
