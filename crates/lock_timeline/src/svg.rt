@@ -195,8 +195,8 @@ impl Timeline {
         )
     }
 
-    /// Writes to `text`, below `bottom`, what the colours and arrows mean, and from which line on the script is left
-    /// out.
+    /// Writes to `text`, in a picture `width` wide and below `bottom`, what the colours and arrows mean, and from
+    /// which line on the script is left out.
     fn write_below(&self, width: u32, bottom: u32, text: &mut String) -> Result<(), AllocError> {
         let y = bottom.saturating_add(24);
         writeln!(

@@ -45,7 +45,7 @@ fn next_of(length: usize) -> u32 {
 }
 
 impl Timeline {
-    /// A timeline with no step and no session.
+    /// A timeline with no step and no session, which grows by `alloc`.
     pub fn new(alloc: Global) -> Self {
         Timeline {
             alloc,
@@ -291,7 +291,7 @@ impl Timeline {
         Ok(number)
     }
 
-    /// Counts the lock of the bar numbered `bar` once more for `owner`.
+    /// Counts the lock of the bar numbered `bar`, in the lane numbered `lane`, once more for `owner`.
     fn claim(&mut self, lane: u32, bar: u32, owner: Owner) -> Result<(), AllocError> {
         let level = self.level_of(lane, owner);
         for claim in &mut self.claims {
@@ -340,7 +340,7 @@ fn is_claimed(claims: &[Claim], bar: u32) -> bool
     claims.iter().any(|claim| claim.bar == bar)
 }
 
-/// Whether the lock of the bar numbered `number` is an advisory one.
+/// Whether the lock of the bar numbered `number` of `bars` is an advisory one.
 fn is_advisory(bars: &[Bar], number: u32) -> bool {
     match bars.get(number as usize) {
         Some(bar) => bar.tag.method() == LockMethod::User,
