@@ -10,7 +10,7 @@ use std::collections::HashMap;
 /// What a local table was indexed by before: the library's hash map with the derived key.
 pub type KeyMap = HashMap<(Tag, Mode), u32>;
 
-/// Counts what it gets in `passed`, unless that is what no key is.
+/// Counts what `tag`, `mode` and `owner` come to in `passed`, unless that is what no key comes to.
 #[inline(never)]
 pub fn pass(passed: u64, tag: &Tag, mode: Mode, owner: Owner) -> u64 {
     if *tag != Tag::relation(0, 0) || mode != Mode::Share || owner != Owner::Session {
@@ -19,16 +19,16 @@ pub fn pass(passed: u64, tag: &Tag, mode: Mode, owner: Owner) -> u64 {
     passed
 }
 
-/// Acquires `tag` in `mode` for `owner`, and answers whether that was done: in a register, as the map's doors
-/// answer.
+/// Acquires `tag` in `mode` for `owner` in `table`, and answers whether that was done: in a register, as the map's
+/// doors answer.
 #[inline(never)]
 pub fn acquire(table: &mut LocalTable, tag: &Tag, mode: Mode, owner: Owner) -> bool {
     let known = table.add_at_once(tag, mode, owner);
     known == AtOnce::AlreadyHeld || acquire_further(table, tag, mode, owner, known)
 }
 
-/// Acquires `tag` in `mode` for `owner` where a first look, `known`, says that it isn't held, or not whether it is.
-/// A call of its own, so that `acquire` goes without what this one needs.
+/// Acquires `tag` in `mode` for `owner` in `table` where a first look, `known`, says that it isn't held, or not
+/// whether it is. A call of its own, so that `acquire` goes without what this one needs.
 #[inline(never)]
 fn acquire_further(
     table: &mut LocalTable,
@@ -49,7 +49,7 @@ fn acquire_further(
     true
 }
 
-/// Acquires `tag` in `mode` for `owner` where it takes a whole look to say whether it is held.
+/// Acquires `tag` in `mode` for `owner` in `table` where it takes a whole look to say whether it is held.
 #[cold]
 #[inline(never)]
 fn acquire_looked_up(table: &mut LocalTable, tag: &Tag, mode: Mode, owner: Owner) -> bool {
@@ -60,7 +60,7 @@ fn acquire_looked_up(table: &mut LocalTable, tag: &Tag, mode: Mode, owner: Owner
     }
 }
 
-/// Acquires `tag` in `mode`, which isn't held, for `owner`, where the table may be full or has to grow.
+/// Acquires `tag` in `mode`, which isn't held, for `owner`, where `table` may be full or has to grow.
 #[cold]
 #[inline(never)]
 fn acquire_grown(table: &mut LocalTable, tag: &Tag, mode: Mode, owner: Owner) -> bool
@@ -73,13 +73,13 @@ fn acquire_grown(table: &mut LocalTable, tag: &Tag, mode: Mode, owner: Owner) ->
     true
 }
 
-/// Releases `tag` in `mode` for `owner`, and answers whether that was done.
+/// Releases `tag` in `mode` for `owner` in `table`, and answers whether that was done.
 #[inline(never)]
 pub fn release(table: &mut LocalTable, tag: &Tag, mode: Mode, owner: Owner) -> bool {
     table.drop_at_once(tag, mode, owner).is_some() || release_looked_up(table, tag, mode, owner)
 }
 
-/// Releases `tag` in `mode` for `owner` where it takes a look to say whether it is held.
+/// Releases `tag` in `mode` for `owner` in `table` where it takes a look to say whether it is held.
 #[cold]
 #[inline(never)]
 fn release_looked_up(table: &mut LocalTable, tag: &Tag, mode: Mode, owner: Owner) -> bool {

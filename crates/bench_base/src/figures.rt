@@ -210,8 +210,8 @@ fn group_of(alloc: Global, it: &Figures, top: usize) -> Result<String, AllocErro
     Ok(text)
 }
 
-/// A bar at the height `at`, `tenths` long where the longest is `longest`, with `what` it is of and how long that
-/// took.
+/// A bar at the height `at` in the color `color`, `tenths` long where the longest is `longest`, with `what` it is of
+/// and how long that took.
 fn bar_of(
     alloc: Global,
     what: &str,

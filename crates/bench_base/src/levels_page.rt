@@ -102,7 +102,7 @@ fn print_size<R: CpuClock + AllocGlobal + Print>(
     Ok(())
 }
 
-/// Times `work` at a savepoint with `keys`.
+/// Times `work` with `keys` at a savepoint of `table`.
 fn time<R: CpuClock>(rt: &R, table: &mut LocalTable, keys: &[Key], work: Work) -> Result<Spread> {
     let mut times = Times::new();
     for round in 0..ROUNDS {
@@ -115,7 +115,7 @@ fn time<R: CpuClock>(rt: &R, table: &mut LocalTable, keys: &[Key], work: Work) -
     Ok(times.spread())
 }
 
-/// Makes `savepoints` savepoints with `work`, and answers whether all was done.
+/// Makes `savepoints` savepoints in `table` with `work` on `keys`, and answers whether all was done.
 #[inline(never)]
 fn run(table: &mut LocalTable, keys: &[Key], work: Work, savepoints: u32) -> bool {
     for _ in 0..savepoints {
@@ -131,7 +131,7 @@ fn run(table: &mut LocalTable, keys: &[Key], work: Work, savepoints: u32) -> boo
     true
 }
 
-/// Acquires all `keys` in a level that is handed up, and releases them, the last one first.
+/// Acquires all `keys` in a level of `table` that is handed up, and releases them, the last one first.
 #[inline(never)]
 fn hand_up(table: &mut LocalTable, keys: &[Key]) -> bool {
     if table.begin_nested().is_err() || !acquire_all(table, keys, Owner::Transaction) {
@@ -148,7 +148,7 @@ fn hand_up(table: &mut LocalTable, keys: &[Key]) -> bool {
     true
 }
 
-/// Acquires all `keys` in a level that is dropped.
+/// Acquires all `keys` in a level of `table` that is dropped.
 #[inline(never)]
 fn drop_level(table: &mut LocalTable, keys: &[Key]) -> bool {
     if table.begin_nested().is_err() || !acquire_all(table, keys, Owner::Transaction) {

@@ -8,7 +8,7 @@ use anyhow::Result;
 use local_locks::{End, LocalTable};
 use modes_core::Owner;
 
-/// Makes a call that does nothing for each of `keys`, `laps` times.
+/// Makes a call that does nothing for each of `keys` and `owner`, `laps` times.
 #[inline(never)]
 pub fn passes(keys: &[Key], owner: Owner, laps: u32) -> u64 {
     let mut passed = 0u64;
@@ -20,7 +20,7 @@ pub fn passes(keys: &[Key], owner: Owner, laps: u32) -> u64 {
     passed
 }
 
-/// Makes two calls that do nothing for each of `keys`, `laps` times.
+/// Makes two calls that do nothing for each of `keys` and `owner`, `laps` times.
 #[inline(never)]
 pub fn double_passes(keys: &[Key], owner: Owner, laps: u32) -> u64 {
     let mut passed = 0u64;
@@ -33,7 +33,8 @@ pub fn double_passes(keys: &[Key], owner: Owner, laps: u32) -> u64 {
     passed
 }
 
-/// Acquires each of `keys` and releases it at once, `laps` times, and answers whether all was done.
+/// Acquires each of `keys` for `owner` in `table` and releases it at once, `laps` times, and answers whether all was
+/// done.
 #[inline(never)]
 pub fn pairs(table: &mut LocalTable, keys: &[Key], owner: Owner, laps: u32) -> bool {
     for _ in 0..laps {
@@ -46,7 +47,7 @@ pub fn pairs(table: &mut LocalTable, keys: &[Key], owner: Owner, laps: u32) -> b
     true
 }
 
-/// Acquires each of `keys` for `owner`, and answers whether all was done.
+/// Acquires each of `keys` for `owner` in `table`, and answers whether all was done.
 pub fn acquire_all(table: &mut LocalTable, keys: &[Key], owner: Owner) -> bool {
     for (tag, mode) in keys {
         if !acquire(table, tag, *mode, owner) {
@@ -56,8 +57,8 @@ pub fn acquire_all(table: &mut LocalTable, keys: &[Key], owner: Owner) -> bool {
     true
 }
 
-/// Acquires all `keys` and then releases them in the order of making, `laps` times, and answers whether all was
-/// done.
+/// Acquires all `keys` for `owner` in `table` and then releases them in the order of making, `laps` times, and
+/// answers whether all was done.
 #[inline(never)]
 pub fn in_order(table: &mut LocalTable, keys: &[Key], owner: Owner, laps: u32) -> bool {
     for _ in 0..laps {
@@ -73,7 +74,8 @@ pub fn in_order(table: &mut LocalTable, keys: &[Key], owner: Owner, laps: u32) -
     true
 }
 
-/// Acquires all `keys` and then releases the last one first, `laps` times, and answers whether all was done.
+/// Acquires all `keys` for `owner` in `table` and then releases the last one first, `laps` times, and answers whether
+/// all was done.
 #[inline(never)]
 pub fn in_opposite_order(table: &mut LocalTable, keys: &[Key], owner: Owner, laps: u32) -> bool {
     for _ in 0..laps {
@@ -89,7 +91,7 @@ pub fn in_opposite_order(table: &mut LocalTable, keys: &[Key], owner: Owner, lap
     true
 }
 
-/// Releases `keys`, which are not held, `laps` times, and counts the refusals.
+/// Releases `keys`, which `owner` doesn't hold in `table`, `laps` times, and counts the refusals.
 #[inline(never)]
 pub fn refusals(table: &mut LocalTable, keys: &[Key], owner: Owner, laps: u32) -> u64 {
     let mut refused = 0u64;
@@ -101,7 +103,7 @@ pub fn refusals(table: &mut LocalTable, keys: &[Key], owner: Owner, laps: u32) -
     refused
 }
 
-/// Goes through `end`, and answers how many entries it took away.
+/// Goes through `end` in `table`, and answers how many entries it took away.
 #[inline(never)]
 pub fn end_all(table: &mut LocalTable, end: End) -> u32
     requires { end ≢ End.Inner }

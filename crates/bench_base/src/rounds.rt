@@ -9,12 +9,12 @@ pub const ROUNDS: usize = 15;
 /// How many columns the names of the rows take on the pages of the lock manager.
 pub const WIDTH: usize = 42;
 
-/// The processor time that this thread has used, in nanoseconds.
+/// The processor time that this thread has used, in nanoseconds, by `rt`.
 pub fn cpu_nanos(rt: &impl CpuClock) -> Result<u64> {
     Ok(nanos(rt.thread_cpu_time()?))
 }
 
-/// The time by the clock on the wall, in nanoseconds since some start.
+/// The time by the clock of `rt` on the wall, in nanoseconds since some start.
 pub fn wall_nanos(rt: &impl Clock) -> Result<u64> {
     Ok(nanos(rt.monotonic()?))
 }
@@ -112,7 +112,7 @@ pub fn print_time<R: Print>(rt: &R, width: usize, what: &str, time: Spread) -> i
     println!(rt; "        {what:<width$} {time}")
 }
 
-/// Prints how much of the time `whole` the time `part` is, by the medians and by the smallest.
+/// Prints under the name `what` how much of the time `whole` the time `part` is, by the medians and by the smallest.
 pub fn print_ratio<R: Print>(rt: &R, what: &str, part: Spread, whole: Spread) -> io::Result<()> {
     let median = hundredths(part.median, whole.median);
     let least = hundredths(part.least, whole.least);

@@ -76,7 +76,7 @@ pub fn count_held<R: Wait>(rt: &R, map: &SharedMap, keys: &[Key], laps: u32) -> 
     held
 }
 
-/// Counts all `keys` once more and once less, `laps` times, and answers the nanoseconds of the latter alone.
+/// Counts all `keys` of `map` once more and once less, `laps` times, and answers the nanoseconds of the latter alone.
 pub fn map_and_uncount<R: Wait + CpuClock>(
     rt: &R,
     map: &SharedMap,
