@@ -22,12 +22,12 @@ pub fn refuse(alloc: Global, growth: u16) -> bool {
     !is_granted(alloc, NONE + usize::from(growth))
 }
 
-/// Has every growth refused from now on, and answers whether the allocator listens.
+/// Has every growth by `alloc` refused from now on, and answers whether the allocator listens.
 pub fn refuse_all(alloc: Global) -> bool {
     refuse(alloc, EVERY)
 }
 
-/// Has no growth refused any more, and answers whether one was refused since one was to be.
+/// Has no growth by `alloc` refused any more, and answers whether one was refused since one was to be.
 pub fn was_refused(alloc: Global) -> bool {
     refuse(alloc, 0)
 }

@@ -40,7 +40,7 @@ impl Answer {
     }
 }
 
-/// What is told of `refusal`, which may name a hold in the way.
+/// What the report says of `refusal`, which may name a hold in the way.
 fn refused(refusal: Refusal) -> Answer {
     let Refusal::Conflict { session, mode, how } = refusal else {
         return Answer::Refused(refusal.number());
@@ -52,7 +52,7 @@ fn refused(refusal: Refusal) -> Answer {
     }
 }
 
-/// What is told of the `answer` to a request.
+/// What the report says of `answer`, given to a request.
 fn answer_of(answer: Result<Acquired, Refusal>) -> Answer {
     match answer {
         Ok(Acquired::Granted) => Answer::Granted,

@@ -30,7 +30,7 @@ pub enum Look {
     Blockers,
 }
 
-/// How many rows `look` answers to `session`.
+/// How many rows `look`, which may be for `waiter`, answers to `session`.
 fn rows_of<T: PartTable, B: Board<T>, R: Wait>(
     rt: &R,
     session: &mut OwnSession<T, B>,
@@ -51,7 +51,8 @@ fn rows_of<T: PartTable, B: Board<T>, R: Wait>(
     }
 }
 
-/// Looks with the growth numbered `growth` refused, and once more where it was. There is one row.
+/// Looks with `session` in the way `kind`, for `waiter`, with the growth numbered `growth` refused, and once more
+/// where it was. There is one row.
 fn look_twice<T: PartTable, B: Board<T>, R: Wait>(
     rt: &R,
     alloc: Global,
@@ -72,7 +73,8 @@ fn look_twice<T: PartTable, B: Board<T>, R: Wait>(
     Told::of(refused, answer == Err(Refusal::NoMemory), again)
 }
 
-/// Looks with `first` while `second` waits for the object that `first` has.
+/// Looks with `first` in the way `kind`, with the growth numbered `growth` refused, while `second` waits for the
+/// object that `first` has.
 fn look_at_wait<T: PartTable, B: Board<T>, R: Wait>(
     rt: &R,
     alloc: Global,

@@ -42,8 +42,8 @@ fn refused_in_turn<R: Wait>(rt: &R, alloc: Global, story: Story<'_>) -> Option<u
     None
 }
 
-/// Tells `story`, called `name`, with each of its `growths` growths refused in turn. Where the allocator doesn't
-/// listen it is told once, and none is refused.
+/// Runs `story`, called `name`, with each of its `growths` growths refused in turn. Where the allocator doesn't
+/// listen, as `listens` says, it runs once, and none is refused.
 fn tell_in_turn<R: Wait + Print>(
     rt: &R,
     alloc: Global,

@@ -34,7 +34,8 @@ pub fn perform<R: Wait>(rt: &R, alloc: Global, act: Act<'_>, growth: u16) -> Tol
     Told::Otherwise
 }
 
-/// Does `act` at `desk`. The board of the shared table is named here alone.
+/// Does `act` at `desk`, with the growth numbered `growth` refused. The board of the shared table is named here
+/// alone.
 fn perform_at<R: Wait>(
     rt: &R,
     alloc: Global,
@@ -83,7 +84,7 @@ pub fn open<R: Wait>(rt: &R, alloc: Global, growth: u16) -> Told {
     }
 }
 
-/// Whether a session of `manager` opens, as the first one.
+/// Whether `opener` opens a session of `manager`, as the first one.
 fn open_again<R: Wait>(rt: &R, manager: &Manager, opener: &mut Opener) -> bool
     requires { IsOpenerOf opener.old manager.now }
 {

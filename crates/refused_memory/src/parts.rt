@@ -27,7 +27,8 @@ pub enum PartCall {
     Rows,
 }
 
-/// Begins a request of `session` in `part`, which has nothing in it, and gives it up.
+/// Begins a request of `session` in `part`, which has nothing in it, with the growth numbered `growth` refused, and
+/// gives it up.
 fn begin<P: PartTable>(alloc: Global, part: &mut P, session: SessionId, growth: u16) -> Told
     requires blank { IsBlank P.content P.begun part.old }
 {
@@ -67,7 +68,8 @@ fn decide_once<P: PartTable>(alloc: Global, part: &mut P, session: SessionId, gr
     }
 }
 
-/// Appends the rows of `part`, which has one hold, to a list that has four rows already and no room for more.
+/// Appends the rows of `part`, which has one hold of `session`, to a list that has four rows already and no room for
+/// more, with the growth numbered `growth` refused.
 fn rows<P: PartTable>(alloc: Global, part: &mut P, session: SessionId, growth: u16) -> Told
     requires blank { IsBlank P.content P.begun part.old }
 {
@@ -91,7 +93,7 @@ fn rows<P: PartTable>(alloc: Global, part: &mut P, session: SessionId, growth: u
     Told::of(refused, true, kept && appended && rows.len() == 5)
 }
 
-/// Makes `call` of `part`, which has nothing in it.
+/// Makes `call` of `part`, which has nothing in it, with the growth numbered `growth` refused.
 fn make<P: PartTable>(alloc: Global, part: &mut P, call: PartCall, growth: u16) -> Told
     requires blank { IsBlank P.content P.begun part.old }
 {

@@ -63,7 +63,7 @@ static TURNS: [Turn; 17] = [
     (true, Deed::Takes, (OBJECT, Exclusive)),
 ];
 
-/// Does `deed` with `hold`, and answers whether it went so.
+/// Does `deed` of `session` with `hold`, and answers whether it went so.
 fn goes<T: PartTable, B: Board<T>, R: Wait>(
     rt: &R,
     session: &mut OwnSession<T, B>,

@@ -108,8 +108,8 @@ fn ask<T: PartTable, B: Board<T>, R: Wait>(
     (session, Told::of(true, answer.ran_out(), is_right))
 }
 
-/// Opens `waiters` sessions, each of which waits for an object that the asking one has. Once all of them do, that
-/// one asks.
+/// Opens at `desk` `waiters` sessions, each of which waits for an object that `session`, the asking one of `tale`,
+/// has. Once all of them do, `session` asks, with the growth numbered `growth` refused.
 fn with_waiters<T: PartTable, B: Board<T>, D: Desk<OwnSession<T, B>>, R: Wait>(
     rt: &R,
     alloc: Global,
@@ -142,7 +142,8 @@ fn with_waiters<T: PartTable, B: Board<T>, D: Desk<OwnSession<T, B>>, R: Wait>(
     }
 }
 
-/// Has the asking session of `tale` take what it has, and ask.
+/// Has the asking session of `tale`, opened at `desk`, take what it has, and ask with the growth numbered `growth`
+/// refused.
 fn with_asking<T: PartTable, B: Board<T>, D: Desk<OwnSession<T, B>>, R: Wait>(
     rt: &R,
     alloc: Global,
@@ -176,8 +177,8 @@ fn take<T: PartTable, B: Board<T>, R: Wait>(
     }
 }
 
-/// Opens the other sessions of `tale` from `place` on, which take what they are to have; the asking one comes after
-/// them.
+/// Opens at `desk` the other sessions of `tale` from `place` on, which take what they are to have; the asking one
+/// comes after them, with the growth numbered `growth` refused.
 fn with_others<T: PartTable, B: Board<T>, D: Desk<OwnSession<T, B>>, R: Wait>(
     rt: &R,
     alloc: Global,
