@@ -48,7 +48,7 @@ pub struct Ways {
 }
 
 impl Ways {
-    /// No way to end.
+    /// Ways to end, of which there is none yet; they grow by `alloc`.
     pub fn new(alloc: Global) -> Self
         ensures { result.orders ≡ 0 }
     {
@@ -59,8 +59,8 @@ impl Ways {
         }
     }
 
-    /// Counts an order whose end is described by `told`, and of which `script` is the script. Where there is no memory
-    /// nothing is counted.
+    /// Counts an order whose end is described by `told`, and of which `script` is the script. Where there is no
+    /// memory nothing is counted.
     pub fn count(&mut self, told: String, script: String) -> Result<(), AllocError>
         requires { self.old.orders < 2 ^ 32 - 1 }
         ensures counted { OnOk result (self.new.orders ≡ self.old.orders + 1) }
@@ -122,7 +122,7 @@ pub enum Extent {
 impl Endings {
     ghost use Rattle.script_orders.specs.Ends.{begun_of, run_of};
 
-    /// No order was begun.
+    /// Counts of orders, of which none was begun; they grow by `alloc`.
     pub fn new(alloc: Global) -> Self
         ensures { begun_of result ≡ 0 }
     {
@@ -172,8 +172,8 @@ impl Endings {
         self.given_up += 1;
     }
 
-    /// Writes the table of all, as a script of comments in which the orders are. `total` is in how many ways the lines can
-    /// be merged.
+    /// Writes to `output` the table of all orders, as a script of comments, and by `extent` whether these were all.
+    /// `total` is in how many ways the lines can be merged.
     pub fn write<W: Write>(&self, output: &mut W, total: Total, extent: Extent) -> io::Result<()> {
         let run = self.run();
         let (ended, stuck) = (self.ended.orders, self.stuck.orders);

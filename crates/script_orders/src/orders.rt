@@ -89,8 +89,8 @@ impl<'a> Orders<'a> {
     ghost use Rattle.script_orders.specs.Ends.{begun_of, run_of};
     ghost use Rattle.script_orders.specs.Turns.{Begins, Goes, IsLineAt, KeepsOrder, steps_of};
 
-    /// The orders of `story`, none of which was run yet; `ties` says which of its lines have to do with one another.
-    /// Refused only where memory ran out.
+    /// The orders of `story` within `options`, none of which was run yet; `ties` says which of its lines have to do
+    /// with one another. Refused only where memory ran out.
     pub fn new(
         alloc: Global,
         story: &'a Story,

@@ -124,7 +124,7 @@ impl Played {
         Ok(())
     }
 
-    /// The names of the sessions that are open.
+    /// The names of the sessions that are open, in a list that grows by `alloc`.
     pub fn open_names(&self, alloc: Global) -> Result<Vec<Name>, AllocError> {
         let mut names = Vec::new(alloc);
         for standing in &self.standings {

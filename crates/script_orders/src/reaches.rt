@@ -100,8 +100,8 @@ impl Reach {
     }
 }
 
-/// What a line has to do with, where its session asked for these objects before. With `ends` the answers to looks at
-/// locks are left out, so that most have to do with no line.
+/// What `line` of `story` has to do with, where its session asked for the objects `asked` before. With `ends` the
+/// answers to looks at locks are left out, so that most have to do with no line.
 fn reach_of(story: &Story, line: &str, asked: Objects, ends: bool) -> Reach {
     let words = split_words(line);
     let Some((verb, words)) = words.as_slice().split_first() else {
@@ -142,8 +142,8 @@ fn counter_of(words: &[&str]) -> Option<u16> {
     parse_strong_index(*words.get(1)?)
 }
 
-/// What a request for a lock has to do with, whose line has `words`, where its session asked for the objects `asked`
-/// before.
+/// What a request for a lock has to do with, whose line in `story` has `words`, where its session asked for the
+/// objects `asked` before.
 fn reach_of_request(story: &Story, words: &[&str], asked: Objects) -> Reach {
     let Some(tag) = object_of(story, words) else {
         return Reach::ALL;
@@ -165,7 +165,7 @@ fn reach_of_request(story: &Story, words: &[&str], asked: Objects) -> Reach {
     }
 }
 
-/// What each line of `actor` has to do with.
+/// What each line of `actor` in `story` has to do with; with `ends` as for `reach_of`.
 fn reaches_of(
     alloc: Global,
     story: &Story,

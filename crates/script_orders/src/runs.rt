@@ -17,10 +17,10 @@ pub trait Player {
     fn play<H: AllocGlobal + Wait>(&self, rt: &H, orders: &mut Orders<'_>) -> Result<(), Fault>;
 }
 
-/// Has the player play the orders of the reader's script, and writes how often each way to end came. The script is played
-/// in its own order first. No more orders are begun than `options` allow; where these are not all, half of them are the
-/// first ones, and half are drawn. A bad line, or a session that is refused since all that may be opened were, ends
-/// it, with its number in the script.
+/// Has `player` play the orders of the script that `reader` has, and writes to `output` how often each way to end
+/// came. The script is played in its own order first. No more orders are begun than `options` allow; where these are
+/// not all, half of them are the first ones, and half are drawn. A bad line, or a session that is refused since all
+/// that may be opened were, ends it, with its number in the script. Meanwhile `line` shows how many were played.
 pub fn run_orders<P: Player, H: AllocGlobal + Wait, R: Read + Drop, W: Write + Drop, E: Write>(
     rt: &H,
     player: &P,

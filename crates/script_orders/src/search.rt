@@ -17,7 +17,7 @@ pub struct Search {
 }
 
 impl Search {
-    /// No place was looked at.
+    /// A search that has looked at no place yet, with lists that grow by `alloc`.
     pub fn new(alloc: Global) -> Self {
         Search {
             forks: Vec::new(alloc),
