@@ -25,7 +25,7 @@ pub fn session(rt: &impl Abort, number: u8) -> SessionId {
     SessionId::new(number).expect(rt, "a session number")
 }
 
-/// An empty part, at the second attempt where there was no memory.
+/// An empty part, which grows by `alloc`, at the second attempt where there was no memory.
 pub fn new_part(alloc: Global) -> Result<PlainPart, NoMemory>
     ensures { IfOk result (λ part. part.begun ≡ None) }
 {
@@ -35,7 +35,7 @@ pub fn new_part(alloc: Global) -> Result<PlainPart, NoMemory>
     }
 }
 
-/// Ends the test where `session` holds `tag` in `mode` already, or waits for it.
+/// Ends the test where `session` holds `tag` in `mode` in `part` already, or waits for it.
 pub fn may_ask<P: PartTable>(
     rt: &impl Abort,
     part: &mut P,
@@ -56,7 +56,7 @@ pub fn may_ask<P: PartTable>(
     }
 }
 
-/// Ends the test where `session` doesn't hold `tag` in `mode`.
+/// Ends the test where `session` doesn't hold `tag` in `mode` in `part`.
 pub fn may_release<P: PartTable>(
     rt: &impl Abort,
     part: &P,

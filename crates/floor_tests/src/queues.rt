@@ -104,7 +104,7 @@ const A_WAITER_THAT_LEAVES_LETS_OTHERS_GO: [Step; 5] = [
     Step::Leaves(2, true, &[]),
 ];
 
-/// What a request of `session` for `mode`, which may be made, is answered.
+/// What a request of `session` in `part` for `mode`, of kind `kind`, which may be made, is answered.
 fn asked_once<P: PartTable>(
     rt: &impl Abort,
     part: &mut P,
@@ -119,8 +119,8 @@ fn asked_once<P: PartTable>(
     decide(part, session, &OBJECT, mode, kind)
 }
 
-/// What a request of `session` for `mode` is answered, at the second attempt where there was no memory: all is as
-/// before then.
+/// What a request of `session` in `part` for `mode`, of kind `kind`, is answered, at the second attempt where there
+/// was no memory: all is as before then.
 fn asked<P: PartTable>(
     rt: &impl Abort,
     part: &mut P,
@@ -158,7 +158,7 @@ fn meant(rt: &impl Abort, told: Told) -> Result<Decision, Refusal> {
     }
 }
 
-/// Whether a release of `mode` by `session` wakes those who are `expected`, in this order.
+/// Whether a release of `mode` by `session` in `part` wakes those who are `expected`, in this order.
 fn wakes<P: PartTable>(
     rt: &impl Abort,
     part: &mut P,
@@ -175,7 +175,7 @@ fn wakes<P: PartTable>(
     are_woken(&part.wake(&OBJECT), expected)
 }
 
-/// Makes `step`, and answers whether it leads to what it says.
+/// Makes `step` in `part`, and answers whether it leads to what it says.
 fn make<P: PartTable>(rt: &impl Abort, part: &mut P, step: Step) -> bool
     requires { P.begun part.old ≡ None }
     ensures { P.begun part.new ≡ None }
@@ -195,7 +195,7 @@ fn make<P: PartTable>(rt: &impl Abort, part: &mut P, step: Step) -> bool
     }
 }
 
-/// Plays all `steps`, in order.
+/// Plays all `steps` in `part`, in order.
 fn play<P: PartTable>(rt: &impl Abort, part: &mut P, steps: &[Step])
     requires { P.begun part.old ≡ None }
     ensures { P.begun part.new ≡ None }

@@ -100,14 +100,14 @@ const SIZES: Sizes = Sizes {
     groups: 1,
 };
 
-/// Sixteen empty partitions, each in its slot.
+/// Sixteen empty partitions, which grow by `alloc`, each in its slot.
 fn empty_slots(alloc: Global) -> Result<Vec<Kept<PlainPart>>, Fail>
     ensures new { let T = ⟦<PlainPart as PartTable>⟧ in IfOk result (λ slots. AreNew T.content T.begun slots.items) }
 {
     Ok(in_slots(alloc, empty_parts(alloc, PlainPart::new)?)?)
 }
 
-/// A board for tests, of a table for two sessions.
+/// A board for tests, of a table for two sessions that grows by `alloc`.
 fn one_thread(alloc: Global) -> Result<OneThread<PlainPart>, Fail>
     ensures blank { let B = ⟦<OneThread<PlainPart> as Board<PlainPart>>⟧ in
         IfOk result (λ board. B.view board ≡ blank_account) }

@@ -124,7 +124,8 @@ fn a_request_is_told_where_it_stands(rt: HostRuntime) -> Result<(), Fail> {
     Ok(())
 }
 
-/// Has `many` sessions wait for what nobody holds, each after those with lower numbers, and wakes the queue.
+/// Has `many` sessions wait in `part` for what nobody holds, each after those with lower numbers, and wakes the
+/// queue.
 fn many_woken<P: PartTable>(rt: &impl Abort, part: &mut P, many: u8) -> Result<Woken, NoMemory>
     requires none_begun { P.begun part.old ≡ None }
 {

@@ -151,7 +151,8 @@ fn locked(rt: &impl Abort, number: u64) -> Option<u64> {
     Some(word(rt, number).lock_list()?.number())
 }
 
-/// What is set and what is kept for the flags `waiters` and `release_ok`, and the word that comes of them.
+/// What is set and what is kept for the flags `waiters` and `release_ok` in the word `number`, and the word that
+/// comes of them.
 fn unlocked(rt: &impl Abort, number: u64, waiters: bool, release_ok: bool) -> (u64, u64, u64) {
     (
         LwWord::flag_bits(waiters, release_ok),
@@ -225,7 +226,7 @@ const WAKEUPS: [WaitsAndWakeup; 3] = [
     (&[], &[], &[], true),
 ];
 
-/// Has the session numbered `number` join `list`, in which it doesn't stand.
+/// Has the session numbered `number` join `list`, in which it isn't yet, for `mode`.
 fn join(rt: &impl Abort, list: &mut WaitList, number: u8, mode: LwMode) {
     let session = session(rt, number);
     assert!(rt; !list.has(session));
@@ -247,7 +248,8 @@ fn are_waiting(waiters: &[LwWaiter], expected: &[(u8, LwMode)]) -> bool {
     true
 }
 
-/// Whether a wakeup of the list takes these off, leaves these, and has release-ok set.
+/// Whether a wakeup of the list `waiters` takes off `taken`, leaves `left`, and has release-ok set where `release_ok`
+/// says so.
 fn wakes(rt: &impl Abort, (waiters, taken, left, release_ok): WaitsAndWakeup) -> bool {
     let mut list = WaitList::new();
     for (number, mode) in waiters {
@@ -269,7 +271,7 @@ fn a_wakeup_takes_sharers_off_together_and_an_exclusive_first_alone(rt: HostRunt
     }
 }
 
-/// A list with all sessions, each after those with lower numbers.
+/// A list with all sessions, each after those with lower numbers. Where one can't join, the test ends by `rt`.
 fn all_sessions(rt: &impl Abort) -> WaitList {
     let mut list = WaitList::new();
     for number in 0..64 {

@@ -18,7 +18,7 @@ pub fn new_table(rt: &impl Abort, alloc: Global, max_local: u32) -> LocalTable
     }
 }
 
-/// Acquires `tag` in `mode` for `owner` by `reserve` and `add`.
+/// Acquires `tag` in `mode` for `owner` in `table`, by `reserve` and `add`.
 fn acquire_once(
     table: &mut LocalTable,
     tag: Tag,
@@ -29,8 +29,8 @@ fn acquire_once(
     Ok(table.add(tag, mode, owner))
 }
 
-/// Acquires `tag` in `mode` for `owner` by `reserve` and `add`. Where memory is refused, nothing changes and the
-/// next call goes on.
+/// Acquires `tag` in `mode` for `owner` in `table`, by `reserve` and `add`. Where memory is refused, nothing changes
+/// and the next call goes on.
 pub fn acquire(
     rt: &impl Abort,
     table: &mut LocalTable,
@@ -64,8 +64,8 @@ fn acquire_once_in_one_look(
     Ok(Acquired::Granted)
 }
 
-/// Acquires `tag` in `mode` for `owner` with one look, by `add_held` or, where it isn't held, by `reserve_new` and
-/// `add_new`.
+/// Acquires `tag` in `mode` for `owner` in `table` with one look, by `add_held` or, where it isn't held, by
+/// `reserve_new` and `add_new`.
 pub fn acquire_in_one_look(
     table: &mut LocalTable,
     tag: Tag,

@@ -16,8 +16,8 @@ fn relation(round: u32) -> Tag {
     Tag::relation(5, round)
 }
 
-/// Takes the relation of `round`, for which the one of the round before is given back: its slot, which isn't the
-/// last one, is empty from then on.
+/// Takes in `table` the relation of `round`, for which the one of the round before is given back: its slot, which
+/// isn't the last one, is empty from then on.
 fn go_on(rt: &impl Abort, table: &mut LocalTable, round: u32) {
     let taken = acquire(rt, table, relation(round), AccessShare, Owner::Transaction);
     assert!(rt; taken.is_ok(), "{round}");

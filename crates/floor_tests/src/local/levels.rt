@@ -39,7 +39,7 @@ struct Plain {
     depth: usize,
 }
 
-/// A list with room, at the second attempt where there was no memory.
+/// A list with room from `alloc`, at the second attempt where there was no memory.
 fn new_list(rt: &impl Abort, alloc: Global) -> Vec<Held> {
     match Vec::with_capacity(alloc, 200) {
         Ok(list) => list,
@@ -167,7 +167,7 @@ fn end_both(
     is_right
 }
 
-/// The next entry that `end` takes away.
+/// The next entry that `end` takes out of `table`.
 pub fn next(rt: &impl Abort, table: &mut LocalTable, end: End) -> Option<(Tag, Mode)> {
     if end == End::Inner {
         assert!(rt; table.level() > 1);

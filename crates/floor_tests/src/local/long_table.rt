@@ -31,7 +31,7 @@ fn is_left(relation: u32) -> bool {
     true
 }
 
-/// Acquires `relation` for `owner`, if it is one of its own.
+/// Acquires `relation` in `table` for `owner`, if it is one of its own.
 fn acquire_for(rt: &impl Abort, table: &mut LocalTable, owner: Owner, relation: u32) -> bool {
     let tag = Tag::relation(5, relation);
     !owns(owner, relation) || acquire(rt, table, tag, AccessShare, owner).is_ok()
@@ -51,7 +51,7 @@ fn acquire_all(rt: &impl Abort, table: &mut LocalTable) {
     }
 }
 
-/// Whether the release of `relation` for `owner`, if it is one of its own, is answered `answer`.
+/// Whether the release of `relation` in `table` for `owner`, if it is one of its own, is answered `answer`.
 fn release_for(table: &mut LocalTable, owner: Owner, relation: u32, answer: Unlocked) -> bool {
     let tag = Tag::relation(5, relation);
     !owns(owner, relation) || table.drop_one(tag, AccessShare, owner) == Ok(answer)
@@ -78,7 +78,7 @@ fn release_half(rt: &impl Abort, table: &mut LocalTable) {
     }
 }
 
-/// Whether a commit ends `relation` next.
+/// Whether a commit in `table` ends `relation` next.
 fn ends_next(table: &mut LocalTable, relation: u32) -> bool {
     table.end_next(End::Commit) == Some((Tag::relation(5, relation), AccessShare))
 }

@@ -4,7 +4,7 @@ use place_index::PlaceIndex;
 use std::alloc::Global;
 use std::process::Abort;
 
-/// An index, at the second attempt where there was no memory.
+/// An index that grows by `alloc`, at the second attempt where there was no memory.
 fn new_index(rt: &impl Abort, alloc: Global) -> PlaceIndex {
     match PlaceIndex::new(alloc) {
         Ok(index) => index,
@@ -19,8 +19,8 @@ fn is_noted(index: &PlaceIndex, hash: u32, place: u16) -> bool {
         .is_some()
 }
 
-/// Notes `place`, which is not noted yet, under `hash`. Where memory is refused, nothing changes and the next call
-/// goes on.
+/// Notes `place`, which is not noted yet, under `hash` in `index`. Where memory is refused, nothing changes and the
+/// next call goes on.
 fn note(rt: &impl Abort, index: &mut PlaceIndex, hash: u32, place: u16) {
     let place = u32::from(place);
     if index.reserve(place).is_err() {
@@ -35,7 +35,7 @@ fn note(rt: &impl Abort, index: &mut PlaceIndex, hash: u32, place: u16) {
     }
 }
 
-/// Forgets `place`, if it is noted under `hash`, and answers whether it was.
+/// Forgets `place`, if `index` has it under `hash`, and answers whether it was noted.
 fn forget(index: &mut PlaceIndex, hash: u32, place: u16) -> bool {
     let found = index.find(hash, |other| other == u32::from(place));
     match found {
@@ -99,7 +99,7 @@ const NOTED_UNTIL_FORGOTTEN_OR_CLEARED: [Step; 25] = [
     Step::First(5, None),
 ];
 
-/// Does what `step` says, or looks at it, and answers whether it is as it says.
+/// Does with `index` what `step` says, or looks at it, and answers whether it is as it says.
 fn make(rt: &impl Abort, index: &mut PlaceIndex, step: Step) -> bool {
     match step {
         Step::Note(hash, place) => {
@@ -115,7 +115,7 @@ fn make(rt: &impl Abort, index: &mut PlaceIndex, step: Step) -> bool {
     }
 }
 
-/// Plays all `steps`, in order.
+/// Plays all `steps` with `index`, in order.
 fn play(rt: &impl Abort, index: &mut PlaceIndex, steps: &[Step]) {
     for place in 0..steps.len() {
         let is_right = make(rt, index, steps[place]);
@@ -139,15 +139,15 @@ fn hash_of(place: u16, hashes: u32) -> u32 {
 
 const MANY: u16 = 3_000;
 
-/// Notes many places, under `hashes` hashes.
+/// Notes many places in `index`, under `hashes` hashes.
 fn note_many(rt: &impl Abort, index: &mut PlaceIndex, hashes: u32) {
     for place in 0..MANY {
         note(rt, index, hash_of(place, hashes), place);
     }
 }
 
-/// Forgets each second place, noted under `hashes` hashes: the even ones where `odd` is 0, the odd ones where it is
-/// 1.
+/// Forgets each second place of `index`, noted under `hashes` hashes: the even ones where `odd` is 0, the odd ones
+/// where it is 1.
 fn forget_half(rt: &impl Abort, index: &mut PlaceIndex, hashes: u32, odd: u16) {
     for place in 0..MANY {
         if place % 2 == odd {
@@ -157,7 +157,8 @@ fn forget_half(rt: &impl Abort, index: &mut PlaceIndex, hashes: u32, odd: u16) {
     }
 }
 
-/// Looks for all places under `hashes` hashes, of which the odd ones are noted where `odd`, otherwise none.
+/// Looks in `index` for all places under `hashes` hashes, of which the odd ones are noted where `odd`, otherwise
+/// none.
 fn find_all(rt: &impl Abort, index: &PlaceIndex, hashes: u32, odd: bool) {
     for place in 0..MANY {
         let is = is_noted(index, hash_of(place, hashes), place);
@@ -165,7 +166,7 @@ fn find_all(rt: &impl Abort, index: &PlaceIndex, hashes: u32, odd: bool) {
     }
 }
 
-/// Notes many places under `hashes` hashes, and forgets the even ones and then the others.
+/// Notes many places in `index` under `hashes` hashes, and forgets the even ones and then the others.
 fn forget_by_halves(rt: &impl Abort, index: &mut PlaceIndex, hashes: u32) {
     note_many(rt, index, hashes);
     forget_half(rt, index, hashes, 0);

@@ -9,7 +9,7 @@ use std::process::Abort;
 /// What a session holds, in the order of making.
 type Plain = Vec<Entry>;
 
-/// A list with room, at the second attempt where there was no memory.
+/// A list with room from `alloc`, at the second attempt where there was no memory.
 fn new_list(rt: &impl Abort, alloc: Global) -> Plain {
     match Vec::with_capacity(alloc, 200) {
         Ok(list) => list,
@@ -27,7 +27,7 @@ fn place_of(list: &Plain, tag: Tag, mode: Mode) -> Option<usize> {
     None
 }
 
-/// The entry with one more count of `owner`.
+/// `entry` with one more count of `owner`.
 fn raised(entry: Entry, owner: Owner) -> Entry {
     let Entry {
         tag,
@@ -47,7 +47,7 @@ fn raised(entry: Entry, owner: Owner) -> Entry {
     }
 }
 
-/// The entry with one count of `owner` less, if it has one.
+/// `entry` with one count of `owner` less, if it has one.
 fn lowered(entry: Entry, owner: Owner) -> Option<Entry> {
     let Entry {
         tag,
@@ -149,8 +149,8 @@ pub(super) fn random_owner(random: u32) -> Owner {
     }
 }
 
-/// Counts `tag` in `mode` once more in both where it is held, and answers whether both say alike that it is or
-/// isn't.
+/// Counts `tag` in `mode` once more for `owner` in both `table` and `list` where it is held, and answers whether both
+/// say alike that it is or isn't.
 fn add_held(
     rt: &impl Abort,
     table: &mut LocalTable,

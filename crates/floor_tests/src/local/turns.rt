@@ -125,7 +125,7 @@ fn make(rt: &impl Abort, table: &mut LocalTable, call: Call) -> Answer {
     }
 }
 
-/// Makes the call of `turn` as often as it says, and answers whether it is answered so each time.
+/// Makes the call of `turn` in `table` as often as it says, and answers whether it is answered so each time.
 fn take(rt: &impl Abort, table: &mut LocalTable, turn: Turn) -> bool {
     let (times, call, answer) = turn;
     for _ in 0..times {
@@ -136,7 +136,7 @@ fn take(rt: &impl Abort, table: &mut LocalTable, turn: Turn) -> bool {
     true
 }
 
-/// Plays all `turns`, in order.
+/// Plays all `turns` in `table`, in order.
 pub fn play(rt: &impl Abort, table: &mut LocalTable, turns: &[Turn]) {
     for place in 0..turns.len() {
         let is_right = take(rt, table, turns[place]);

@@ -18,7 +18,7 @@ pub fn session(rt: &impl Abort, number: u8) -> SessionId {
     SessionId::new(number).expect(rt, "a session number")
 }
 
-/// Whether `session` may ask for `tag` in `mode`: it neither holds it nor waits. A wait of it ends.
+/// Whether `session` may ask for `tag` in `mode` in `part`: it neither holds it nor waits. A wait of it ends.
 fn may_ask<P: PartTable>(part: &mut P, session: SessionId, tag: &Tag, mode: Mode) -> bool
     ensures new { result ≡ true → (P.content part.new).holds session tag.now mode ≡ false }
     ensures no_wait { waits_there ((P.content part.new).waits tag.now) session ≡ false }
@@ -29,7 +29,7 @@ fn may_ask<P: PartTable>(part: &mut P, session: SessionId, tag: &Tag, mode: Mode
     !part.held(session, tag).has(mode)
 }
 
-/// Has `session` hold `tag` in `mode`, unless it does already. Nothing is looked at.
+/// Has `session` hold `tag` in `mode` in `part`, unless it does already. Nothing is looked at.
 pub fn hold<P: PartTable>(
     part: &mut P,
     session: SessionId,
@@ -47,7 +47,8 @@ pub fn hold<P: PartTable>(
     Ok(true)
 }
 
-/// Has `session` hold `tag` in `mode` where no other session is in the way; otherwise the request is given up.
+/// Has `session` hold `tag` in `mode` in `part` where no other session is in the way; otherwise the request is given
+/// up.
 pub fn hold_beside<P: PartTable>(
     part: &mut P,
     session: SessionId,
@@ -69,8 +70,8 @@ pub fn hold_beside<P: PartTable>(
     Ok(true)
 }
 
-/// Has `session` wait for `tag` in `mode`, at `place` of its queue, or first where there is no wait before that
-/// place.
+/// Has `session` wait for `tag` in `mode` in `part`, at `place` of its queue, or first where there is no wait before
+/// that place.
 pub fn wait<P: PartTable>(
     part: &mut P,
     session: SessionId,
@@ -93,7 +94,7 @@ pub fn wait<P: PartTable>(
     Ok(true)
 }
 
-/// Takes the hold of `session` on `tag` in `mode` out, if it is there.
+/// Takes the hold of `session` on `tag` in `mode` out of `part`, if it is there.
 pub fn release<P: PartTable>(part: &mut P, session: SessionId, tag: &Tag, mode: Mode) -> bool
     ensures begun { P.begun part.new ≡ P.begun part.old }
 {

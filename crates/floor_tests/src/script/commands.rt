@@ -6,7 +6,7 @@ use modes_core::{Mode, Owner, Tag};
 use std::process::Abort;
 use std::test::Fail;
 
-/// The session `b` of three.
+/// The session `b` of three. Where there is none, the test ends by `rt`.
 fn caller(rt: &impl Abort) -> Caller {
     let name = name(rt, "b");
     Caller { name, place: 1 }
@@ -38,7 +38,7 @@ const ADVISORY: Tag = Tag::Advisory {
     sub: 8,
 };
 
-/// The commands that open a session, or take or give back a lock.
+/// The commands that open a session, or take or give back a lock. With no name for a session, the test ends by `rt`.
 fn commands_on_locks(rt: &impl Abort) -> [(&'static str, Command); 7] {
     let name = name(rt, "c_1");
     let database = 4_294_967_295;
@@ -74,7 +74,8 @@ fn commands_on_locks(rt: &impl Abort) -> [(&'static str, Command); 7] {
     ]
 }
 
-/// The others.
+/// The commands that neither open a session nor take or give back a lock. With no name for a session, the test ends
+/// by `rt`.
 fn other_commands(rt: &impl Abort) -> [(&'static str, Command); 10] {
     let name = name(rt, "d");
     let place = Place::Waiting(0);
@@ -98,7 +99,7 @@ fn other_commands(rt: &impl Abort) -> [(&'static str, Command); 10] {
     ]
 }
 
-/// Ends the test where a line of `rows` isn't answered as the row says.
+/// Ends the test where a line of `rows`, parsed with `sessions` open, isn't answered as the row says.
 fn expect_commands(rt: &impl Abort, sessions: &OpenSessions<u32, u32>, rows: &[(&str, Command)]) {
     for (line, command) in rows {
         assert!(rt; parse(line, sessions) == Ok(Some(*command)), "{line}");
@@ -141,7 +142,7 @@ const DEFECTS: [(&str, Defect); 13] = [
     ("lock b 5/7 ShareLock owner", Defect::BadOwner),
 ];
 
-/// Ends the test where the defect of a line of `rows` isn't the one that the row says.
+/// Ends the test where the defect of a line of `rows`, parsed with `sessions` open, isn't the one that the row says.
 fn expect_defects(rt: &impl Abort, sessions: &OpenSessions<u32, u32>, rows: &[(&str, Defect)]) {
     for (line, defect) in rows {
         assert!(rt; parse(line, sessions) == Err(*defect), "{line}");

@@ -13,7 +13,7 @@ pub fn name(rt: &impl Abort, text: &str) -> Name {
     Name::from(text).expect(rt, "a name")
 }
 
-/// The sessions `b`, `a` and `d`, opened in this order, of which `d` waits.
+/// The sessions `b`, `a` and `d`, opened in this order in a list that grows by `alloc`, of which `d` waits.
 pub fn three(rt: &impl Abort, alloc: Global) -> Result<OpenSessions<u32, u32>, AllocError>
     ensures { IfOk result (λ sessions. length sessions.resting ≡ 2) }
 {
@@ -61,7 +61,7 @@ fn sessions_stand_by_their_names(rt: HostRuntime) -> Result<(), Fail> {
     Ok(())
 }
 
-/// The names of two sessions, the first and the second that was opened.
+/// The names of two sessions, the first and the second that was opened. Where there is none, the test ends by `rt`.
 fn two(rt: &impl Abort) -> Names {
     let mut names = Names::new();
     names.push(name(rt, "b"));

@@ -19,7 +19,7 @@ use std::time::Clock;
 
 const ROUNDS: u32 = 10_000;
 
-/// Takes partition `part`, and puts it back as it was.
+/// Takes partition `part` by `board`, and puts it back as it was.
 pub fn keep_once<T: PartTable, B: Board<T>, R: Wait>(rt: &R, board: &mut B, part: u8)
     requires exists { part < 16 }
     requires idle { MayCloseBy (B.view board.old) }

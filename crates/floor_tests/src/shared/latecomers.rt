@@ -123,7 +123,8 @@ fn hold_once<T: PartTable, B: Board<T>, R: Abort + Clock + Wait>(
     }
 }
 
-/// Comes for `lock` by `board` once it is held in `round`, and takes it; where it is of slots, of those of `owner`.
+/// Comes for `lock` by `board` once it is held in `round` of `rounds`, and takes it; where it is of slots, of those
+/// of `owner`.
 fn come_once<T: PartTable, B: Board<T>, R: Abort + Clock + Wait>(
     rt: &R,
     board: &mut B,
@@ -148,7 +149,7 @@ fn come_once<T: PartTable, B: Board<T>, R: Abort + Clock + Wait>(
     rounds.end(round);
 }
 
-/// Holds `lock` by `board` in each round of `beginning`; where it is of slots, of those of `owner`.
+/// Holds `lock` by `board` in each round of `beginning` in `rounds`; where it is of slots, of those of `owner`.
 fn hold_some<T: PartTable, B: Board<T>, R: Abort + Clock + Wait>(
     rt: &R,
     board: &mut B,
@@ -169,7 +170,7 @@ fn hold_some<T: PartTable, B: Board<T>, R: Abort + Clock + Wait>(
     }
 }
 
-/// Comes for `lock` by `board` in each round of `beginning`; where it is of slots, of those of `owner`.
+/// Comes for `lock` by `board` in each round of `beginning` in `rounds`; where it is of slots, of those of `owner`.
 fn come_some<T: PartTable, B: Board<T>, R: Abort + Clock + Wait>(
     rt: &R,
     board: &mut B,
@@ -190,8 +191,8 @@ fn come_some<T: PartTable, B: Board<T>, R: Abort + Clock + Wait>(
     }
 }
 
-/// Has `first` hold `lock` and `second` come for it in each round of `beginning`, each in a thread of its own; where it is
-/// of slots, of those of `owner`.
+/// Has `first` hold `lock` and `second` come for it in each round of `beginning` in `rounds`, each in a thread of its
+/// own; where it is of slots, of those of `owner`.
 fn race_some<B: Board<PlainPart> + Send, R: Abort + Clock + Threads + Wait + Sync>(
     rt: &R,
     first: &mut B,

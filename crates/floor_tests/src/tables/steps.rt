@@ -45,7 +45,7 @@ pub enum Told {
     Deadlock(u8),
 }
 
-/// Begins the request of `session` for `tag` in `mode`, which may be made.
+/// Begins the request of `session` in `part` for `tag` in `mode`, which may be made.
 fn begins_once<P: PartTable>(
     rt: &impl Abort,
     part: &mut P,
@@ -63,8 +63,8 @@ fn begins_once<P: PartTable>(
     part.begin(session, tag, mode)
 }
 
-/// Begins the request of `session` for `tag` in `mode`, at the second attempt where there was no memory: all is as
-/// before then.
+/// Begins the request of `session` in `part` for `tag` in `mode`, at the second attempt where there was no memory:
+/// all is as before then.
 fn begins<P: PartTable>(
     rt: &impl Abort,
     part: &mut P,
@@ -84,7 +84,7 @@ fn begins<P: PartTable>(
     }
 }
 
-/// Has `session` hold `tag` in `mode`.
+/// Has `session` hold `tag` in `mode` in `part`.
 fn holds<P: PartTable>(
     rt: &impl Abort,
     part: &mut P,
@@ -100,7 +100,7 @@ fn holds<P: PartTable>(
     Ok(())
 }
 
-/// Has `session` wait for `tag` in `mode`, at `place` of its queue.
+/// Has `session` wait for `tag` in `mode` in `part`, at `place` of its queue.
 pub fn waits<P: PartTable>(
     rt: &impl Abort,
     part: &mut P,
@@ -121,7 +121,7 @@ pub fn waits<P: PartTable>(
     Ok(())
 }
 
-/// Takes the hold of `session` on `tag` in `mode` out.
+/// Takes the hold of `session` on `tag` in `mode` out of `part`.
 fn releases<P: PartTable>(rt: &impl Abort, part: &mut P, session: SessionId, tag: &Tag, mode: Mode)
     ensures begun { P.begun part.new ≡ P.begun part.old }
 {
@@ -129,7 +129,7 @@ fn releases<P: PartTable>(rt: &impl Abort, part: &mut P, session: SessionId, tag
     part.ungrant(session, tag, mode);
 }
 
-/// Whether the queue of `tag` has the waits of the sessions `numbers`, from the front.
+/// Whether the queue of `tag` in `part` has the waits of the sessions `numbers`, from the front.
 pub fn queue_is<P: PartTable>(part: &P, tag: &Tag, numbers: &[u8]) -> bool {
     for place in 0..numbers.len() {
         let Some(waiter) = part.waiter(tag, place) else {
@@ -142,8 +142,8 @@ pub fn queue_is<P: PartTable>(part: &P, tag: &Tag, numbers: &[u8]) -> bool {
     part.waiter(tag, numbers.len()).is_none()
 }
 
-/// Whether the first in the queue of `tag` waits for `mode`, and held it in the modes of the mask `held` as it
-/// joined.
+/// Whether the first in the queue of `tag` in `part` waits for `mode`, and held it in the modes of the mask `held` as
+/// it joined.
 fn first_is<P: PartTable>(part: &P, tag: &Tag, mode: Mode, held: u16) -> bool {
     match part.waiter(tag, 0) {
         Some(first) => first.mode == mode && first.held.mask() == held,
@@ -160,7 +160,7 @@ fn meant(rt: &impl Abort, told: Told) -> Answer {
     }
 }
 
-/// Does what `step` says, or looks at what it says, and answers whether it is as it says.
+/// Does with `part` what `step` says, or looks at what it says, and answers whether it is as it says.
 fn make<P: PartTable>(rt: &impl Abort, part: &mut P, step: Step) -> Result<bool, NoMemory>
     requires none_begun { P.begun part.old ≡ None }
     ensures none_begun { P.begun part.new ≡ None }
@@ -194,7 +194,7 @@ fn make<P: PartTable>(rt: &impl Abort, part: &mut P, step: Step) -> Result<bool,
     }
 }
 
-/// Plays all `steps`, in order.
+/// Plays all `steps` with `part`, in order.
 pub fn play<P: PartTable>(rt: &impl Abort, part: &mut P, steps: &[Step]) -> Result<(), NoMemory>
     requires none_begun { P.begun part.old ≡ None }
     ensures none_begun { P.begun part.new ≡ None }
