@@ -100,8 +100,9 @@ pub(crate) fn own_count(
     now.saturating_sub(outer[place].at(depth - 1, now))
 }
 
-/// Keeps `now`, what the transaction has of the entry at `place`, for each of `depth` inner levels that has not
-/// counted it yet, before the innermost one counts it.
+/// Keeps in the list of `outer` at `place`, for each of `depth` inner levels that has not counted the entry there
+/// yet, that the transaction has it `now` times, before the innermost level counts it. `touched` becomes `place`
+/// where it was later.
 #[inline(always)]
 pub(crate) fn keep(
     outer: &mut Vec<OuterCounts>,
@@ -126,8 +127,9 @@ pub(crate) fn keep(
     }
 }
 
-/// Does the work of `keep` in a level that is not the first: a call of its own, so that an acquire in the first
-/// level stays short. No list of `outer` before `touched` has anything.
+/// Does the work of `keep`, with its `outer`, `touched`, `depth`, `place` and `now`, in a level that is not the
+/// first: a call of its own, so that an acquire in the first level remains short. No list of `outer` before `touched`
+/// has anything.
 #[cold]
 #[inline(never)]
 fn keep_inner(outer: &mut Vec<OuterCounts>, touched: &mut usize, depth: u8, place: usize, now: u16)

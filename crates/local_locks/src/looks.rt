@@ -21,7 +21,7 @@ pub(crate) enum Glance {
     Unknown,
 }
 
-/// `database`, and `number` in it, as one number, the first in the lower half, as the two stand in a tag: so they
+/// `database`, and `number` in it, as one number, the first in the lower half, which is their order in a tag: so they
 /// are read and compared at once.
 #[inline(always)]
 pub(crate) fn pair_bits(database: u32, number: u32) -> u64
@@ -73,8 +73,8 @@ fn object_bits(tag: &Tag) -> u64
     }
 }
 
-/// The hash of an object in 64 bits, `object`, and of `mode`: the upper half of a product, on the highest bits of
-/// which all of them tell.
+/// The hash of an object in 64 bits, `object`, and of `mode`: the upper half of a product, whose highest bits depend
+/// on all of them.
 #[inline(always)]
 pub(crate) fn hash_of(object: u64, mode: Mode) -> u32
     ensures { result ≡ hash_of object mode }
@@ -91,8 +91,8 @@ pub(crate) fn key_hash(tag: &Tag, mode: Mode) -> u32
     hash_of(object_bits(tag), mode)
 }
 
-/// What the first place of a look tells of `tag` and `mode`: that it isn't held, or the place of its slot in
-/// `slots`, which may be empty.
+/// What the first place that `index` has for `tag` and `mode` shows: that they aren't held, or the place of their
+/// slot in `slots`, which may be empty.
 #[inline(always)]
 pub(crate) fn glance_at(slots: &[Entry], index: &PlaceIndex, tag: &Tag, mode: Mode) -> Glance
     requires { IsIndexed (opened slots.now) index.now }
@@ -124,7 +124,8 @@ pub(crate) fn look_up(slots: &[Entry], index: &PlaceIndex, tag: &Tag, mode: Mode
     }
 }
 
-/// The place in `slots` of the entry of `relation` in `database` and `mode`: most objects are relations.
+/// The place in `slots` of the entry of `relation` in `database` and `mode`, looked for through `index`: most objects
+/// are relations.
 #[inline(always)]
 fn look_up_relation(
     slots: &[Entry],
@@ -150,8 +151,8 @@ fn look_up_relation(
     }
 }
 
-/// The place in `slots` of the entry of any `tag` and `mode`: a call of its own, so that a look for a relation stays
-/// short.
+/// The place in `slots` of the entry of any `tag` and `mode`, looked for through `index`: a call of its own, so that
+/// a look for a relation remains short.
 #[inline(never)]
 fn look_up_object(slots: &[Entry], index: &PlaceIndex, tag: &Tag, mode: Mode) -> Option<usize>
     requires { IsIndexed (opened slots.now) index.now }
@@ -168,7 +169,7 @@ fn look_up_object(slots: &[Entry], index: &PlaceIndex, tag: &Tag, mode: Mode) ->
     }
 }
 
-/// The place in `slots` of the entry of `tag` and `mode`, looked for at `first` before the index is asked.
+/// The place in `slots` of the entry of `tag` and `mode`, looked for at `first` before `index` is asked.
 #[inline(always)]
 pub(crate) fn look(
     slots: &[Entry],
@@ -186,8 +187,8 @@ pub(crate) fn look(
     look_elsewhere(slots, index, tag, mode)
 }
 
-/// The place in `slots` of the entry of `tag` and `mode` where the first look didn't find it: a call of its own, so
-/// that a look that does stays short.
+/// The place in `slots` of the entry of `tag` and `mode`, looked for through `index` where the first look didn't find
+/// it: a call of its own, so that a look that does find it remains short.
 #[inline(never)]
 fn look_elsewhere(slots: &[Entry], index: &PlaceIndex, tag: &Tag, mode: Mode) -> Option<usize>
     requires { IsIndexed (opened slots.now) index.now }

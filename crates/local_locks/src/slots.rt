@@ -60,7 +60,8 @@ pub(crate) fn raise_held(slots: &mut Vec<Entry>, place: usize, owner: Owner, mos
     }
 }
 
-/// Does the work of `raise_held` for an `owner` that the caller knows as it is compiled.
+/// Does the work of `raise_held` at `place` of `slots`, up to `most`, for an `owner` that the caller knows as it is
+/// compiled.
 #[inline(always)]
 fn raise_if_held(slots: &mut Vec<Entry>, place: usize, owner: Owner, most: u16) -> bool
     requires { place < length slots.old.items }
@@ -99,7 +100,7 @@ pub(crate) fn lower_held(slots: &mut Vec<Entry>, place: usize, owner: Owner) -> 
     }
 }
 
-/// Does the work of `lower_held` for an `owner` that the caller knows as it is compiled.
+/// Does the work of `lower_held` at `place` of `slots` for an `owner` that the caller knows as it is compiled.
 #[inline(always)]
 fn lower_if_held(slots: &mut Vec<Entry>, place: usize, owner: Owner) -> bool
     requires { place < length slots.old.items }
@@ -223,8 +224,8 @@ pub(crate) fn take_ended(slots: &mut Vec<Entry>, index: &mut PlaceIndex, len: us
     take_out(slots, index, place, hash);
 }
 
-/// Goes on with `end` from the slot at `from`: leaves each entry the counts that outlive it, up to the first entry
-/// that has none, and gives the place of that one, or the number of slots.
+/// Goes on with `end` from the slot at `from` of `slots`: leaves each entry the counts that outlive it, up to the
+/// first entry that has none, and gives the place of that one, or the number of slots.
 pub(crate) fn settle(slots: &mut [Entry], end: End, from: usize) -> usize
     requires within { from ≤ length slots.old }
     requires past { IsPast end (opened slots.old) from }
@@ -250,9 +251,9 @@ pub(crate) fn settle(slots: &mut [Entry], end: End, from: usize) -> usize
     slots.len()
 }
 
-/// Goes on with the end of the innermost of `depth` inner levels from the slot at `from`: takes from each entry what
-/// this level has, up to the first entry that has nothing else, and gives the place of that one, or the number of
-/// slots. An end of that level has nothing to do before it any more.
+/// Goes on with the end of the innermost of `depth` inner levels from the slot at `from` of `slots`: takes from each
+/// entry what this level has by its list in `outer`, up to the first entry that has nothing else, and gives the place
+/// of that one, or the number of slots. An end of that level has nothing to do before it any more.
 pub(crate) fn settle_inner(
     slots: &mut Vec<Entry>,
     outer: &mut Vec<OuterCounts>,
@@ -285,7 +286,7 @@ pub(crate) fn settle_inner(
     slots.len()
 }
 
-/// Moves `entry` from the slot at `place` down to the one at `to`, over empty slots.
+/// Moves `entry` from the slot at `place` of `slots` down to the one at `to`, over empty slots.
 fn move_down(slots: &mut Vec<Entry>, place: usize, to: usize, entry: Entry)
     requires there { slot_at (opened slots.old.items) place ≡ Some entry }
     requires down { to ≤ place }
@@ -345,7 +346,8 @@ fn note_all(slots: &[Entry], index: &mut PlaceIndex)
     }
 }
 
-/// Moves the entries of `slots` together, so that no slot is empty, and notes their new places alone in `index`.
+/// Moves the entries of `slots` together with their lists in `outer`, so that no slot is empty, and notes their new
+/// places alone in `index`.
 #[cold]
 #[inline(never)]
 pub(crate) fn compact(slots: &mut Vec<Entry>, index: &mut PlaceIndex, outer: &mut Vec<OuterCounts>)
@@ -367,8 +369,8 @@ pub(crate) fn compact(slots: &mut Vec<Entry>, index: &mut PlaceIndex, outer: &mu
     note_all(slots.as_slice(), index);
 }
 
-/// Ends an end that may have left places of empty slots in the index, beside those of `len` entries: then the entries
-/// are moved together, and no slot is empty. Else nothing is done, in no time.
+/// Ends an end that may have left places of empty slots in `index`, beside those of `len` entries: then the entries
+/// of `slots` are moved together with their lists in `outer`, and no slot is empty. Else nothing is done, in no time.
 #[inline(always)]
 pub(crate) fn tidy(
     slots: &mut Vec<Entry>,

@@ -169,9 +169,8 @@ impl LocalTable {
     }
 
     /// Does the work of `add_held` for `tag`, `mode` and `owner` as far as the first place of the index goes, which
-    /// mostly shows whether the object is held in the mode, and where: `AtOnce::Unknown` says nothing, and
-    /// `add_held` goes on from there. With neither a loop nor a call in it, it is short enough to stand in the code
-    /// of each caller.
+    /// mostly shows whether the object is held in the mode, and where: `AtOnce::Unknown` says nothing, and `add_held`
+    /// goes on from there. With neither a loop nor a call in it, it is short enough to be inlined into each caller.
     #[inline(always)]
     pub fn add_at_once(&mut self, tag: &Tag, mode: Mode, owner: Owner) -> AtOnce
         ensures held { result ≡ AtOnce.AlreadyHeld → (has_entry self.old.entries tag.now mode ≡ true)
@@ -269,7 +268,7 @@ impl LocalTable {
     }
 
     /// Makes room for one more entry, which `add_new` then enters, with no look for it: `reserve` for an object and
-    /// mode that `add_held` told to have none.
+    /// mode of which `add_held` answered that they have none.
     #[inline(always)]
     pub fn reserve_new(&mut self) -> Result<(), Refusal>
         ensures allowed { OnOk result (length self.new.entries < self.new.max_local) }
@@ -483,7 +482,8 @@ impl LocalTable {
         self.drop_held(&tag, mode, owner)
     }
 
-    /// Takes one count of `owner` on `tag` in `mode` back, as `drop_one` does, and answers whether a count is left.
+    /// Takes one count of `owner` on `tag` in `mode` back and answers whether a count is left: `drop_one` for a `tag`
+    /// that the caller keeps.
     #[inline(always)]
     pub fn drop_held(&mut self, tag: &Tag, mode: Mode, owner: Owner) -> Result<Unlocked, Refusal>
         ensures not_held { IsErrOf result Refusal.NotHeld ↔ (own_count_of self.old tag.now mode owner ≡ 0) }
@@ -503,9 +503,9 @@ impl LocalTable {
         }
     }
 
-    /// Does the work of `drop_held` for `tag`, `mode` and `owner` as far as one slot goes, where what is released
-    /// mostly is: `None` says nothing, and `drop_held` goes on from there. With neither a loop nor a call in it, it
-    /// is short enough to stand in the code of each caller.
+    /// Does the work of `drop_held` for `tag`, `mode` and `owner` as far as one slot goes, which is mostly the one of
+    /// what is released: `None` says nothing, and `drop_held` goes on from there. With neither a loop nor a call in
+    /// it, it is short enough to be inlined into each caller.
     #[inline(always)]
     pub fn drop_at_once(&mut self, tag: &Tag, mode: Mode, owner: Owner) -> Option<Unlocked>
         ensures held { IsSome result → 0 < own_count_of self.old tag.now mode owner }
