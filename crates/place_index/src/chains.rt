@@ -4,6 +4,8 @@ ghost use Rattle.place_index.specs.Chains.{end_of_chain, free_link, link_at, is_
 
 use crate::links::{END, Link};
 
+/// Where the chain of `hash` begins, of `starts` starts: a multiplication spreads the hashes over them in their
+/// order, so the highest bits of a hash decide.
 #[inline(always)]
 pub(crate) fn start_of(starts: usize, hash: u32) -> usize
     requires { starts ≤ 2 ^ 32 }
