@@ -1,4 +1,4 @@
-use Rattle.std.specs.Prelude.{◌≡◌, ℕ, ◌<◌, List, [], length, slice_index, slice_get, Option, Some}
+use Rattle.std.specs.Prelude.{◌≡◌, ℕ, ◌<◌, List, [], length, slice_get, Option, Some}
 use Rattle.std.specs.Global.{Box}
 use Rattle.lw_word.specs.declared.wait_lists.LwWaiter.{LwWaiter}
 use Rattle.lock_table.specs.declared.request.Request.{Request}
@@ -6,21 +6,10 @@ use Rattle.shared_rule.specs.declared.kept.Kept.{Kept}
 use Rattle.shared_rule.specs.declared.kept.Kept.TheVariants as kept
 use Rattle.lock_table.specs.Content.{Content}
 use Rattle.lock_table.specs.Parts.{IsBlank}
-use Rattle.lock_world.specs.declared.events.Word.{Word}
-use Rattle.lock_world.specs.World.{opening, word_in}
 use Rattle.shared_rule.specs.declared.layout.TheConstants.{TABLE_SLOTS}
-use Rattle.shared_rule.specs.Layout.{index_of_word, MayBeInTable, content_slot_of, list_slot_of, lock_count}
+use Rattle.shared_rule.specs.Layout.{content_slot_of, list_slot_of, lock_count}
 
 -- The table before the first step.
-
--- The number is what the word at this index shows then.
-abbrev pub IsFirst : ℕ → ℕ → Type 0
-IsFirst index number =
-    (word : Word) → MayBeInTable word → index_of_word word ≡ index → number ≡ word_in (opening 0 0).words word
-
--- So are the numbers of these words.
-abbrev pub AreFirst : List ℕ → Type 0
-AreFirst words = (index : ℕ) → index < length words → IsFirst index (slice_index words index)
 
 module _ {T : Type 0} where
   -- There is a wait list in which nobody stands.

@@ -3,58 +3,39 @@
 ghost use Rattle.std.specs.Prelude.{◌≡◌, ◌<◌, ◌≤◌, ◌+◌, ◌/◌, ◌%◌, [], length, Some, IfOk, IfErr};
 ghost use Rattle.lock_world.specs.SlotHolds.{most_groups};
 ghost use Rattle.lock_world.specs.World.{opening};
-ghost use Rattle.shared_rule.specs.Layout.{IsGap};
 ghost use Rattle.shared_rule.specs.Shown.{WordsAreShown};
 ghost use Rattle.lock_table.specs.Parts.{AreEmptyParts};
-ghost use Rattle.shared_rule.specs.Opening.{IsFirst, IsNew, IsEmptyList, AreNew};
+ghost use Rattle.shared_rule.specs.Opening.{IsNew, IsEmptyList, AreNew};
 
 use crate::history::View;
 use crate::kept::Kept;
 use crate::layout::{
-    BLOCK, CONTENT_GAP, CONTENT_SLOTS, COUNTERS_START, GAP, SESSIONS_START, TABLE_SLOTS,
-    TABLE_WORDS, table_words,
+    BLOCK, CONTENT_GAP, CONTENT_SLOTS, GAP, SESSIONS_START, TABLE_SLOTS, table_words,
 };
 use crate::opener::Opener;
 use crate::rule::{Law, Sizes};
 use atomic_table::{Refused, Table};
 use lock_table::{NoMemory, PartTable};
 use lw_word::{LwWord, WaitList};
+use modes_core::{PARTITIONS, SESSIONS};
 use std::alloc::Global;
 
 /// The table and its memory. Threads share its field `shared`.
 pub type SharedTable<T> = Table<Kept<T>, View<T>, Sizes, Law, Global>;
 
-// The word at an index, before the first step: a free one where it is a lightweight lock's, and else 0.
-fn first_word(index: usize) -> u64
-    ensures first { IsFirst index result }
-    ensures gap { IsGap index → result ≡ 0 }
-{
-    let free = LwWord::opening().number();
-    if index < COUNTERS_START {
-        if index % GAP == 0 {
-            return free;
-        }
-    }
-    if index >= SESSIONS_START {
-        if index < TABLE_WORDS {
-            if (index - SESSIONS_START) % BLOCK == 0 {
-                return free;
-            }
-        }
-    }
-    0
-}
-
-// All words, before the first step, with so many groups of slots.
+// All words, before the first step, with so many groups of slots: those of lightweight locks are free, and all others 0.
 fn first_words(alloc: Global, groups: u8) -> Result<Vec<u64>, NoMemory>
     requires some { 0 < groups }
     requires few { groups ≤ most_groups }
     ensures shown { IfOk result (λ words. WordsAreShown groups words.items (opening 0 0).words) }
 {
-    let many = table_words(groups);
-    let mut words = Vec::with_capacity(alloc, many)?;
-    for index in 0..many {
-        words.push_reserved(first_word(index));
+    let free = LwWord::opening().number();
+    let mut words = vec![in alloc; 0; table_words(groups)]?;
+    for partition in 0..PARTITIONS as usize {
+        words[GAP * partition] = free;
+    }
+    for session in 0..SESSIONS as usize {
+        words[SESSIONS_START + BLOCK * session] = free;
     }
     Ok(words)
 }

@@ -1,8 +1,20 @@
-use Rattle.std.proofs.Common.{◌≡◌, ℕ, ◌<◌, length, vec_len, vec_capacity}
+use Rattle.std.proofs.Common.{◌≡◌, ◌≢◌, ℕ, ◌*◌, ◌<◌, length}
 use Rattle.std.specs.Prelude.{slice_index}
-use Rattle.shared_rule.specs.Layout.{IsGap}
-use Rattle.shared_rule.specs.Opening.{AreFirst}
+use Rattle.lw_word.specs.LightweightWord.{free_word}
+use Rattle.shared_rule.specs.Layout.{words_of_groups, block_start}
 use Rattle.shared_rule.proofs.table.first_words.Given as goal
 
-abbrev pub invariant-loop-index : goal.invariant-loop-index
-invariant-loop-index l = record { first : AreFirst l.words.items; gap : (index : ℕ) → index < length l.words.items → IsGap index → slice_index l.words.items index ≡ 0; number : vec_len l.words ≡ l.index; room : vec_capacity l.words ≡ l.many }
+abbrev pub invariant-loop-partition : goal.invariant-loop-partition
+invariant-loop-partition l = record {
+  many : length l.words.items ≡ words_of_groups l.groups;
+  free : (p : ℕ) → p < l.partition → slice_index l.words.items (16 * p) ≡ free_word;
+  others : (index : ℕ) → ((p : ℕ) → p < 16 → 16 * p ≢ index) → slice_index l.words.items index ≡ 0;
+}
+
+abbrev pub invariant-loop-session : goal.invariant-loop-session
+invariant-loop-session l = record {
+  many : length l.words.items ≡ words_of_groups l.groups;
+  partitions : (p : ℕ) → p < 16 → slice_index l.words.items (16 * p) ≡ free_word;
+  free : (k : ℕ) → k < l.session → slice_index l.words.items (block_start k) ≡ free_word;
+  others : (index : ℕ) → ((p : ℕ) → p < 16 → 16 * p ≢ index) → ((k : ℕ) → k < 64 → block_start k ≢ index) → slice_index l.words.items index ≡ 0;
+}
