@@ -133,7 +133,7 @@ fn alone_of<'a>(matches: &ArgMatches<'a>) -> Option<Alone<'a>> {
     Some(Alone { workload, steps })
 }
 
-/// What words there can be.
+/// The words that there can be on the command line, in lists that grow by `alloc`.
 fn command<'a>(alloc: Global) -> Result<Command<'a>, AllocError> {
     let page = Arg::new(alloc, "page")
         .value_name("PAGE")

@@ -79,8 +79,8 @@ fn jobs(alloc: Global, cases: &[Case], asked: Asked, threads: u32) -> Result<Vec
     Ok(jobs)
 }
 
-/// The job of `threads` threads in `case`, with the holding time of `work` and its number of acquires shared out among
-/// them.
+/// The job of `threads` threads in `case`, at the database and for the owner that `asked` has, with the holding time
+/// of `work` and its number of acquires shared out among them.
 fn job(case: Case, work: Work, asked: Asked, threads: u32) -> Job {
     let acquires = if asked.check { CHECKED } else { work.acquires };
     Job {
@@ -111,7 +111,7 @@ impl Figures {
         }
     }
 
-    /// Notes what the round `round` took.
+    /// Notes what was `taken` in the round numbered `round`.
     fn note(&mut self, round: usize, taken: Taken) {
         if round < ROUNDS {
             self.wall[round] = taken.wall();
@@ -200,7 +200,8 @@ fn print_figures<R: Print>(rt: &R, job: Job, figures: Figures) -> io::Result<()>
     )
 }
 
-/// Prints the figures of `job`, or with `check` how many requests of one round were granted.
+/// Prints the figures of `job` by the sessions of `crew`, or with `check` how many requests of one round were
+/// granted.
 fn print_job<B: Board<Part> + Send, R: Threads + Wait + Clock + CpuClock + Print + Sync>(
     rt: &R,
     crew: &mut Vec<OwnSession<Part, B>>,
@@ -259,7 +260,8 @@ fn print_mutex_jobs<R: Threads + Wait + Clock + CpuClock + Print + Sync>(
     Ok(())
 }
 
-/// Prints the figures of `jobs` by the sessions of `crew`, all of which `_desk` has open.
+/// Prints the figures of `jobs` by the sessions of `crew`, all of which `_desk` has open; with `check` how many
+/// requests of one round of each were granted.
 fn print_at_work<
     B: Board<Part> + Send,
     D: Desk<OwnSession<Part, B>>,
@@ -273,8 +275,8 @@ fn print_at_work<
     print_jobs(rt, crew, jobs, check)
 }
 
-/// Prints the figures of `jobs` by `threads` threads, each with a session from `desk`, which has none open before and
-/// after.
+/// Prints the figures of `jobs`, as `asked` for, by `threads` threads, each with a session from `desk`, which has
+/// none open before and after.
 fn print_crew<
     B: Board<Part> + Send,
     D: Desk<OwnSession<Part, B>>,
@@ -299,8 +301,8 @@ fn print_crew<
     }
 }
 
-/// Prints the figures of `jobs` by `threads` threads with sessions from `desk`, that of a manager. Only this function
-/// names the board of the shared table: all that it calls is written over any board.
+/// Prints the figures of `jobs`, as `asked` for, by `threads` threads with sessions from `desk`, that of a manager.
+/// Only this function names the board of the shared table: all that it calls is written over any board.
 fn print_at_desk<R: Threads + Wait + Clock + CpuClock + AllocGlobal + Print + Sync>(
     rt: &R,
     desk: &mut ManagerDesk<'_>,
@@ -315,7 +317,7 @@ fn print_at_desk<R: Threads + Wait + Clock + CpuClock + AllocGlobal + Print + Sy
     print_crew(rt, desk, jobs, asked, threads)
 }
 
-/// Prints what `threads` threads do with sessions of a manager that is made for them.
+/// Prints, as `asked` for, what `threads` threads do with sessions of a manager that is made for them.
 fn print_sessions<R: Threads + Wait + Clock + CpuClock + AllocGlobal + Print + Sync>(
     rt: &R,
     asked: Asked,
@@ -335,7 +337,7 @@ fn print_sessions<R: Threads + Wait + Clock + CpuClock + AllocGlobal + Print + S
     printed
 }
 
-/// Prints what `threads` threads do: with sessions, and under a mutex.
+/// Prints, as `asked` for, what `threads` threads do: with sessions, and under a mutex.
 fn print_threads<R: Threads + Wait + Clock + CpuClock + AllocGlobal + Print + Sync>(
     rt: &R,
     asked: Asked,

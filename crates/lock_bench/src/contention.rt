@@ -108,7 +108,8 @@ impl Taken {
         self.to.saturating_sub(self.from)
     }
 
-    /// What was taken with one request more, which waited `waited` nanoseconds and was granted or not.
+    /// What was taken with one request more, which waited `waited` nanoseconds and was granted or not, as
+    /// `is_granted` says.
     fn after(self, waited: u64, is_granted: bool) -> Self {
         Taken {
             longest: self.longest.max(waited),
@@ -156,12 +157,12 @@ impl Round {
         self.taken.into_inner()
     }
 
-    /// A thread waits until all have come, so that none works alone.
+    /// Waits by `rt` until all threads have come, so that none works alone.
     fn begin<R: Clock>(&self, rt: &R) {
         self.wait_for_all(rt, &self.came);
     }
 
-    /// A thread waits until all have ended, so that others can list what it holds.
+    /// Waits by `rt` until all threads have ended, so that others can list what this one holds.
     fn leave<R: Clock>(&self, rt: &R) {
         self.wait_for_all(rt, &self.ended);
     }
@@ -190,12 +191,12 @@ impl Round {
     }
 }
 
-/// The time by the clock on the wall; 0 where it can't be read.
+/// The time by the clock of `rt` on the wall; 0 where it can't be read.
 fn now(rt: &impl Clock) -> u64 {
     wall_nanos(rt).unwrap_or(0)
 }
 
-/// The processor time of this thread; 0 where it can't be read.
+/// The processor time of this thread by `rt`; 0 where it can't be read.
 fn used(rt: &impl CpuClock) -> u64 {
     cpu_nanos(rt).unwrap_or(0)
 }
@@ -257,7 +258,7 @@ fn step<B: Board<Part>, R: Wait + Clock>(
     }
 }
 
-/// Takes the objects that listings of `job` find, if `thread` is the first one.
+/// Takes by `session` the objects that listings of `job` find, if `thread` is the first one.
 fn hold_listed<B: Board<Part>, R: Wait>(
     rt: &R,
     session: &mut OwnSession<Part, B>,

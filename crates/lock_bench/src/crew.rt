@@ -48,7 +48,8 @@ pub struct Crew<B: Board<Part>> {
 }
 
 impl<'a> Crew<SeatBoard<'a, Part>> {
-    /// Opens four sessions of `manager`, which work in `database`. Where one of them is refused none of them is open.
+    /// Opens by `opener` four sessions of `manager`, which work in `database`. Where one of them is refused none of
+    /// them is open.
     pub fn open<R: Wait>(
         rt: &R,
         manager: &'a Manager,
@@ -79,7 +80,7 @@ impl<'a> Crew<SeatBoard<'a, Part>> {
         }
     }
 
-    /// Closes all four sessions.
+    /// Closes all four sessions, with `opener`.
     pub fn close<R: Wait>(self, rt: &R, opener: &mut Opener)
         requires first { (⟦<SeatBoard<'a, Part> as Board<Part>>⟧.seat self.left.first.board).table ≡ opener.old.table }
         requires second { (⟦<SeatBoard<'a, Part> as Board<Part>>⟧.seat self.left.second.board).table ≡ opener.old.table }

@@ -79,7 +79,7 @@ fn nanos_between(from: Option<u64>, to: Option<u64>) -> Result<u64> {
     }
 }
 
-/// Prints the times of the handovers of `plan`, and of turns under a mutex beside them.
+/// Prints the times of the handovers of `plan`, at `database`, and of turns under a mutex beside them.
 fn time<R: Threads + Wait + Clock + AllocGlobal + Print + Sync>(
     rt: &R,
     database: u32,
@@ -112,7 +112,7 @@ fn print_times<R: Print>(rt: &R, of_lock: Spread, of_turn: Spread) -> io::Result
     print_ratio(rt, "to that", of_lock, of_turn)
 }
 
-/// Makes one round of `plan`, and prints what it leaves.
+/// Makes one round of `plan`, at `database`, and prints what it leaves.
 fn check<R: Threads + Wait + Clock + AllocGlobal + Print + Sync>(
     rt: &R,
     database: u32,
@@ -125,7 +125,7 @@ fn check<R: Threads + Wait + Clock + AllocGlobal + Print + Sync>(
     Ok(())
 }
 
-/// Prints the times of handovers, or with `is_check` what fewer of the same steps leave.
+/// Prints the times of handovers at `database` for `owner`, or with `is_check` what fewer of the same steps leave.
 pub fn print<R: Threads + Wait + Clock + AllocGlobal + Print + Sync>(
     rt: &R,
     database: u32,

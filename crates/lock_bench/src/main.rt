@@ -45,7 +45,7 @@ const FAULT: u8 = 1;
 /// The status where the program's own words are refused.
 const REFUSED_WORDS: u8 = 2;
 
-/// Prints the pages. The status is 0, 2 for refused words, and 1 for any other fault.
+/// Prints the pages by `rt`. The status is 0, 2 for refused words, and 1 for any other fault.
 fn main(rt: HostRuntime) -> ExitCode {
     let mut errors = rt.stderr();
     let is_terminal = errors.is_terminal();
@@ -59,12 +59,13 @@ fn main(rt: HostRuntime) -> ExitCode {
     }
 }
 
-/// The words of the command line. The error is want of memory, or a word that is not UTF-8.
+/// The words of the command line that `rt` has. The error is want of memory, or a word that is not UTF-8.
 fn read_words(rt: &HostRuntime) -> io::Result<Vec<String>> {
     Ok(env::args(rt)?.collect(rt.alloc())?)
 }
 
-/// Prints what `words` ask for, and answers the status. What is wrong with them is written to `errors`.
+/// Prints what `words` ask for, and answers the status. What is wrong with them is written to `errors`. The progress
+/// is shown where `is_terminal`.
 fn run<
     R: Threads + Wait + Clock + CpuClock + AllocGlobal + Print + Eprint + Files + Sync,
     E: Write,
@@ -87,8 +88,8 @@ fn run<
     }
 }
 
-/// How the pages are asked for: for a check with `check`. Database and owner depend on the command line, so that no
-/// call is specialised to them.
+/// How the pages are asked for: for a check with `check`. Database and owner depend on the command line, which
+/// `has_no_words` or has some, so that no call is specialised to them.
 fn asked_of(has_no_words: bool, check: bool) -> Asked {
     let (database, owner) = if has_no_words {
         (1, Owner::Session)
@@ -102,7 +103,7 @@ fn asked_of(has_no_words: bool, check: bool) -> Asked {
     }
 }
 
-/// Prints the pages that are `wanted`, and writes the files that have their figures.
+/// Prints the pages that are `wanted`, as `asked` for, with `progress`, and writes the files that have their figures.
 fn print_pages<R: Threads + Wait + Clock + CpuClock + AllocGlobal + Print + Eprint + Files + Sync>(
     rt: &R,
     wanted: &Wanted<'_>,
@@ -127,7 +128,7 @@ fn print_pages<R: Threads + Wait + Clock + CpuClock + AllocGlobal + Print + Epri
     Ok(())
 }
 
-/// Prints those of the `wanted` pages whose work one thread does.
+/// Prints those of the `wanted` pages whose work one thread does, as `asked` for, with `progress`.
 fn print_on_one_thread<R: Wait + CpuClock + AllocGlobal + Print + Eprint>(
     rt: &R,
     wanted: &Wanted<'_>,
@@ -155,7 +156,7 @@ fn print_on_one_thread<R: Wait + CpuClock + AllocGlobal + Print + Eprint>(
     Ok(())
 }
 
-/// Prints those of the `wanted` pages whose work several threads do.
+/// Prints those of the `wanted` pages whose work several threads do, as `asked` for, with `progress`.
 fn print_in_threads<R: Threads + Wait + Clock + CpuClock + AllocGlobal + Print + Eprint + Sync>(
     rt: &R,
     wanted: &Wanted<'_>,

@@ -15,7 +15,7 @@ pub struct Pair<T: PartTable, B: Board<T>> {
 }
 
 impl<T: PartTable, B: Board<T>> Pair<T, B> {
-    /// How many holds the shared table has, by a listing of the first session.
+    /// How many holds the shared table has, by a listing of the first session with `rt`.
     pub fn holds<R: Wait>(&mut self, rt: &R) -> Result<usize, Refusal>
         ensures first { B.seat self.new.first.board ≡ B.seat self.old.first.board }
         ensures second { self.new.second ≡ self.old.second }
@@ -25,7 +25,8 @@ impl<T: PartTable, B: Board<T>> Pair<T, B> {
 }
 
 impl<'a> Pair<Part, SeatBoard<'a, Part>> {
-    /// Opens two sessions of `manager`, which work in `database`. Where one of them is refused none of them is open.
+    /// Opens by `opener` two sessions of `manager`, which work in `database`. Where one of them is refused none of
+    /// them is open.
     pub fn open<R: Wait>(
         rt: &R,
         manager: &'a Manager,
@@ -52,7 +53,7 @@ impl<'a> Pair<Part, SeatBoard<'a, Part>> {
         }
     }
 
-    /// Closes both sessions.
+    /// Closes both sessions, with `opener`.
     pub fn close<R: Wait>(self, rt: &R, opener: &mut Opener)
         requires first { (⟦<SeatBoard<'a, Part> as Board<Part>>⟧.seat self.first.board).table ≡ opener.old.table }
         requires second { (⟦<SeatBoard<'a, Part> as Board<Part>>⟧.seat self.second.board).table ≡ opener.old.table }

@@ -73,7 +73,7 @@ pub struct Bed {
     few_strong: Vec<Key>,
 }
 
-/// Counts each key of `list` in `map`.
+/// Counts each key of `list`, at `database` in a bed of `size`, in `map`.
 fn add_to_map<R: Wait + AllocGlobal>(
     rt: &R,
     map: &SharedMap,
@@ -85,7 +85,7 @@ fn add_to_map<R: Wait + AllocGlobal>(
     map_all(rt, map, keys.as_slice())
 }
 
-/// A map that has the few relations, and what the other session holds throughout.
+/// A map that has the few relations at `database` in a bed of `size`, and what the other session holds throughout.
 fn map_of<R: Wait + AllocGlobal>(
     rt: &R,
     database: u32,

@@ -8,7 +8,7 @@ use modes_core::{Mode, Owner, Refusal, Tag};
 use shared_rule::Board;
 use std::sync::Wait;
 
-/// `OwnSession::try_lock`, not inlined.
+/// Calls `OwnSession::try_lock` of `session` with `tag`, `mode` and `owner`, not inlined.
 #[inline(never)]
 pub fn try_lock<T: PartTable, B: Board<T>, R: Wait>(
     rt: &R,
@@ -22,7 +22,7 @@ pub fn try_lock<T: PartTable, B: Board<T>, R: Wait>(
     session.try_lock(rt, tag, mode, owner)
 }
 
-/// `OwnSession::try_fast`, not inlined.
+/// Calls `OwnSession::try_fast` of `session` with `tag`, `mode` and `owner`, not inlined.
 #[inline(never)]
 pub fn try_fast<T: PartTable, B: Board<T>>(
     session: &mut OwnSession<T, B>,
@@ -35,7 +35,7 @@ pub fn try_fast<T: PartTable, B: Board<T>>(
     session.try_fast(tag, mode, owner)
 }
 
-/// `OwnSession::unlock`, not inlined.
+/// Calls `OwnSession::unlock` of `session` with `tag`, `mode` and `owner`, not inlined.
 #[inline(never)]
 pub fn unlock<T: PartTable, B: Board<T>, R: Wait>(
     rt: &R,
@@ -49,7 +49,7 @@ pub fn unlock<T: PartTable, B: Board<T>, R: Wait>(
     session.unlock(rt, tag, mode, owner)
 }
 
-/// `OwnSession::commit`, not inlined.
+/// Calls `OwnSession::commit` of `session`, not inlined.
 #[inline(never)]
 pub fn commit<T: PartTable, B: Board<T>, R: Wait>(rt: &R, session: &mut OwnSession<T, B>)
     ensures seat { B.seat session.new.board ≡ B.seat session.old.board }

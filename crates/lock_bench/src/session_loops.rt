@@ -12,7 +12,7 @@ use shared_rule::Board;
 use std::sync::Wait;
 use std::time::CpuClock;
 
-/// Goes `laps` times over `keys`, and locks and unlocks each for `owner`.
+/// Goes `laps` times over `keys`, and locks and unlocks each by `session` for `owner`.
 pub fn lock_pairs<T: PartTable, B: Board<T>, R: Wait>(
     rt: &R,
     session: &mut OwnSession<T, B>,
@@ -31,7 +31,7 @@ pub fn lock_pairs<T: PartTable, B: Board<T>, R: Wait>(
     Ok(())
 }
 
-/// Locks each of `keys` for `owner`.
+/// Locks each of `keys` by `session` for `owner`.
 pub fn lock_all<T: PartTable, B: Board<T>, R: Wait>(
     rt: &R,
     session: &mut OwnSession<T, B>,
@@ -46,7 +46,7 @@ pub fn lock_all<T: PartTable, B: Board<T>, R: Wait>(
     Ok(())
 }
 
-/// Goes `laps` times over `keys`, and asks for each. Answers how many attempts were refused.
+/// Goes `laps` times over `keys`, and asks for each by `session` for `owner`. Answers how many attempts were refused.
 pub fn count_refused<T: PartTable, B: Board<T>, R: Wait>(
     rt: &R,
     session: &mut OwnSession<T, B>,
@@ -66,7 +66,8 @@ pub fn count_refused<T: PartTable, B: Board<T>, R: Wait>(
     refused
 }
 
-/// Goes `laps` times over `keys`, and asks for each by a slot alone. Answers how often a strong lock was counted.
+/// Goes `laps` times over `keys`, and asks for each by a slot of `session` alone, for `owner`. Answers how often a
+/// strong lock was counted.
 pub fn count_strong_counted<T: PartTable, B: Board<T>>(
     session: &mut OwnSession<T, B>,
     keys: &[Key],
@@ -86,7 +87,7 @@ pub fn count_strong_counted<T: PartTable, B: Board<T>>(
     counted
 }
 
-/// Locks all of `keys` and commits, `laps` times.
+/// Locks all of `keys` by `session` and commits, `laps` times.
 pub fn lock_and_end<T: PartTable, B: Board<T>, R: Wait>(
     rt: &R,
     session: &mut OwnSession<T, B>,
@@ -102,7 +103,7 @@ pub fn lock_and_end<T: PartTable, B: Board<T>, R: Wait>(
     Ok(())
 }
 
-/// Locks all of `keys` and commits, `laps` times. Answers the nanoseconds of the commits alone.
+/// Locks all of `keys` by `session` and commits, `laps` times. Answers the nanoseconds of the commits alone.
 pub fn lock_and_commit<T: PartTable, B: Board<T>, R: Wait + CpuClock>(
     rt: &R,
     session: &mut OwnSession<T, B>,

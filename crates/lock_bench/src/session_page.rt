@@ -49,7 +49,7 @@ pub fn print_page<R: Wait + CpuClock + AllocGlobal + Print>(
     Ok(())
 }
 
-/// Prints the heading of the page `name`.
+/// Prints the heading of the page `name`: for a check, as `asked` says, the name alone.
 pub fn print_heading<R: Print>(rt: &R, name: &str, asked: Asked) -> io::Result<()> {
     if asked.check {
         return println!(rt; "{name}");
@@ -136,7 +136,7 @@ fn run_pair<T: PartTable, B: Board<T>, R: Wait + CpuClock + AllocGlobal + Print>
     }
 }
 
-/// Locks by `session` what the other session of a manager of `size` holds throughout.
+/// Locks by `session` what the other session of a manager of `size` holds throughout, at `database`.
 fn hold_of_other<T: PartTable, B: Board<T>, R: Wait + AllocGlobal>(
     rt: &R,
     session: &mut OwnSession<T, B>,
@@ -149,7 +149,7 @@ fn hold_of_other<T: PartTable, B: Board<T>, R: Wait + AllocGlobal>(
     hold_list(rt, session, KeyList::Crowd, database, size)
 }
 
-/// Locks each key of `list` by `session`, to be held past commits.
+/// Locks each key of `list`, at `database` in a bed of `size`, by `session`, to be held past commits.
 fn hold_list<T: PartTable, B: Board<T>, R: Wait + AllocGlobal>(
     rt: &R,
     session: &mut OwnSession<T, B>,
@@ -164,7 +164,7 @@ fn hold_list<T: PartTable, B: Board<T>, R: Wait + AllocGlobal>(
     Ok(())
 }
 
-/// Times all of `lines` by the sessions of `pair`, each once in a round.
+/// Times all of `lines` by the sessions of `pair` with `bed`, each once in a round.
 fn time_rows<T: PartTable, B: Board<T>, R: Wait + CpuClock>(
     rt: &R,
     pair: &mut Pair<T, B>,
@@ -180,7 +180,7 @@ fn time_rows<T: PartTable, B: Board<T>, R: Wait + CpuClock>(
     Ok(())
 }
 
-/// Times all of `lines` once by the sessions of `pair`, in the round with the number `round`.
+/// Times all of `lines` once by the sessions of `pair` with `bed`, in the round with the number `round`.
 fn time_round<T: PartTable, B: Board<T>, R: Wait + CpuClock>(
     rt: &R,
     pair: &mut Pair<T, B>,
@@ -206,7 +206,7 @@ fn print_rows<R: Print>(rt: &R, lines: &[Line<Work>], beside: &str) -> Result<()
     Ok(())
 }
 
-/// Makes the steps of all `lines` once by the sessions of `pair`, and prints what they leave.
+/// Makes the steps of all `lines` once by the sessions of `pair` with `bed`, and prints what they leave.
 fn check_rows<T: PartTable, B: Board<T>, R: Wait + CpuClock + Print>(
     rt: &R,
     pair: &mut Pair<T, B>,

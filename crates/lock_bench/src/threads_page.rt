@@ -56,7 +56,7 @@ impl Case {
         }
     }
 
-    /// What the thread with the number `thread` takes.
+    /// What the thread with the number `thread` takes, at `database`, in a list that grows by `alloc`.
     fn keys(self, alloc: Global, database: u32, thread: u8) -> Result<Vec<Key>, AllocError> {
         let from = u32::from(thread) * 10_000;
         match self {
@@ -73,7 +73,7 @@ impl Case {
         }
     }
 
-    /// The work of four threads, each of which has `steps` steps.
+    /// The work of four threads, at `database` for `owner`, each of which has `steps` steps.
     fn job(
         self,
         alloc: Global,
@@ -99,7 +99,7 @@ impl Case {
     }
 }
 
-/// The work of all cases: with `check` fewer steps.
+/// The work of all cases, at `database` for `owner`: with `check` fewer steps.
 fn jobs(alloc: Global, database: u32, owner: Owner, check: bool) -> Result<Vec<Job>, AllocError> {
     let steps = if check { CHECKED_STEPS } else { STEPS };
     let mut jobs = Vec::new(alloc);
@@ -200,7 +200,8 @@ fn is_counted<R: Threads + Wait + AllocGlobal + Sync>(rt: &R, job: &Job, threads
     on_map(rt, &map, job, threads)
 }
 
-/// Prints the times of `jobs` in `threads` threads, or with `check` what one round leaves.
+/// Prints the times of `jobs` in `threads` threads, with the sessions of `crew`, or with `check` what one round
+/// leaves.
 fn print_jobs<B: Board<Part> + Send, R: Threads + Wait + Clock + AllocGlobal + Print + Sync>(
     rt: &R,
     crew: &mut Crew<B>,
@@ -227,7 +228,8 @@ fn print_jobs<B: Board<Part> + Send, R: Threads + Wait + Clock + AllocGlobal + P
     Ok(())
 }
 
-/// Prints the times of `jobs` in one, two and four threads, or with `check` what one round of each leaves.
+/// Prints the times of `jobs` in one, two and four threads, with the sessions of `crew`, or with `check` what one
+/// round of each leaves.
 fn print_crew<B: Board<Part> + Send, R: Threads + Wait + Clock + AllocGlobal + Print + Sync>(
     rt: &R,
     crew: &mut Crew<B>,
@@ -246,7 +248,7 @@ fn print_crew<B: Board<Part> + Send, R: Threads + Wait + Clock + AllocGlobal + P
     Ok(())
 }
 
-/// Prints the table of times, or with `check` what fewer of the same steps leave.
+/// Prints the table of times, at `database` for `owner`, or with `check` what fewer of the same steps leave.
 pub fn print<R: Threads + Wait + Clock + AllocGlobal + Print + Sync>(
     rt: &R,
     database: u32,
@@ -266,8 +268,8 @@ pub fn print<R: Threads + Wait + Clock + AllocGlobal + Print + Sync>(
     print_with_crew(rt, database, jobs.as_mut_slice(), check)
 }
 
-/// Prints the times of `jobs` by four sessions of a manager of their own, or with `check` what one round of each
-/// leaves.
+/// Prints the times of `jobs` by four sessions, at `database`, of a manager of their own, or with `check` what one
+/// round of each leaves.
 fn print_with_crew<R: Threads + Wait + Clock + AllocGlobal + Print + Sync>(
     rt: &R,
     database: u32,

@@ -56,8 +56,8 @@ fn see_other<T: PartTable, B: Board<T>, R: Wait>(
     unreachable!()
 }
 
-/// Takes the turns of `plan` by `session`: locks, and unlocks as soon as the other session awaits the lock. Answers how
-/// many times it was granted.
+/// Takes the turns of `plan` by `session` while `playing` shows that both threads play: locks, and unlocks as soon as
+/// the other session awaits the lock. Answers how many times it was granted.
 fn take_turns<T: PartTable, B: Board<T>, R: Wait>(
     rt: &R,
     session: &mut OwnSession<T, B>,
@@ -116,7 +116,8 @@ pub fn pass_lock<B: Board<Part> + Send, R: Threads + Wait + Sync>(
     (Pair { first, second }, granted.wrapping_add(its_granted))
 }
 
-/// Waits `turns` times until `turn` is `number`, and makes it the other thread's. It is the other one's at the end.
+/// Waits `turns` times on `passed` until `turn` is `number`, and makes it the other thread's. It is the other one's
+/// at the end.
 fn pass_on<R: Wait>(rt: &R, turn: &Mutex<u64>, passed: &Condvar, number: u64, turns: u32) {
     for _ in 0..turns {
         let mut whose = passed.wait_while(rt, turn.lock(rt), |whose| *whose != number);

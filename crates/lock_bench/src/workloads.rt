@@ -232,7 +232,8 @@ pub fn see_counts(counts: Option<&Counts<'_>>) -> Result<()> {
 }
 
 /// Prints the times of each workload and a table of them all, with the instructions of `counts`, and answers the
-/// figures. Where `asked` is for a check, it prints what fewer of the same steps leave, and answers no figures.
+/// figures; meanwhile `progress` is shown. Where `asked` is for a check, it prints what fewer of the same steps
+/// leave, and answers no figures.
 pub fn print<R: Wait + CpuClock + AllocGlobal + Print + Eprint>(
     rt: &R,
     asked: Asked,
@@ -247,7 +248,8 @@ pub fn print<R: Wait + CpuClock + AllocGlobal + Print + Eprint>(
     Ok(figures)
 }
 
-/// Prints the times of each workload, and answers the figures; for a check there are none.
+/// Prints the times of each workload, as `asked` for, with `progress` and the instructions of `counts`, and answers
+/// the figures; for a check there are none.
 fn print_workloads<R: Wait + CpuClock + AllocGlobal + Print + Eprint>(
     rt: &R,
     asked: Asked,
@@ -264,7 +266,8 @@ fn print_workloads<R: Wait + CpuClock + AllocGlobal + Print + Eprint>(
     Ok(all)
 }
 
-/// Prints the times of `workload`, with a manager of its own, and answers its figures; for a check there are none.
+/// Prints the times of `workload`, as `asked` for, with a manager of its own and the instructions of `counts`, and
+/// answers its figures; for a check there are none.
 fn print_workload<R: Wait + CpuClock + AllocGlobal + Print>(
     rt: &R,
     workload: &Workload,
@@ -301,8 +304,9 @@ fn workload_of(word: &str) -> Option<&'static Workload> {
     (STRONG_OF_FEW.word == word).then_some(&STRONG_OF_FEW)
 }
 
-/// Makes `steps` steps of the workload that `word` names, with a manager of its own and without timing them, and prints
-/// what they leave. Fewer steps than its list has keys become one for each key.
+/// Makes `steps` steps of the workload that `word` names, at the database and for the owner that `asked` has, with a
+/// manager of its own and without timing them, and prints what they leave. Fewer steps than its list has keys become
+/// one for each key.
 pub fn make_alone<R: Wait + CpuClock + AllocGlobal + Print>(
     rt: &R,
     asked: Asked,
