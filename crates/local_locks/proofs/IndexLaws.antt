@@ -132,7 +132,7 @@ indexed-left slots slots' index place indexed number gone others =
           indexed.once i j key (sym (others i (away slots' place i key gone at_i)) ∙ at_i) (sym (others j (away slots' place j key gone at_j)) ∙ at_j);
     }
 
--- a slot with an entry comes behind the others, and its place is noted
+-- a slot with an entry comes after the others, and its place is noted
 indexed-behind :
     (slots slots' : Slots) (index index' : Notes) (place hash : ℕ) (key : Tag × Mode) →
     IsIndexed slots index → place ≡ length slots → length slots' ≡ place + 1 → key_at slots' place ≡ Some key →

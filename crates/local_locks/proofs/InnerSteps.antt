@@ -61,7 +61,7 @@ found-inner slots index rows depth touched room places max_local indexed leveled
 abbrev key_of : Entry → Tag × Mode
 key_of x = (x.tag, x.mode)
 
--- where so many levels have begun
+-- where this many levels have begun
 pub found-depth :
     (slots : Slots) (index : Notes) (rows : Rows) (depth level touched room places max_local : ℕ) → depth ≡ suc level → IsIndexed slots index → IsLeveled slots rows depth touched →
     without_innermost (owned_of slots rows depth room places max_local) ≡ present (without level slots (row_at rows))

@@ -19,11 +19,11 @@ Rows = List (List ℕ)
 abbrev pub row_at : Rows → ℕ → List ℕ
 row_at rows place = slice_index_or rows place []
 
--- what the transaction had of an entry with this list when an inner level began, where it has so many now
+-- what the transaction had of an entry with this list when an inner level began, where it has this many now
 abbrev pub had_in : List ℕ → ℕ → ℕ → ℕ
 had_in row level now = slice_index_or row level now
 
--- how often an owner can give back an entry with this list, where so many inner levels have begun
+-- how often an owner can give back an entry with this list, where this many inner levels have begun
 abbrev pub own_count_in : ℕ → List ℕ → Owner → Entry → ℕ
 own_count_in depth row Session entry = entry.session
 own_count_in zero row Transaction entry = entry.transaction
@@ -52,7 +52,7 @@ abbrev pub outer_of : ℕ → Slots → (ℕ → List ℕ) → List (List Entry)
 outer_of zero slots rows = []
 outer_of (suc level) slots rows = outer_of level slots rows ++ had level slots rows ∷ []
 
--- What is so of the lists where so many inner levels have begun. Before the place `touched` the innermost of them has counted
+-- What is so of the lists where this many inner levels have begun. Before the place `touched` the innermost of them has counted
 -- nothing.
 pub record IsLeveled (slots : Slots) (rows : Rows) (depth touched : ℕ) : Type 0 where
   pub few : depth ≤ 15

@@ -170,7 +170,7 @@ abbrev pub left_by : End → List Entry → List Entry
 left_by end entries = map (after_end end) (filter (λ entry. not (is_ended end entry)) entries)
 
 -- The entries after one step of the end: the first one that the end takes away is gone, those before it have the counts
--- that the end leaves, and those behind it are as they were.
+-- that the end leaves, and those after it are as they were.
 abbrev pub with_next_ended : End → List Entry → List Entry
 with_next_ended end [] = []
 with_next_ended end (entry ∷ entries) =
@@ -211,6 +211,6 @@ pub record IsReserved (owned : Owned) (tag : Tag) (mode : Mode) (owner : Owner) 
 
 -- ---- growth
 
--- The entries are so many that a table with this many slots may grow: more than half of the slots have one, if there is a slot.
+-- A table with this many slots may grow where it has these entries: more than half of the slots have one, if there is a slot.
 abbrev pub IsCrowded : ℕ → List Entry → Type 0
 IsCrowded slots entries = (slots ≡ 0) ⊎ (slots < 2 * length entries)

@@ -114,7 +114,7 @@ IsGlance slots tag mode Nothing = entry_for (present (opened slots)) tag mode �
 IsGlance slots tag mode (Place place) = (place < length slots) × (is_of tag mode (entry_at slots place) ≡ true)
 IsGlance slots tag mode Unknown = ⊤
 
--- How many of so many slots stay where an entry at a place goes: all, or all but the last one, which was its slot, or some
+-- How many of this many slots stay where an entry at a place goes: all, or all but the last one, which was its slot, or some
 -- number of which nothing is asked where no note is left.
 abbrev pub IsCut : ℕ → ℕ → ℕ → ℕ → Type 0
 IsCut slots notes place used = (used ≡ slots) ⊎ (((used ≡ place) × (place + 1 ≡ slots)) ⊎ (notes ≡ 0))
@@ -164,7 +164,7 @@ pub record IsKept (slots : Slots) (index : Notes) (len max_local : ℕ) (progres
   pub within : len ≤ max_local
   pub past : (end : End) → IsPast end slots (reached end progress)
 
--- The same of a table, whose slots are few enough that each place can be noted.
+-- What a local table keeps: all of `IsKept`, and its slots are few enough that each place can be noted.
 pub record IsTable (slots : List Entry) (index : Notes) (len max_local : ℕ) (progress : Progress) : Type 0 where
   pub kept : IsKept (opened slots) index len max_local progress
   pub few : length slots ≤ no_place

@@ -82,7 +82,7 @@ own_hand (Some hand) now session =
 abbrev pub own_hands : (ℕ → Option Hand) → (ℕ → Content) → ℕ → ℕ → Option InHand
 own_hands hand now session p = own_hand (hand p) (now p) session
 
--- the slots of a session as whoever has their lock knows them
+-- the slots of a session as the one that has their lock knows them
 abbrev pub known_slots : Bool → ℕ → (ℕ → ℕ) → Option SlotsInHand
 known_slots has database slot = if has then Some (record { word = slot; holds = slot_holds database slot }) else None
 

@@ -25,8 +25,8 @@ pub record OwnHoldsStand (number : ℕ) (own : Tag → Mode → Bool) (database 
       (tag : Tag) (mode : Mode) → partition_of tag ≡ p → own tag mode ≡ true → slot_holds database slot tag mode ≡ false
       → content.holds number tag mode ≡ true
 
--- What the session of this number knows of the content of a partition, by its own account: whoever takes a partition is told so of the
--- content that comes with it.
+-- What the session of this number knows of the content of a partition, by its own account: it learns this of
+-- the content of each partition that it takes.
 pub record KnowsContent (number : ℕ) (a : Account) (p : ℕ) (content : Content) : Type 0 where
   -- the content has holds and waits on objects of the partition alone
   pub holds_of_it : (session : ℕ) (tag : Tag) (mode : Mode) → content.holds session tag mode ≡ true → partition_of tag ≡ p
@@ -62,8 +62,8 @@ pub record KnowsContent (number : ℕ) (a : Account) (p : ℕ) (content : Conten
       (wait : OwnWait) → a.awaited ≡ Some wait → partition_of wait.tag ≡ p → waits_there (content.waits wait.tag) number ≡ false
       → content.holds number wait.tag wait.mode ≡ true
 
--- What the session of this number knows of the slots of a session, by its own account, where each has so many groups of slots:
--- whoever takes the lock of a session's slots is told so of what they show.
+-- What the session of this number knows of the slots of a session, by its own account, where each has this many groups of slots:
+-- it learns this of the slots whose lock it takes.
 pub record KnowsSlots (groups number : ℕ) (a : Account) (owner : ℕ) (slots : SlotsInHand) : Type 0 where
   -- they show holds of the owner's database, one slot at most is for each relation, and who has one in use has a database
   pub database : ℕ

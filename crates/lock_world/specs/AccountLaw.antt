@@ -132,7 +132,7 @@ pub record MayUncountBy (a : Account) (tag : Tag) (mode : Mode) : Type 0 where
   pub not_awaited : is_for a.awaited tag mode ≡ false
 
 -- Wait lists: locking one asks that none is in hand, the rest that one is. That a list's words show what they should need not be
--- asked, since a session in no list has a sleep word of 0, and whoever stands in one waits.
+-- asked, since a session in no list has a sleep word of 0, and a session in a list waits.
 pub record MayLockListBy (a : Account) : Type 0 where
   pub no_list : a.lists.in_hand ≡ None
 

@@ -38,12 +38,12 @@ pub data Place : Type 0 where
   InSlot : (slot : ℕ) → Place
   InPartition : (partition : ℕ) → Place
 
--- The session's hold stands there.
+-- The session's hold is at this place.
 abbrev pub StandsAt : World → ℕ → Tag → Mode → Place → Type 0
 StandsAt w session tag mode (InSlot slot) = IsHeldIn (w.words.database session) (w.words.slot session) tag mode slot
 StandsAt w session tag mode (InPartition partition) = (w.contents.now partition).holds session tag mode ≡ true
 
--- It stands at one place and at no other.
+-- The session's hold is at one place and at no other.
 pub record IsInOnePlace (w : World) (session : ℕ) (tag : Tag) (mode : Mode) : Type 0 where
   pub place : Place
   pub there : StandsAt w session tag mode place

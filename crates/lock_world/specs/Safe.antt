@@ -75,7 +75,7 @@ pub record AreInOnePlace (now : ℕ → Content) (own : Holds) (awaited : ℕ �
   pub no_wait_elsewhere : (p : ℕ) (tag : Tag) → partition_of tag ≢ p → (now p).waits tag ≡ []
   pub awaited_is_not_own : (session : ℕ) (tag : Tag) (mode : Mode) → is_for (awaited session) tag mode ≡ true → own session tag mode ≡ false
 
--- No wait is free to go, behind those before it.
+-- No wait is free to go, after those before it.
 abbrev pub NobodyIsFree : (ℕ → Content) → Type 0
 NobodyIsFree now = (p : ℕ) (tag : Tag) → NoneFree (now p) tag
 

@@ -51,7 +51,7 @@ pub record CountersAreCounts (limit : ℕ) (strong : ℕ → ℕ) (counted : ℕ
   pub shown : (index : ℕ) → strong index ≡ counter limit counted index
   pub once : (session : ℕ) → AtMostOnce (counted session)
 
--- Whoever has read a counter as 0 holds the lock of its own slots, and nothing that is counted for an object of that index is
+-- A session that has read a counter as 0 holds the lock of its own slots, and nothing that is counted for an object of that index is
 -- past it.
 pub record ZeroIsAPermission (zero : ℕ → Option ℕ) (holds_fast : ℕ → ℕ → Bool) (counted : ℕ → List Counted) : Type 0 where
   pub holds : (session index : ℕ) → zero session ≡ Some index → holds_fast session session ≡ true

@@ -25,7 +25,7 @@ most_groups = 8
 abbrev pub slot_count : ℕ
 slot_count = 128
 
--- the group of a relation, of so many (in version 18 FAST_PATH_REL_GROUP in lock.c, which multiplies the number first)
+-- the group of a relation, of this many groups (in version 18 FAST_PATH_REL_GROUP in lock.c, which multiplies the number first)
 abbrev pub group_of_relation : ℕ → ℕ → ℕ
 group_of_relation groups relation = relation % groups
 

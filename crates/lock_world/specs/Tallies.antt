@@ -13,7 +13,7 @@ use Rattle.lock_world.specs.Account.{Account}
 
 -- What is counted where all sessions stand still: what slots show, what contents have, and what the sessions own.
 
--- so many lists, one behind another
+-- this many lists, one after another
 unfoldable pub joined : {X : Type 0} → ℕ → (ℕ → List X) → List X
 joined zero lists = []
 joined (suc limit) lists = joined limit lists ++ lists limit
@@ -24,7 +24,7 @@ modes_shown word =
     (if has_mode word AccessShare then 1 else 0)
     + ((if has_mode word RowShare then 1 else 0) + (if has_mode word RowExclusive then 1 else 0))
 
--- how many the words of all slots show, of the sessions below the limit with so many groups of slots
+-- how many the words of all slots show, of the sessions below the limit with this many groups of slots
 abbrev pub shown_in_slots : ℕ → ℕ → (ℕ → ℕ → ℕ) → ℕ
 shown_in_slots limit groups word = total limit (λ session. total (group_size * groups) (λ place. modes_shown (word session place)))
 
@@ -37,7 +37,7 @@ pub record Held : Type 0 where
 abbrev pub is_this : Tag → Mode → Held → Bool
 is_this tag mode held = tag_eq held.tag tag && mode_eq held.mode mode
 
--- The holds are so many: some list has each of them once, and nothing else.
+-- There are this many holds: some list has each of them once, and nothing else.
 pub record AreSoMany (own : Tag → Mode → Bool) (many : ℕ) : Type 0 where
   pub listed : List Held
   pub each_once : (tag : Tag) (mode : Mode) → count_by (is_this tag mode) listed ≡ (if own tag mode then 1 else 0)
@@ -47,7 +47,7 @@ pub record AreSoMany (own : Tag → Mode → Bool) (many : ℕ) : Type 0 where
 abbrev pub left_in_slots : (Tag → Mode → Bool) → (ℕ → Content) → ℕ → Tag → Mode → Bool
 left_in_slots own contents number tag mode = own tag mode && not ((contents (partition_of tag)).holds number tag mode)
 
--- Where the holds of the session of this number stand, with so many groups of slots, as the partitions have these contents: what
+-- Where the holds of the session of this number are, with this many groups of slots, as the partitions have these contents: what
 -- contents have of it is own, and what they haven't shows in its slots as it remembers them, where a relation has one slot at
 -- most, in its group.
 pub record OwnStand (groups number : ℕ) (a : Account) (contents : ℕ → Content) : Type 0 where

@@ -54,7 +54,7 @@ pub record ListsAreSafe (partition fast : ℕ → ℕ) (s : Sleepers) (has_list 
   pub no_list : (session : ℕ) → live session ≡ false → has_list session ≡ None
   pub no_stand : (session : ℕ) → live session ≡ false → s.stands session ≡ None
 
--- Joining a list behind all others, with a sleep word of 0 (LWLockQueueSelf in lwlock.c).
+-- Joining a list after all others, with a sleep word of 0 (LWLockQueueSelf in lwlock.c).
 abbrev pub after_joining : Sleepers → ℕ → LwWaiter → Sleepers
 after_joining s lock waiter = record s {
   list = set_at s.list lock (s.list lock ++ waiter ∷ []);

@@ -121,7 +121,7 @@ pub record MakesSteps (numbers : Numbers) (session : ℕ) : Type 0 where
   pub live : numbers.live session ≡ true
   pub by_itself : numbers.kept_by session ≡ None
 
--- The World before the first step, of so many sessions with so many groups of slots: all is empty, and only release-ok is
+-- The World before the first step, of `limit` sessions with `groups` groups of slots: all is empty, and only release-ok is
 -- set, in each lightweight word.
 abbrev pub opening : ℕ → ℕ → World
 opening limit groups = record {
@@ -155,7 +155,7 @@ opening limit groups = record {
   numbers = record { limit = limit; groups = groups; issued = 0; live = λ _. false; kept_by = λ _. None };
 }
 
--- There is such a word, with so many groups of slots.
+-- There is such a word, with this many groups of slots.
 abbrev pub WordExists : ℕ → Word → Type 0
 WordExists groups (Partition p) = p < 16
 WordExists groups (Fast session) = Unit {0}

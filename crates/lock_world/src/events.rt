@@ -196,7 +196,7 @@ pub enum Step {
         /// Whether release-ok is to stay.
         release_ok: bool,
     },
-    /// Store in its own sleep word that the session waits, and join the wait list in hand, behind all others
+    /// Store in its own sleep word that the session waits, and join the wait list in hand, after all others
     /// (`LWLockQueueSelf` in lwlock.c).
     JoinList {
         /// How it wants to take the lock.

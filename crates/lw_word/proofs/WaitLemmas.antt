@@ -157,7 +157,7 @@ wakeup-split (first ∷ others) =
       | inr alone ↦ rw alone (IsPermutation-refl (first ∷ others))
     ]
 
--- It takes off nobody only where nobody waits.
+-- A wakeup takes off nobody only where nobody waits.
 pub wakeup-somebody : (waiters : List LwWaiter) → taken_off waiters ≡ [] → waiters ≡ []
 wakeup-somebody [] none = refl
 wakeup-somebody (first ∷ others) none =

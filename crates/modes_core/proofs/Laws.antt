@@ -31,7 +31,7 @@ alike-same false false e = refl
 pub each_mode : (p : Mode → Bool) → list_any (λ m. not (p m)) all_modes ≡ false → (m : Mode) → p m ≡ true
 each_mode p none m = not_false (p m) (none_passes (λ n. not (p n)) none m)
 
--- The same of pairs of modes.
+-- A test that no pair of modes fails holds of each pair.
 pub each_pair :
     (p : Mode → Mode → Bool) → list_any (λ m. list_any (λ n. not (p m n)) all_modes) all_modes ≡ false → (m n : Mode) → p m n ≡ true
 each_pair p none m = each_mode (p m) (none_passes (λ k. list_any (λ n. not (p k n)) all_modes) none m)
@@ -77,7 +77,7 @@ pub both_true : (a b : Bool) → (a && b) ≡ true → (a ≡ true) × (b ≡ tr
 both_true true b e = (refl, e)
 both_true false b e = absurd (false≢true e)
 
--- The same of tags.
+-- The test of equal tags answers as equality does.
 pub tag_eq-refl : (x : Tag) → tag_eq x x ≡ true
 tag_eq-refl (Relation d r) = grind (arith, nat_tests)
 tag_eq-refl (Object s d c o) = grind (arith, nat_tests)

@@ -27,7 +27,7 @@ in_other starts hash start place note is apart = ap (is_in starts start) is ∙ 
 pub in_none : (starts start place : ℕ) (note : ℕ → Option ℕ) → note place ≡ None → chain starts note start place ≡ false
 in_none starts start place note is = ap (is_in starts start) is
 
--- whoever is in a chain is noted under a hash of its start
+-- each place in a chain is noted under a hash of its start
 pub in_some : (starts start : ℕ) (note : Option ℕ) → is_in starts start note ≡ true → (hash : ℕ) × (note ≡ Some hash) × (start_of starts hash ≡ start)
 in_some starts start None here = absurd (false≢true here)
 in_some starts start (Some hash) here = (hash, refl, eqb-true (start_of starts hash) start here)
@@ -75,7 +75,7 @@ heads-added starts n hash place note note' head head' adds within few before is 
           (λ k _. chain-apart starts start hash place note note' adds (λ same. apart (sym same)) k) (has start below))
     ]
 
--- it comes behind the head of its chain
+-- the place comes after the head of its chain
 pub heads-behind :
     (starts n hash place : ℕ) (note note' : ℕ → Option ℕ) (head : ℕ → ℕ) → Adds note note' hash place →
     (start_of starts hash < starts → (head (start_of starts hash) ≢ end_of_chain) × (place < head (start_of starts hash))) →
@@ -122,7 +122,7 @@ nexts-added starts n hash place first note note' next next' adds within before l
           ]) (has k own below was))
     ]
 
--- It comes between a place of its chain and the next one of that.
+-- A place comes between a place of its chain and the next one of that.
 pub nexts-between :
     (starts n hash place front : ℕ) (note note' : ℕ → Option ℕ) (next next' : ℕ → ℕ) → Adds note note' hash place → n ≤ end_of_chain →
     front < n → place < front → chain starts note (start_of starts hash) front ≡ true → (next front ≢ end_of_chain → next front < place) →

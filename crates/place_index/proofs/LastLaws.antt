@@ -42,7 +42,7 @@ last-here has n few here =
       behind = λ k below own. (λ same. omega arith, omega arith);
     }
 
--- a place comes into the chain, behind its last one
+-- a place comes into the chain, after its last one
 pub last-added :
     (has has' : ℕ → Bool) (n place new : ℕ) → new < n → new < end_of_chain → has' new ≡ true → ((k : ℕ) → k ≢ new → has' k ≡ has k) →
     (place ≢ end_of_chain → place < new) → IsLast has n place → IsLast has' n new

@@ -15,13 +15,13 @@ use Rattle.place_index.proofs.ChainLaws.{Adds, Drops, in_own, in_some, heads-add
 pub noted_by : (hash next : ℕ) → next ≢ no_place → note_of (record { hash = hash; next = next }) ≡ Some hash
 noted_by hash next apart = note_of-noted (record { hash = hash; next = next }) (ap not (ne_eqb next no_place apart))
 
--- what comes behind a place of a chain
+-- what comes after a place of a chain
 pub next_of : (heads : List ℕ) (links : List Link) (n start front : ℕ) → IsLinkedTo heads links n → front < n → is_in (length heads) start (note_at links front) ≡ true → IsLast (chain (length heads) (note_at links) start) front (next_at links front)
 next_of heads links n start front linked within own =
     let found = in_some (length heads) start (note_at links front) own in
     subst (λ (s : ℕ). IsLast (chain (length heads) (note_at links) s) front (next_at links front)) found.2 (linked.nexts front found.0 within found.1)
 
--- what a walk along a chain has read of a place, which comes behind it
+-- what a walk along a chain has read of a place, which comes after it
 pub read_behind :
     (heads : List ℕ) (links : List Link) (start front next : ℕ) → IsLinked heads links → front < length links → is_in (length heads) start (note_at links front) ≡ true → next ≡ next_at links front →
     IsLast (chain (length heads) (note_at links) start) front next
@@ -195,7 +195,7 @@ unlinked-first heads links hash place next linked few under begins is is_next =
           (λ k own apart was two. next_at-set_other links place k free_link apart) within (omega arith) linked.nexts,
     ))
 
--- it comes behind another place of its chain
+-- the place comes after another place of its chain
 pub unlinked-behind :
     (heads : List ℕ) (links : List Link) (hash place front : ℕ) (link : Link) → IsLinked heads links → length links ≤ no_place → is_under hash (note_at links place) ≡ true →
     place < head_at heads (start_of (length heads) hash) → front < length links → place < front → is_in (length heads) (start_of (length heads) hash) (note_at links front) ≡ true →

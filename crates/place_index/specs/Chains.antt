@@ -44,7 +44,7 @@ abbrev pub is_under : ℕ → Option ℕ → Bool
 is_under hash None = false
 is_under hash (Some own) = hash == own
 
--- where the chain of a hash begins, of so many starts: the hashes are parted among them in their order
+-- where the chain of a hash begins, of this many starts: the hashes are spread over them in their order
 unfoldable pub start_of : ℕ → ℕ → ℕ
 start_of starts hash = hash * starts / 2 ^ 32
 
@@ -77,7 +77,7 @@ HasNexts starts note next n =
 abbrev pub head_at : List ℕ → ℕ → ℕ
 head_at heads start = slice_index heads start
 
--- the place behind another in its chain
+-- the place after another in its chain
 abbrev pub next_at : List Link → ℕ → ℕ
 next_at links place = (link_at links place).next
 

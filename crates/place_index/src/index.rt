@@ -83,7 +83,7 @@ impl PlaceIndex {
         ensures { IsFirst self.now hash result }
     {
         let head = self.heads[start_of(self.heads.len(), hash)];
-        // What stands for an end is behind all places.
+        // The number for an end is above all places.
         if (head as usize) < self.links.len() {
             Some(head)
         } else {

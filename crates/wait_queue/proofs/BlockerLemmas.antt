@@ -24,7 +24,7 @@ position-at p (y ∷ xs) (suc i) x none at passes =
 pub before-at : {X : Type 0} (p : X → Bool) (xs : List X) (i : ℕ) (x : X) → list_any p (take i xs) ≡ false → slice_get xs i ≡ Some x → p x ≡ true → take i xs ≡ before_first p xs
 before-at p xs i x none at passes = ap (λ n. take n xs) (sym (position-at p xs i x none at passes))
 
--- Lists, one behind another: none at first, and one more.
+-- Lists, one after another: none at first, and one more.
 pub lists_below-start : (old : List Blocker) (lists : ℕ → List Blocker) → old ≡ old ++ lists_below 0 lists
 unfolding lists_below
 lists_below-start old lists = sym (append-nil old)

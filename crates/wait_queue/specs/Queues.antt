@@ -26,7 +26,7 @@ abbrev pub holding_of : Content → Tag → ℕ → Mode → ℕ → List Blocke
 holding_of content tag session mode other =
     if other == session then [] else by_modes other (content.holds other tag) (conflict mode)
 
--- so many lists, one behind another
+-- this many lists, one after another
 unfoldable pub lists_below : ℕ → (ℕ → List Blocker) → List Blocker
 lists_below zero lists = []
 lists_below (suc limit) lists = lists_below limit lists ++ lists limit

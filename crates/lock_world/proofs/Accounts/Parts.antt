@@ -53,7 +53,7 @@ pub hands-taken :
     → own_hands (set_at hand p (Some new)) now s ≡ set_at (own_hands hand now s) p (Some (mine new (now p)))
 hands-taken hand now p new s whose = hands-set hand now now p (Some new) (Some (mine new (now p))) s (own_hand-mine new (now p) s whose) (λ q _. refl)
 
--- It went home.
+-- A partition went home.
 pub hands-home :
     (hand : ℕ → Option Hand) (now now' : ℕ → Content) (p s : ℕ) → ((q : ℕ) → q ≢ p → now' q ≡ now q)
     → own_hands (set_at hand p None) now' s ≡ set_at (own_hands hand now s) p None
@@ -70,7 +70,7 @@ hands-recorded hand now now' p old done unmarked s is whose elsewhere =
     ∙ own_hand-mine (record old { recorded = Some done; unmarked = unmarked }) (now' p) s whose)
     elsewhere
 
--- The same where the move has led to another content.
+-- A move was recorded in the session's own hand, and has led to another content.
 pub hands-moved :
     (hand : ℕ → Option Hand) (now : ℕ → Content) (p : ℕ) (old : Hand) (done : Move) (content : Content) (unmarked : ℕ → Bool) (s : ℕ) → hand p ≡ Some old → old.holder ≡ s
     → own_hands (set_at hand p (recording (hand p) done unmarked)) (set_at now p content) s

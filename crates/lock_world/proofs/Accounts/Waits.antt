@@ -76,7 +76,7 @@ account-clearing w s wait =
       over true = own-set w.sessions.own s wait.tag wait.mode true
       over false = refl
 
--- The same by a step that takes the wait out of the queue itself.
+-- Clearing one's own wait word by a step that takes the wait out of the queue itself.
 pub account-leaving :
     (w : World) (s : ℕ) (wait : OwnWait) (granted : List Wait) (content : Content) (hand : Hand) → w.contents.hand (partition_of wait.tag) ≡ Some hand → hand.holder ≡ s
     → account (after_leaving w s wait granted content) s

@@ -28,7 +28,7 @@ passed-is tag mode session c =
       | inr not_next ↦ stays not_next (cond-false (is_of tag mode c && nat_eq c.position session) (record c { position = session + 1 }) c not_next)
     ]
 
--- It is of the same mode on the same object.
+-- A count that goes past a session remains of its mode on its object.
 passed-tag : (tag : Tag) (mode : Mode) (session : ℕ) (c : Counted) → (passed tag mode session c).tag ≡ c.tag
 passed-tag tag mode session c = cond_both (is_of tag mode c && nat_eq c.position session) (record c { position = session + 1 }) c (λ (d : Counted). d.tag ≡ c.tag) (λ _. refl) (λ _. refl)
 

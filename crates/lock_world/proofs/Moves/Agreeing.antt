@@ -270,7 +270,7 @@ AreInOnePlace-change now own own_after awaited awaited_after stage stage_after p
                 (λ _. on_another o other (now (partition_of o)) (one.on_object o) (now (partition_of o)) (λ s m. refl) refl)
           ]
 
--- The same after a change that keeps them in agreement on the object, and a wakeup of its queue.
+-- Holds are in one place after a change that keeps content and accounts in agreement on the object, and a wakeup of its queue.
 pub AreInOnePlace-wakes : (now : ℕ → Content) (own own_after : Holds) (awaited : ℕ → Option OwnWait) (stage stage_between : ℕ → Stage) (p : ℕ) (t : Tag) (between after : Content) (granted : List Wait) →
     AreInOnePlace now own awaited stage → partition_of t ≡ p → ChangesOnly (now p) between t → SameElsewhere own own_after awaited awaited stage stage_between t →
     AgreesOn between t own_after awaited stage_between → NotOwn own_after awaited → Wakes between t granted after →

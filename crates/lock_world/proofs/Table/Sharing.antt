@@ -29,8 +29,8 @@ with_partition_words-table w word shares safe words = record {
   };
 }
 
--- The same of the words of sessions' fast-path locks, of counters read as 0 and of slots as remembered: no fact of
--- partitions, waits and numbers speaks of them.
+-- A World with other words of sessions' fast-path locks, other counters read as 0 and other slots as remembered: no
+-- fact of partitions, waits and numbers speaks of them.
 abbrev pub with_fast_words :
     World → (ℕ → ℕ) → (ℕ → ℕ → Bool) → (ℕ → ℕ → Bool) → (ℕ → Option ℕ) → (ℕ → ℕ → ℕ) → World
 with_fast_words w word holds shares zero remembered = record {

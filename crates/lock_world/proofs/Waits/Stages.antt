@@ -67,7 +67,7 @@ pub stage_of-same :
 stage_of-same n hand hand' k None same = refl
 stage_of-same n hand hand' k (Some wait) same = ap (λ stage. if wait_state n == 2 then WasGranted else stage) (same wait refl)
 
--- The same where the hand of one partition changes.
+-- The stage is the same where the hand of one partition changes, and says the same of the wait.
 pub stage_of-set :
     (n : ℕ) (hand : ℕ → Option Hand) (p : ℕ) (new : Option Hand) (k : ℕ) (o : Option OwnWait)
     → ((wait : OwnWait) → o ≡ Some wait → partition_of wait.tag ≡ p → stage_by_hand (hand p) k wait.tag ≡ stage_by_hand new k wait.tag)

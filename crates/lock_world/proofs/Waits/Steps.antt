@@ -48,7 +48,7 @@ pub record WaitsAreSafe (now : ℕ → Content) (own : Holds) (awaited : ℕ →
   pub owing : (p : ℕ) → UnmarkedWell word awaited p (hand p)
   pub by_move : UnmarkedByItsMove hand
 
--- The same as it is said of a World.
+-- Safe waits give what a World says of wait words.
 pub shows_from : (now : ℕ → Content) (own : Holds) (awaited : ℕ → Option OwnWait) (seen : ℕ → Bool) (word : ℕ → ℕ) (hand : ℕ → Option Hand) → WaitsAreSafe now own awaited seen word hand → WaitWordsShowWaits word awaited seen hand
 shows_from now own awaited seen word hand safe = record {
   idle = λ k. (safe.showing k).idle;

@@ -35,7 +35,7 @@ Kept w = IsKept w.sessions.stands (HasIn w)
 pub kept-order : (w : World) (x : Duties) → Kept w → OrderIsKept (waking w x)
 kept-order w x kept = record { rising = kept.rising; bound = kept.bound }
 
--- It stays where nobody stands in another list, and nobody has another lock.
+-- The order stays kept where nobody is in another list, and nobody has another lock.
 fewer : (w u v : World) → Kept w → v ≡ u → ((k l : ℕ) → u.sessions.stands k ≡ Some l → w.sessions.stands k ≡ Some l) → ((k l : ℕ) → HasIn u k l → HasIn w k l) → Kept v
 fewer w u v kept same stood had = subst Kept (sym same) (record {
   rising = λ k l h stands has. kept.rising k l h (stood k l stands) (had k h has);

@@ -137,7 +137,7 @@ WordsShowHolders-set limit word holds shares s p b shown here there q =
           (subst (λ h. ShowsHolders limit (word q) h (λ k. shares k q)) (sym (column-else_all holds s p b q other)) (there q))
     ]
 
--- The same of one session's sharing of it.
+-- A change of one word and of one session's sharing of it.
 pub WordsShowHolders-share : (limit : ℕ) (word : ℕ → ℕ) (holds shares : ℕ → ℕ → Bool) (s p : ℕ) (b : Bool) (shown : ℕ) → ShowsHolders limit shown (λ k. holds k p) (set_at (λ k. shares k p) s b)
     → WordsShowHolders limit word holds shares → WordsShowHolders limit (set_at word p shown) holds (set_at shares s (set_at (shares s) p b))
 WordsShowHolders-share limit word holds shares s p b shown here there q =

@@ -61,7 +61,7 @@ after_unlocking_fast_list w session owner has_waiters release_ok =
 abbrev pub with_sleepers : World → Sleepers → World
 with_sleepers w s = with_lists w w.words.partition w.words.fast s w.sessions.has_list
 
--- Joining the list in hand, behind all others (LWLockQueueSelf).
+-- Joining the list in hand, after all others (LWLockQueueSelf).
 pub record MayJoinList (w : World) (session lock : ℕ) : Type 0 where
   pub has : HasList w session lock
   pub idle : w.words.sleep session ≡ 0
@@ -110,7 +110,7 @@ pub record MayLoadSleep (w : World) (session shown : ℕ) : Type 0 where
 abbrev pub after_loading_sleep : World → ℕ → ℕ → World
 after_loading_sleep w session shown = with_sleepers w (if shown == 0 then after_seeing_none (sleepers w) session else sleepers w)
 
--- Setting release-ok in a lock's word, which showed this before: whoever was woken does so, as it goes on.
+-- Setting release-ok in a lock's word, which showed this before: a session that was woken does so, as it goes on.
 pub record MaySetReleaseOk (numbers : Numbers) (word session shown : ℕ) : Type 0 where
   pub steps : MakesSteps numbers session
   pub is_word : shown ≡ word

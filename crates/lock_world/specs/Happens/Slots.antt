@@ -20,7 +20,7 @@ pub record MayTakeFast (w : World) (session owner : ℕ) : Type 0 where
   pub exists : owner < w.numbers.limit
   pub free : IsHeldByNobody (w.words.fast owner)
 
--- Whoever takes the lock of its own slots remembers them from then on as they show.
+-- A session that takes the lock of its own slots remembers them from then on as they show.
 abbrev pub remembered_after_taking : (ℕ → ℕ → ℕ) → (ℕ → ℕ → ℕ) → ℕ → ℕ → ℕ → ℕ → ℕ
 remembered_after_taking remembered slot session owner =
     if owner == session then set_at remembered session (slot owner) else remembered

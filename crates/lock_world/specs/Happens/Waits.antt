@@ -168,7 +168,7 @@ after_clearing w session wait = record {
   numbers = w.numbers;
 }
 
--- The same by a step that takes the wait out of the queue itself.
+-- Clearing the wait word by a step that takes the wait out of the queue itself.
 pub record MayLeave (w : World) (session : ℕ) (wait : OwnWait) (granted : List Wait) (content : Content) : Type 0 where
   pub is_wait : w.sessions.awaited session ≡ Some wait
   pub may_move : MayMove w session (partition_of wait.tag) (Leave wait.tag) granted content
