@@ -1,5 +1,5 @@
 //! What the pages of `lock_bench` share, and the page that needs no lock manager: keys, clocks and rows of times,
-//! the local table's page, the map that stands beside the lock manager, and the bare atomic steps of its fast path.
+//! the local table's page, the map that the lock manager is compared with, and the bare atomic steps of its fast path.
 #![tactic(auto)]
 
 mod doors;

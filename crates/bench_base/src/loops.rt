@@ -1,4 +1,4 @@
-//! The loops that are timed: each goes through a list of keys so many times, and calls nothing but doors. None is
+//! The loops that are timed: each goes through a list of keys a number of times, and calls nothing but doors. None is
 //! inlined, so that its code does not depend on what calls it.
 ghost use Rattle.std.specs.Prelude.{◌≢◌};
 

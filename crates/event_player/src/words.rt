@@ -1,4 +1,4 @@
-//! The words of a script that stand for numbers, sessions, tags, modes, words of the shared table and moves. Each
+//! The words of a script for numbers, sessions, tags, modes, words of the shared table and moves. Each
 //! function takes the words that it needs, and answers `None` where they are others.
 
 use lock_table::Move;

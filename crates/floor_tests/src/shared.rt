@@ -1,4 +1,4 @@
-//! Where words and contents stand, and steps on boards.
+//! The places of words and contents in the shared table, and steps on boards.
 
 ghost use Rattle.std.specs.Prelude.{◌≡◌, IfOk};
 ghost use Rattle.shared_rule.specs.Boards.{nothing_due};

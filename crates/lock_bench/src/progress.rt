@@ -15,7 +15,7 @@ impl Progress {
     /// Writes to standard error that `what` is timed now.
     pub fn note<R: Eprint>(self, rt: &R, what: &str) {
         if self.is_shown {
-            // The figures are the same where this can't be told.
+            // The figures are the same where the progress can't be shown.
             let _ = eprintln!(rt; "timing: {what}");
         }
     }

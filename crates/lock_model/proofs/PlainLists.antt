@@ -1,4 +1,4 @@
--- What stands in all parts of the lock table, in one list.
+-- What is in all parts of the lock table, in one list.
 use Rattle.std.proofs.Common.{◌≡◌, ◌≢◌, ℕ, ◌+◌, ◌<◌, ◌≤◌, Bool, true, false, not, ◌&&◌, ◌||◌, List, [], ◌∷◌, ◌++◌, take, length, get_or, arith, refl, sym, ap, ◌∙◌, subst, inl, inr, zero, suc, rules}
 use Rattle.std.specs.Prelude.{map, filter, count_by, if◌then◌else◌}
 use Rattle.std.specs.List.{list_any, flat_map}
@@ -35,7 +35,7 @@ use Rattle.lock_table.proofs.HoldLists.{take_one_more}
 use Rattle.lock_table.proofs.ListLemmas.{any_weaker}
 use Rattle.lock_table.proofs.ListingLemmas.{count_by-map, count_by-same, once_or_not}
 
--- the waits of a part, as they stand in the plain list
+-- the waits of a part, as the plain list has them
 abbrev pub queued_waits_of : PartView → List QueuedWait
 queued_waits_of part = map queued_of part.waits
 
@@ -100,7 +100,7 @@ EachOnce-more parts i part within is before new p below =
 table_hold-is : (s : ℕ) (o : Tag) (m : Mode) (hold : Request) → is_hold s o m (table_hold_of hold) ≡ is_request_of hold s o m
 table_hold-is s o m hold = same_triple-comm hold.session hold.tag hold.mode s o m
 
--- The list of the holds of all parts has each of them once, where each stands in its partition.
+-- The list of the holds of all parts has each of them once, where each is in its partition.
 pub ListsHolds-gathered :
     (parts : List PartView) → ((p : ℕ) → p < length parts → EachOnce (part_at parts p).holds (part_at parts p).waits) → AreAtHome parts →
     ListsHolds (flat_map table_holds_of parts) (λ session tag mode. (contents_in parts (partition_of tag)).holds session tag mode)
@@ -126,7 +126,7 @@ ListsHolds-gathered parts once home s o m = counted where
       ∙ count_by-same (λ hold. is_hold s o m (table_hold_of hold)) (λ hold. is_request_of hold s o m) (part_at parts (partition_of o)).holds (table_hold-is s o m)
       ∙ once_or_not (λ hold. is_request_of hold s o m) (part_at parts (partition_of o)).holds at_most
 
--- Each of them stands in the lock table.
+-- Each of them is in the lock table.
 pub AreInTable-gathered : (parts : List PartView) → AreInTable (flat_map table_holds_of parts)
 AreInTable-gathered [] = All-nil (λ hold. hold.spot ≡ Table)
 AreInTable-gathered (part ∷ parts) =
@@ -164,7 +164,7 @@ waits-gathered parts home o =
       none_elsewhere r apart =
           map-nothing as_wait _ (queue-queued (part_at parts r).waits o ∙ home.waits r o (λ e. apart (sym e)))
 
--- Two tags that the order does not tell apart are the same one.
+-- Two tags that the order does not distinguish are one.
 tag_order : IsTotalOrder (on numbers_of (slice_cmp nat_cmp))
 tag_order = search (comparing, rules)
 

@@ -1,4 +1,4 @@
--- When the machine shows a World, and what its looks then tell.
+-- When the machine shows a World, and what its looks then show.
 pub mod Places
 pub mod LwWords
 pub mod Changes

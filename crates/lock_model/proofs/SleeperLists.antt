@@ -25,7 +25,7 @@ pushed l list e =
     ap (map (λ (x : Sleeper). x.waiter)) (filter-append (λ x. x.lock == l) list (e ∷ []))
     ∙ map-append (λ (x : Sleeper). x.waiter) (filter (λ x. x.lock == l) list) (filter (λ x. x.lock == l) (e ∷ []))
 
--- Who stands in it is found among all.
+-- Who is in a lock's list is found among all sleepers.
 pub stands_in-waiters : (l s : ℕ) (list : List Sleeper) → list_any (is_at l s) list ≡ stands_in s (waiters_of l list)
 stands_in-waiters l s [] = refl
 stands_in-waiters l s (e ∷ list) =
@@ -47,7 +47,7 @@ waiters_of-push l list e its = pushed l list e ∙ ap (λ last. waiters_of l lis
 pub waiters_of-push_else : (l : ℕ) (list : List Sleeper) (e : Sleeper) → e.lock ≢ l → waiters_of l (list ++ e ∷ []) ≡ waiters_of l list
 waiters_of-push_else l list e other = pushed l list e ∙ ap (λ last. waiters_of l list ++ last) (left_out l e [] (ne_eqb e.lock l other)) ∙ append-nil (waiters_of l list)
 
--- A session that is taken out of a lock's list is out of that list, and still in any other where it stands.
+-- A session that is taken out of a lock's list is out of that list, and still in any other that it was in.
 pub waiters_of-without : (l s : ℕ) (list : List Sleeper) → waiters_of l (filter (λ e. not (is_at l s e)) list) ≡ without s (waiters_of l list)
 waiters_of-without l s [] = refl
 waiters_of-without l s (e ∷ list) =

@@ -21,7 +21,7 @@ use Rattle.lock_model.specs.declared.machine.plain.Spot.TheVariants.{Slot}
 use Rattle.lock_model.specs.Shows.{is_hold}
 use Rattle.lock_model.specs.SlotRows.{lists_below, shown_hold, slot_rows, session_rows, fast_path_rows}
 
--- Lists, one behind another.
+-- Lists, one after another.
 
 pub lists_below-start : {X : Type 0} (old : List X) (f : ℕ → List X) → old ≡ old ++ lists_below 0 f
 unfolding lists_below
@@ -120,14 +120,14 @@ module _ (s database word : ℕ) (n : Mode) where
       one-count (is_hold s o m) is_listed (record { session = s; tag = its; mode = n; spot = Slot place })
       ∙ ap (λ b. cond b 1 0) (cmp.both_ways _ _ (listed-shows o m) (shows-listed o m))
 
-  -- It is no hold of another session.
+  -- The row is no hold of another session.
   other-count : (place k : ℕ) (o : Tag) (m : Mode) → s ≢ k → count_by (is_hold k o m) (shown_hold s database place word n) ≡ 0
   other-count place k o m apart =
       one-count (is_hold k o m) is_listed (record { session = s; tag = its; mode = n; spot = Slot place })
       ∙ cond-false _ 1 0 (false_from_ne_true (is_listed && (nat_eq s k && (tag_eq its o && mode_eq n m))) (λ e.
       apart (eqb-true s k (and_parts (nat_eq s k) (tag_eq its o && mode_eq n m) (and_parts is_listed (nat_eq s k && (tag_eq its o && mode_eq n m)) e).1).0)))
 
-  -- It is in that slot.
+  -- The hold is in that slot.
   pub shown-there : (P : Hold → Type 0) (place : ℕ)
       → (is_eligible_for database its n ≡ true → shows word (relation_in word) n ≡ true → P (record { session = s; tag = its; mode = n; spot = Slot place }))
       → All P (shown_hold s database place word n)

@@ -52,14 +52,14 @@ word_of plain (Wait session) = slice_index_or plain.words.waits session 0
 word_of plain (Strong index) = count_by (λ c. index_of c.tag == index) plain.counted.items
 word_of plain (Sleep session) = slice_index_or plain.lists.sleep session 0
 
--- the order of where holds stand: the fast-path slots by their places, and the lock table after them
+-- the order of the places of holds: the fast-path slots by their places, and the lock table after them
 abbrev pub spot_cmp : Spot → Spot → Ordering
 spot_cmp (spot.Slot place) (spot.Slot other) = nat_cmp place other
 spot_cmp (spot.Slot place) spot.Table = Less
 spot_cmp spot.Table (spot.Slot other) = Greater
 spot_cmp spot.Table spot.Table = Equal
 
--- the order of holds: by session, then by the tag's numbers, then by the mode's number, then by where they stand
+-- the order of holds: by session, then by the tag's numbers, then by the mode's number, then by their places
 abbrev pub hold_cmp : Hold → Hold → Ordering
 hold_cmp =
     then_cmp (on (λ (hold : Hold). hold.session) nat_cmp)
@@ -79,16 +79,16 @@ table_holds w session tag mode = (w.contents.now (partition_of tag)).holds sessi
 abbrev pub all_holds : World → Holds
 all_holds w session tag mode = slots_of w.words.database w.words.slot session tag mode || table_holds w session tag mode
 
--- The hold stands where this says: in the content of its partition, or in this slot of its session.
+-- The hold is where this says: in the content of its partition, or in this slot of its session.
 abbrev pub StandsAt : World → ℕ → Tag → Mode → Spot → Type 0
 StandsAt w session tag mode spot.Table = table_holds w session tag mode ≡ true
 StandsAt w session tag mode (spot.Slot place) = IsHeldIn (w.words.database session) (w.words.slot session) tag mode place
 
--- A hold of the answer stands where it says.
+-- A hold of the answer is where it says.
 abbrev pub StandsThere : World → Hold → Type 0
 StandsThere w hold = StandsAt w hold.session hold.tag hold.mode hold.spot
 
--- The answer of a run says what the World has: each hold once, of slots and of contents, and where it stands, each
+-- The answer of a run says what the World has: each hold once, of slots and of contents, and where it is, each
 -- object's waits in the order of its queue, the waits in the order of their tags, how many groups of slots there were, what
 -- each word shows, and who waits for each lightweight lock.
 pub record IsPlainOf (plain : Plain) (w : World) : Type 0 where

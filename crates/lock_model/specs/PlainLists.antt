@@ -6,13 +6,13 @@ use Rattle.lock_model.specs.declared.machine.plain.Hold.{Hold}
 use Rattle.lock_model.specs.declared.machine.plain.QueuedWait.{QueuedWait}
 use Rattle.lock_model.specs.declared.machine.plain.Spot.TheVariants.{Table}
 
--- What stands in a part, as entries of the plain lists that a run answers with.
+-- What is in a part, as entries of the plain lists that a run answers with.
 
--- a hold of a part, as one of the plain list: it stands in the lock table
+-- a hold of a part, as one of the plain list: its place is the lock table
 abbrev pub table_hold_of : Request → Hold
 table_hold_of hold = record { session = hold.session; tag = hold.tag; mode = hold.mode; spot = Table }
 
--- the holds of a part, as they stand in the plain list
+-- the holds of a part, as the plain list has them
 abbrev pub table_holds_of : PartView → List Hold
 table_holds_of part = map table_hold_of part.holds
 

@@ -45,7 +45,7 @@ abbrev pub ListsHolds : List Hold → Holds → Type 0
 ListsHolds list holds =
     (session : ℕ) (tag : Tag) (mode : Mode) → count_by (is_hold session tag mode) list ≡ (if holds session tag mode then 1 else 0)
 
--- Each of the listed holds stands in the lock table.
+-- Each of the listed holds is in the lock table.
 abbrev pub AreInTable : List Hold → Type 0
 AreInTable list = All (λ hold. hold.spot ≡ Table) list
 
@@ -155,7 +155,7 @@ abbrev pub waiters_of : ℕ → List Sleeper → List LwWaiter
 waiters_of lock list = map (λ (sleeper : Sleeper). sleeper.waiter) (filter (λ (sleeper : Sleeper). sleeper.lock == lock) list)
 
 -- The wait lists and the sleep words are the World's, and so is what each session knows of lists: the one in hand, the one that
--- it stands in, and whom it took off.
+-- it is in, and whom it took off.
 pub record ShowsLists (shown : Lists) (words : ℕ → ℕ) (lists : ℕ → List LwWaiter)
     (have stand : ℕ → Option ℕ) (taken : ℕ → ℕ → Bool) : Type 0 where
   pub sixty_four : length shown.sleep ≡ 64
@@ -186,12 +186,12 @@ abbrev pub makes_steps : Machine → ℕ → Bool
 makes_steps machine session =
     slice_index_or machine.numbers.live session false && is_none (slice_index_or machine.numbers.kept_by session None)
 
--- whether the session has no wait list in hand and stands in none
+-- whether the session has no wait list in hand and is in none
 abbrev pub has_no_list : Machine → ℕ → Bool
 has_no_list machine session =
     is_none (slice_index_or machine.lists.has_list session None) && is_none (slice_index_or machine.lists.stands session None)
 
--- whether the session has taken somebody off a wait list and not told it
+-- whether the session has taken somebody off a wait list and not woken it
 abbrev pub owes_a_telling : Machine → ℕ → Bool
 owes_a_telling machine session = list_any (λ untold. untold) (slice_index_or machine.lists.off session [])
 
@@ -276,7 +276,8 @@ abbrev pub Follows : Machine → ℕ → Step → Machine → Type 0
 Follows old session step new =
     (w : World) → SafeWorld w → Shows old w → (v : World) × Next w (record { session = session; step = step }) v × Shows new v
 
--- The same of marking the other session's wait granted, by a move in the partition.
+-- Whatever safe World the machine showed, marking the other session's wait granted, by a move in the partition, leads on from it to one
+-- that the machine shows now.
 abbrev pub FollowsMarking : Machine → ℕ → ℕ → ℕ → Move → Machine → Type 0
 FollowsMarking old session other p done new =
     (w : World) → SafeWorld w → Shows old w →

@@ -15,12 +15,12 @@ is_at lock session sleeper = (sleeper.lock == lock) && is_of session sleeper.wai
 abbrev pub list_to_change : Machine → ℕ → Option ℕ
 list_to_change machine session = if makes_steps machine session then slice_index_or machine.lists.has_list session None else None
 
--- whether the session stands in the lock's list, and its sleep word shows waiting
+-- whether the session is in the lock's list, and its sleep word shows waiting
 abbrev pub waits_at : Machine → ℕ → ℕ → Bool
 waits_at machine lock session =
     list_any (is_at lock session) machine.lists.sleepers.items && (slice_index_or machine.lists.sleep session 0 == 1)
 
--- whether the session has the other one to tell, which it took off
+-- whether the session has the other one to wake, which it took off
 abbrev pub may_tell : Machine → ℕ → ℕ → Bool
 may_tell machine session other =
     (makes_steps machine session && slice_index_or (slice_index_or machine.lists.off session []) other false)
@@ -30,6 +30,6 @@ may_tell machine session other =
 abbrev pub may_load_sleep : Machine → ℕ → ℕ → Bool
 may_load_sleep machine session shown = makes_steps machine session && (shown == slice_index_or machine.lists.sleep session 0)
 
--- whether the session sees that it stands in no list
+-- whether the session sees that it is in no list
 abbrev pub sees_no_sleep : Machine → ℕ → ℕ → Bool
 sees_no_sleep machine session shown = may_load_sleep machine session shown && (shown == 0)

@@ -14,7 +14,7 @@ use std::sync::Wait;
 /// What happens at the desk of a manager.
 #[derive(Clone, Copy)]
 pub enum Act<'a> {
-    /// A tale is told.
+    /// A tale is run.
     Tells(&'a Tale),
     /// An audit counts.
     Audits,

@@ -1,13 +1,13 @@
-//! Requests that tell the allocator which growths to refuse. `.ci/refused_memory` runs this program with an
+//! Requests by which the allocator knows which growths to refuse. `.ci/refused_memory` runs this program with an
 //! allocator that listens to them. Any other one grants them as what they are, and refuses nothing.
 
 use std::alloc::Global;
 
-/// A request for so many bytes says that no growth is to be refused any more. With a number more it says that the
+/// A request for this many bytes says that no growth is to be refused any more. With a number more it says that the
 /// growth of this number is to be refused, counted from then on.
 const NONE: usize = 7_000_000;
 
-/// The number that stands for every growth.
+/// The number that means every growth.
 const EVERY: u16 = 1_000;
 
 /// Whether a request for `bytes` bytes is granted.

@@ -66,7 +66,7 @@ fn tell_in_turn<R: Wait + Print>(
     Ok(())
 }
 
-/// Tells all stories, with growths refused where the allocator `listens`.
+/// Runs all stories, with growths refused where the allocator `listens`.
 fn tell_all<R: Wait + Print>(rt: &R, alloc: Global, listens: bool) -> anyhow::Result<()> {
     for (name, story, growths) in &STORIES {
         tell_in_turn(rt, alloc, listens, name, *story, *growths)?;

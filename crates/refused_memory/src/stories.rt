@@ -1,4 +1,4 @@
-//! What is told, call by call.
+//! What is run, call by call.
 
 use crate::acts::Act;
 use crate::looks::Look;
@@ -8,7 +8,7 @@ use crate::{events, managers, parts};
 use std::alloc::Global;
 use std::sync::Wait;
 
-/// A call that may take memory, with what stands before it.
+/// A call that may take memory, with what comes before it.
 #[derive(Clone, Copy)]
 pub enum Story<'a> {
     /// `Manager::new`.
@@ -79,7 +79,7 @@ pub static STORIES: [(&'static str, Story<'static>, u16); 14] = [
     ),
 ];
 
-/// Tells `story` with the growth numbered `growth` refused.
+/// Runs `story` with the growth numbered `growth` refused.
 pub fn tell<R: Wait>(rt: &R, alloc: Global, story: Story<'_>, growth: u16) -> Told {
     match story {
         Story::MakesManager => managers::make(alloc, growth),

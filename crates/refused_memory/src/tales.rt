@@ -1,4 +1,4 @@
-//! What is told of sessions: who has what, what is asked for then, and how many growths that takes.
+//! What is run with sessions: who has what, what is asked for then, and how many growths that takes.
 
 use crate::calls::{Answer, Call};
 use lock_manager::Mode::{AccessExclusive, AccessShare, Exclusive, RowExclusive, Share};
@@ -65,10 +65,10 @@ const READERS: [Option<Hold>; 3] = [
 /// The first one has an object that the asking one wants, in a partition that has no other.
 const ONE: [Option<Hold>; 3] = [Some((OBJECT, Exclusive)), None, None];
 
-/// It has one in the partition of those that the asking one has.
+/// The first one has an object in the partition of those that the asking one has.
 const ONE_OF_MANY: [Option<Hold>; 3] = [Some((MANY, Exclusive)), None, None];
 
-/// All of them.
+/// All tales.
 pub static TALES: [Tale; 15] = [
     // Three in a partition that has had nothing yet: a lock record, a holder record, and room for a queue.
     Tale {
@@ -110,7 +110,7 @@ pub static TALES: [Tale; 15] = [
         answer: Answer::Granted,
         growths: 4,
     },
-    // Past the slots of three readers, with so many objects in the same partition: the record that has to grow is
+    // Past the slots of three readers, with as many objects in the same partition: the record that has to grow is
     // now that of the first reader, now the session's own, now that of the third one, now of the second one. At
     // last the first one is in the way.
     Tale {

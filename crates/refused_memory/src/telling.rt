@@ -1,4 +1,4 @@
-//! Tales told at a desk, over any board.
+//! Tales that are run at a desk, over any board.
 
 ghost use Rattle.std.specs.Prelude.{◌≡◌, ◌≤◌};
 ghost use Rattle.lock_manager.specs.Crews.{IsOf, KeepsSeat, SeatsAre};
@@ -203,7 +203,7 @@ fn with_others<T: PartTable, B: Board<T>, D: Desk<OwnSession<T, B>>, R: Wait>(
     if has { told } else { Told::Otherwise }
 }
 
-/// Tells `tale` at `desk`, which has nothing yet, with the growth numbered `growth` refused.
+/// Runs `tale` at `desk`, which has nothing yet, with the growth numbered `growth` refused.
 pub fn tell<T: PartTable, B: Board<T>, D: Desk<OwnSession<T, B>>, R: Wait>(
     rt: &R,
     alloc: Global,

@@ -5,9 +5,9 @@
 pub enum Told {
     /// No growth of it was refused, and it answered as it is to.
     Answered,
-    /// One was. It answered that memory ran out, left what stood, and the same call again answered as it is to.
+    /// One was. The call answered that memory ran out, left all as it was, and made again answered as it is to.
     Refused,
-    /// It went otherwise.
+    /// The call went otherwise.
     Otherwise,
 }
 

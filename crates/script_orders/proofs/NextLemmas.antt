@@ -9,7 +9,7 @@ use Rattle.std.proofs.Math.Nat.{eq-or-lt_of_le}
 use Rattle.std.proofs.Math.ListN.{drop_of_length-le}
 use Rattle.script_orders.specs.Merges.{LiesBetween, IsDescendingFrom}
 
--- two lists with the same front and the same sum have the same sum behind it
+-- two lists with the same front and the same sum have the same sum after it
 pub same_rest : (f : ℕ → ℕ) (xs ys : List ℕ) (i : ℕ) → i ≤ length xs → i ≤ length ys
     → ((k : ℕ) → k < i → slice_index xs k ≡ slice_index ys k) → sum_by f xs ≡ sum_by f ys
     → sum_by f (drop i xs) ≡ sum_by f (drop i ys)
@@ -51,7 +51,7 @@ zero_at f xs ys i e within same sums z =
     sum_by-drop_more f ys i 0 within in
     omega (arith, rest, none, y)
 
--- a step from a merge to another: at one place the least of the later sessions behind it comes, and behind that place
+-- a step from a merge to another: at one place the least of the later sessions after it comes, and after that place
 -- the sessions descend before, and ascend then
 pub record IsStep (old new : List ℕ) (p q : ℕ) : Type 0 where
   pub before : p < q
@@ -81,7 +81,7 @@ differs_before old new m p q s b less =
           ]
     ]
 
--- a merge that differs from the old one behind it
+-- a merge that differs from the old one after it
 differs_behind : (old new m : List ℕ) (p q : ℕ) → IsStep old new p q → (b : LiesBetween old new m)
     → p < b.behind.place → ⊥
 differs_behind old new m p q s b more =
@@ -140,7 +140,7 @@ differs_there old new m p q s same b at =
           ]
     ]
 
--- no merge of the same sessions lies between two of which the second is a step behind the first
+-- no merge of the same sessions lies between two of which the second is a step after the first
 pub none_between : (old new m : List ℕ) (p q : ℕ) → IsStep old new p q → IsPermutation old new
     → LiesBetween old new m → ⊥
 none_between old new m p q s same b =
@@ -168,7 +168,7 @@ descends xs (suc n) from k d a w =
     let more : k + n + 1 ≡ k + suc n = omega arith in
     subst (λ i. slice_index xs i ≤ slice_index xs k) more both
 
--- what stands behind the place after the swap of it with the last later session
+-- what comes after a place that was swapped with the last later session after it
 swapped_down : (old swapped : List ℕ) (p q : ℕ) → p < q → q < length old → slice_index old p < slice_index old q
     → ((k l : ℕ) → p < k → k ≤ l → l < length old → slice_index old l ≤ slice_index old k)
     → ((k : ℕ) → q < k → k < length old → slice_index old k ≤ slice_index old p) → SwappedAt old swapped p q
@@ -211,7 +211,7 @@ swapped_down old swapped p q before within above down last s k l a b w =
           ]
     ]
 
--- the place that a place behind the step's had before the turn
+-- the place that a place after the step's had before the turn
 turned : (swapped new : List ℕ) (p k : ℕ) → length new ≡ length swapped
     → drop (p + 1) new ≡ reverse (drop (p + 1) swapped) → p < k → k < length swapped
     → slice_index new k ≡ slice_index swapped (length swapped + p - k)

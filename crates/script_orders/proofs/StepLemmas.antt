@@ -7,7 +7,7 @@ use Rattle.script_orders.specs.declared.steps.Step.{Step}
 use Rattle.std.proofs.lemmas.List.FromFn.{length-range_with_len}
 use Rattle.script_orders.specs.Steps.{IsInOwnOrder, KeepsOwnOrder, lines_of}
 
--- one more number stands last
+-- one more number comes last
 pub range_one_more : (a n : ℕ) → range_with_len a (n + 1) ≡ range_with_len a n ++ (a + n) ∷ []
 range_one_more a zero =
     let same : a ≡ a + 0 = omega arith in

@@ -36,7 +36,7 @@ pub line_of_step : (story : Story) (session count : ℕ) (step : Step) (line : S
 line_of_step story session count step line s l at =
     subst (λ one. IsLineAt story one line) (sym (step_is step session count s l)) at
 
--- what is read at a place stands there
+-- what is read at a place is there
 pub holds_at : {X : Type 0} (xs : List X) (i : ℕ) (x : X) → x ≡ get_or xs i x → i < length xs → HoldsAt (λ its. x ≡ its) xs i
 holds_at xs i x e h = λ d. e ∙ get_or_default xs i x d h
 

@@ -14,11 +14,11 @@ pub record LiesBetween (old new merge : List ℕ) : Type 0 where
   pub behind : ComesLater old merge
   pub before : ComesLater merge new
 
--- From this place on no session stands before a later one.
+-- From this place on no session comes before a later one.
 abbrev pub IsDescendingFrom : ℕ → List ℕ → Type 0
 IsDescendingFrom from merge = (k : ℕ) → from ≤ k → k + 1 < length merge →
     slice_index merge (k + 1) ≤ slice_index merge k
 
--- No session stands before a later one. So of all merges of these sessions it is the last: none comes later.
+-- No session comes before a later one. So of all merges of these sessions it is the last: none comes later.
 abbrev pub IsInDescendingOrder : List ℕ → Type 0
 IsInDescendingOrder merge = (k : ℕ) → k + 1 < length merge → slice_index merge (k + 1) ≤ slice_index merge k

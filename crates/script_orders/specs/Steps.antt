@@ -10,6 +10,6 @@ lines_of session steps = map (λ (step : Step). step.line) (filter (λ (step : S
 abbrev pub IsInOwnOrder : List Step → Type 0
 IsInOwnOrder steps = (session : ℕ) → lines_of session steps ≡ range_with_len 0 (length (lines_of session steps))
 
--- The same, with as many lines of each session as are counted for it.
+-- Of each session its first lines were run, as many as are counted for it, each once and in its own order.
 abbrev pub KeepsOwnOrder : List Step → List ℕ → Type 0
 KeepsOwnOrder steps taken = (session : ℕ) → lines_of session steps ≡ range_with_len 0 (slice_index taken session)

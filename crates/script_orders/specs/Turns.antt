@@ -18,7 +18,7 @@ IsLineAt story step line =
     (actor : Actor) × (step.session < length story.actors.items) × (step.line < length actor.lines.items)
     × HoldsAt (λ its. actor ≡ its) story.actors.items step.session × HoldsAt (λ its. line ≡ its) actor.lines.items step.line
 
--- The next of the lines that stand before all orders is given.
+-- The next of the lines that come before all orders is given.
 abbrev pub GivesOpening : Orders → Orders → List ℕ → Type 0
 GivesOpening old new text =
     (line : StoryLine) × (old.opened < length old.story.now.opening.items)
@@ -43,7 +43,7 @@ Begins new (Line text) = ⊥
 Begins new Anew = steps_of new ≡ []
 Begins new End = steps_of new ≡ []
 
--- The order that is played stays as it is, and so do its story and the lines that stand before it.
+-- The order that is played stays as it is, and so do its story and the lines that come before it.
 abbrev pub KeepsOrder : Orders → Orders → Type 0
 KeepsOrder old new =
     (steps_of new ≡ steps_of old) × (new.order.taken ≡ old.order.taken)

@@ -1,7 +1,7 @@
 //! Which lines of different sessions have to do with one another.
 //!
-//! Two that have not can change places where they stand side by side: each session is answered alike, and all stands as
-//! it did. A line has to do with the objects that it names, and where it ends a transaction or closes its session with
+//! Two that have not can change places where they are side by side: each session is answered alike, and all is as
+//! it was. A line has to do with the objects that it names, and where it ends a transaction or closes its session with
 //! all that the session asked for before. Objects of one strong lock counter count as one. A strong lock moves other
 //! sessions' fast-path slots, so it has to do with each line that asks for a lock, of a session that asked for a lock
 //! on its object before. A line that lists all locks or names another session has to do with every line.

@@ -46,7 +46,7 @@ use Rattle.lock_model.proofs.Follows.Slots.{put_fast_shown}
 
 -- The machine's steps on strong lock counters.
 
--- The words that the machine keeps don't tell what a counter shows.
+-- The words that the machine keeps don't say what a counter shows.
 counters_apart : (shown : Words) (words : world.Words) (strong : ℕ → ℕ) → ShowsWords shown words → ShowsWords shown (record words { strong = strong })
 counters_apart shown words strong shows = record {
   sixty_four_fast = shows.sixty_four_fast;

@@ -145,7 +145,7 @@ module _ (m : Machine) (w : World) (safe : SafeWorld w) (shows : Shows m w) wher
     fast_shown s o _ word (Some (fast_lock o)) below exists (made_shown word _ answer.1 (list_locked_shown its _ says)),
   )
 
-  -- It is unlocked.
+  -- The list is unlocked.
 
   pub unlocked_partition_list : (s p : ℕ) (waiters release : Bool) (its word : LockState) → s < 64 → p < length m.words.partitions → ShowsLock its (w.words.partition p)
       → has_list m s (partition_lock p) ≡ true → word ≡ unlocked_in its waiters release

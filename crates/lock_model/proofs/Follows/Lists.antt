@@ -26,7 +26,7 @@ use Rattle.lock_model.proofs.Follows.Skipped.{skipped}
 
 -- The machine's steps on wait lists and sleep words.
 
--- The words that the machine keeps don't tell who waits and who sleeps.
+-- The words that the machine keeps don't say who waits and who sleeps.
 sleepers_apart : (shown : Words) (words : world.Words) (list : ℕ → List LwWaiter) (sleep : ℕ → ℕ) → ShowsWords shown words
     → ShowsWords shown (record words { list = list; sleep = sleep })
 sleepers_apart shown words list sleep shows = record {

@@ -111,7 +111,7 @@ module _ (m : Machine) (w : World) (safe : SafeWorld w) (shows : Shows m w) wher
     waits = shows.waits;
   }
 
-  -- A put with the move that stands recorded.
+  -- A put with the move that is recorded.
   pub recorded_put : (s p : ℕ) (done : Move) (shown : InHand) → hand_of m s p ≡ Some shown → shown.recorded ≡ Some done → none_unmarked shown.unmarked ≡ true → is_over (get_or m.waits.awaited s None) p done ≡ true → p < length m.words.partitions
       → (v : World) × Next w (record { session = s; step = PutExclusive (Partition p) done }) v
       × Shows (put_by m p m.contents) v

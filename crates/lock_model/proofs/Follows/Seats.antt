@@ -207,7 +207,7 @@ module _ (m : Machine) (w : World) (safe : SafeWorld w) (shows : Shows m w) wher
         },
       )
 
-  -- Whom it took off and hasn't told, by the machine's marks and in the World.
+  -- Whom the session took off and hasn't woken, by the machine's marks and in the World.
   none-untold : (s : ℕ) → owes_a_telling m s ≡ false → (o : ℕ) → w.sessions.off s o ≡ false
   none-untold s none o =
       sym (shows.lists.off s o) ∙ false_from_ne_true _ (λ its.

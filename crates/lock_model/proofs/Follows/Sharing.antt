@@ -27,7 +27,7 @@ with_partition_sharer m s p word b = record m {
   locks = record (m.locks) { partition_sharers = set m.locks.partition_sharers p (set (get_or m.locks.partition_sharers p []) s b) };
 }
 
--- The same of the word of the owner's slots.
+-- Sharing the word of the owner's slots.
 abbrev pub with_fast_sharer : Machine → ℕ → ℕ → LockState → Bool → Machine
 with_fast_sharer m s o word b = record m {
   words = record (m.words) { fast = set m.words.fast o word };

@@ -51,7 +51,7 @@ from_adopt : (recorded : Option Move) (o place : ℕ) → MayAdopt recorded o pl
 from_adopt None o place may = refl
 from_adopt (Some done) o place may = ap (λ x. move_eq x (Adopt o place)) may ∙ move_eq-refl (Adopt o place)
 
--- Whoever doesn't wait for the mode on the object has no such wait in its queue.
+-- A session that doesn't wait for the mode on the object has no such wait in its queue.
 no_entry : (s : ℕ) (awaited : Option OwnWait) (stage : Stage) (t : Tag) (n : Mode) → is_for awaited t n ≡ false → list_any (λ (wait : Wait). mode_eq wait.mode n) (queued_by s awaited stage t) ≡ false
 no_entry s None stage t n e = refl
 no_entry s (Some wait) WasGranted t n e = refl

@@ -63,7 +63,7 @@ marks-without marks unmarked marked within is k =
           ∙ sym (ap (λ b. unmarked k && not b) (ne_eqb k marked other) ∙ and-true (unmarked k))
     ]
 
--- What the test for a recorded move tells.
+-- What the test for a recorded move shows.
 pub made_is : (recorded : Option Move) (done : Move) → has_made recorded done ≡ true → recorded ≡ Some done
 made_is None done e = absurd (false≢true e)
 made_is (Some other) done e = ap Some (move_eq-same other done e)

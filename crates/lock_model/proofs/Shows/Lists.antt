@@ -32,7 +32,7 @@ module _ (shown : Lists) (words : ℕ → ℕ) (lists : ℕ → List LwWaiter) (
     off = shows.off;
   }
 
-  -- The list that a session stands in.
+  -- The list that a session is in.
   pub stands-set : (s : ℕ) (a : Option ℕ) → s < 64 → ShowsLists (record shown { stands = set shown.stands s a }) words lists have (set_at stand s a) taken
   stands-set s a below = record {
     sixty_four = shows.sixty_four;
@@ -47,7 +47,7 @@ module _ (shown : Lists) (words : ℕ → ℕ) (lists : ℕ → List LwWaiter) (
     off = shows.off;
   }
 
-  -- Whom a session has to tell.
+  -- Whom a session has to wake.
   off-row : (s : ℕ) (row : List Bool) (its : ℕ → Bool) → s < 64 → length row ≡ 64 → ((j : ℕ) → get_or row j false ≡ its j)
       → ShowsLists (record shown { off = set shown.off s row }) words lists have stand (set_at taken s its)
   off-row s row its below sixty_four_in written = record {
@@ -68,14 +68,14 @@ module _ (shown : Lists) (words : ℕ → ℕ) (lists : ℕ → List LwWaiter) (
     in_off : s < length shown.off
     in_off = subst (λ n. s < n) (sym shows.sixty_four_off) below
 
-  -- Whether it has another one to tell.
+  -- Whether the session has another one to wake.
   pub off-set : (s o : ℕ) (b : Bool) → s < 64 → o < 64
       → ShowsLists (record shown { off = set shown.off s (set (get_or shown.off s []) o b) }) words lists have stand (set_at taken s (set_at (taken s) o b))
   off-set s o b below exists =
       off-row s (set (get_or shown.off s []) o b) (set_at (taken s) o b) below (length-set (get_or shown.off s []) o b ∙ shows.each_off s below)
       (get_or-set_at (get_or shown.off s []) o b false (taken s) (subst (λ n. o < n) (sym (shows.each_off s below)) exists) (shows.off s))
 
-  -- It has nobody to tell any more.
+  -- The session has nobody to wake any more.
   pub off-emptied : (s : ℕ) → s < 64 → ShowsLists (record shown { off = set shown.off s (replicate 64 false) }) words lists have stand (set_at taken s (λ _. false))
   off-emptied s below = off-row s (replicate 64 false) (λ _. false) below (length-replicate {A = Bool} 64 false) (get_or-one_value 64 false)
 
@@ -99,7 +99,7 @@ module _ (shown : Lists) (words : ℕ → ℕ) (lists : ℕ → List LwWaiter) (
     off = shows.off;
   }
 
-  -- One more waits for it, behind all others.
+  -- One more waits for the lock, after all others.
   pub list-joined : (after : Lists) (l : ℕ) (waiter : LwWaiter) → after.sleepers.items ≡ shown.sleepers.items ++ record { lock = l; waiter = waiter } ∷ []
       → ShowsLists (record shown { sleepers = after.sleepers }) words (set_at lists l (lists l ++ waiter ∷ [])) have stand taken
   list-joined after l waiter is =
@@ -115,7 +115,7 @@ module _ (shown : Lists) (words : ℕ → ℕ) (lists : ℕ → List LwWaiter) (
       (ap (waiters_of l) is ∙ waiters_of-without l s shown.sleepers.items ∙ ap (without s) (shows.list l))
       (λ k other. ap (waiters_of k) is ∙ waiters_of-without_else l k s shown.sleepers.items other)
 
--- A sleep word and the list that its session stands in.
+-- A sleep word and the list that its session is in.
 pub sleep-stands-set : (shown : Lists) (words : ℕ → ℕ) (lists : ℕ → List LwWaiter) (have stand : ℕ → Option ℕ) (taken : ℕ → ℕ → Bool) → ShowsLists shown words lists have stand taken
     → (s a : ℕ) (b : Option ℕ) → s < 64
     → ShowsLists (record shown { sleep = set shown.sleep s a; stands = set shown.stands s b }) (set_at words s a) lists have (set_at stand s b) taken
@@ -123,7 +123,7 @@ sleep-stands-set shown words lists have stand taken shows s a b below =
     stands-set (record shown { sleep = set shown.sleep s a }) (set_at words s a) lists have stand taken
     (sleep-set shown words lists have stand taken shows s a below) s b below
 
--- A sleep word, and whether a session has its session to tell.
+-- A sleep word, and whether a session has its session to wake.
 pub sleep-off-set : (shown : Lists) (words : ℕ → ℕ) (lists : ℕ → List LwWaiter) (have stand : ℕ → Option ℕ) (taken : ℕ → ℕ → Bool) → ShowsLists shown words lists have stand taken
     → (s o a : ℕ) (b : Bool) → s < 64 → o < 64
     → ShowsLists (record shown { sleep = set shown.sleep o a; off = set shown.off s (set (get_or shown.off s []) o b) }) (set_at words o a) lists have stand (set_at taken s (set_at (taken s) o b))

@@ -55,7 +55,7 @@ marks-set marks locks has s lock b shows below within = record {
   here : get_or (set marks lock row) lock [] ≡ row
   here = get_or-set_same marks lock row [] in_marks
 
--- What a look through all marks of a session tells.
+-- What a look through all marks of a session shows.
 pub no_mark : (marks : List (List Bool)) (locks : ℕ) (has : ℕ → ℕ → Bool) (s : ℕ) → ShowsMarks marks locks has → has_a_mark s marks ≡ false → (lock : ℕ) → has s lock ≡ false
 no_mark marks locks has s shows none lock = false_from_ne_true _ (λ its.
     both_ways (has_a_mark s marks) none (found_within (λ of_lock. get_or of_lock s false) marks lock [] refl (shows.mark s lock ∙ its)))

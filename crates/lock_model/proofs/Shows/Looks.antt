@@ -21,7 +21,7 @@ use Rattle.lock_model.specs.Shows.{Shows, ShowsLock, ShowsHand, ShowsHandIfAny, 
 use Rattle.lock_model.specs.SlotLooks.{slots_hold, may_ask}
 use Rattle.lock_table.proofs.ListLemmas.{any_weaker, filter_nothing}
 
--- What the machine's looks tell of a safe World that it shows.
+-- What the machine's looks show of a safe World that it shows.
 
 -- The session makes steps and has the partition in hand, and this is what the machine keeps of the hand.
 pub record HasInHand (w : World) (s p : ℕ) (shown : InHand) : Type 0 where
@@ -73,7 +73,7 @@ hand_kept (Some shown) (Some hand) s shows e = (ap (λ k. k == s) shows.holder �
 hand_kept None (Some hand) s shows e = absurd shows
 hand_kept (Some shown) None s shows e = absurd shows
 
--- Past the list no partition is in hand, and whoever makes no steps has none.
+-- Past the list no partition is in hand, and a session that makes no steps has none.
 pub hand_of-past : (m : Machine) (s p : ℕ) → length m.contents.hands ≤ p → hand_of m s p ≡ None
 hand_of-past m s p past =
     let none : get_or m.contents.hands p None ≡ None = get_or_past m.contents.hands p None past in
@@ -211,7 +211,7 @@ module _ (m : Machine) (w : World) (safe : SafeWorld w) (shows : Shows m w) wher
   pub some_wait_from : (s : ℕ) → is_none (get_or m.waits.awaited s None) ≡ false → w.sessions.awaited s ≡ None → ⊥
   some_wait_from s e none = both_ways _ e (ap is_none (shows.waits.awaited s ∙ ap (option_map awaited_of) none))
 
-  -- Who waits for nothing stands in no queue.
+  -- A session that waits for nothing is in no queue.
   pub stands_not : (s : ℕ) → w.sessions.awaited s ≡ None → (t : Tag) → waits_there ((w.contents.now (partition_of t)).waits t) s ≡ false
   stands_not s none t =
       filter_nothing (λ wait. wait.session == s) ((w.contents.now (partition_of t)).waits t)

@@ -137,7 +137,7 @@ opening-shown m groups same_groups some issued live kept_by words fast_words wai
         | inr past ↦ ap (λ row. get_or row place 0) (get_or_past (replicate 64 (replicate 128 0)) s [] (let e = length-replicate {A = List ℕ} 64 (replicate 16 0) in omega (arith, e)))
       ]
 
--- In a safe World each hold and each wait that the machine keeps stands in the partition that its object lies in.
+-- In a safe World each hold and each wait that the machine keeps is in its object's partition.
 pub parts_at_home : (m : Machine) (w : World) → SafeWorld w → Shows m w → AreAtHome m.contents.parts.items
 parts_at_home m w safe shows = record { holds = held; waits = waiting } where
   held : (p s : ℕ) (t : Tag) (n : Mode) → (contents_in m.contents.parts.items p).holds s t n ≡ true → partition_of t ≡ p
@@ -211,7 +211,7 @@ all-shown m w safe shows list gathered s t n =
           (subst OneSlotEach (λ i place. sym (shows.fast_path.slot s place) i) (safe.slots.one_each s)) t n
           ∙ ap (λ b. cond b 1 0) (slots_from m w safe shows s t n)
 
--- Each hold of such a list, in the lock table, stands there.
+-- Each hold of such a list, in the lock table, is there.
 in_table-stand : (w : World) (list : List Hold) → AreInTable list → ListsHolds list (table_holds w) → All (λ hold. StandsThere w hold) list
 in_table-stand w list in_table holds = λ k d within.
     let hold : Hold = get_or list k d in

@@ -26,7 +26,7 @@ use Rattle.lock_model.specs.SlotLooks.{slots_at, slots_hold, is_slot_to_grant}
 use Rattle.lock_model.proofs.Shows.Changes.{get_or-set_at}
 use Rattle.lock_model.proofs.Shows.Looks.{slots_from}
 
--- What the machine's looks at slots tell of a safe World that it shows.
+-- What the machine's looks at slots show of a safe World that it shows.
 
 -- A slot in use shows some mode of its relation that may be in a slot.
 in_use-shows : (word : ℕ) → in_use word ≡ true → (mode : Mode) × (number_of mode ≤ 3) × (shows word (relation_in word) mode ≡ true)
@@ -54,7 +54,7 @@ in_use-shows word used = at where
     ]
   ]
 
--- It is eligible for the database.
+-- The object is eligible for the database.
 eligible_from : (database relation : ℕ) (mode : Mode) → database ≢ 0 → number_of mode ≤ 3 → is_eligible_for database (Relation database relation) mode ≡ true
 eligible_from database relation mode some weak =
     and_from (nat_eq database database) _ (eq-eqb database database refl)

@@ -93,7 +93,7 @@ impl Machine {
         }
     }
 
-    /// Tells `other`, which `session` took off a wait list (the second loop of `LWLockWakeup` in lwlock.c).
+    /// Clears the sleep word of `other`, which `session` took off a wait list (the second loop of `LWLockWakeup` in lwlock.c).
     pub fn tell(&mut self, session: SessionId, other: SessionId)
         requires shown { ShowsSafe self.old }
         ensures { Follows self.old session (Step.Tell other) self.new }

@@ -12,7 +12,7 @@ pub enum Spot {
 }
 
 /// A hold. Holds are ordered by session, then by the tag's numbers, then by the mode's number, and then by
-/// where they stand: the fast-path slots by their places, and the lock table after them.
+/// their places: the fast-path slots by their places, and the lock table after them.
 #[derive(Clone, Copy, Debug, PartialEq, Eq, PartialOrd, Ord)]
 pub struct Hold {
     /// The session.

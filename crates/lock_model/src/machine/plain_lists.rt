@@ -1,4 +1,4 @@
-//! What stands in all parts of the lock table, in two plain lists.
+//! What all parts of the lock table have, in two plain lists.
 
 ghost use Rattle.std.specs.Prelude.{◌≡◌, ℕ, ◌<◌, ◌++◌, length, map, filter, IfOk, OnOk};
 ghost use Rattle.std.specs.List.{flat_map};

@@ -38,7 +38,7 @@ pub struct Words {
 }
 
 /// Who has which lightweight locks: of each lock a mark for each session. Who holds a partition's exclusively,
-/// the hands tell.
+/// the hands say.
 #[derive(Clone, Copy)]
 pub struct Locks {
     /// Who holds the lock of a session's fast-path slots exclusively.
@@ -136,9 +136,9 @@ pub struct Lists {
     pub sleepers: Vec<Sleeper>,
     /// The lock whose list each session has in hand.
     pub has_list: [Option<u8>; 64],
-    /// The lock in whose list each session stands by its own account.
+    /// The lock in whose list each session is, by its own account.
     pub stands: [Option<u8>; 64],
-    /// Whom each session has taken off a list and not told yet.
+    /// Whom each session has taken off a list and not woken yet.
     pub off: [[bool; 64]; 64],
 }
 

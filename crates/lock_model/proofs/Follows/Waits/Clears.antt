@@ -152,7 +152,7 @@ module _ (m : Machine) (w : World) (safe : SafeWorld w) (shows : Shows m w) wher
       → (v : World) × Next w (record { session = s; step = ClearWait false }) v × Shows m v
   clear_too_early s a kept unseen not_gone = skipped m w safe shows s (ClearWait false) (λ lawful. not_clear s a kept unseen not_gone lawful.0 lawful.1)
 
-  -- Leaving, where the leave stands recorded.
+  -- Leaving, where the leave is recorded.
   pub left_before : (s : ℕ) (a : Awaited) (t : Tag) (shown : InHand) (r : Move) → get_or m.waits.awaited s None ≡ Some a → a.tag ≡ t → hand_of m s (partition_of t) ≡ Some shown → shown.recorded ≡ Some r → r ≡ Leave t
       → waits_there ((contents_in m.contents.parts.items (partition_of t)).waits t) s ≡ false → s < 64
       → (v : World) × Next w (record { session = s; step = ClearWait true }) v
@@ -247,7 +247,7 @@ module _ (m : Machine) (w : World) (safe : SafeWorld w) (shows : Shows m w) wher
   leave_after_move s a t shown r kept of_tag in_hand recorded stands =
       skipped m w safe shows s (ClearWait true) (λ lawful. not_leave_again s a t shown r kept of_tag in_hand recorded stands lawful.0 lawful.1)
 
-  -- Whoever has no wait in the queue has none to take out.
+  -- A session that has no wait in the queue has none to take out.
   not_leave_nothing : (s : ℕ) (a : Awaited) (t : Tag) (shown : InHand) → get_or m.waits.awaited s None ≡ Some a → a.tag ≡ t → hand_of m s (partition_of t) ≡ Some shown → shown.recorded ≡ None
       → waits_there ((contents_in m.contents.parts.items (partition_of t)).waits t) s ≡ false → (v : World) → HappensClearing w s true v → ⊥
   not_leave_nothing s a t shown kept of_tag in_hand unmoved gone v (inl (wait, granted, content, may, after)) =

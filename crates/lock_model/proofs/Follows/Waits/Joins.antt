@@ -32,7 +32,7 @@ use Rattle.lock_model.proofs.Shows.Looks.{HasInHand, recorded_from, hand_from, h
 
 -- Joining a queue, and setting one's own wait word to waiting.
 
--- Whoever is answered another thing is not to join.
+-- A session that is answered another thing is not to join.
 pub queued_not : (c : Content) (s : ℕ) (t : Tag) (m : Mode) (what : Answer) (place : ℕ) → WaitingAnswer c s t m what → ((n : ℕ) → what ≡ Queued n → ⊥) → WaitingAnswer c s t m (Queued place) → ⊥
 queued_not c s t m what place is not_queued answer = not_queued place (waiting_answer-one c s t m what (Queued place) is answer)
 

@@ -86,7 +86,7 @@ module _ (m : Machine) (w : World) (safe : SafeWorld w) (shows : Shows m w) wher
     never u (inl first) = hand_not m w safe shows s p none first.2.may_move.steps first.2.may_move.holding
     never u (inr next) = hand_not m w safe shows s p none next.0.steps next.0.holding
 
-  -- A move stands recorded, and it is another one, or the session isn't unmarked.
+  -- A move is recorded, and it is another one, or the session isn't unmarked.
   pub mark_of_another : (s k p : ℕ) (hand : InHand) (recorded done : Move) → hand_of m s p ≡ Some hand → hand.recorded ≡ Some recorded → (move_eq recorded done ≡ false) ⊎ (is_unmarked_in hand.unmarked k ≡ false) → Marks w s k p done m
   mark_of_another s k p hand recorded done in_hand is_recorded not_so = not_lawful s k p done never where
     has : HasInHand w s p hand
