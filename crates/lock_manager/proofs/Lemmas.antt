@@ -10,3 +10,5 @@ pub mod Managers
 pub mod Desks
 pub mod Quiet
 pub mod ShutDown
+pub mod Advisory
+pub mod Blocked

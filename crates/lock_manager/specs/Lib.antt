@@ -11,6 +11,8 @@ pub mod WaitingSessions
 pub mod Crews
 pub mod Desks
 pub mod Audits
+pub mod Advisory
+pub mod Blocked
 pub mod Patience
 pub mod Queues
 pub mod ShutDown

@@ -3,6 +3,7 @@
 
 mod any_board;
 mod audit;
+mod blocked;
 mod config;
 mod crews;
 mod desk;
@@ -17,21 +18,30 @@ mod releases;
 mod requests;
 mod sessions;
 mod shut_down;
+mod unlock_all;
 mod waiting;
 mod waiting_sessions;
 
+// What an embedder calls, and what it is answered.
+pub use blocked::Blocked;
 pub use config::{Config, MOST_GROUPS, MOST_SESSIONS};
-pub use crews::{append_session, close_sessions, open_sessions};
-pub use desk::{Desk, ManagerDesk};
-pub use keeper::Part;
 pub use listing::Listing;
 pub use local_locks::{Acquired, MOST_LEVELS, MOST_LOCAL, Unlocked};
-pub use lock_table::{PartTable, SlotRow, TableRow};
+pub use lock_table::{SlotRow, TableRow};
 pub use manager::{Final, Manager, Opener};
 pub use modes_core::{How, Mode, ModeSet, Owner, Refusal, SessionId, Tag};
 pub use queues::QueueRow;
-pub use sessions::{OwnSession, Session};
-pub use shared_rule::{Audit, Board};
+pub use sessions::Session;
+pub use shared_rule::Audit;
 pub use wait_queue::{Blocker, InTheWay};
 pub use waiting::Asked;
-pub use waiting_sessions::{Cancelled, Locked, OwnWaiting, Polled, Started, Waited, Waiting};
+pub use waiting_sessions::{Cancelled, Locked, Polled, Started, Waited, Waiting};
+
+// What a program, a proof or a test over any board names.
+pub use crews::{append_session, close_sessions, open_sessions};
+pub use desk::{Desk, ManagerDesk};
+pub use keeper::Part;
+pub use lock_table::PartTable;
+pub use sessions::OwnSession;
+pub use shared_rule::Board;
+pub use waiting_sessions::OwnWaiting;

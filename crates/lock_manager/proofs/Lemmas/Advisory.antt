@@ -1,0 +1,443 @@
+use Rattle.std.proofs.Common.{◌≡◌, ◌≢◌, ℕ, ◌+◌, ◌-◌, ◌<◌, ◌≤◌, true, false, not, ◌==◌, List, [], ◌∷◌, refl, sym, ap, subst, ◌∙◌, inl, inr, arith}
+use Rattle.std.specs.Prelude.{Some, None, All, find}
+use Rattle.std.specs.List.{IsDistinct, AllByRecursion}
+use Rattle.std.proofs.lemmas.Bool.{cases_Bool, cases_lt, false≢true, ne_eqb, eq-eqb, eqb-true}
+use Rattle.std.proofs.lemmas.List.Elements.{All-tail}
+use Rattle.modes_core.specs.declared.modes.Mode.{Mode}
+use Rattle.modes_core.specs.declared.tags.Tag.{Tag}
+use Rattle.modes_core.specs.declared.tags.LockMethod.{LockMethod}
+use Rattle.modes_core.specs.declared.tags.LockMethod.TheVariants.{Default, User}
+use Rattle.modes_core.specs.declared.sessions.Owner.TheVariants.{Session}
+use Rattle.modes_core.specs.Tag.{method_of}
+use Rattle.local_locks.specs.declared.records.Entry.{Entry}
+use Rattle.local_locks.specs.Owned.{is_of, are_of_same, count_in_all, owner_count_of, total_of, has_entry, lowered, change, entries_but, with_one_less, IsCounted}
+use Rattle.local_locks.proofs.EntryLaws.{same_key-from, same_key-refl, same_key-comm, owned-entry, has_entry-some, has_entry-with_one_less}
+use Rattle.lock_world.specs.Account.{Account}
+use Rattle.shared_rule.specs.Boards.{Seated}
+use Rattle.shared_rule.specs.Quiet.{Quiet}
+use Rattle.fast_path.specs.declared.use_counts.UseCounts.{UseCounts}
+use Rattle.lock_manager.specs.Advisory.{kept_by_unlock_all, after_unlock_all, is_unlocked, unlocked_by_all, left_by_unlock_all, is_owned_advisory}
+use Rattle.lock_manager.specs.Releases.{Releases, ReleasesAll}
+use Rattle.lock_manager.specs.Quiet.{QuietOfReleases, quiet_releasing}
+
+-- One count of an advisory lock after another is given back.
+
+-- ---- one entry
+
+-- What is owned of it is of the user method, and some.
+owned-user : (method : LockMethod) (count : ℕ) → not (kept_by_unlock_all method count == count) ≡ true → (method ≡ User) × (0 < count)
+owned-user Default count owned = absurd (false≢true (sym (ap not (eq-eqb count count refl)) ∙ owned))
+owned-user User count owned = (
+  refl,
+  elim (cases_lt 0 count) [
+    | inl some ↦ some
+    | inr none ↦ let same : 0 ≡ count = omega (arith, none) in absurd (false≢true (sym (ap not (eq-eqb 0 count same)) ∙ owned))
+  ],
+)
+
+-- One of which nothing is owned is as it was,
+after-same : (x : Entry) → is_owned_advisory x ≡ false → after_unlock_all x ≡ x
+after-same x none = λ i. record x { session = same i } where
+  same : kept_by_unlock_all (method_of x.tag) x.session ≡ x.session
+  same =
+      elim (cases_Bool (kept_by_unlock_all (method_of x.tag) x.session == x.session)) [
+        | inl alike ↦ eqb-true _ _ alike
+        | inr other ↦ absurd (false≢true (sym none ∙ ap not other))
+      ]
+
+-- and is left.
+stays : (x : Entry) → IsCounted x → is_owned_advisory x ≡ false → is_unlocked x ≡ false
+stays x counted none = ap (λ e. count_in_all e == 0) (after-same x none) ∙ ne_eqb (count_in_all x) 0 (λ zero. omega (arith, zero, counted.some))
+
+-- ---- the first one that is owned
+
+passes : (es : List Entry) (e : Entry) → find is_owned_advisory es ≡ Some e → is_owned_advisory e ≡ true
+passes [] e found = absurd (let bad : None ≡ Some e = found in cc)
+passes (x ∷ es) e found =
+    elim (cases_Bool (is_owned_advisory x)) [
+      | inl owned ↦ let both : Some x ≡ Some e = rw owned at found in let same : x ≡ e = cc in rw (← same) owned
+      | inr none ↦ passes es e (rw none at found)
+    ]
+
+-- What holds of all holds of it.
+of-found : (P : Entry → Type 0) (es : List Entry) (e : Entry) → AllByRecursion P es → find is_owned_advisory es ≡ Some e → P e
+of-found P [] e all found = absurd (let bad : None ≡ Some e = found in cc)
+of-found P (x ∷ es) e all found =
+    elim (cases_Bool (is_owned_advisory x)) [
+      | inl owned ↦ let both : Some x ≡ Some e = rw owned at found in let same : x ≡ e = cc in subst P same all.0
+      | inr none ↦ of-found P es e all.1 (rw none at found)
+    ]
+
+-- Where all others are of other objects or modes, none is taken out.
+but-apart : (x : Entry) (es : List Entry) → AllByRecursion (λ y. are_of_same x y ≡ false) es → entries_but es x.tag x.mode ≡ es
+but-apart x [] apart = refl
+but-apart x (y ∷ es) apart =
+    let other : is_of x.tag x.mode y ≡ false = same_key-comm y.tag y.mode x.tag x.mode ∙ apart.0 in
+    rw other (ap (λ ys. y ∷ ys) (but-apart x es apart.1))
+
+-- Its count is what the session has of the object and mode.
+pub total-found :
+    (es : List Entry) (e : Entry) → IsDistinct are_of_same es → find is_owned_advisory es ≡ Some e → total_of es e.tag e.mode ≡ count_in_all e
+unfolding IsDistinct
+total-found [] e once found = absurd (let bad : None ≡ Some e = found in cc)
+total-found (x ∷ es) e once found =
+    elim (cases_Bool (is_owned_advisory x)) [
+      | inl owned ↦
+          let both : Some x ≡ Some e = rw owned at found in
+          let same : x ≡ e = cc in
+          rw (← same) (rw (same_key-refl x.tag x.mode) refl)
+      | inr none ↦
+          let later : find is_owned_advisory es ≡ Some e = rw none at found in
+          let apart : is_of e.tag e.mode x ≡ false = of-found (λ y. are_of_same x y ≡ false) es e once.0 later in
+          rw apart (total-found es e once.1 later)
+    ]
+
+-- ---- an entry that is taken out
+
+left-cons : (x : Entry) (es : List Entry) → is_unlocked x ≡ false → left_by_unlock_all (x ∷ es) ≡ after_unlock_all x ∷ left_by_unlock_all es
+left-cons x es still = rw still refl
+
+left-skip : (x : Entry) (es : List Entry) → is_unlocked x ≡ true → left_by_unlock_all (x ∷ es) ≡ left_by_unlock_all es
+left-skip x es gone = rw gone refl
+
+unlocked-cons : (x : Entry) (es : List Entry) → is_unlocked x ≡ true → unlocked_by_all (x ∷ es) ≡ (x.tag, x.mode) ∷ unlocked_by_all es
+unlocked-cons x es gone = rw gone refl
+
+unlocked-skip : (x : Entry) (es : List Entry) → is_unlocked x ≡ false → unlocked_by_all (x ∷ es) ≡ unlocked_by_all es
+unlocked-skip x es still = rw still refl
+
+-- leaves what is left,
+but-left :
+    (es : List Entry) (e : Entry) → IsDistinct are_of_same es → All IsCounted es → find is_owned_advisory es ≡ Some e → is_unlocked e ≡ true
+    → left_by_unlock_all (entries_but es e.tag e.mode) ≡ left_by_unlock_all es
+unfolding IsDistinct
+but-left [] e once counted found gone = refl
+but-left (x ∷ es) e once counted found gone =
+    elim (cases_Bool (is_owned_advisory x)) [
+      | inl owned ↦
+          let both : Some x ≡ Some e = rw owned at found in
+          let same : x ≡ e = cc in
+          let its : is_unlocked x ≡ true = ap is_unlocked same ∙ gone in
+          let out : entries_but (x ∷ es) x.tag x.mode ≡ es = rw (same_key-refl x.tag x.mode) (but-apart x es once.0) in
+          subst (λ (z : Entry). left_by_unlock_all (entries_but (x ∷ es) z.tag z.mode) ≡ left_by_unlock_all (x ∷ es)) same
+          (ap left_by_unlock_all out ∙ sym (left-skip x es its))
+      | inr none ↦
+          let later : find is_owned_advisory es ≡ Some e = rw none at found in
+          let apart : is_of e.tag e.mode x ≡ false = of-found (λ y. are_of_same x y ≡ false) es e once.0 later in
+          let still : is_unlocked x ≡ false = stays x (counted 0 x (omega arith)) none in
+          let past : entries_but (x ∷ es) e.tag e.mode ≡ x ∷ entries_but es e.tag e.mode = rw apart refl in
+          ap left_by_unlock_all past
+          ∙ left-cons x (entries_but es e.tag e.mode) still
+          ∙ ap (λ ys. after_unlock_all x ∷ ys) (but-left es e once.1 (All-tail IsCounted x es counted) later gone)
+          ∙ sym (left-cons x es still)
+    ]
+
+-- and is the first one of those that go.
+but-unlocked :
+    (es : List Entry) (e : Entry) → IsDistinct are_of_same es → All IsCounted es → find is_owned_advisory es ≡ Some e → is_unlocked e ≡ true
+    → unlocked_by_all es ≡ (e.tag, e.mode) ∷ unlocked_by_all (entries_but es e.tag e.mode)
+unfolding IsDistinct
+but-unlocked [] e once counted found gone = absurd (let bad : None ≡ Some e = found in cc)
+but-unlocked (x ∷ es) e once counted found gone =
+    elim (cases_Bool (is_owned_advisory x)) [
+      | inl owned ↦
+          let both : Some x ≡ Some e = rw owned at found in
+          let same : x ≡ e = cc in
+          let its : is_unlocked x ≡ true = ap is_unlocked same ∙ gone in
+          let out : entries_but (x ∷ es) x.tag x.mode ≡ es = rw (same_key-refl x.tag x.mode) (but-apart x es once.0) in
+          subst (λ (z : Entry). unlocked_by_all (x ∷ es) ≡ (z.tag, z.mode) ∷ unlocked_by_all (entries_but (x ∷ es) z.tag z.mode)) same
+          (unlocked-cons x es its ∙ ap (λ ys. (x.tag, x.mode) ∷ unlocked_by_all ys) (sym out))
+      | inr none ↦
+          let later : find is_owned_advisory es ≡ Some e = rw none at found in
+          let apart : is_of e.tag e.mode x ≡ false = of-found (λ y. are_of_same x y ≡ false) es e once.0 later in
+          let still : is_unlocked x ≡ false = stays x (counted 0 x (omega arith)) none in
+          let past : entries_but (x ∷ es) e.tag e.mode ≡ x ∷ entries_but es e.tag e.mode = rw apart refl in
+          unlocked-skip x es still
+          ∙ but-unlocked es e once.1 (All-tail IsCounted x es counted) later gone
+          ∙ ap (λ ys. (e.tag, e.mode) ∷ ys) (sym (ap unlocked_by_all past ∙ unlocked-skip x (entries_but es e.tag e.mode) still))
+    ]
+
+-- ---- a count that is lowered
+
+-- changes nothing of what is left of an advisory lock.
+after-lowered : (y : Entry) (tag : Tag) (mode : Mode) → method_of tag ≡ User → is_of tag mode y ≡ true → after_unlock_all (lowered Session y) ≡ after_unlock_all y
+after-lowered y tag mode user it =
+    let its : method_of y.tag ≡ User = ap method_of (same_key-from y.tag y.mode tag mode it).0 ∙ user in
+    λ i. record y { session = (ap (λ m. kept_by_unlock_all m (y.session - 1)) its ∙ sym (ap (λ m. kept_by_unlock_all m y.session) its)) i }
+
+change-left :
+    (es : List Entry) (tag : Tag) (mode : Mode) → method_of tag ≡ User
+    → left_by_unlock_all (change (lowered Session) es tag mode) ≡ left_by_unlock_all es
+change-left [] tag mode user = refl
+change-left (y ∷ es) tag mode user =
+    let rest = change-left es tag mode user in
+    elim (cases_Bool (is_of tag mode y)) [
+      | inl it ↦
+          let same = after-lowered y tag mode user it in
+          let also : is_unlocked (lowered Session y) ≡ is_unlocked y = ap (λ e. count_in_all e == 0) same in
+          let here : change (lowered Session) (y ∷ es) tag mode ≡ lowered Session y ∷ change (lowered Session) es tag mode = rw it refl in
+          ap left_by_unlock_all here
+          ∙ elim (cases_Bool (is_unlocked y)) [
+            | inl gone ↦ left-skip (lowered Session y) (change (lowered Session) es tag mode) (also ∙ gone) ∙ rest ∙ sym (left-skip y es gone)
+            | inr still ↦
+                left-cons (lowered Session y) (change (lowered Session) es tag mode) (also ∙ still)
+                ∙ (λ i. same i ∷ rest i)
+                ∙ sym (left-cons y es still)
+          ]
+      | inr other ↦
+          let here : change (lowered Session) (y ∷ es) tag mode ≡ y ∷ change (lowered Session) es tag mode = rw other refl in
+          ap left_by_unlock_all here
+          ∙ elim (cases_Bool (is_unlocked y)) [
+            | inl gone ↦ left-skip y (change (lowered Session) es tag mode) gone ∙ rest ∙ sym (left-skip y es gone)
+            | inr still ↦ left-cons y (change (lowered Session) es tag mode) still ∙ ap (λ ys. after_unlock_all y ∷ ys) rest ∙ sym (left-cons y es still)
+          ]
+    ]
+
+change-unlocked :
+    (es : List Entry) (tag : Tag) (mode : Mode) → method_of tag ≡ User
+    → unlocked_by_all (change (lowered Session) es tag mode) ≡ unlocked_by_all es
+change-unlocked [] tag mode user = refl
+change-unlocked (y ∷ es) tag mode user =
+    let rest = change-unlocked es tag mode user in
+    elim (cases_Bool (is_of tag mode y)) [
+      | inl it ↦
+          let same = after-lowered y tag mode user it in
+          let also : is_unlocked (lowered Session y) ≡ is_unlocked y = ap (λ e. count_in_all e == 0) same in
+          let here : change (lowered Session) (y ∷ es) tag mode ≡ lowered Session y ∷ change (lowered Session) es tag mode = rw it refl in
+          ap unlocked_by_all here
+          ∙ elim (cases_Bool (is_unlocked y)) [
+            | inl gone ↦
+                unlocked-cons (lowered Session y) (change (lowered Session) es tag mode) (also ∙ gone)
+                ∙ ap (λ ys. (y.tag, y.mode) ∷ ys) rest
+                ∙ sym (unlocked-cons y es gone)
+            | inr still ↦ unlocked-skip (lowered Session y) (change (lowered Session) es tag mode) (also ∙ still) ∙ rest ∙ sym (unlocked-skip y es still)
+          ]
+      | inr other ↦
+          let here : change (lowered Session) (y ∷ es) tag mode ≡ y ∷ change (lowered Session) es tag mode = rw other refl in
+          ap unlocked_by_all here
+          ∙ elim (cases_Bool (is_unlocked y)) [
+            | inl gone ↦ unlocked-cons y (change (lowered Session) es tag mode) gone ∙ ap (λ ys. (y.tag, y.mode) ∷ ys) rest ∙ sym (unlocked-cons y es gone)
+            | inr still ↦ unlocked-skip y (change (lowered Session) es tag mode) still ∙ rest ∙ sym (unlocked-skip y es still)
+          ]
+    ]
+
+-- ---- one count given back
+
+-- how often the session owns anything
+abbrev pub session_counts : List Entry → ℕ
+session_counts [] = 0
+session_counts (x ∷ es) = x.session + session_counts es
+
+fewer-but : (es : List Entry) (tag : Tag) (mode : Mode) → session_counts (entries_but es tag mode) ≤ session_counts es
+fewer-but [] tag mode = omega arith
+fewer-but (x ∷ es) tag mode =
+    let rest = fewer-but es tag mode in
+    elim (cases_Bool (is_of tag mode x)) [
+      | inl it ↦ rw it (omega (arith, rest))
+      | inr other ↦ rw other (omega (arith, rest))
+    ]
+
+fewer-change : (es : List Entry) (tag : Tag) (mode : Mode) → session_counts (change (lowered Session) es tag mode) ≤ session_counts es
+fewer-change [] tag mode = omega arith
+fewer-change (x ∷ es) tag mode =
+    let rest = fewer-change es tag mode in
+    elim (cases_Bool (is_of tag mode x)) [
+      | inl it ↦ rw it (omega (arith, rest))
+      | inr other ↦ rw other (omega (arith, rest))
+    ]
+
+less-but : (es : List Entry) (e : Entry) → find is_owned_advisory es ≡ Some e → session_counts (entries_but es e.tag e.mode) < session_counts es
+less-but [] e found = absurd (let bad : None ≡ Some e = found in cc)
+less-but (x ∷ es) e found =
+    elim (cases_Bool (is_owned_advisory x)) [
+      | inl owned ↦
+          let both : Some x ≡ Some e = rw owned at found in
+          let same : x ≡ e = cc in
+          let some = (owned-user (method_of x.tag) x.session owned).1 in
+          let rest = fewer-but es x.tag x.mode in
+          subst (λ (z : Entry). session_counts (entries_but (x ∷ es) z.tag z.mode) < session_counts (x ∷ es)) same
+          (rw (same_key-refl x.tag x.mode) (omega (arith, some, rest)))
+      | inr none ↦
+          let rest = less-but es e (rw none at found) in
+          elim (cases_Bool (is_of e.tag e.mode x)) [
+            | inl it ↦ rw it (omega (arith, rest))
+            | inr other ↦ rw other (omega (arith, rest))
+          ]
+    ]
+
+less-change :
+    (es : List Entry) (e : Entry) → find is_owned_advisory es ≡ Some e
+    → session_counts (change (lowered Session) es e.tag e.mode) < session_counts es
+less-change [] e found = absurd (let bad : None ≡ Some e = found in cc)
+less-change (x ∷ es) e found =
+    elim (cases_Bool (is_owned_advisory x)) [
+      | inl owned ↦
+          let both : Some x ≡ Some e = rw owned at found in
+          let same : x ≡ e = cc in
+          let some = (owned-user (method_of x.tag) x.session owned).1 in
+          let rest = fewer-change es x.tag x.mode in
+          subst (λ (z : Entry). session_counts (change (lowered Session) (x ∷ es) z.tag z.mode) < session_counts (x ∷ es)) same
+          (rw (same_key-refl x.tag x.mode) (omega (arith, some, rest)))
+      | inr none ↦
+          let rest = less-change es e (rw none at found) in
+          elim (cases_Bool (is_of e.tag e.mode x)) [
+            | inl it ↦ rw it (omega (arith, rest))
+            | inr other ↦ rw other (omega (arith, rest))
+          ]
+    ]
+
+-- how often the session owns the first one
+owned-found :
+    (es : List Entry) (e : Entry) → IsDistinct are_of_same es → find is_owned_advisory es ≡ Some e → owner_count_of es e.tag e.mode Session ≡ e.session
+unfolding IsDistinct
+owned-found [] e once found = absurd (let bad : None ≡ Some e = found in cc)
+owned-found (x ∷ es) e once found =
+    elim (cases_Bool (is_owned_advisory x)) [
+      | inl owned ↦
+          let both : Some x ≡ Some e = rw owned at found in
+          let same : x ≡ e = cc in
+          rw (← same) (rw (same_key-refl x.tag x.mode) refl)
+      | inr none ↦
+          let later : find is_owned_advisory es ≡ Some e = rw none at found in
+          let apart : is_of e.tag e.mode x ≡ false = of-found (λ y. are_of_same x y ≡ false) es e once.0 later in
+          rw apart (owned-found es e once.1 later)
+    ]
+
+-- One count of the first one, of whose entries these are, is given back.
+module _ (es new : List Entry) (e : Entry) (once : IsDistinct are_of_same es) (counted : All IsCounted es) (found : find is_owned_advisory es ≡ Some e) (less : new ≡ with_one_less es e.tag e.mode Session) where
+  user : (method_of e.tag ≡ User) × (0 < e.session)
+  user = owned-user (method_of e.tag) e.session (passes es e found)
+
+  pub given-some : owner_count_of es e.tag e.mode Session ≢ 0
+  given-some none = let some = user.1 in omega (arith, none, owned-found es e once found, some)
+
+  pub given-had : has_entry es e.tag e.mode ≡ true
+  given-had = owned-entry es e.tag e.mode Session given-some
+
+  last-gone : count_in_all e ≡ 1 → is_unlocked e ≡ true
+  last-gone one =
+      let some = user.1 in
+      let no_transaction : e.transaction ≡ 0 = omega (arith, one, some) in
+      ap (λ m. e.transaction + kept_by_unlock_all m e.session == 0) user.0 ∙ ap (λ n. n + 0 == 0) no_transaction
+
+  taken : total_of es e.tag e.mode == 1 ≡ true → new ≡ entries_but es e.tag e.mode
+  taken last = less ∙ rw last refl
+
+  kept : total_of es e.tag e.mode == 1 ≡ false → new ≡ change (lowered Session) es e.tag e.mode
+  kept more = less ∙ rw more refl
+
+  one : total_of es e.tag e.mode == 1 ≡ true → count_in_all e ≡ 1
+  one last = sym (total-found es e once found) ∙ eqb-true _ _ last
+
+  -- What is left stays so,
+  pub given-left : left_by_unlock_all new ≡ left_by_unlock_all es
+  given-left =
+      elim (cases_Bool (total_of es e.tag e.mode == 1)) [
+        | inl last ↦ ap left_by_unlock_all (taken last) ∙ but-left es e once counted found (last-gone (one last))
+        | inr more ↦ ap left_by_unlock_all (kept more) ∙ change-left es e.tag e.mode user.0
+      ]
+
+  -- less is owned,
+  pub given-fewer : session_counts new < session_counts es
+  given-fewer =
+      elim (cases_Bool (total_of es e.tag e.mode == 1)) [
+        | inl last ↦ subst (λ ys. session_counts ys < session_counts es) (sym (taken last)) (less-but es e found)
+        | inr more ↦ subst (λ ys. session_counts ys < session_counts es) (sym (kept more)) (less-change es e found)
+      ]
+
+  -- and it is the next one that goes, if it was the last count,
+  pub given-next : has_entry new e.tag e.mode ≡ false → unlocked_by_all es ≡ (e.tag, e.mode) ∷ unlocked_by_all new
+  given-next gone =
+      elim (cases_Bool (total_of es e.tag e.mode == 1)) [
+        | inl last ↦ but-unlocked es e once counted found (last-gone (one last)) ∙ ap (λ ys. (e.tag, e.mode) ∷ unlocked_by_all ys) (sym (taken last))
+        | inr more ↦
+            let still : has_entry new e.tag e.mode ≡ has_entry es e.tag e.mode =
+            ap (λ ys. has_entry ys e.tag e.mode) less ∙ has_entry-with_one_less es e.tag e.mode Session e.tag e.mode ∙ rw (same_key-refl e.tag e.mode, more) refl in
+            absurd (false≢true (sym gone ∙ still ∙ given-had))
+      ]
+
+  -- or as many go as before.
+  pub given-none : 0 < total_of new e.tag e.mode → unlocked_by_all new ≡ unlocked_by_all es
+  given-none some =
+      elim (cases_Bool (total_of es e.tag e.mode == 1)) [
+        | inl last ↦
+            let gone : has_entry new e.tag e.mode ≡ false =
+            ap (λ ys. has_entry ys e.tag e.mode) less ∙ has_entry-with_one_less es e.tag e.mode Session e.tag e.mode ∙ rw (same_key-refl e.tag e.mode, last) refl in
+            absurd (false≢true (sym gone ∙ has_entry-some new e.tag e.mode some))
+        | inr more ↦ ap unlocked_by_all (kept more) ∙ change-unlocked es e.tag e.mode user.0
+      ]
+
+-- So, with the object and mode as they are handed on,
+pub record GivenBack (es new : List Entry) (tag : Tag) (mode : Mode) : Type 0 where
+  pub some : owner_count_of es tag mode Session ≢ 0
+  pub had : has_entry es tag mode ≡ true
+  pub left : left_by_unlock_all new ≡ left_by_unlock_all es
+  pub fewer : session_counts new < session_counts es
+  pub next : has_entry new tag mode ≡ false → unlocked_by_all es ≡ (tag, mode) ∷ unlocked_by_all new
+  pub none : 0 < total_of new tag mode → unlocked_by_all new ≡ unlocked_by_all es
+
+pub given-back :
+    (es new : List Entry) (tag : Tag) (mode : Mode) → IsDistinct are_of_same es → All IsCounted es
+    → (e : Entry) × (find is_owned_advisory es ≡ Some e) × (◌≡◌ {A = Tag × Mode} (tag, mode) (e.tag, e.mode)) → new ≡ with_one_less es tag mode Session → GivenBack es new tag mode
+given-back es new tag mode once counted first less =
+    let e = first.0 in
+    let found = first.1 in
+    subst (λ (key : Tag × Mode). new ≡ with_one_less es key.0 key.1 Session → GivenBack es new key.0 key.1) {x = (e.tag, e.mode)} {y = (tag, mode)} (sym first.2)
+    (λ its. record {
+      some = given-some es new e once counted found its;
+      had = given-had es new e once counted found its;
+      left = given-left es new e once counted found its;
+      fewer = given-fewer es new e once counted found its;
+      next = given-next es new e once counted found its;
+      none = given-none es new e once counted found its;
+    }) less
+
+-- ---- where none is owned
+
+-- nothing goes,
+pub none-unlocked : (es : List Entry) → All IsCounted es → find is_owned_advisory es ≡ None → unlocked_by_all es ≡ []
+none-unlocked [] counted none = refl
+none-unlocked (x ∷ es) counted none =
+    elim (cases_Bool (is_owned_advisory x)) [
+      | inl owned ↦ absurd (let bad : Some x ≡ None = rw owned at none in cc)
+      | inr not_owned ↦
+          unlocked-skip x es (stays x (counted 0 x (omega arith)) not_owned) ∙ none-unlocked es (All-tail IsCounted x es counted) (rw not_owned at none)
+    ]
+
+-- and all is left.
+pub none-left : (es : List Entry) → All IsCounted es → find is_owned_advisory es ≡ None → left_by_unlock_all es ≡ es
+none-left [] counted none = refl
+none-left (x ∷ es) counted none =
+    elim (cases_Bool (is_owned_advisory x)) [
+      | inl owned ↦ absurd (let bad : Some x ≡ None = rw owned at none in cc)
+      | inr not_owned ↦
+          left-cons x es (stays x (counted 0 x (omega arith)) not_owned)
+          ∙ (λ i. after-same x not_owned i ∷ none-left es (All-tail IsCounted x es counted) (rw not_owned at none) i)
+    ]
+
+-- ---- the releases
+
+-- The release of the next hold leads on to the releases of those left,
+pub unlocks-next :
+    (seat its : Seated) (a b c : Account) (uses between left : UseCounts) (old new : List (Tag × Mode)) (key : Tag × Mode) → its ≡ seat
+    → old ≡ key ∷ new → Releases its.groups its.number a uses key.0 key.1 b between
+    → ReleasesAll seat.groups seat.number b between new c left → ReleasesAll seat.groups seat.number a uses old c left
+unlocks-next seat its a b c uses between left old new key same next first others =
+    subst (λ keys. ReleasesAll seat.groups seat.number a uses keys c left) {x = key ∷ new} {y = old} (sym next)
+    (b, between, subst (λ (v : Seated). Releases v.groups v.number a uses key.0 key.1 b between) same first, others)
+
+-- and so do its quiet steps.
+pub unlocks-quiet :
+    (seat its : Seated) (a b c : Account) (uses between left : UseCounts) (old new : List (Tag × Mode)) (key : Tag × Mode) (before middle after : List Quiet)
+    → its ≡ seat → old ≡ key ∷ new → Releases its.groups its.number a uses key.0 key.1 b between
+    → middle ≡ quiet_releasing its.groups its.number a uses key.0 key.1 before
+    → QuietOfReleases seat.groups seat.number b between new c left middle after
+    → QuietOfReleases seat.groups seat.number a uses old c left before after
+unlocks-quiet seat its a b c uses between left old new key before middle after same next first is others =
+    subst (λ keys. QuietOfReleases seat.groups seat.number a uses keys c left before after) {x = key ∷ new} {y = old} (sym next) (
+      b,
+      between,
+      subst (λ (v : Seated). Releases v.groups v.number a uses key.0 key.1 b between) same first,
+      subst (λ steps. QuietOfReleases seat.groups seat.number b between new c left steps after)
+          (subst (λ (v : Seated). middle ≡ quiet_releasing v.groups v.number a uses key.0 key.1 before) same is) others,
+    )

@@ -1,0 +1,69 @@
+use Rattle.std.proofs.Common.{arith, ◌+◌, ◌∷◌, ◌∙◌, ap, sym}
+use Rattle.lock_table.proofs.PartitionRows.{rows-ok}
+use Rattle.shared_rule.proofs.Episodes.{may_keep-since, kept-since}
+use Rattle.shared_rule.specs.Boards.{Seated, Stack}
+use Rattle.lock_manager.specs.Listings.{listing_steps}
+use Rattle.lock_manager.specs.Blocked.{AppendsBlocked}
+use Rattle.lock_manager.proofs.Lemmas.Blocked.{blocked-more}
+use Rattle.lock_manager.proofs.Lemmas.Listings.Own.{caller-taking}
+use Rattle.lock_manager.proofs.blocked.+blocked_from.Goals as goal
+
+pub put_part-requires-clause-lawful : goal.put_part-requires-clause-lawful
+put_part-requires-clause-lawful g t c =
+    may_keep-since _ _ (g.B.Board.view c.args.board.now) (g.B.Board.view c.take_part-content.new.self) _ c.args.part (g.T.PartTable.content c.take_part-content.result)
+    (listing_steps (c.args.part + 1) c.blocked_from-others.ensures.listed.contents) c.take_part-content.ensures.view c.blocked_from-others.ensures.listed.account
+
+pub put_part-requires-clause-in_hand : goal.put_part-requires-clause-in_hand
+put_part-requires-clause-in_hand g t c = (
+  (g.B.Board.stack c.args.board.now).parts,
+  ap (λ (s : Stack). s.parts) (c.blocked_from-others.ensures.stack ∙ c.take_part-content.ensures.stack),
+)
+
+pub returns-then-is_err-clause-listed : goal.returns-then-is_err-clause-listed
+returns-then-is_err-clause-listed g t c =
+    let listed = c.blocked_from-others.ensures.listed in
+    let content = g.T.PartTable.content c.take_part-content.result in
+    record {
+      contents = content ∷ listed.contents;
+      last = omega (arith, listed.last);
+      of_caller = (
+        record {
+          stand = c.take_part-content.ensures.knows.own_stand;
+          its_holds = c.take_part-content.ensures.knows.its_holds;
+          no_wait = c.take_part-content.ensures.knows.no_wait;
+        },
+        caller-taking (g.B.Board.seat c.args.board.now).number (g.B.Board.seat c.take_part-content.new.self).number
+            (g.B.Board.view c.args.board.now) (g.B.Board.view c.take_part-content.new.self) c.args.part content (c.args.part + 1) listed.contents
+            (ap (λ (s : Seated). s.number) c.take_part-content.ensures.seat) c.take_part-content.ensures.view listed.of_caller,
+      );
+      account =
+          kept-since (g.B.Board.view c.args.board.now) (g.B.Board.view c.take_part-content.new.self) (g.B.Board.view c.blocked_from-others.new.board) (g.B.Board.view c.put_part.new.self)
+          c.args.part content (listing_steps (c.args.part + 1) listed.contents) (c.requires.none_in_hand c.args.part (omega arith)) c.take_part-content.ensures.view listed.account c.put_part.ensures.view;
+      waits = tt;
+    }
+
+pub returns-clause-listed : goal.returns-clause-listed
+returns-clause-listed g t c =
+    let listed = c.blocked_from-others.ensures.listed in
+    let content = g.T.PartTable.content c.take_part-content.result in
+    let first = rows-ok c.append_blocked-appended.result (AppendsBlocked content c.args.found.now.items c.append_blocked-appended.new.found.items)
+    (sym c.if-is_err.ensures.value) c.append_blocked-appended.ensures in
+    record {
+      contents = content ∷ listed.contents;
+      last = omega (arith, listed.last);
+      of_caller = (
+        record {
+          stand = c.take_part-content.ensures.knows.own_stand;
+          its_holds = c.take_part-content.ensures.knows.its_holds;
+          no_wait = c.take_part-content.ensures.knows.no_wait;
+        },
+        caller-taking (g.B.Board.seat c.args.board.now).number (g.B.Board.seat c.take_part-content.new.self).number
+            (g.B.Board.view c.args.board.now) (g.B.Board.view c.take_part-content.new.self) c.args.part content (c.args.part + 1) listed.contents
+            (ap (λ (s : Seated). s.number) c.take_part-content.ensures.seat) c.take_part-content.ensures.view listed.of_caller,
+      );
+      account =
+          kept-since (g.B.Board.view c.args.board.now) (g.B.Board.view c.take_part-content.new.self) (g.B.Board.view c.blocked_from-others.new.board) (g.B.Board.view c.put_part.new.self)
+          c.args.part content (listing_steps (c.args.part + 1) listed.contents) (c.requires.none_in_hand c.args.part (omega arith)) c.take_part-content.ensures.view listed.account c.put_part.ensures.view;
+      waits = blocked-more c.blocked_from-others.result content listed.contents c.args.found.now.items c.append_blocked-appended.new.found.items c.blocked_from-others.new.found.items
+          first listed.waits;
+    }
