@@ -156,7 +156,7 @@ pub fn list_keys(
     Ok(made)
 }
 
-/// Up to `count` objects of the partition `partition` in AccessShareLock, by numbers from `from` on.
+/// Up to `count` objects of `database` in the partition `partition`, in AccessShareLock, by numbers from `from` on.
 pub fn keys_of_partition(
     alloc: Global,
     database: u32,

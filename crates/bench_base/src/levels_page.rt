@@ -47,7 +47,7 @@ static ROWS: [(&str, KeyList, Work); 4] = [
     ),
 ];
 
-/// Prints the table of times, or with `check` what fewer of the same steps leave.
+/// Prints the table of times, at `database`, or with `check` what fewer of the same steps leave.
 pub fn print<R: CpuClock + AllocGlobal + Print>(rt: &R, database: u32, check: bool) -> Result<()> {
     if !check {
         print_header(
@@ -62,7 +62,8 @@ pub fn print<R: CpuClock + AllocGlobal + Print>(rt: &R, database: u32, check: bo
     Ok(())
 }
 
-/// Prints the rows for `held` entries in the first level.
+/// Prints the rows for `held` entries in the first level, at `database`, or with `check` what fewer of the same steps
+/// leave.
 fn print_size<R: CpuClock + AllocGlobal + Print>(
     rt: &R,
     database: u32,

@@ -63,7 +63,7 @@ fn map_with(alloc: Global, keys: &[Key]) -> Result<KeyMap, AllocError> {
 }
 
 impl Bed {
-    /// A bed with as many keys held as `size` says.
+    /// A bed with as many keys of `database` held for `owner` as `size` says.
     pub fn new(alloc: Global, database: u32, owner: Owner, size: Size) -> Result<Self> {
         let held = KeyList::Held.keys(alloc, database, size)?;
         let table = table_with(alloc, held.as_slice(), owner)?;

@@ -126,7 +126,7 @@ static ROWS: [Row<Work>; 11] = [
     },
 ];
 
-/// Prints the table of times, or with `check` what fewer of the same steps leave.
+/// Prints the table of times, at `database` for `owner`, or with `check` what fewer of the same steps leave.
 pub fn print<R: CpuClock + AllocGlobal + Print>(
     rt: &R,
     database: u32,
@@ -150,7 +150,7 @@ pub fn print<R: CpuClock + AllocGlobal + Print>(
     Ok(())
 }
 
-/// Prints the rows for `held` entries.
+/// Prints the rows for `held` entries, at `database` for `owner`, or with `check` what fewer of the same steps leave.
 fn print_size<R: CpuClock + AllocGlobal + Print>(
     rt: &R,
     database: u32,
@@ -175,7 +175,7 @@ fn print_size<R: CpuClock + AllocGlobal + Print>(
     print_rows(rt, lines.as_slice(), commit, size.held)
 }
 
-/// Times all of `lines`, each once in a round.
+/// Times all of `lines` with `bed`, each once in a round.
 fn time_rows<R: CpuClock>(rt: &R, bed: &mut Bed, lines: &mut [Line<Work>]) -> Result<()> {
     for round in 0..ROUNDS {
         time_round(rt, bed, lines, round)?;
@@ -183,7 +183,7 @@ fn time_rows<R: CpuClock>(rt: &R, bed: &mut Bed, lines: &mut [Line<Work>]) -> Re
     Ok(())
 }
 
-/// Times all of `lines` once, in the round numbered `round`.
+/// Times all of `lines` with `bed` once, in the round numbered `round`.
 fn time_round<R: CpuClock>(
     rt: &R,
     bed: &mut Bed,
@@ -197,7 +197,7 @@ fn time_round<R: CpuClock>(
     Ok(())
 }
 
-/// The nanoseconds of a round of the row `line`.
+/// The nanoseconds of a round of the row `line` with `bed`.
 fn time_row<R: CpuClock>(rt: &R, bed: &mut Bed, line: &Line<Work>) -> Result<u64> {
     let from = cpu_nanos(rt)?;
     bed.run(line)?;
@@ -237,7 +237,8 @@ fn time_commit<R: CpuClock + AllocGlobal>(rt: &R, held: &[Key]) -> Result<Spread
     Ok(times.spread())
 }
 
-/// Prints what each of `lines` and a commit take, and how much that is of what the map takes.
+/// Prints what each of `lines` and a commit take, the latter `commit`, with `held` entries, and how much that is of
+/// what the map takes.
 fn print_rows<R: Print>(rt: &R, lines: &[Line<Work>], commit: Spread, held: u32) -> Result<()> {
     println!(rt; "{held} held")?;
     print_times(rt, WIDTH, lines)?;
@@ -257,7 +258,7 @@ fn print_rows<R: Print>(rt: &R, lines: &[Line<Work>], commit: Spread, held: u32)
     Ok(())
 }
 
-/// Makes the steps of all `lines` once, and two commits, and prints what they leave.
+/// Makes the steps of all `lines` with `bed` once, and two commits, and prints what they leave.
 fn check_rows<R: AllocGlobal + Print>(rt: &R, bed: &mut Bed, lines: &[Line<Work>]) -> Result<()> {
     let before = bed.entries();
     for line in lines {
@@ -269,7 +270,7 @@ fn check_rows<R: AllocGlobal + Print>(rt: &R, bed: &mut Bed, lines: &[Line<Work>
     Ok(())
 }
 
-/// Prints what the steps of `line` counted, and how many entries there were before and after.
+/// Prints what the steps of `line` counted, as `counted` says, and how many entries there were `before` and `after`.
 fn print_checked<R: Print>(
     rt: &R,
     line: &Line<Work>,

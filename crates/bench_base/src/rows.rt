@@ -40,8 +40,8 @@ pub struct Line<W> {
 }
 
 impl<W: Copy> Line<W> {
-    /// The line of `row` with its keys, for rounds of as many steps as it says, or of fewer where `check` says that
-    /// nothing is timed.
+    /// The line of `row` with its keys at `database` in a bed of `size`, for rounds of as many steps as it says, or
+    /// of fewer where `check` says that nothing is timed.
     fn new(
         alloc: Global,
         row: &Row<W>,
@@ -86,7 +86,8 @@ pub fn laps_of(keys: &[Key], steps: u32) -> u32 {
     steps.checked_div(count).unwrap_or(0).max(1)
 }
 
-/// The lines of `rows` with their keys.
+/// The lines of `rows` with their keys at `database` in a bed of `size`, for fewer steps where `check` says that
+/// nothing is timed.
 pub fn lines<W: Copy>(
     alloc: Global,
     rows: &[Row<W>],
