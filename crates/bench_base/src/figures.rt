@@ -20,9 +20,10 @@ const HEIGHT: usize = 64;
 /// How high the heading is above them.
 const HEADING: usize = 32;
 
-/// Where there is no telling a ratio, in a table, and among values with commas between them.
+/// What a table shows for no ratio.
 const UNTOLD: &str = "-";
 
+/// What is written for no ratio among values with commas between them.
 const NO_VALUE: &str = "";
 
 /// What a workload took, its bare atomic steps, and the same work on a map in a mutex.

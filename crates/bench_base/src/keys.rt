@@ -2,6 +2,7 @@
 use modes_core::{Mode, Tag};
 use std::alloc::{AllocError, Global};
 
+/// An object and a mode that a row asks for.
 pub type Key = (Tag, Mode);
 
 /// How many keys a list has that nobody holds.

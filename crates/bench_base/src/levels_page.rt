@@ -13,9 +13,10 @@ use std::time::CpuClock;
 /// How many entries the first level has.
 static SIZES: [u32; 3] = [10, 100, 1_000];
 
-/// How many savepoints a round has, and how many where nothing is timed.
+/// How many savepoints a round has.
 const SAVEPOINTS: u32 = 1_000;
 
+/// How many savepoints a round has where nothing is timed.
 const CHECKED_SAVEPOINTS: u32 = 10;
 
 /// How many columns the names of the rows take.
@@ -32,6 +33,7 @@ enum Work {
     SubAbort,
 }
 
+/// The rows of the table: the name of each, its keys and its work.
 static ROWS: [(&str, KeyList, Work); 4] = [
     ("ten new pairs, in level 1", KeyList::Ten, Work::Pairs),
     (

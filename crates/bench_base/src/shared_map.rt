@@ -8,6 +8,7 @@ use std::collections::HashMap;
 use std::sync::{Mutex, Wait};
 use std::time::CpuClock;
 
+/// How often each object is counted in each mode, in a map under a mutex.
 pub type SharedMap = Mutex<HashMap<(Tag, Mode), u32>>;
 
 /// Counts `tag` in `mode` once more in `map`. Refused only where memory ran out.

@@ -32,6 +32,7 @@ struct Work {
     acquires: u32,
 }
 
+/// For how long something is held in most cases, and how often.
 static WORK: [Work; 3] = [
     Work {
         nanos: 0,

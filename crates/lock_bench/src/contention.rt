@@ -21,6 +21,7 @@ const LISTED: u32 = 250;
 /// How often a thread looks at most whether all others have come, or have ended, with `PAUSE` microseconds between.
 const LOOKS: u32 = 100_000;
 
+/// How many microseconds a thread sleeps between two looks.
 const PAUSE: u64 = 100;
 
 /// How often the clock is read at most while a lock is held.

@@ -26,6 +26,7 @@ enum Case {
     OneRelation,
 }
 
+/// The cases in the order of the table.
 static CASES: [Case; 4] = [
     Case::OneObject,
     Case::OnePartition,

@@ -77,6 +77,7 @@ pub fn try_lock<T: PartTable, B: Board<T>, R: Wait>(
     (session, answer_of(answer))
 }
 
+/// Asks for `tag` in `mode` with `session`, by a slot of its own alone.
 fn try_fast<T: PartTable, B: Board<T>>(
     mut session: OwnSession<T, B>,
     tag: Tag,
@@ -115,6 +116,7 @@ pub fn end_wait<T: PartTable, B: Board<T>, R: Wait>(
     waiting.cancel(rt).into_parts().0
 }
 
+/// Begins a request of `session` for `tag` in `mode`, and cancels the wait where there is one.
 fn start<T: PartTable, B: Board<T>, R: Wait>(
     rt: &R,
     session: OwnSession<T, B>,
@@ -131,6 +133,7 @@ fn start<T: PartTable, B: Board<T>, R: Wait>(
     }
 }
 
+/// Asks for `tag` in `mode` with `session`, and waits for it where something is in the way.
 fn lock<T: PartTable, B: Board<T>, R: Wait>(
     rt: &R,
     session: OwnSession<T, B>,
@@ -143,6 +146,7 @@ fn lock<T: PartTable, B: Board<T>, R: Wait>(
     (session, answer_of(answer))
 }
 
+/// Lists all holds and waits with `session`, and answers how many rows there are.
 fn list<T: PartTable, B: Board<T>, R: Wait>(rt: &R, mut session: OwnSession<T, B>) -> Answered<T, B>
     ensures seat { KeepsSeat B.seat session result.0 }
 {

@@ -78,6 +78,7 @@ fn tell_all<R: Wait + Print>(rt: &R, alloc: Global, listens: bool) -> anyhow::Re
     Ok(())
 }
 
+/// Runs all stories by `rt`, and then all growths of sessions at work refused. The error says what went otherwise.
 fn main(rt: HostRuntime) -> anyhow::Result<()> {
     let listens = refuse(rt.alloc(), 1);
     was_refused(rt.alloc());

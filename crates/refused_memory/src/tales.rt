@@ -23,12 +23,13 @@ pub struct Tale {
     pub growths: u16,
 }
 
+/// The relation that tales ask for.
 pub const TABLE: Tag = Tag::Relation {
     database: 5,
     relation: 16_384,
 };
 
-/// The next one.
+/// The relation after `TABLE`.
 pub const ANOTHER_TABLE: Tag = Tag::Relation {
     database: 5,
     relation: 16_385,
@@ -54,8 +55,10 @@ pub fn object(number: u32) -> Tag {
     Tag::object(5, 2_600, 16 * (number % 1_024), 0)
 }
 
+/// No other session has anything.
 const NOBODY: [Option<Hold>; 3] = [None, None, None];
 
+/// Three other sessions read the table.
 const READERS: [Option<Hold>; 3] = [
     Some((TABLE, AccessShare)),
     Some((TABLE, AccessShare)),

@@ -6,6 +6,7 @@ use local_locks::{Acquired, AtOnce, End, LocalTable, Unlocked};
 use modes_core::{Mode, Owner, Refusal, Tag};
 use std::process::Abort;
 
+/// A call of a local table.
 #[derive(Clone, Copy)]
 pub enum Call {
     /// By `reserve` and `add`.
@@ -26,6 +27,7 @@ pub enum Call {
     Entries,
 }
 
+/// What a call of a local table is answered.
 #[derive(Clone, Copy, PartialEq, Eq)]
 pub enum Answer {
     Granted,
@@ -41,7 +43,7 @@ pub enum Answer {
     IsOver,
 }
 
-/// A call that is made so often, and what it is answered each time.
+/// How often a call is made, the call, and what it is answered each time.
 pub type Turn = (u32, Call, Answer);
 
 /// What a list of turns says of `answer`, to an acquire.

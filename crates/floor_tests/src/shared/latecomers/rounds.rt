@@ -9,27 +9,30 @@ use std::time::{Clock, Duration};
 /// How many rounds two threads have each time that they begin.
 pub const ROUNDS: u64 = 8;
 
-/// How often a session looks for the other one before it leaves its processor between looks, and before it sleeps
-/// between them. A session that sleeps for a lock has it later than after `SOON` looks, and one that attempts it once
-/// more has it sooner.
+/// How often a session looks for the other one before it leaves its processor between looks. A session that sleeps
+/// for a lock has it later than after this many looks, and one that attempts it once more has it sooner.
 const SOON: u64 = 4_000;
 
+/// How often a session looks before it sleeps between two looks.
 const LATE: u64 = 8_000;
 
-/// How often a session sleeps, for as many milliseconds as it says below, before it gives up.
+/// How often a session sleeps, for `PAUSE` milliseconds each time, before it gives up.
 const PAUSES: u32 = 2_000;
 
+/// For how many milliseconds a session sleeps between two looks.
 const PAUSE: u64 = 10;
 
-/// How many looks longer the lock is held after a round in which the other session had it soon, and how many shorter
-/// after one in which it slept. So rounds end close to the moment at which it goes to sleep, some looks sooner or later
-/// by chance.
+/// How many looks longer the lock is held after a round in which the other session had it soon. With `SHORTER`,
+/// rounds end close to the moment at which that session goes to sleep.
 const LONGER: u64 = 16;
 
+/// How many looks shorter the lock is held after a round in which the other session slept for it.
 const SHORTER: u64 = 96;
 
+/// By fewer looks than this the lock is held longer, by chance.
 const CHANCE: u64 = 128;
 
+/// For how many looks the lock is held at most, but for chance.
 const LONGEST: u64 = 65_536;
 
 /// Whether `word` comes to show `round` soon.
