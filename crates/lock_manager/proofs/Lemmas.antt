@@ -12,3 +12,4 @@ pub mod Quiet
 pub mod ShutDown
 pub mod Advisory
 pub mod Blocked
+pub mod Pools

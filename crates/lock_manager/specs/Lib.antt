@@ -17,3 +17,5 @@ pub mod Patience
 pub mod Queues
 pub mod ShutDown
 pub mod Quiet
+pub mod Reuse
+pub mod Pools

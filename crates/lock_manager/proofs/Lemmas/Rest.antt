@@ -3,3 +3,4 @@ pub mod Acquires
 pub mod Ends
 pub mod Entries
 pub mod Reads
+pub mod Stored

@@ -1,0 +1,222 @@
+//! Pools: sessions for connections that come and go.
+
+ghost use Rattle.std.specs.Prelude.{◌≡◌, ◌≢◌, ◌⊎◌, ◌↔◌, ◌<◌, ◌≤◌, ◌+◌, ◌-◌, [], length, IsNone, IfSome, IfNone, IfOk, IfErr, IsErrOf, IsOkUnless, OnOk, OnErr, MatchResult};
+ghost use Rattle.lock_manager.specs.Crews.{AreOf, IsOf, SeatsAre};
+ghost use Rattle.lock_manager.specs.Desks.{opener_at, session_at};
+ghost use Rattle.lock_manager.specs.Managers.{IsOpened};
+ghost use Rattle.lock_manager.specs.Pools.{IsLowestBelow, LendsLowest, TakesIn, life_of};
+ghost use Rattle.lock_manager.specs.Reuse.{ServesNext};
+ghost use Rattle.lock_manager.specs.Waiting.{Asks};
+
+use crate::crews::close_sessions;
+use crate::desk::Desk;
+use crate::sessions::OwnSession;
+use crate::waiting::Asked;
+use lock_table::PartTable;
+use modes_core::{Refusal, SessionId};
+use shared_rule::Board;
+use std::alloc::Global;
+use std::marker::Model;
+use std::sync::Wait;
+
+/// A session number, and which of those it is who had it in turn. Once its session was given back to the `SessionPool` that lent it,
+/// nobody has this life any more.
+#[derive(Clone, Copy, Debug, PartialEq, Eq)]
+pub struct SessionLife {
+    pub number: SessionId,
+    pub life: u64,
+}
+
+/// Lends the sessions of one manager to connections that come and go, any number of them in turn, and as many at a time as the
+/// manager has (`freeProcs` of `ProcGlobal` in proc.c, of which `InitProcess` takes one and to which `ProcKill` gives it back). A
+/// session that nobody has holds nothing. Contracts see those, and each number's life.
+pub struct SessionPool<T: PartTable, B: Board<T>> {
+    free: Vec<OwnSession<T, B>>,
+    lives: [u64; 64],
+}
+
+impl<T: PartTable, B: Board<T>> Model for SessionPool<T, B> {
+    ghost use Rattle.std.specs.Prelude.{◌≡◌, ◌≤◌, length};
+    ghost use Rattle.std.specs.Vec.{vec_capacity};
+    ghost use Rattle.lock_manager.specs.Pools.{PoolView};
+
+    ghost Value = { PoolView B };
+
+    ghost view = { λ pool. record { free = pool.free.items; lives = pool.lives } };
+
+    ghost invariant = { λ pool. (64 ≤ vec_capacity pool.free) };
+}
+
+/// The place of the session with the lowest number among those of `free`, of which there is one at least.
+fn lowest_place<T: PartTable, B: Board<T>>(free: &Vec<OwnSession<T, B>>) -> usize
+    requires some { 0 < length free.now.items }
+    ensures within { result < length free.now.items }
+    ensures lowest { IsLowestBelow B.seat free.now.items (length free.now.items) result }
+{
+    let mut lowest = 0usize;
+    for place in 1..free.len() {
+        let other = free[place].id().number();
+        let least = free[lowest].id().number();
+        if other < least {
+            lowest = place;
+        }
+    }
+    lowest
+}
+
+impl<T: PartTable, B: Board<T>> SessionPool<T, B> {
+    /// A pool with no session yet, which has room for all that a manager can have. Refused where memory, by `alloc`, runs out.
+    pub fn new(alloc: Global) -> Result<Self, Refusal>
+        ensures ok { IfOk result (λ pool. pool.free ≡ []) }
+        ensures no_memory { IsOkUnless result Refusal.NoMemory }
+    {
+        match Vec::with_capacity(alloc, 64) {
+            Ok(free) => Ok(SessionPool {
+                free,
+                lives: [0; 64],
+            }),
+            Err(_) => Err(Refusal::NoMemory),
+        }
+    }
+
+    /// How many sessions nobody has.
+    pub fn free(&self) -> usize
+        ensures { result ≡ length self.now.free }
+    {
+        self.free.len()
+    }
+
+    /// The session with the lowest number of those that nobody has, which serves `database` from then on, or `None` where there is none.
+    pub fn lend<R: Wait>(&mut self, rt: &R, database: u32) -> Option<OwnSession<T, B>>
+        ensures none { IsNone result ↔ (self.old.free ≡ []) }
+        ensures unchanged { IfNone result (self.new ≡ self.old) }
+        ensures lent { IfSome result (λ session. LendsLowest B.seat B.view B.stack B.quiet database self.old self.new session) }
+    {
+        if self.free.is_empty() {
+            return None;
+        }
+        let place = lowest_place(&self.free);
+        let mut session = self.free.remove(place);
+        session.serve_next(rt, database);
+        Some(session)
+    }
+
+    /// Takes `session` in, all of whose holds are released, in the order of making (`ProcKill` in proc.c). Nobody has its life any more.
+    /// It comes back, with nothing held, where as many as 64 are there already, which can't be of one manager's sessions.
+    pub fn take_in<R: Wait>(
+        &mut self,
+        rt: &R,
+        mut session: OwnSession<T, B>,
+    ) -> Result<(), OwnSession<T, B>>
+        ensures taken { MatchResult result
+            (λ _. TakesIn B.seat B.view B.stack B.quiet session self.old self.new)
+            (λ back. ServesNext B.seat B.view B.stack B.quiet 0 session back × (64 ≤ length self.old.free)
+            × (self.new ≡ self.old)) }
+    {
+        session.serve_next(rt, 0);
+        if self.free.len() >= 64 {
+            return Err(session);
+        }
+        let number = usize::from(session.id().number());
+        self.lives[number] = self.lives[number].wrapping_add(1);
+        self.free.push_reserved(session);
+        Ok(())
+    }
+
+    /// The number of `session`, with the life that it has now.
+    pub fn life_of(&self, session: &OwnSession<T, B>) -> SessionLife
+        ensures number { result.number ≡ (B.seat session.now.board).number }
+        ensures life { result.life ≡ life_of self.now.lives (B.seat session.now.board).number }
+    {
+        let number = session.id();
+        SessionLife {
+            number,
+            life: self.lives[usize::from(number.number())],
+        }
+    }
+
+    /// Has `session` ask whoever is `other` to cancel its wait, as `OwnSession::ask_cancel` does (`processCancelRequest` in postmaster.c,
+    /// which compares the key of whoever is to be cancelled). Where that life is over nothing is done, and nobody else's wait ends: the
+    /// pool is borrowed meanwhile, so no number goes on to another life.
+    pub fn ask_cancel(&self, session: &mut OwnSession<T, B>, other: SessionLife) -> Asked
+        ensures over { life_of self.now.lives other.number ≢ other.life →
+            (result ≡ Asked.NotWaiting) × (session.new ≡ session.old) }
+        ensures asked { life_of self.now.lives other.number ≡ other.life →
+            Asks (B.view session.old.board) other.number result (B.view session.new.board) }
+        ensures quiet { B.quiet session.new.board ≡ B.quiet session.old.board }
+        ensures owned { session.new.owned ≡ session.old.owned }
+        ensures uses { session.new.uses ≡ session.old.uses }
+        ensures seat { B.seat session.new.board ≡ B.seat session.old.board }
+    {
+        if self.lives[usize::from(other.number.number())] != other.life {
+            return Asked::NotWaiting;
+        }
+        session.ask_cancel(other.number)
+    }
+
+    /// A session of `desk` for a connection, which works on `database`: the one with the lowest number of those that nobody has, or
+    /// else a new one. Refused where all that the manager can have are had, and then where memory runs out; nothing has changed then.
+    pub fn open<D: Desk<OwnSession<T, B>>, R: Wait>(
+        &mut self,
+        rt: &R,
+        desk: &mut D,
+        database: u32,
+    ) -> Result<OwnSession<T, B>, Refusal>
+        requires seats { SeatsAre B.seat D.seat }
+        requires free { AreOf B.seat (D.manager desk.old) self.old.free }
+        ensures lowest { IfOk result (λ session. (self.old.free ≡ [])
+            ⊎ LendsLowest B.seat B.view B.stack B.quiet database self.old self.new session) }
+        ensures opened { IfOk result (λ session. self.old.free ≡ [] → IsOpened D.seat D.account D.stack
+            (opener_at (D.manager desk.old) (D.issued desk.old) (D.live desk.old) (D.closed desk.old)) (D.manager desk.old)
+            database (session_at D.database_of D.uses D.owned session)) }
+        ensures own { IfOk result (λ session. IsOf B.seat (D.manager desk.old) session) }
+        ensures free { AreOf B.seat (D.manager desk.old) self.new.free }
+        ensures no_more { IsErrOf result Refusal.NoMoreSessions ↔
+            ((self.old.free ≡ []) × (D.issued desk.old ≡ (D.manager desk.old).limit)) }
+        ensures no_other { IfErr result (λ refusal. (refusal ≡ Refusal.NoMoreSessions) ⊎ (refusal ≡ Refusal.NoMemory)) }
+        ensures unchanged { OnErr result (self.new ≡ self.old) }
+        ensures none_new { self.old.free ≢ [] → desk.new ≡ desk.old }
+        ensures live { OnOk result (D.live desk.new + length self.old.free ≡ D.live desk.old + length self.new.free + 1) }
+        ensures fewer_free { OnOk result (length self.new.free ≡ length self.old.free - 1) }
+        ensures none_live { OnErr result (D.live desk.new ≡ D.live desk.old) }
+        ensures manager { D.manager desk.new ≡ D.manager desk.old }
+    {
+        match self.lend(rt, database) {
+            Some(session) => Ok(session),
+            None => desk.open(database),
+        }
+    }
+
+    /// Takes `session` back, one of `desk`, whose connection has ended (`take_in`). Should the pool be full, which can't be, it is closed.
+    pub fn close<D: Desk<OwnSession<T, B>>, R: Wait>(
+        &mut self,
+        rt: &R,
+        desk: &mut D,
+        session: OwnSession<T, B>,
+    )
+        requires seats { SeatsAre B.seat D.seat }
+        requires own { IsOf B.seat (D.manager desk.old) session }
+        requires free { AreOf B.seat (D.manager desk.old) self.old.free }
+        ensures taken { length self.old.free < 64 →
+            TakesIn B.seat B.view B.stack B.quiet session self.old self.new × (desk.new ≡ desk.old) }
+        ensures one_more { length self.old.free < 64 → length self.new.free ≡ length self.old.free + 1 }
+        ensures free { AreOf B.seat (D.manager desk.old) self.new.free }
+        ensures manager { D.manager desk.new ≡ D.manager desk.old }
+    {
+        if let Err(session) = self.take_in(rt, session) {
+            desk.close(rt, session);
+        }
+    }
+
+    /// Closes all sessions that nobody has, at `desk`, whose they are. Their numbers are given out no more.
+    pub fn end<D: Desk<OwnSession<T, B>>, R: Wait>(self, rt: &R, desk: &mut D)
+        requires seats { SeatsAre B.seat D.seat }
+        requires free { AreOf B.seat (D.manager desk.old) self.free }
+        ensures manager { D.manager desk.new ≡ D.manager desk.old }
+        ensures live { D.live desk.new ≡ D.live desk.old - length self.free }
+        ensures issued { D.issued desk.new ≡ D.issued desk.old }
+    {
+        let SessionPool { free, lives: _ } = self;
+        close_sessions(rt, desk, free);
+    }
+}
