@@ -1,6 +1,6 @@
 //! A day of the bank: its threads, the rush of connections, and the manager from its beginning to its end.
 
-ghost use Rattle.std.specs.Prelude.{◌≡◌, [], None, IfSome, IfOk};
+ghost use Rattle.std.specs.Prelude.{◌≡◌, ◌≤◌, ◌<◌, ◌+◌, [], length, None, IfSome, IsSome, IfOk};
 ghost use Rattle.lock_manager.specs.Managers.{ManagerView};
 ghost use Rattle.lock_manager.specs.Crews.{AreOf, IsOf, KeepManagers, KeepsSeat, SeatsAre};
 
@@ -39,9 +39,7 @@ pub fn live_through<R: Threads + Wait + Clock + Sync>(
     let mut desk = ManagerDesk::new(&manager, opener);
     let report = at_the_desk(rt, alloc, &mut desk)?;
     let opener = desk.into_opener();
-    if opener.live() == 0 {
-        manager.finish(opener);
-    }
+    manager.finish(opener);
     Ok(report)
 }
 
@@ -52,7 +50,8 @@ fn at_the_desk<R: Threads + Wait + Clock + Sync>(
     alloc: Global,
     desk: &mut ManagerDesk<'_>,
 ) -> Result<Report, Refusal>
-    ensures { desk.new.manager.now ≡ desk.old.manager.now }
+    ensures manager { desk.new.manager.now ≡ desk.old.manager.now }
+    ensures live { desk.new.opener.live ≡ desk.old.opener.live }
 {
     let pool = Pool::new(alloc, DATABASE)?;
     let report = with_pool(rt, alloc, desk, pool)?;
@@ -72,6 +71,7 @@ fn with_pool<B: Board<Part> + Send, D: Desk<OwnSession<Part, B>>, R: Threads + W
     requires seats { SeatsAre B.seat D.seat }
     requires none { pool.idle.items ≡ [] }
     ensures manager { D.manager desk.new ≡ D.manager desk.old }
+    ensures live { D.live desk.new ≡ D.live desk.old }
 {
     let mut pool = pool;
     let bank = Bank::new();
@@ -101,9 +101,12 @@ fn hire<B: Board<Part>, D: Desk<OwnSession<Part, B>>, R: Wait>(
     requires seats { SeatsAre B.seat D.seat }
     requires own { AreOf B.seat (D.manager desk.old) staff.old.items }
     requires idle { AreOf B.seat (D.manager desk.old) pool.old.idle.items }
+    requires few { length pool.old.idle.items + length staff.old.items ≤ D.live desk.old }
     ensures own { AreOf B.seat (D.manager desk.old) staff.new.items }
     ensures idle { AreOf B.seat (D.manager desk.old) pool.new.idle.items }
     ensures manager { D.manager desk.new ≡ D.manager desk.old }
+    ensures hired { D.live desk.new + length pool.old.idle.items + length staff.old.items
+        ≡ D.live desk.old + length pool.new.idle.items + length staff.new.items }
 {
     'staff: for _ in 0..number {
         let session = pool.take(desk)?;
@@ -125,8 +128,10 @@ fn work<B: Board<Part> + Send, D: Desk<OwnSession<Part, B>>, R: Threads + Wait +
 ) -> Result<(), Refusal>
     requires seats { SeatsAre B.seat D.seat }
     requires idle { AreOf B.seat (D.manager desk.old) pool.old.idle.items }
+    requires few { length pool.old.idle.items ≤ D.live desk.old }
     ensures idle { AreOf B.seat (D.manager desk.old) pool.new.idle.items }
     ensures manager { D.manager desk.new ≡ D.manager desk.old }
+    ensures all_back { D.live desk.new + length pool.old.idle.items ≡ D.live desk.old + length pool.new.idle.items }
 {
     let mut staff = Vec::new(alloc);
     let hired = hire(rt, desk, pool, &mut staff, STAFF);
@@ -144,9 +149,12 @@ fn work_if_any<
     requires seats { SeatsAre B.seat D.seat }
     requires own { AreOf B.seat (D.manager desk.old) staff.old.items }
     requires idle { AreOf B.seat (D.manager desk.old) pool.old.idle.items }
+    requires few { length pool.old.idle.items + length staff.old.items ≤ D.live desk.old }
     ensures own { AreOf B.seat (D.manager desk.old) staff.new.items }
     ensures idle { AreOf B.seat (D.manager desk.old) pool.new.idle.items }
     ensures manager { D.manager desk.new ≡ D.manager desk.old }
+    ensures as_many { D.live desk.new + length pool.old.idle.items + length staff.old.items
+        ≡ D.live desk.old + length pool.new.idle.items + length staff.new.items }
 {
     if let Some(session) = staff.pop() {
         if let Some(session) = work_beside(rt, desk, bank, staff, session) {
@@ -171,7 +179,9 @@ fn work_beside<
     requires own { AreOf B.seat (D.manager _desk.now) staff.old.items }
     requires session { IsOf B.seat (D.manager _desk.now) session }
     ensures own { AreOf B.seat (D.manager _desk.now) staff.new.items }
+    ensures as_many { length staff.new.items ≡ length staff.old.items }
     ensures migrated { IfSome result (IsOf B.seat (D.manager _desk.now)) }
+    ensures back { IsSome result }
 {
     let tellers = staff.len().saturating_sub(1);
     let watch = Watch::of(tellers as u64);
@@ -190,9 +200,11 @@ fn side_by_side<B: Board<Part> + Send, R: Threads + Wait + Clock + Sync>(
     migration: &mut Option<OwnSession<Part, B>>,
 ) -> Option<OwnSession<Part, B>>
     ensures own { KeepManagers B.seat staff.old.items staff.new.items }
+    ensures as_many { length staff.new.items ≡ length staff.old.items }
     ensures gone { migration.new ≡ None }
     ensures migrated { (manager : ManagerView) → IfSome migration.old (IsOf B.seat manager)
         → IfSome result (IsOf B.seat manager) }
+    ensures back { IsSome migration.old → IsSome result }
 {
     let ((), migrated) = join_mut(
         rt,
@@ -210,6 +222,7 @@ fn staff_works<B: Board<Part> + Send, R: Threads + Wait + Clock + Sync>(
     staff: &mut Vec<OwnSession<Part, B>>,
 )
     ensures own { KeepManagers B.seat staff.old.items staff.new.items }
+    ensures as_many { length staff.new.items ≡ length staff.old.items }
 {
     each_works(rt, bank, watch, staff.as_mut_slice());
 }
@@ -260,6 +273,7 @@ fn migrate_lent<B: Board<Part>, R: Wait + Clock>(
     ensures gone { migration.new ≡ None }
     ensures migrated { (manager : ManagerView) → IfSome migration.old (IsOf B.seat manager)
         → IfSome result (IsOf B.seat manager) }
+    ensures back { IsSome migration.old → IsSome result }
 {
     match migration.take() {
         Some(session) => Some(migrate(rt, bank, session)),
@@ -287,8 +301,10 @@ fn rush<B: Board<Part>, D: Desk<OwnSession<Part, B>>, R: Wait>(
 ) -> Result<(Option<Refusal>, SessionId), Refusal>
     requires seats { SeatsAre B.seat D.seat }
     requires idle { AreOf B.seat (D.manager desk.old) pool.old.idle.items }
+    requires few { length pool.old.idle.items ≤ D.live desk.old }
     ensures idle { AreOf B.seat (D.manager desk.old) pool.new.idle.items }
     ensures manager { D.manager desk.new ≡ D.manager desk.old }
+    ensures all_back { D.live desk.new + length pool.old.idle.items ≡ D.live desk.old + length pool.new.idle.items }
 {
     let mut connections = Vec::new(alloc);
     let hired = hire(rt, desk, pool, &mut connections, MOST_SESSIONS);
@@ -310,8 +326,10 @@ fn connect<B: Board<Part>, D: Desk<OwnSession<Part, B>>, R: Wait>(
 ) -> Result<SessionId, Refusal>
     requires seats { SeatsAre B.seat D.seat }
     requires idle { AreOf B.seat (D.manager desk.old) pool.old.idle.items }
+    requires few { length pool.old.idle.items ≤ D.live desk.old }
     ensures idle { AreOf B.seat (D.manager desk.old) pool.new.idle.items }
     ensures manager { D.manager desk.new ≡ D.manager desk.old }
+    ensures all_back { D.live desk.new + length pool.old.idle.items ≡ D.live desk.old + length pool.new.idle.items }
 {
     let session = pool.take(desk)?;
     let number = session.id();

@@ -1,54 +1,42 @@
-//! Waits with a limit of time.
+//! Waits with a limit of time, as the server has with `lock_timeout`.
 
 ghost use Rattle.std.specs.Prelude.{◌≡◌};
 ghost use Rattle.lock_manager.specs.Crews.{KeepsSeat};
 
-use lock_manager::{
-    Acquired, Board, Mode, OwnSession, OwnWaiting, Owner, Part, Polled, Refusal, Started, Tag,
-};
+use lock_manager::{Acquired, Board, Mode, OwnSession, Owner, Part, Refusal, Tag};
 use std::sync::Wait;
-use std::thread;
-use std::time::{Clock, Duration};
+use std::time::{Clock, Duration, Instant};
+use std::{io, thread};
 
 /// How many milliseconds a wait sleeps between two looks.
 const PAUSE: u64 = 1;
 
-/// Takes `mode` on `tag` for the transaction of `session`, and looks at its wait `looks` times at most, each time
-/// after a pause. Then it gives up, and the answer is `Cancelled`.
+/// Takes `mode` on `tag` for the transaction of `session`, and waits for it until `timeout` is over. Then it gives up,
+/// and the answer is `Cancelled`. Where the grant came first after all, the session has the mode, and the answer says
+/// so.
 pub fn take_in_time<B: Board<Part>, R: Wait + Clock>(
     rt: &R,
-    session: OwnSession<Part, B>,
+    session: &mut OwnSession<Part, B>,
     tag: Tag,
     mode: Mode,
-    looks: u32,
-) -> (OwnSession<Part, B>, Result<Acquired, Refusal>)
-    ensures seat { KeepsSeat B.seat session result.0 }
+    timeout: Duration,
+) -> Result<Acquired, Refusal>
+    ensures seat { KeepsSeat B.seat session.old session.new }
 {
-    match session.start(rt, tag, mode, Owner::Transaction) {
-        Started::Granted(session) => (session, Ok(Acquired::Granted)),
-        Started::AlreadyHeld(session) => (session, Ok(Acquired::AlreadyHeld)),
-        Started::Refused(session, refusal) => (session, Err(refusal)),
-        Started::Queued(waiting) => wait_in_time(rt, waiting, looks),
-    }
+    let begun = Instant::now(rt);
+    session.acquire_while(rt, tag, mode, Owner::Transaction, || {
+        thread::sleep(rt, Duration::from_millis(PAUSE));
+        is_within(rt, &begun, timeout)
+    })
 }
 
-/// Looks at `waiting` up to `looks` times, and then cancels it.
-fn wait_in_time<B: Board<Part>, R: Wait + Clock>(
-    rt: &R,
-    waiting: OwnWaiting<Part, B>,
-    looks: u32,
-) -> (OwnSession<Part, B>, Result<Acquired, Refusal>)
-    ensures seat { B.seat result.0.board ≡ B.seat waiting.board }
-{
-    let mut waiting = waiting;
-    'looks: for _ in 0..looks {
-        waiting = match waiting.poll() {
-            Polled::Granted(session) => return (session, Ok(Acquired::Granted)),
-            Polled::CancelAsked(waiting) => return waiting.cancel(rt).into_parts(),
-            Polled::Still(waiting) => waiting,
-        };
-        thread::sleep(rt, Duration::from_millis(PAUSE));
+/// Whether no more than `timeout` is over since `begun`, by the clock. Without one no time is left.
+fn is_within<R: Clock>(rt: &R, begun: &io::Result<Instant>, timeout: Duration) -> bool {
+    let Ok(begun) = begun else {
+        return false;
+    };
+    match begun.elapsed(rt) {
+        Ok(waited) => waited < timeout,
+        Err(_) => false,
     }
-    // Where the grant came first after all, the session has the mode, and the answer says so.
-    waiting.cancel(rt).into_parts()
 }

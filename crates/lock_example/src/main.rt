@@ -4,6 +4,7 @@
 mod bank;
 mod connections;
 mod day;
+mod deadlocks;
 mod limits;
 mod monitor;
 mod pool;

@@ -1,6 +1,6 @@
 //! Sessions of one database that are handed from connection to connection: a manager gives out 64 over its life.
 
-ghost use Rattle.std.specs.Prelude.{◌≡◌, [], IfOk};
+ghost use Rattle.std.specs.Prelude.{◌≡◌, ◌<◌, ◌≤◌, ◌+◌, ◌-◌, [], length, IfOk, OnErr};
 ghost use Rattle.lock_manager.specs.Crews.{AreOf, IsOf, SeatsAre};
 
 use lock_manager::{
@@ -39,6 +39,10 @@ impl<B: Board<Part>> Pool<B> {
         ensures own { IfOk result (λ session. IsOf B.seat (D.manager desk.old) session) }
         ensures idle { AreOf B.seat (D.manager desk.old) self.new.idle.items }
         ensures manager { D.manager desk.new ≡ D.manager desk.old }
+        ensures one_out { IfOk result (λ _.
+            D.live desk.new + length self.old.idle.items ≡ D.live desk.old + length self.new.idle.items + 1) }
+        ensures none_out { OnErr result
+            (D.live desk.new + length self.old.idle.items ≡ D.live desk.old + length self.new.idle.items) }
     {
         match self.idle.pop() {
             Some(session) => Ok(session),
@@ -57,8 +61,11 @@ impl<B: Board<Part>> Pool<B> {
         requires seats { SeatsAre B.seat D.seat }
         requires own { IsOf B.seat (D.manager desk.old) session }
         requires idle { AreOf B.seat (D.manager desk.old) self.old.idle.items }
+        requires out { length self.old.idle.items < D.live desk.old }
         ensures idle { AreOf B.seat (D.manager desk.old) self.new.idle.items }
         ensures manager { D.manager desk.new ≡ D.manager desk.old }
+        ensures back { D.live desk.new + length self.old.idle.items + 1
+            ≡ D.live desk.old + length self.new.idle.items }
     {
         let mut session = session;
         session.abort(rt);
@@ -77,8 +84,11 @@ impl<B: Board<Part>> Pool<B> {
         requires seats { SeatsAre B.seat D.seat }
         requires own { AreOf B.seat (D.manager desk.old) sessions.items }
         requires idle { AreOf B.seat (D.manager desk.old) self.old.idle.items }
+        requires out { length self.old.idle.items + length sessions.items ≤ D.live desk.old }
         ensures idle { AreOf B.seat (D.manager desk.old) self.new.idle.items }
         ensures manager { D.manager desk.new ≡ D.manager desk.old }
+        ensures back { D.live desk.new + length self.old.idle.items + length sessions.items
+            ≡ D.live desk.old + length self.new.idle.items }
     {
         'sessions: while let Some(session) = sessions.pop() {
             self.give_back(rt, desk, session);
@@ -91,6 +101,7 @@ impl<B: Board<Part>> Pool<B> {
         requires seats { SeatsAre B.seat D.seat }
         requires idle { AreOf B.seat (D.manager desk.old) self.idle.items }
         ensures manager { D.manager desk.new ≡ D.manager desk.old }
+        ensures closed { D.live desk.new ≡ D.live desk.old - length self.idle.items }
     {
         let Pool { database: _, idle } = self;
         close_sessions(rt, desk, idle);

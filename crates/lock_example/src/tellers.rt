@@ -10,7 +10,7 @@ use crate::watch::Watch;
 use lock_manager::{Board, Mode, OwnSession, Owner, Part, Refusal, Tag};
 use std::sync::Wait;
 use std::thread;
-use std::time::Clock;
+use std::time::{Clock, Duration};
 
 /// How many transfers a teller makes, and how many alterations the migration.
 const TRANSFERS: u32 = 200;
@@ -20,8 +20,8 @@ const ALTERATIONS: u32 = 10;
 /// How often a transaction is tried that was refused a lock.
 const ATTEMPTS: u32 = 1_000;
 
-/// How often the migration looks at its wait before it gives up for this time.
-const LOOKS: u32 = 20;
+/// How many milliseconds the migration waits before it gives up for this time.
+const PATIENCE: u64 = 20;
 
 /// Between which accounts a transfer goes, and how much of it.
 #[derive(Clone, Copy)]
@@ -178,8 +178,9 @@ fn try_to_alter<B: Board<Part>, R: Wait + Clock>(
 ) -> (OwnSession<Part, B>, bool)
     ensures seat { KeepsSeat B.seat session result.0 }
 {
-    let (session, answer) = take_in_time(rt, session, ACCOUNTS, Mode::AccessExclusive, LOOKS);
     let mut session = session;
+    let patience = Duration::from_millis(PATIENCE);
+    let answer = take_in_time(rt, &mut session, ACCOUNTS, Mode::AccessExclusive, patience);
     if answer.is_ok() {
         bank.rewrite();
     }

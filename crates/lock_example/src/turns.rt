@@ -1,6 +1,6 @@
 //! Two threads of a server share a lock manager: one reads and writes a table, which the other wants to alter.
 
-ghost use Rattle.std.specs.Prelude.{◌≡◌};
+ghost use Rattle.lock_manager.specs.Crews.{KeepsManager};
 
 use lock_manager::{Acquired, Config, Final, Manager, Mode, Owner, Refusal, Session, Tag};
 use std::alloc::Global;
@@ -111,14 +111,14 @@ fn tell<R: Threads + Wait + Sync>(rt: &R, alloc: Global) -> Result<Story, Refusa
 /// Asks for `table` in `mode` on behalf of the transaction of `session`. The session stays one of the same manager,
 /// as its close wants.
 fn ask<R: Wait>(rt: &R, session: &mut Session<'_>, table: Tag, mode: Mode) -> Answer
-    ensures same_manager { session.new.board.table.now.table_id ≡ session.old.board.table.now.table_id }
+    ensures same_manager { KeepsManager session.old session.new }
 {
     session.try_lock(rt, table, mode, Owner::Transaction)
 }
 
 /// Ends the transaction of `session`.
 fn commit<R: Wait>(rt: &R, session: &mut Session<'_>)
-    ensures same_manager { session.new.board.table.now.table_id ≡ session.old.board.table.now.table_id }
+    ensures same_manager { KeepsManager session.old session.new }
 {
     session.commit(rt);
 }
@@ -126,7 +126,7 @@ fn commit<R: Wait>(rt: &R, session: &mut Session<'_>)
 /// Ends the transaction of `session`, and asks for `table` in `mode` on behalf of the next one. Where somebody is in
 /// the way it waits.
 fn commit_and_wait<R: Wait>(rt: &R, session: &mut Session<'_>, table: Tag, mode: Mode) -> Answer
-    ensures same_manager { session.new.board.table.now.table_id ≡ session.old.board.table.now.table_id }
+    ensures same_manager { KeepsManager session.old session.new }
 {
     commit(rt, session);
     session.acquire(rt, table, mode, Owner::Transaction)

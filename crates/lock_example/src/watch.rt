@@ -1,8 +1,9 @@
-//! The watchdog, which asks those to cancel who wait too long.
+//! The watchdog, which ends deadlocks, and asks those to cancel who wait too long.
 
 ghost use Rattle.std.specs.Prelude.{◌<◌};
 ghost use Rattle.lock_manager.specs.Crews.{KeepsSeat};
 
+use crate::deadlocks::break_circle;
 use lock_manager::{Board, MOST_SESSIONS, OwnSession, Part, SessionId};
 use std::sync::Wait;
 use std::sync::atomic::{AtomicU64, Ordering};
@@ -61,7 +62,8 @@ impl Watch {
     }
 }
 
-/// Looks again and again at who waits, with `session`, until no thread of `watch` works any more.
+/// Looks again and again at who waits, with `session`, until no thread of `watch` works any more: who waits in a circle,
+/// and who too long.
 pub fn keep_watch<B: Board<Part>, R: Wait + Clock>(
     rt: &R,
     watch: &Watch,
@@ -74,6 +76,7 @@ pub fn keep_watch<B: Board<Part>, R: Wait + Clock>(
         if watch.is_over() {
             return;
         }
+        break_circle(rt, session);
         look(watch, session, &mut seen);
         thread::sleep(rt, Duration::from_millis(PAUSE));
     }

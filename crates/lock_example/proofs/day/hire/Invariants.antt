@@ -1,4 +1,4 @@
-use Rattle.std.proofs.Common.{◌≡◌}
+use Rattle.std.proofs.Common.{◌≡◌, ◌+◌, ◌≤◌, length}
 use Rattle.lock_manager.specs.Crews.{AreOf}
 use Rattle.lock_example.proofs.day.hire.Given as goal
 
@@ -7,4 +7,7 @@ invariant-staff g l = record {
   manager : g.D.Desk.manager l.desk ≡ g.D.Desk.manager l.fn.desk;
   own : AreOf g.B.Board.seat (g.D.Desk.manager l.fn.desk) l.staff.items;
   idle : AreOf g.B.Board.seat (g.D.Desk.manager l.fn.desk) l.pool.idle.items;
+  few : length l.pool.idle.items + length l.staff.items ≤ g.D.Desk.live l.desk;
+  hired : g.D.Desk.live l.desk + length l.fn.pool.idle.items + length l.fn.staff.items
+      ≡ g.D.Desk.live l.fn.desk + length l.pool.idle.items + length l.staff.items;
 }
