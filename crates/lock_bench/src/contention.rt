@@ -109,8 +109,7 @@ impl Taken {
         self.to.saturating_sub(self.from)
     }
 
-    /// What was taken with one request more, which waited `waited` nanoseconds and was granted or not, as
-    /// `is_granted` says.
+    /// What was taken with one request more, which waited `waited` nanoseconds, granted if `is_granted`.
     fn after(self, waited: u64, is_granted: bool) -> Self {
         Taken {
             longest: self.longest.max(waited),
