@@ -1,5 +1,5 @@
-//! Looks at a queue, over any board: a session waits for what another one has, which lists the queue or those in
-//! the way.
+//! Looks at a queue, over any board: a session waits for what another one has, which lists the queue, those in the
+//! way, or all waits with those in their way.
 
 ghost use Rattle.std.specs.Prelude.{◌≡◌};
 ghost use Rattle.lock_manager.specs.Crews.{KeepsSeat, SeatsAre};
@@ -28,6 +28,8 @@ pub enum Look {
     Queue,
     /// `blockers`.
     Blockers,
+    /// `waits`.
+    Waits,
 }
 
 /// How many rows `look`, which may be for `waiter`, answers to `session`.
@@ -45,6 +47,10 @@ fn rows_of<T: PartTable, B: Board<T>, R: Wait>(
             Err(refusal) => Err(refusal),
         },
         Look::Blockers => match session.blockers(rt, OBJECT, waiter) {
+            Ok(rows) => Ok(rows.len()),
+            Err(refusal) => Err(refusal),
+        },
+        Look::Waits => match session.waits(rt) {
             Ok(rows) => Ok(rows.len()),
             Err(refusal) => Err(refusal),
         },

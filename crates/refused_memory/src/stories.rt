@@ -34,7 +34,7 @@ pub enum Story<'a> {
 /// words, and for the table of both. A local table takes one for its slots, two for their index, and three for the
 /// counts of outer levels, a list that grows to 16. A session has that and a box. The list of an audit's rows grows
 /// to four and to eight.
-pub static STORIES: [(&'static str, Story<'static>, u16); 14] = [
+pub static STORIES: [(&'static str, Story<'static>, u16); 15] = [
     ("Manager::new", Story::MakesManager, 181),
     ("Opener::session", Story::OpensSession, 7),
     ("LocalTable::new", Story::MakesLocalTable, 6),
@@ -76,6 +76,11 @@ pub static STORIES: [(&'static str, Story<'static>, u16); 14] = [
         "blockers, a row",
         Story::AtDesk(Act::Looks(Look::Blockers)),
         1,
+    ),
+    (
+        "waits, one with one in its way",
+        Story::AtDesk(Act::Looks(Look::Waits)),
+        3,
     ),
 ];
 
