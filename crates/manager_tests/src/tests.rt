@@ -17,6 +17,7 @@ mod gates;
 mod limits;
 mod listings;
 mod memory;
+mod monitors;
 mod pair;
 mod queues;
 mod races;
@@ -235,6 +236,7 @@ fn two_sessions_do_as_the_scenes_say(rt: HostRuntime) -> Result<(), Fail> {
     for scene in [
         Scene::EachModeBesideEach,
         Scene::LeavesAsAsked,
+        Scene::EndsAllWaits,
         Scene::CancelsTooLate,
         Scene::LooksTooLate,
         Scene::WaitsAsAsked,

@@ -5,7 +5,7 @@ ghost use Rattle.std.specs.Prelude.{◌≡◌};
 use super::pair::Pair;
 use super::races::Race;
 use super::turns::Turn;
-use super::{busy, conflicts, listings, memory, races, turns, waits};
+use super::{busy, conflicts, listings, memory, monitors, races, turns, waits};
 use lock_manager::Part;
 use shared_rule::Board;
 use std::process::Abort;
@@ -19,6 +19,7 @@ pub enum Scene<'a> {
     Turns(&'a [Turn], u32),
     EachModeBesideEach,
     LeavesAsAsked,
+    EndsAllWaits,
     CancelsTooLate,
     LooksTooLate,
     WaitsAsAsked,
@@ -54,6 +55,7 @@ pub fn perform<B: Board<Part> + Send, R: Abort + Threads + Wait + Sync + Print>(
             pair
         }
         Scene::LeavesAsAsked => waits::leave_as_asked(rt, pair),
+        Scene::EndsAllWaits => monitors::end_all_waits(rt, pair),
         Scene::CancelsTooLate => waits::cancel_too_late(rt, pair),
         Scene::LooksTooLate => waits::look_too_late(rt, pair),
         Scene::WaitsAsAsked => waits::wait_as_asked(rt, pair),

@@ -5,7 +5,8 @@ use super::turns::Answer::{
     Times,
 };
 use super::turns::Call::{
-    Abort, Acquire, Commit, Count, Database, Fast, FastOnEach, Held, Strong, Try, Unlock,
+    Abort, Acquire, AcquireInLooks, Commit, Count, Database, Fast, FastOnEach, Held,
+    Rows as Listed, Strong, Try, Unlock, UnlockAll,
 };
 use super::turns::Who::{First, Second};
 use super::turns::{Answer, Call, Turn};
@@ -28,11 +29,20 @@ const OBJECT: Tag = Tag::Object {
     sub_object: 0,
 };
 
+const JOB: Tag = Tag::Advisory {
+    database: 5,
+    key1: 0,
+    key2: 42,
+    sub: 1,
+};
+
 // Refusals, by their numbers.
 
 pub const LOCAL_FULL: Answer = Refused(3);
 
 pub const COUNT_FULL: Answer = Refused(4);
+
+const CANCELLED: Answer = Refused(6);
 
 pub const NOT_HELD: Answer = Refused(7);
 
@@ -59,6 +69,66 @@ const OWN_HOLDS: [Turn; 7] = [
     (First, 1, Try(TABLE, AccessShare, Transaction), Granted),
     (First, 1, TAKE, AlreadyHeld),
     (First, 1, Held(TABLE), Modes(0b1_1010_1010)),
+];
+
+/// A wait is given up, and leaves nothing. What need not wait is had at once.
+const GIVEN_UP: [Turn; 11] = [
+    (First, 1, TAKE, Granted),
+    (
+        Second,
+        2,
+        AcquireInLooks(TABLE, Share, Transaction, 1),
+        CANCELLED,
+    ),
+    (
+        Second,
+        1,
+        AcquireInLooks(TABLE, Share, Transaction, 100),
+        CANCELLED,
+    ),
+    (Second, 1, Held(TABLE), Modes(0)),
+    (Second, 1, Listed, Rows { fast: 0, table: 1 }),
+    (Second, 1, Strong(TABLE), Counted(1)),
+    (First, 1, Commit, Ended),
+    (
+        Second,
+        1,
+        AcquireInLooks(TABLE, Share, Transaction, 1),
+        Granted,
+    ),
+    (
+        Second,
+        1,
+        AcquireInLooks(TABLE, Share, Transaction, 0),
+        AlreadyHeld,
+    ),
+    (
+        First,
+        1,
+        AcquireInLooks(TABLE, AccessShare, Transaction, 0),
+        Granted,
+    ),
+    (Second, 1, Abort, Ended),
+];
+
+/// All advisory locks that the session owns are given back, however often, and no other lock.
+const ALL_ADVISORY: [Turn; 16] = [
+    (First, 1, Try(JOB, Exclusive, Session), Granted),
+    (First, 2, Try(JOB, Exclusive, Session), AlreadyHeld),
+    (First, 1, Try(JOB, Exclusive, Transaction), AlreadyHeld),
+    (First, 1, Try(JOB, Share, Session), Granted),
+    (First, 1, Try(JOB, Share, Session), AlreadyHeld),
+    (First, 1, KEEP_OBJECT, Granted),
+    (First, 1, Try(TABLE, AccessShare, Session), Granted),
+    (First, 1, UnlockAll, Ended),
+    (First, 1, Held(JOB), Modes(0b1000_0000)),
+    (First, 1, Count(JOB, Exclusive, Session), Times(0)),
+    (First, 1, Count(JOB, Exclusive, Transaction), Times(1)),
+    (First, 1, Count(OBJECT, AccessExclusive, Session), Times(1)),
+    (First, 1, Held(TABLE), Modes(0b10)),
+    (First, 1, Commit, Ended),
+    (Second, 1, Try(JOB, Exclusive, Session), Granted),
+    (Second, 2, UnlockAll, Ended),
 ];
 
 /// A commit ends what is the transaction's, and an abort ends all.
@@ -331,7 +401,21 @@ pub struct List {
 }
 
 /// All lists.
-pub static LISTS: [List; 10] = [
+pub static LISTS: [List; 12] = [
+    List {
+        name: "given up",
+        sessions: 2,
+        max_local: 8,
+        rounds: 1,
+        turns: &GIVEN_UP,
+    },
+    List {
+        name: "all advisory",
+        sessions: 2,
+        max_local: 8,
+        rounds: 1,
+        turns: &ALL_ADVISORY,
+    },
     List {
         name: "own holds",
         sessions: 2,

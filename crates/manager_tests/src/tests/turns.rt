@@ -14,11 +14,15 @@ pub enum Call {
     Try(Tag, Mode, Owner),
     /// The same, with a wait where it must.
     Acquire(Tag, Mode, Owner),
+    /// As `Acquire`, with so many looks at the wait at most.
+    AcquireInLooks(Tag, Mode, Owner, u32),
     /// By a slot or not at all.
     Fast(Tag, Mode, Owner),
     /// The same, each time on another relation of the sessions' database.
     FastOnEach(Mode, Owner),
     Unlock(Tag, Mode, Owner),
+    /// All advisory locks of the session are given back.
+    UnlockAll,
     Commit,
     Abort,
     Held(Tag),
@@ -104,6 +108,24 @@ fn relation(time: u32) -> Tag {
     Tag::relation(5, 16_384 | time)
 }
 
+/// Takes `tag` in `mode` for `owner` with `session`, which looks `looks` times at its wait at most.
+fn acquire_in_looks<T: PartTable, B: Board<T>, R: Wait>(
+    rt: &R,
+    session: &mut OwnSession<T, B>,
+    tag: Tag,
+    mode: Mode,
+    owner: Owner,
+    looks: u32,
+) -> Result<Acquired, Refusal>
+    ensures seat { B.seat session.new.board ≡ B.seat session.old.board }
+{
+    let mut left = looks;
+    session.acquire_while(rt, tag, mode, owner, || {
+        left = left.saturating_sub(1);
+        left != 0
+    })
+}
+
 /// Makes `call` with `session` the time `time`, and answers what is told of it.
 fn make<T: PartTable, B: Board<T>, R: Wait>(
     rt: &R,
@@ -116,9 +138,16 @@ fn make<T: PartTable, B: Board<T>, R: Wait>(
     match call {
         Call::Try(tag, mode, owner) => taken(session.try_lock(rt, tag, mode, owner)),
         Call::Acquire(tag, mode, owner) => taken(session.acquire(rt, tag, mode, owner)),
+        Call::AcquireInLooks(tag, mode, owner, looks) => {
+            taken(acquire_in_looks(rt, session, tag, mode, owner, looks))
+        }
         Call::Fast(tag, mode, owner) => taken(session.try_fast(tag, mode, owner)),
         Call::FastOnEach(mode, owner) => taken(session.try_fast(relation(time), mode, owner)),
         Call::Unlock(tag, mode, owner) => given_back(session.unlock(rt, tag, mode, owner)),
+        Call::UnlockAll => {
+            session.unlock_all(rt);
+            Answer::Ended
+        }
         Call::Commit => {
             session.commit(rt);
             Answer::Ended

@@ -125,7 +125,7 @@ fn find_granted<T: PartTable, B: Board<T>, R: Abort>(
 }
 
 /// Finds that `waiting` goes on, and whether another session asked to cancel it, as `is_asked` says.
-fn find_still<T: PartTable, B: Board<T>, R: Abort>(
+pub fn find_still<T: PartTable, B: Board<T>, R: Abort>(
     rt: &R,
     waiting: OwnWaiting<T, B>,
     is_asked: bool,
