@@ -43,6 +43,7 @@ has_own_slots groups number a b uses own same ready takes = record {
   slots = takes.slots;
   in_hand =
       ap (λ (x : Account). x.fast.slots) taken ∙ (λ i. set_at (ready.no_slots i) number (Some takes.slots));
+  no_content = ap (λ (x : Account). x.hand) taken ∙ ready.no_content;
   no_shared_slots = ap (λ (x : Account). x.fast.shared_slots) taken ∙ ready.no_shared_slots;
   as_shown =
       ap (λ (x : Account). x.fast.remembered) taken
@@ -319,7 +320,7 @@ module _ (groups number : ℕ) (a : Account) (tag : Tag) (mine : SlotsInHand)
 
       -- and the session is ready for the next call.
       pub ready :
-          (e : Account) (uses left : UseCounts) → a.fast.zero ≡ None → a.fast.shared_slots ≡ (λ _. None)
+          (e : Account) (uses left : UseCounts) → a.hand ≡ (λ _. None) → a.fast.zero ≡ None → a.fast.shared_slots ≡ (λ _. None)
           → e ≡ account_putting_fast by d own
           → IsSlotToGrant groups mine.word (relation_of tag) place
           → is_eligible_for a.fast.database tag mode ≡ true → relation_of tag < 2 ^ 32
@@ -327,11 +328,12 @@ module _ (groups number : ℕ) (a : Account) (tag : Tag) (mine : SlotsInHand)
           → AreCounted mine.word (count_in uses) → AreUseCounts (count_in uses) → HasRoom groups uses tag
           → count_in left ≡ (if in_use (mine.word place) then count_in uses else one_more_in uses (group_of_tag groups tag))
           → IsReady groups e left
-      ready e uses left no_zero no_shared put takes eligible fits some few in_groups enough within room raised =
+      ready e uses left no_content no_zero no_shared put takes eligible fits some few in_groups enough within room raised =
           let after = granted e no_zero put in
           let weak = (eligible-is a.fast.database tag mode eligible).2 in
           let remembered : words_granted ≡ e.fast.remembered = sym (ap (λ (x : Account). x.fast.remembered) after) in
           record {
+            no_content = ap (λ (x : Account). x.hand) after ∙ no_content;
             no_slots = ap (λ (x : Account). x.fast.slots) after;
             no_shared_slots = ap (λ (x : Account). x.fast.shared_slots) after ∙ no_shared;
             no_zero = ap (λ (x : Account). x.fast.zero) after ∙ no_zero;
@@ -381,7 +383,7 @@ module _ (groups number : ℕ) (a : Account) (uses : UseCounts) (tag : Tag) (mod
       grants groups number a tag has.slots has.in_hand loads mode slot.place c d by own same_by same is_looked set e uses left
           has.no_zero is_put takes highest raised few_loads,
       ready groups number a tag has.slots has.in_hand loads mode slot.place c d by own same_by same is_looked set e uses left
-          has.no_zero has.no_shared_slots is_put takes eligible
+          has.no_content has.no_zero has.no_shared_slots is_put takes eligible
           (subst (λ r. r < 2 ^ 32) its_relation fits) some few has.in_groups has.enough has.within room raised,
     )
 

@@ -271,6 +271,7 @@ module _ (groups number : ℕ) (a : Account) (uses : UseCounts) (own : ℕ) (rea
             recomputed = counted ∙ (λ i. counting uses (of_tag i) ((recounted ∙ ap (λ k. used_in k words_left) of_tag) i));
           },
           record {
+            no_content = ap (λ (x : Account). x.hand) after ∙ ready.no_content;
             no_slots = ap (λ (x : Account). x.fast.slots) after ∙ ready.no_slots;
             no_shared_slots = ap (λ (x : Account). x.fast.shared_slots) after ∙ ready.no_shared_slots;
             no_zero = ap (λ (x : Account). x.fast.zero) after ∙ ready.no_zero;
@@ -349,6 +350,7 @@ module _ (groups number : ℕ) (a : Account) (uses : UseCounts) (own : ℕ) (rea
               counted ∙ (λ i. counting uses (of_tag i) ((sights.counted ∙ ap (λ k. used_in k takes.slots.word) of_tag) i));
         },
         record {
+          no_content = ap (λ (x : Account). x.hand) left_alone ∙ ready.no_content;
           no_slots = ap (λ (x : Account). x.fast.slots) left_alone ∙ ready.no_slots;
           no_shared_slots = ap (λ (x : Account). x.fast.shared_slots) left_alone ∙ ready.no_shared_slots;
           no_zero = ap (λ (x : Account). x.fast.zero) left_alone ∙ ready.no_zero;

@@ -65,6 +65,7 @@ pub record FindsFull (groups : ℕ) (a : Account) (uses : UseCounts) (tag : Tag)
 pub record HasOwnSlots (groups number : ℕ) (a : Account) (uses : UseCounts) : Type 0 where
   pub slots : SlotsInHand
   pub in_hand : a.fast.slots ≡ set_at (λ _. None) number (Some slots)
+  pub no_content : a.hand ≡ (λ _. None)
   pub no_shared_slots : a.fast.shared_slots ≡ (λ _. None)
   pub as_shown : a.fast.remembered ≡ slots.word
   pub one_each : OneSlotEach slots.word

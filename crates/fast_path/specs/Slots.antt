@@ -108,9 +108,10 @@ AreCounted word counts = (group : ℕ) → group < most_groups → used_in group
 abbrev pub AreUseCounts : (ℕ → ℕ) → Type 0
 AreUseCounts counts = (group : ℕ) → group < most_groups → counts group ≤ group_size
 
--- Between two calls on the fast path the session has the lock of nobody's slots, nor shares it, and in each group its use
+-- Between two calls on the fast path the session has no lightweight lock in hand, nor shares one of slots, and in each group its use
 -- count is not below the number of its slots in use (FastPathLocalUseCount in lock.c, in version 18 FastPathLocalUseCounts).
 pub record IsReady (groups : ℕ) (a : Account) (uses : UseCounts) : Type 0 where
+  pub no_content : a.hand ≡ (λ _. None)
   pub no_slots : a.fast.slots ≡ (λ _. None)
   pub no_shared_slots : a.fast.shared_slots ≡ (λ _. None)
   pub no_zero : a.fast.zero ≡ None

@@ -18,7 +18,8 @@ use Rattle.shared_rule.specs.Layout.{content_slot_of}
 use Rattle.shared_rule.specs.Led.{Led, LedBy, LedTo}
 use Rattle.shared_rule.specs.LwLocks.{no_lists, queued_for}
 use Rattle.shared_rule.specs.Acquires.{GotNothing, IsAsBefore, IsTrying, GetsSlots, MayGetSlots, account_getting, TakesPartition}
-use Rattle.shared_rule.specs.Todos.{Todo, TriesAtMost, MaySleepBy, HasBy, nothing_to_do, todo_attempted, todo_setting_ok, todo_in_list, todo_got, todo_back}
+use Rattle.shared_rule.specs.declared.lw_lock.LwLock.{LwLock}
+use Rattle.shared_rule.specs.Todos.{Todo, IsLatestBy, TriesAtMost, MaySleepBy, HasBy, nothing_to_do, todo_attempted, todo_setting_ok, todo_in_list, todo_got, todo_back}
 use Rattle.shared_rule.specs.declared.lw_lock.LwLock.TheVariants.{OfPart, OfSlots}
 use Rattle.lock_world.specs.Wakes.Waking.{NoneOr}
 use Rattle.lock_table.proofs.PutLemmas.{set_at-here}
@@ -171,8 +172,18 @@ module _ {T : Type 0} (content : T → Content) where
     pub tries-still : (lock : ℕ) → NoneOr (todo_at before).tries lock → NoneOr (todo_at middle).tries lock
     tries-still lock none = subst (λ (todo : Todo). NoneOr todo.tries lock) (sym first.led.todo) none
 
+    pub nowhere-still : (lock : ℕ) → NoneOr (account_at content before).lists.stands lock → NoneOr (account_at content middle).lists.stands lock
+    nowhere-still lock none = subst (λ (a : Account). NoneOr a.lists.stands lock) (sym first.led.account) none
+
+    pub latest-still : (l : LwLock) → IsLatestBy (account_at content before) l → IsLatestBy (account_at content middle) l
+    latest-still l latest = subst (λ (a : Account). IsLatestBy a l) (sym first.led.account) latest
+
     pub at_most-still : (lock : ℕ) → TriesAtMost lock (todo_at before) → TriesAtMost lock (todo_at middle)
     at_most-still lock tries = subst (TriesAtMost lock) (sym first.led.todo) tries
+
+  -- A session that is idle stands in no list.
+  pub nowhere-idle : (a : Account) (lock : ℕ) → a.lists ≡ no_lists → NoneOr a.lists.stands lock
+  nowhere-idle a lock idle = inl (ap (λ (l : ListAccount). l.stands) idle)
 
   -- Where attempts may be repeated.
   module _ (lock : ℕ) (before middle after : Seat (Kept T) (View T)) (first : IsTrying content lock before middle) where
@@ -198,6 +209,9 @@ module _ {T : Type 0} (content : T → Content) where
 
     pub trying-tries : NoneOr (todo_at middle).tries lock
     trying-tries = subst (λ (todo : Todo). NoneOr todo.tries lock) (sym first.nothing.led.todo) first.no_other
+
+    pub trying-nowhere : NoneOr (account_at content before).lists.stands lock → NoneOr (account_at content middle).lists.stands lock
+    trying-nowhere none = subst (λ (a : Account). NoneOr a.lists.stands lock) (sym first.nothing.led.account) none
 
     pub trying-slots : (groups : ℕ) (mode : LwMode) (owner : ℕ) → GetsSlots content groups mode owner middle after → GetsSlots content groups mode owner before after
     trying-slots = tried-then_slots before middle after first.todo first.nothing first.same
@@ -271,6 +285,10 @@ module _ {T : Type 0} (content : T → Content) where
     -- and has that lock alone to attempt,
     pub tries-queued : NoneOr (todo_at queued).tries lock
     tries-queued = subst (λ (todo : Todo). NoneOr todo.tries lock) (sym queues.todo) (inr refl)
+
+    -- and stands in its list,
+    pub there-queued : NoneOr (account_at content queued).lists.stands lock
+    there-queued = subst (λ (a : Account). NoneOr a.lists.stands lock) (sym queues.account) (inr refl)
 
     -- or nothing, and the session slept until it was told.
     module _ (lost : GotNothing content queued attempted (todo_attempted (todo_at queued))) where

@@ -31,11 +31,13 @@ use Rattle.shared_rule.specs.Tells.{Tells, AreTold, LooksOnly, steps_of}
 use Rattle.lw_word.specs.LightweightWord.{IsHeldByNobody, IsListLocked}
 use Rattle.lock_world.specs.WaitLists.{lock_word}
 use Rattle.lock_world.specs.Wakes.{MakesNoStep, Beside, Turn, happened, saw_list_locked, saw_held, Keeps, beside_after}
-use Rattle.lock_world.specs.Wakes.Waking.{NobodyIsForgotten, NoneOr}
+use Rattle.lock_world.specs.Wakes.Waking.{NobodyIsForgotten, OrderIsKept, NoneOr}
 use Rattle.lock_world.specs.Wakes.Owing.{Duties, waking, duties_after, after_looking, after_attempt, HasNothingToDo, Asks}
 use Rattle.lock_world.specs.Wakes.Calling.{no_calls}
 use Rattle.lock_world.proofs.Wakes.Runs.{turn-nobody}
 use Rattle.lock_world.proofs.Wakes.Live.{turn-live}
+use Rattle.lock_world.proofs.Wakes.Order.{kept-order, step-order}
+use Rattle.shared_rule.proofs.Orders.{order-of}
 use Rattle.shared_rule.specs.Marks.{SawListLocked, SawHeld}
 use Rattle.shared_rule.specs.Todos.{Todo, no_content, todo_noted, flagged_noted, todo_told_by, flagged_told_by}
 use Rattle.shared_rule.proofs.Idle.{told-lists}
@@ -290,7 +292,7 @@ module _ {T : Type 0} (content : T → Content) (w v : World) (views : List (Vie
   module _ (kept : WakesAreKept views w) (next : Duties)
       (own_todo : todo_told_by x.number (mark ∷ x.marks) ≡ todo_of next x.number) (own_flagged : flagged_told_by (mark ∷ x.marks) ≡ next.flagged x.number)
       (todo_same : (k : ℕ) → k ≢ x.number → todo_of next k ≡ todo_of kept.duties k) (flagged_same : (k : ℕ) → k ≢ x.number → next.flagged k ≡ kept.duties.flagged k)
-      (nobody : NobodyIsForgotten (waking v next)) (only : (k : ℕ) → MakesNoStep v.numbers k → HasNothingToDo v next no_calls no_calls k) where
+      (nobody : NobodyIsForgotten (waking v next)) (order : OrderIsKept (waking v next)) (only : (k : ℕ) → MakesNoStep v.numbers k → HasNothingToDo v next no_calls no_calls k) where
     young-apart : (k : ℕ) → v.numbers.issued ≤ k → k ≢ x.number
     young-apart k later e =
         let not_yet : w.numbers.issued ≤ k = subst (λ (n : Numbers). n.issued ≤ k) numbers later in
@@ -307,6 +309,7 @@ module _ {T : Type 0} (content : T → Content) (w v : World) (views : List (Vie
       none_todo = λ k later. kept.none_todo k (subst (λ (n : Numbers). n.issued ≤ k) numbers later) ∙ sym (todo_same k (young-apart k later));
       none_flagged = λ k later. kept.none_flagged k (subst (λ (n : Numbers). n.issued ≤ k) numbers later) ∙ sym (flagged_same k (young-apart k later));
       nobody = nobody;
+      order = order;
       only_live = only;
     }
 
@@ -406,6 +409,7 @@ module _ {T : Type 0} (content : T → Content) (begun : T → Option Request) (
             (noted.keeps.flagged_ duties own_flagged)
             (λ k other. todo-others r.world duties x.number k other noted.step) (λ k other. flagged-others r.world duties x.number k other noted.step)
             (turn-nobody r.world noted.after beside (happened event) r.safe r.wakes.nobody (noted.happens, asks))
+            (kept-order noted.after (duties_after r.world duties x.number noted.step) (step-order r.world noted.after x.number (order-of r.world duties r.wakes.order) noted.step noted.happens noted.keeps.in_order))
             (λ k spent. calls-aside noted.after _ _ _ k (turn-live r.world noted.after beside (happened event) r.safe r.wakes.only_live (noted.happens, asks) k spent));
       } where
         duties : Duties
@@ -445,6 +449,7 @@ module _ {T : Type 0} (content : T → Content) (begun : T → Option Request) (
       wakes-then content w w s.views id view x others mark at is refl (λ k other. refl) (look-account mark x.number (told content x.number x.marks) looks ∙ history_of.account)
       r.safe.but_slots.table.carriers.numbers.live_is_issued r.seats r.wakes next own_todo own_flagged todo_same (λ k other. ap (λ (f : ℕ → Bool). f k) flagged_same)
       (subst (λ (b : Beside). NobodyIsForgotten (waking w b.duties)) same (turn-nobody w w beside turn r.safe r.wakes.nobody keeps))
+      (kept-order w next (order-of w r.wakes.duties r.wakes.order))
       (λ k spent. calls-aside w _ _ _ k (subst (λ (b : Beside). HasNothingToDo w b.duties b.waits b.sleeps k) same (turn-live w w beside turn r.safe r.wakes.only_live keeps k spent)))
 
   seen-looks : (mark : Mark T) → IsSeen r.world (todo_told_by x.number x.marks) mark → LooksOnly mark

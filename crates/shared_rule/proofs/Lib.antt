@@ -3,6 +3,7 @@ pub mod Standing
 pub mod ClosedCounts
 pub mod Told
 pub mod Owings
+pub mod Orders
 pub mod Frame
 pub mod Views
 pub mod Meetings

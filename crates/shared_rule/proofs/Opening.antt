@@ -22,6 +22,7 @@ use Rattle.shared_rule.specs.History.{opening_view}
 use Rattle.shared_rule.specs.Opening.{IsNew, AreNew}
 use Rattle.lock_world.specs.Wakes.{nothing_beside}
 use Rattle.lock_world.specs.Wakes.Owing.{no_duties}
+use Rattle.lock_world.proofs.Wakes.Readings.{none-some}
 use Rattle.lock_world.proofs.Wakes.Runs.{keeps-well}
 use Rattle.shared_rule.specs.Ruled.{ClosedAreCounted, SeatsAreShown, StandsAmong, Ruled}
 
@@ -118,6 +119,7 @@ module _ {T : Type 0} (content : T → Content) (begun : T → Option Request) (
           none_todo = λ number later. refl;
           none_flagged = λ number later. refl;
           nobody = well.nobody;
+          order = record { rising = λ s l held stands has. absurd (none-some l stands); bound = λ s l stands. absurd (none-some l stands) };
           only_live = λ number spent. well.only number spent;
         };
   }

@@ -24,7 +24,7 @@ use Rattle.lock_world.specs.SafeWorld.{SafeWorld}
 use Rattle.lock_world.specs.Account.{Account, ListAccount, ListInHand, account, own_hand, list_in_hand, known_slots}
 use Rattle.lock_world.specs.Wakes.Waking.{NobodyIsForgotten, TellsNobody, NoneOr, IsLeftWell, HasLock}
 use Rattle.lock_world.specs.Wakes.Waking as waking_of
-use Rattle.lock_world.specs.Wakes.Owing.{Duties, waking, lock_bit, lock_row, lock_of, is_lock, look_due, after_putting, after_setting_ok, ok_set_as_owed, ok_set_before_told, ok_set_by_told, ok_set_by_winner, duties_after, AsksUnlocking, HasNothingToDo, Asks}
+use Rattle.lock_world.specs.Wakes.Owing.{Duties, waking, lock_bit, lock_row, lock_of, is_lock, look_due, after_putting, after_setting_ok, ok_set_as_owed, ok_set_before_told, ok_set_by_told, ok_set_by_winner, duties_after, AsksUnlocking, HasNothingToDo, Asks, IsEarlier, IsLatest, AsksInOrder}
 use Rattle.lock_world.specs.Wakes.Calling.{Calls, no_calls}
 use Rattle.lock_world.proofs.Wakes.Rows.{even-bit, odd-bit}
 use Rattle.shared_rule.specs.declared.lw_lock.LwLock.{LwLock}
@@ -40,6 +40,7 @@ pub record KeepsOwed (w : World) (number : ℕ) (todo : Todo) (flagged : Bool) (
   pub asks : (x : Duties) → todo ≡ todo_of x number → flagged ≡ x.flagged number → Asks w x no_calls no_calls number step
   pub todo_ : (x : Duties) → todo ≡ todo_of x number → next ≡ todo_of (duties_after w x number step) number
   pub flagged_ : (x : Duties) → flagged ≡ x.flagged number → next_flagged ≡ (duties_after w x number step).flagged number
+  pub in_order : AsksInOrder w number step
 
 -- The duties of all others stay.
 module _ (w : World) (x : Duties) (s k : ℕ) (other : k ≢ s) where
@@ -177,15 +178,17 @@ put-shared word found is some = ap (λ n. put_in Shared (state_of n)) is ∙ sym
 
 module _ (w : World) (number : ℕ) (todo : Todo) (flagged : Bool) where
   -- No lock to attempt but this one: it may be taken, or shared.
-  pub keeps-taking : (word : Word) → NoneOr todo.tries (lock_of word) → KeepsOwed w number todo flagged (todo_attempted todo) flagged (TakeExclusive word)
-  keeps-taking word none = record {
+  pub keeps-taking : (word : Word) → NoneOr todo.tries (lock_of word) → IsEarlier w number (lock_of word) → KeepsOwed w number todo flagged (todo_attempted todo) flagged (TakeExclusive word)
+  keeps-taking word none earlier = record {
+    in_order = earlier;
     asks = λ x is was. subst (λ (t : Todo). NoneOr t.tries (lock_of word)) is none;
     todo_ = λ x is. tries-here x number todo is None;
     flagged_ = λ x was. was;
   }
 
-  pub keeps-sharing : (word : Word) → NoneOr todo.tries (lock_of word) → KeepsOwed w number todo flagged (todo_attempted todo) flagged (TakeShared word)
-  keeps-sharing word none = record {
+  pub keeps-sharing : (word : Word) → NoneOr todo.tries (lock_of word) → IsEarlier w number (lock_of word) → KeepsOwed w number todo flagged (todo_attempted todo) flagged (TakeShared word)
+  keeps-sharing word none earlier = record {
+    in_order = earlier;
     asks = λ x is was. subst (λ (t : Todo). NoneOr t.tries (lock_of word)) is none;
     todo_ = λ x is. tries-here x number todo is None;
     flagged_ = λ x was. was;
@@ -199,6 +202,7 @@ module _ (w : World) (number : ℕ) (todo : Todo) (flagged : Bool) where
   pub keeps-putting : (word : Word) (done : Move) (state : LockState) → state ≡ state_of (put_word (word_in w.words word)) → todo.due ≡ None
       → KeepsOwed w number todo flagged (todo_putting todo (lock_of word) state) flagged (PutExclusive word done)
   keeps-putting word done state same none = record {
+    in_order = tt;
     asks = λ x is was. sym (ap (λ (t : Todo). t.due) is) ∙ none;
     todo_ = λ x is. due-put (lock_of word) state (put_word (word_in w.words word)) same x is;
     flagged_ = λ x was. was;
@@ -207,6 +211,7 @@ module _ (w : World) (number : ℕ) (todo : Todo) (flagged : Bool) where
   pub keeps-unsharing : (word : Word) (state : LockState) → state ≡ state_of (unshared_word (word_in w.words word)) → todo.due ≡ None
       → KeepsOwed w number todo flagged (todo_putting todo (lock_of word) state) flagged (PutShared word)
   keeps-unsharing word state same none = record {
+    in_order = tt;
     asks = λ x is was. sym (ap (λ (t : Todo). t.due) is) ∙ none;
     todo_ = λ x is. due-put (lock_of word) state (unshared_word (word_in w.words word)) same x is;
     flagged_ = λ x was. was;
@@ -215,6 +220,7 @@ module _ (w : World) (number : ℕ) (todo : Todo) (flagged : Bool) where
   pub keeps-passing : (owner : ℕ) (tag : Tag) (mode : Mode) (state : LockState) → state ≡ state_of (put_word (w.words.fast owner)) → todo.due ≡ None
       → KeepsOwed w number todo flagged (todo_putting todo (fast_lock owner) state) flagged (PutPassing owner tag mode)
   keeps-passing owner tag mode state same none = record {
+    in_order = tt;
     asks = λ x is was. sym (ap (λ (t : Todo). t.due) is) ∙ none;
     todo_ = λ x is. due-put (fast_lock owner) state (put_word (w.words.fast owner)) same x is;
     flagged_ = λ x was. was;
@@ -223,14 +229,17 @@ module _ (w : World) (number : ℕ) (todo : Todo) (flagged : Bool) where
   -- Lists.
   pub keeps-locking : (word : Word) → NoneOr todo.due (lock_of word) → TellsNobody w.sessions.off number → KeepsOwed w number todo flagged (todo_looked todo) false (LockList word)
   keeps-locking word none nobody = record {
+    in_order = tt;
     asks = λ x is was. record { no_other = subst (λ (t : Todo). NoneOr t.due (lock_of word)) is none; tells_nobody = nobody };
     todo_ = λ x is. due-here x number todo is None;
     flagged_ = λ x was. sym (set_at-here x.flagged number false number refl);
   }
 
   pub keeps-joining : (mode : LwMode) (its : Option ℕ) → its ≡ w.sessions.has_list number → flagged ≡ true → todo.owes_release_ok ≡ None
-      → ((lock : ℕ) → w.sessions.has_list number ≡ Some lock → NoneOr todo.tries lock) → KeepsOwed w number todo flagged (todo_queueing todo its) flagged (JoinList mode)
-  keeps-joining mode its same set none no_other = record {
+      → ((lock : ℕ) → w.sessions.has_list number ≡ Some lock → NoneOr todo.tries lock) → ((lock : ℕ) → w.sessions.has_list number ≡ Some lock → IsLatest w number lock)
+      → KeepsOwed w number todo flagged (todo_queueing todo its) flagged (JoinList mode)
+  keeps-joining mode its same set none no_other latest = record {
+    in_order = latest;
     asks = λ x is was. record {
       flagged = sym was ∙ set;
       owes_no_ok = sym (ap (λ (t : Todo). t.owes_release_ok) is) ∙ none;
@@ -241,10 +250,10 @@ module _ (w : World) (number : ℕ) (todo : Todo) (flagged : Bool) where
   }
 
   pub keeps-leaving : KeepsOwed w number todo flagged (todo_leaving todo) flagged LeaveList
-  keeps-leaving = record { asks = λ x is was. tt; todo_ = λ x is. owes-here x number todo is None; flagged_ = λ x was. was }
+  keeps-leaving = record { in_order = tt; asks = λ x is was. tt; todo_ = λ x is. owes-here x number todo is None; flagged_ = λ x was. was }
 
   pub keeps-flagging : (word : Word) (shown : ℕ) → KeepsOwed w number todo flagged todo true (SetHasWaiters word shown)
-  keeps-flagging word shown = record { asks = λ x is was. tt; todo_ = λ x is. is; flagged_ = λ x was. sym (set_at-here x.flagged number true number refl) }
+  keeps-flagging word shown = record { in_order = tt; asks = λ x is was. tt; todo_ = λ x is. is; flagged_ = λ x was. sym (set_at-here x.flagged number true number refl) }
 
 -- What the account has of lists and locks is so in the World.
 pub lock-in_hand : (has : Option ℕ) (list : ℕ → List LwWaiter) → lock_of_list (list_in_hand has list) ≡ has
@@ -311,6 +320,7 @@ module _ (w : World) (number : ℕ) (a : Account) (todo : Todo) (flagged : Bool)
       → (todo.owes_release_ok ≡ Some lock → a.lists.in_hand ≢ None → TellsNobodyBy a)
       → KeepsOwed w number todo flagged (todo_setting_ok number a.lists todo lock) flagged (SetReleaseOk word shown)
   keeps-setting_ok word shown lock its no_other nobody = subst (λ l. KeepsOwed w number todo flagged (todo_setting_ok number a.lists todo l) flagged (SetReleaseOk word shown)) its (record {
+    in_order = tt;
     asks = λ x is was. record {
       no_other = λ owes stands. subst (λ (t : Todo). NoneOr t.tries (lock_of word)) is
           (subst (NoneOr todo.tries) (sym its) (no_other (ap (λ (t : Todo). t.owes_release_ok) is ∙ owes ∙ ap Some its) (ap (λ (l : ListAccount). l.stands) lists_are ∙ stands)));
@@ -342,11 +352,11 @@ if-some : {A : Type 0} (b : Bool) (x : A) → is_some (if b then Some x else Non
 if-some true x = refl
 if-some false x = refl
 
-own-hand : (hand : Option Hand) (now : Content) (k : ℕ) → is_some (own_hand hand now k) ≡ is_hand_of hand k
+pub own-hand : (hand : Option Hand) (now : Content) (k : ℕ) → is_some (own_hand hand now k) ≡ is_hand_of hand k
 own-hand None now k = refl
 own-hand (Some h) now k = if-some (h.holder == k) (record { taken = h.taken; now = now; recorded = h.recorded; unmarked = h.unmarked })
 
-known : (has : Bool) (database : ℕ) (slot : ℕ → ℕ) → is_some (known_slots has database slot) ≡ has
+pub known : (has : Bool) (database : ℕ) (slot : ℕ → ℕ) → is_some (known_slots has database slot) ≡ has
 known has database slot = if-some has _
 
 even-lock : (partition fast : ℕ → Bool) (p : ℕ) → lock_bit partition fast (partition_lock p) ≡ partition p
@@ -391,6 +401,7 @@ module _ (w : World) (number : ℕ) (a : Account) (shows : a ≡ account w numbe
       → (has_waiters ≡ false → waiters ≡ []) → (release_ok ≡ false → (other : ℕ) × (a.lists.off other ≡ true)) → IsLeftWellBy a todo l waiters
       → KeepsOwed w number todo flagged todo flagged (UnlockList (word_of_lock l) has_waiters release_ok)
   keeps-unlocking todo flagged l has_waiters release_ok waiters list waiters_stay release_stays well = record {
+    in_order = tt;
     asks = λ x is was. subst (λ n. AsksUnlocking w x number n has_waiters release_ok) (sym (lock-is l)) (record {
       waiters_stay = elim (cases_Bool has_waiters) [
         | inl stay ↦ inl stay

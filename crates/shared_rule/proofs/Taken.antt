@@ -8,7 +8,9 @@ use Rattle.shared_rule.specs.Boards.{first_marks, lists_told, StaysLone}
 use Rattle.shared_rule.specs.Plays.{HasSession}
 use Rattle.shared_rule.specs.Quiet.{first_quiet, quiet_noted}
 use Rattle.lock_world.specs.Wakes.Waking.{NoneOr}
-use Rattle.shared_rule.specs.Todos.{Todo, todo_told_by, flagged_told_by, first_todo, todo_noted, first_flagged, flagged_noted}
+use Rattle.shared_rule.specs.Todos.{Todo, todo_told_by, flagged_told_by, first_todo, todo_noted, first_flagged, flagged_noted, JoinsLatest}
+use Rattle.shared_rule.specs.History.{told}
+use Rattle.shared_rule.proofs.Orders.{MayAttempt}
 
 -- What a step that is noted makes of the view and of the account.
 
@@ -82,3 +84,13 @@ module _ {T : Type 0} (view : View T) (has : HasSession view) where
 
   pub flagged-known : first_flagged view.sessions ≡ true → flagged_told_by has.history.marks ≡ true
   flagged-known set = sym (ap (λ (sessions : List (History T)). first_flagged sessions) has.sessions) ∙ set
+
+-- Whether the session may attempt a lock, and whether it joins the list of the latest one, by its history.
+module _ {T : Type 0} (content : T → Content) (view : View T) (has : HasSession view) where
+  pub attempt-known : (lock : ℕ) → NoneOr (first_todo view.sessions).tries lock → NoneOr (first_account content view.sessions).lists.stands lock
+      → MayAttempt (told content has.history.number has.history.marks) (todo_told_by has.history.number has.history.marks) lock
+  attempt-known lock none nowhere =
+      (tries-known view has lock none, subst (λ (sessions : List (History T)). NoneOr (first_account content sessions).lists.stands lock) has.sessions nowhere)
+
+  pub joins-known : JoinsLatest (first_account content view.sessions) → JoinsLatest (told content has.history.number has.history.marks)
+  joins-known joins = subst (λ (sessions : List (History T)). JoinsLatest (first_account content sessions)) has.sessions joins

@@ -5,15 +5,17 @@ use Rattle.lock_world.specs.SafeWorld.{SafeWorld}
 use Rattle.lock_world.specs.Happens.{Happens}
 use Rattle.lock_world.specs.Wakes.{Beside, happened}
 use Rattle.lock_world.specs.Wakes.Waking.{NobodyIsForgotten}
-use Rattle.lock_world.specs.Wakes.Owing.{Duties, waking, duties_after, HasNothingToDo, Asks}
+use Rattle.lock_world.specs.Wakes.Owing.{Duties, waking, duties_after, HasNothingToDo, Asks, AsksInOrder}
 use Rattle.lock_world.specs.Wakes.Calling.{no_calls}
 use Rattle.lock_world.proofs.Wakes.Runs.{turn-nobody}
 use Rattle.lock_world.proofs.Wakes.Live.{turn-live}
+use Rattle.lock_world.proofs.Wakes.Order.{kept-order, step-order}
 use Rattle.shared_rule.specs.declared.history.History.{History}
 use Rattle.shared_rule.specs.declared.history.View.{View}
 use Rattle.shared_rule.specs.Ruled.{todo_of, StandsAtSeat, WakesAreKept}
 use Rattle.shared_rule.specs.Todos.{todo_told_by, flagged_told_by}
 use Rattle.shared_rule.proofs.Owings.{calls-aside}
+use Rattle.shared_rule.proofs.Orders.{order-of}
 
 -- Seats that are cut in two and joined leave all duties as they are.
 
@@ -25,7 +27,7 @@ abbrev pub TellsFlagged : {T : Type 0} → Duties → History T → Type 0
 TellsFlagged duties history = flagged_told_by history.marks ≡ duties.flagged history.number
 
 module _ {T : Type 0} (views after : List (View T)) (w v : World) (event : Event) (safe : SafeWorld w) (happens : Happens w event v) (kept : WakesAreKept views w)
-    (asks : Asks w kept.duties no_calls no_calls event.session event.step) (same : duties_after w kept.duties event.session event.step ≡ kept.duties) where
+    (asks : Asks w kept.duties no_calls no_calls event.session event.step) (in_order : AsksInOrder w event.session event.step) (same : duties_after w kept.duties event.session event.step ≡ kept.duties) where
   abbrev beside : Beside
   beside = record { duties = kept.duties; waits = no_calls; sleeps = no_calls }
 
@@ -39,6 +41,7 @@ module _ {T : Type 0} (views after : List (View T)) (w v : World) (event : Event
     none_todo = λ k later. kept.none_todo k (issued k later);
     none_flagged = λ k later. kept.none_flagged k (issued k later);
     nobody = subst (λ (d : Duties). NobodyIsForgotten (waking v d)) same (turn-nobody w v beside (happened event) safe kept.nobody (happens, asks));
+    order = kept-order v kept.duties (step-order w v event.session (order-of w kept.duties kept.order) event.step happens in_order);
     only_live = λ k spent. subst (λ (d : Duties). HasNothingToDo v d no_calls no_calls k) same
         (calls-aside v _ _ _ k (turn-live w v beside (happened event) safe kept.only_live (happens, asks) k spent));
   }
@@ -53,5 +56,6 @@ wakes-moved views after w kept todo flagged = record {
   none_todo = kept.none_todo;
   none_flagged = kept.none_flagged;
   nobody = kept.nobody;
+  order = kept.order;
   only_live = kept.only_live;
 }

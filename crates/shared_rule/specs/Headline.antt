@@ -15,7 +15,7 @@ use Rattle.shared_rule.specs.declared.history.View.{View}
 use Rattle.shared_rule.specs.declared.kept.Kept.{Kept}
 use Rattle.shared_rule.specs.Shown.{WordsAreShown}
 use Rattle.lock_world.specs.Wakes.{IsLookedAfter, MakesNoStep}
-use Rattle.lock_world.specs.Wakes.Waking.{NobodyIsForgotten, IsAsleep}
+use Rattle.lock_world.specs.Wakes.Waking.{NobodyIsForgotten, IsAsleep, OrderIsKept, NotAllSleep}
 use Rattle.lock_world.specs.Wakes.Owing.{Duties, waking, HasNothingToDo}
 use Rattle.lock_world.specs.Wakes.Calling.{no_calls}
 use Rattle.shared_rule.specs.declared.history.History.{History}
@@ -64,3 +64,18 @@ pub record ShowsSleepers {T : Type 0} (content : T → Content) (begun : T → O
   pub nobody : NobodyIsForgotten (waking world duties)
   pub owed : (session lock : ℕ) → IsAsleep (waking world duties) session lock → IsLookedAfter world (with_duties duties) session lock
   pub only_live : (number : ℕ) → MakesNoStep world.numbers number → HasNothingToDo world duties no_calls no_calls number
+
+-- No circle of sleepers comes: the table shows such a World, with duties that the histories of all sessions tell that have a seat. Nobody
+-- stands in the list of a lightweight lock while it has a later one. So where anybody sleeps, not all of those sleep who have a lightweight
+-- lock, or something to do for one, or somebody to tell.
+pub record ShowsNoCircle {T : Type 0} (content : T → Content) (begun : T → Option Request) (sizes : Sizes)
+    (state : State (Kept T) (View T)) : Type 0 where
+  pub world : World
+  pub words : WordsAreShown sizes.groups state.words world.words
+  pub seats : SeatsAreShown content state.views world
+  pub duties : Duties
+  pub todo :
+      (history : History T) → StandsAtSeat state.views history
+      → todo_told_by history.number history.marks ≡ todo_of duties history.number
+  pub in_order : OrderIsKept (waking world duties)
+  pub somebody_runs : NotAllSleep (waking world duties)

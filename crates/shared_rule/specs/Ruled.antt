@@ -26,7 +26,7 @@ use Rattle.shared_rule.specs.History.{blank_account, told, keeper}
 use Rattle.shared_rule.specs.Tells.{AreTold, Leads, steps_of}
 use Rattle.shared_rule.specs.Todos.{Todo, nothing_to_do, todo_told_by, flagged_told_by}
 use Rattle.lock_world.specs.Wakes.{Beside, MakesNoStep}
-use Rattle.lock_world.specs.Wakes.Waking.{NobodyIsForgotten}
+use Rattle.lock_world.specs.Wakes.Waking.{NobodyIsForgotten, OrderIsKept}
 use Rattle.lock_world.specs.Wakes.Owing.{Duties, waking, HasNothingToDo}
 use Rattle.lock_world.specs.Wakes.Calling.{no_calls}
 
@@ -204,7 +204,7 @@ abbrev pub with_duties : Duties → Beside
 with_duties duties = record { duties = duties; waits = no_calls; sleeps = no_calls }
 
 -- Nobody who sleeps for a lightweight lock is forgotten, by the duties that histories tell: there are duties of all sessions, which are
--- those of each history at a seat; and whoever makes no step has no lock and nothing to do.
+-- those of each history at a seat; and whoever makes no step has no lock and nothing to do. All take lightweight locks in one order.
 pub record WakesAreKept {T : Type 0} (views : List (View T)) (w : World) : Type 0 where
   pub duties : Duties
   pub todo :
@@ -215,6 +215,8 @@ pub record WakesAreKept {T : Type 0} (views : List (View T)) (w : World) : Type 
   pub none_todo : (number : ℕ) → w.numbers.issued ≤ number → nothing_to_do ≡ todo_of duties number
   pub none_flagged : (number : ℕ) → w.numbers.issued ≤ number → false ≡ duties.flagged number
   pub nobody : NobodyIsForgotten (waking w duties)
+  -- and nobody stands in the list of a lock while it has a later one
+  pub order : OrderIsKept (waking w duties)
   pub only_live : (number : ℕ) → MakesNoStep w.numbers number → HasNothingToDo w duties no_calls no_calls number
 
 -- The rule.

@@ -16,7 +16,8 @@ use Rattle.shared_rule.specs.declared.history.History.{History}
 use Rattle.shared_rule.specs.declared.lw_lock.LwLock.{LwLock}
 use Rattle.shared_rule.specs.declared.lw_lock.LwLock.TheVariants.{OfPart, OfSlots}
 use Rattle.shared_rule.specs.History.{told, list_here}
-use Rattle.shared_rule.specs.LwLocks.{lock_number}
+use Rattle.shared_rule.specs.LwLocks.{lock_number, LockIsInTable}
+use Rattle.shared_rule.specs.Lawful.{IsAboveHand}
 
 -- What a session has still to do for those who wait for lightweight locks, as its history tells it. `Duties` of the World's wake laws
 -- tell the same of all sessions.
@@ -166,3 +167,21 @@ pub record MaySleepBy (a : Account) (todo : Todo) : Type 0 where
   pub no_try : todo.tries ≡ None
   pub no_list : a.lists.in_hand ≡ None
   pub tells_nobody : TellsNobodyBy a
+
+-- By its account the session has earlier lightweight locks alone: partitions below this one, or no lock at all where it is that of a
+-- session's slots.
+pub record HasNoLock (a : Account) : Type 0 where
+  pub no_partition : (part : ℕ) → a.hand part ≡ None
+  pub no_slots : (owner : ℕ) → a.fast.slots owner ≡ None
+  pub no_shared_slots : (owner : ℕ) → a.fast.shared_slots owner ≡ None
+
+abbrev pub IsLatestBy : Account → LwLock → Type 0
+IsLatestBy a (OfPart part) = IsAboveHand a part
+IsLatestBy a (OfSlots owner) = HasNoLock a
+
+-- The list in hand is that of such a lock.
+pub record JoinsLatest (a : Account) : Type 0 where
+  pub lock : LwLock
+  pub there : LockIsInTable lock
+  pub in_hand : lock_of_list a.lists.in_hand ≡ Some (lock_number lock)
+  pub latest : IsLatestBy a lock

@@ -202,6 +202,7 @@ fn take_next<T: PartTable, R: Wait>(rt: &R, top: &Top<T>, place: &mut Place<T>, 
     requires session { HasSession place.old.me.0 }
     requires exists { part < 16 }
     requires none_in_hand { IsAboveHand (account_at T.content place.old) part }
+    requires idle { (account_at T.content place.old).lists ≡ no_lists }
     requires todo { todo_at place.old ≡ nothing_to_do }
     ensures seat { IsSameSeat place.old place.new }
     ensures side { place.new.me

@@ -107,6 +107,7 @@ pub trait Board<T: PartTable> {
     fn take_fast<R: Wait>(&mut self, rt: &R, owner: SessionId)
         requires exists { owner < (seat self.old).limit }
         requires nothing_due { stack self.old ≡ nothing_due }
+        requires no_content { (part : ℕ) → (view self.old).hand part ≡ None }
         requires no_slots { (view self.old).fast.slots ≡ (λ _. None) }
         requires no_shared_slots { (view self.old).fast.shared_slots ≡ (λ _. None) }
         ensures seat { seat self.new ≡ seat self.old }
@@ -142,6 +143,7 @@ pub trait Board<T: PartTable> {
     fn share_fast<R: Wait>(&mut self, rt: &R, owner: SessionId)
         requires exists { owner < (seat self.old).limit }
         requires nothing_due { stack self.old ≡ nothing_due }
+        requires no_content { (part : ℕ) → (view self.old).hand part ≡ None }
         requires no_slots { (view self.old).fast.slots ≡ (λ _. None) }
         requires no_shared_slots { (view self.old).fast.shared_slots ≡ (λ _. None) }
         ensures seat { seat self.new ≡ seat self.old }

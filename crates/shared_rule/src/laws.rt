@@ -21,7 +21,7 @@ ghost use Rattle.shared_rule.specs.Shown.{WordsAreShown, set_word};
 ghost use Rattle.shared_rule.specs.declared.history.View.{View};
 ghost use Rattle.shared_rule.specs.declared.kept.Kept.{Kept};
 ghost use Rattle.shared_rule.specs.declared.layout.TheConstants.{TABLE_WORDS};
-ghost use Rattle.shared_rule.specs.Headline.{ShowsHeadline, ShowsReasons, ShowsSleepers};
+ghost use Rattle.shared_rule.specs.Headline.{ShowsHeadline, ShowsReasons, ShowsSleepers, ShowsNoCircle};
 ghost use Rattle.shared_rule.specs.Tells.{Leads, steps_of};
 ghost use Rattle.shared_rule.specs.Quiet.{quiet_told, quiet_of};
 ghost use Rattle.shared_rule.specs.Ruled.{Ruled, StandsAtSeat, StandsClosed, HasSeat, HasClosedHistory, NobodyElse, StepsAreTold};
@@ -55,6 +55,15 @@ pub fn the_table_shows_why_each_session_waits<T: PartTable>()
 pub fn the_table_forgets_no_sleeper<T: PartTable>()
     ensures { (sizes : Sizes) (state : State (Kept T) (View T)) → Ruled T.content T.begun sizes state
         → ShowsSleepers T.content T.begun sizes state }
+{}
+
+/// No circle of sleepers comes at a table that keeps the rule. It shows a World in which nobody stands in the wait list of a
+/// lightweight lock while it has a later one: first come the locks of slots, then the partitions, the lowest first. So where anybody
+/// sleeps, not all of those sleep who have a lightweight lock, or something to do for one, or somebody to tell: a chain of waiting
+/// ends at a session that runs.
+pub fn the_table_lets_no_circle_of_sleepers_come<T: PartTable>()
+    ensures { (sizes : Sizes) (state : State (Kept T) (View T)) → Ruled T.content T.begun sizes state
+        → ShowsNoCircle T.content T.begun sizes state }
 {}
 
 /// Each word of a table for so many groups of slots stands below the table's length, `TABLE_WORDS` with one group.

@@ -17,7 +17,7 @@ ghost use Rattle.shared_rule.specs.History.{list_here, noting};
 ghost use Rattle.shared_rule.specs.Layout.{list_slot_of};
 ghost use Rattle.shared_rule.specs.Acquires.{GotNothing, IsAsBefore};
 ghost use Rattle.shared_rule.specs.Led.{Led, LedTo};
-ghost use Rattle.shared_rule.specs.Todos.{IsLeftWellBy, TellsNobodyBy, todo_looked, todo_queueing, todo_leaving};
+ghost use Rattle.shared_rule.specs.Todos.{IsLeftWellBy, JoinsLatest, TellsNobodyBy, todo_looked, todo_queueing, todo_leaving};
 ghost use Rattle.shared_rule.specs.Todos.{todo_setting_ok, todo_attempted, lock_of_list};
 ghost use Rattle.lw_word.specs.LightweightWord.{IsHeldByNobody};
 ghost use Rattle.lock_world.specs.Wakes.Waking.{NoneOr};
@@ -122,6 +122,7 @@ pub(crate) fn join_list<T: PartTable, M: Marking<T>>(
     requires owes_no_ok { (todo_at place.old).owes_release_ok ≡ None }
     requires no_other { (mine : ListInHand) → (account_at T.content place.old).lists.in_hand ≡ Some mine
         → NoneOr (todo_at place.old).tries mine.lock }
+    requires latest { JoinsLatest (account_at T.content place.old) }
     requires mark { M.mark ≡ (λ _. JoinedList mode) }
     ensures led { LedTo T.content place.old place.new (account_joining_list (account_at T.content place.old)
         (list_here (account_at T.content place.old).lists.in_hand) (record { session = number; mode = mode }))

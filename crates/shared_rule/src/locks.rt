@@ -10,7 +10,8 @@ ghost use Rattle.shared_rule.specs.Marks.{PutFast, Passed, LoadedFast};
 ghost use Rattle.shared_rule.specs.Acquires.{IsAsBefore, GetsSlots};
 ghost use Rattle.shared_rule.specs.History.{noting};
 ghost use Rattle.shared_rule.specs.Led.{Led, LedTo};
-ghost use Rattle.shared_rule.specs.Todos.{nothing_to_do, todo_putting};
+ghost use Rattle.shared_rule.specs.Todos.{IsLatestBy, nothing_to_do, todo_putting};
+ghost use Rattle.shared_rule.specs.declared.lw_lock.LwLock.TheVariants.{OfSlots};
 ghost use Rattle.lock_world.specs.WaitLists.{fast_lock};
 ghost use Rattle.lock_world.specs.Wakes.Waking.{NoneOr};
 ghost use Rattle.lw_word.specs.LockState.{state_of, put_in};
@@ -49,6 +50,7 @@ fn attempt_fast<T: PartTable, G: Grouping>(
     requires session { HasSession place.old.me.0 }
     requires free { IsHeldByNobody shown × (taken ≡ taken_word shown) }
     requires no_other_try { NoneOr (todo_at place.old).tries (fast_lock owner) }
+    requires no_other_list { NoneOr (account_at T.content place.old).lists.stands (fast_lock owner) }
     requires groups { G.groups ≡ top.now.key.groups }
     ensures seat { IsSameSeat place.old place.new }
     ensures won { OnTrue result (GetsSlots T.content top.now.key.groups Exclusive owner place.old place.new) }
@@ -71,6 +73,7 @@ pub(crate) fn attempt_free_fast<T: PartTable>(
     requires exists { owner < top.now.key.sessions }
     requires session { HasSession place.old.me.0 }
     requires no_other_try { NoneOr (todo_at place.old).tries (fast_lock owner) }
+    requires no_other_list { NoneOr (account_at T.content place.old).lists.stands (fast_lock owner) }
     ensures seat { IsSameSeat place.old place.new }
     ensures won { OnTrue result (GetsSlots T.content top.now.key.groups Exclusive owner place.old place.new) }
     ensures lost { OnFalse result (IsAsBefore T.content place.old place.new) }
@@ -98,6 +101,7 @@ pub(crate) fn take_fast<T: PartTable, R: Wait>(
     requires own { number ≡ number_at place.old }
     requires idle { (account_at T.content place.old).lists ≡ no_lists }
     requires todo { todo_at place.old ≡ nothing_to_do }
+    requires latest { IsLatestBy (account_at T.content place.old) (OfSlots owner) }
     ensures { GetsSlots T.content top.now.key.groups Exclusive owner place.old place.new }
 {
     if !attempt_free_fast(top, place, owner) {
@@ -135,6 +139,7 @@ fn take_own_fast<T: PartTable, G: Grouping>(
     requires own { number ≡ number_at place.old }
     requires free { IsHeldByNobody shown × (taken ≡ taken_word shown) }
     requires no_other_try { NoneOr (todo_at place.old).tries (fast_lock number) }
+    requires no_other_list { NoneOr (account_at T.content place.old).lists.stands (fast_lock number) }
     requires groups { G.groups ≡ top.now.key.groups }
     ensures seat { IsSameSeat place.old place.new }
     ensures won { result ≡ shown → TookSlots T.content top.now.key.groups number place.old.me place.new.me }
@@ -153,6 +158,7 @@ pub(crate) fn try_take_fast<T: PartTable>(
     requires table { FitsTable place.old top.now.table_id }
     requires session { HasSession place.old.me.0 }
     requires own { number ≡ number_at place.old }
+    requires idle { (account_at T.content place.old).lists ≡ no_lists }
     requires todo { todo_at place.old ≡ nothing_to_do }
     ensures seat { IsSameSeat place.old place.new }
     ensures tried { TriesFast top.now.key.groups (number_at place.old) (account_at T.content place.old) result

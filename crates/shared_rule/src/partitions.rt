@@ -8,8 +8,9 @@ ghost use Rattle.lock_world.specs.AccountSteps.{account_putting};
 ghost use Rattle.lock_world.specs.AccountFacts.{KnowsContent};
 ghost use Rattle.shared_rule.specs.Marks.{TookPart, PutPart};
 ghost use Rattle.shared_rule.specs.declared.kept.Kept.TheVariants.{Nothing};
+ghost use Rattle.shared_rule.specs.declared.lw_lock.LwLock.TheVariants.{OfPart};
 ghost use Rattle.shared_rule.specs.Acquires.{GotNothing, IsAsBefore, TakesPartition};
-ghost use Rattle.shared_rule.specs.Todos.{TriesAtMost, nothing_to_do, todo_attempted, todo_putting, todo_back};
+ghost use Rattle.shared_rule.specs.Todos.{IsLatestBy, TriesAtMost, nothing_to_do, todo_attempted, todo_putting, todo_back};
 ghost use Rattle.lock_world.specs.WaitLists.{partition_lock};
 ghost use Rattle.lock_world.specs.Wakes.Waking.{NoneOr};
 ghost use Rattle.lw_word.specs.declared.words.LwMode.TheVariants.{Exclusive};
@@ -49,6 +50,7 @@ fn attempt_part<T: PartTable>(
     requires session { HasSession place.old.me.0 }
     requires free { IsHeldByNobody shown × (taken ≡ taken_word shown) }
     requires no_other_try { NoneOr (todo_at place.old).tries (partition_lock part) }
+    requires no_other_list { NoneOr (account_at T.content place.old).lists.stands (partition_lock part) }
     ensures seat { IsSameSeat place.old place.new }
     ensures lost { IfNone result (IsAsBefore T.content place.old place.new) }
     ensures won { IfSome result (TakesPartition T.content T.begun part place.old place.new) }
@@ -72,6 +74,7 @@ fn attempt_free_part<T: PartTable>(top: &Top<T>, place: &mut Place<T>, part: u8)
     requires exists { part < 16 }
     requires session { HasSession place.old.me.0 }
     requires no_other_try { NoneOr (todo_at place.old).tries (partition_lock part) }
+    requires no_other_list { NoneOr (account_at T.content place.old).lists.stands (partition_lock part) }
     ensures seat { IsSameSeat place.old place.new }
     ensures lost { IfNone result (IsAsBefore T.content place.old place.new) }
     ensures won { IfSome result (TakesPartition T.content T.begun part place.old place.new) }
@@ -98,6 +101,7 @@ pub(crate) fn take_part_alone<T: PartTable, R: Wait>(
     requires exists { part < 16 }
     requires session { HasSession place.old.me.0 }
     requires no_other_try { NoneOr (todo_at place.old).tries (partition_lock part) }
+    requires no_other_list { NoneOr (account_at T.content place.old).lists.stands (partition_lock part) }
     ensures seat { IsSameSeat place.old place.new }
     ensures side { place.new.me
         ≡ (noting place.old.me.0 (TookPart part result), (content_slot_of part, Nothing) ∷ place.old.me.1) }
@@ -118,6 +122,7 @@ fn attempt_part_a_while<T: PartTable>(top: &Top<T>, place: &mut Place<T>, part: 
     requires exists { part < 16 }
     requires session { HasSession place.old.me.0 }
     requires no_other_try { NoneOr (todo_at place.old).tries (partition_lock part) }
+    requires no_other_list { NoneOr (account_at T.content place.old).lists.stands (partition_lock part) }
     ensures seat { IsSameSeat place.old place.new }
     ensures lost { IfNone result (IsAsBefore T.content place.old place.new) }
     ensures won { IfSome result (TakesPartition T.content T.begun part place.old place.new) }
@@ -143,6 +148,7 @@ fn attempt_part_unless_held<T: PartTable, R: Wait>(
     requires exists { part < 16 }
     requires session { HasSession place.old.me.0 }
     requires no_other_try { NoneOr (todo_at place.old).tries (partition_lock part) }
+    requires no_other_list { NoneOr (account_at T.content place.old).lists.stands (partition_lock part) }
     ensures seat { IsSameSeat place.old place.new }
     ensures lost { IfNone result (GotNothing T.content place.old place.new (todo_attempted (todo_at place.old))) }
     ensures won { IfSome result (TakesPartition T.content T.begun part place.old place.new) }
@@ -174,6 +180,7 @@ fn take_part_or_sleep<T: PartTable, R: Wait>(
     requires own { number ≡ number_at place.old }
     requires idle { (account_at T.content place.old).lists ≡ no_lists }
     requires todo { TriesAtMost (partition_lock part) (todo_at place.old) }
+    requires latest { IsLatestBy (account_at T.content place.old) (OfPart part) }
     ensures seat { IsSameSeat place.old place.new }
     ensures lost { IfNone result (GotNothing T.content place.old place.new (todo_back (partition_lock part))) }
     ensures won { IfSome result (TakesPartition T.content T.begun part place.old place.new) }
@@ -207,6 +214,7 @@ fn take_part_in_turn<T: PartTable, R: Wait>(
     requires own { number ≡ number_at place.old }
     requires idle { (account_at T.content place.old).lists ≡ no_lists }
     requires todo { TriesAtMost (partition_lock part) (todo_at place.old) }
+    requires latest { IsLatestBy (account_at T.content place.old) (OfPart part) }
     ensures seat { IsSameSeat place.old place.new }
     ensures lost { IfNone result (GotNothing T.content place.old place.new (todo_back (partition_lock part))) }
     ensures won { IfSome result (TakesPartition T.content T.begun part place.old place.new) }
@@ -234,6 +242,7 @@ pub(crate) fn take_part<T: PartTable, R: Wait>(
     requires own { number ≡ number_at place.old }
     requires idle { (account_at T.content place.old).lists ≡ no_lists }
     requires todo { todo_at place.old ≡ nothing_to_do }
+    requires latest { IsLatestBy (account_at T.content place.old) (OfPart part) }
     ensures { TakesPartition T.content T.begun part place.old place.new result }
 {
     match attempt_free_part(top, place, part) {
@@ -258,6 +267,7 @@ fn take_part_held<T: PartTable, R: Wait>(
     requires own { number ≡ number_at place.old }
     requires idle { (account_at T.content place.old).lists ≡ no_lists }
     requires todo { TriesAtMost (partition_lock part) (todo_at place.old) }
+    requires latest { IsLatestBy (account_at T.content place.old) (OfPart part) }
     ensures { TakesPartition T.content T.begun part place.old place.new result }
 {
     for _ in rt.forever() {

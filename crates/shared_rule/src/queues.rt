@@ -22,7 +22,7 @@ ghost use Rattle.lock_world.specs.AccountSteps.{account_locking_list};
 ghost use Rattle.shared_rule.specs.declared.kept.Kept.TheVariants.{Nothing};
 ghost use Rattle.shared_rule.specs.Layout.{list_slot_of};
 ghost use Rattle.shared_rule.specs.Led.{Led, LedTo};
-ghost use Rattle.shared_rule.specs.Todos.{HasBy, MaySleepBy, TellsNobodyBy, TriesAtMost};
+ghost use Rattle.shared_rule.specs.Todos.{HasBy, IsLatestBy, MaySleepBy, TellsNobodyBy, TriesAtMost};
 ghost use Rattle.shared_rule.specs.Todos.{nothing_to_do, todo_in_list, todo_got};
 ghost use Rattle.shared_rule.specs.LwLocks.{lock_number, LockExists, LockIsInTable, no_lists, queued_for};
 ghost use Rattle.shared_rule.specs.Plays.{account_at, number_at, todo_at, FitsTable, HasSession};
@@ -106,6 +106,7 @@ pub(crate) fn queue_self<T: PartTable, R: Wait>(
     requires own { number ≡ number_at place.old }
     requires idle { (account_at T.content place.old).lists ≡ no_lists }
     requires todo { TriesAtMost (lock_number lock.now) (todo_at place.old) }
+    requires latest { IsLatestBy (account_at T.content place.old) lock.now }
     ensures led { LedTo T.content place.old place.new
         (record (account_at T.content place.old) { lists = queued_for (lock_number lock.now) })
         (todo_in_list (lock_number lock.now)) }

@@ -12,7 +12,8 @@ ghost use Rattle.shared_rule.specs.Marks.{UnsharedFast};
 ghost use Rattle.lock_world.specs.AccountSteps.{account_unsharing_fast};
 ghost use Rattle.shared_rule.specs.Acquires.{IsAsBefore, GetsSlots};
 ghost use Rattle.shared_rule.specs.Led.{Led, LedTo};
-ghost use Rattle.shared_rule.specs.Todos.{nothing_to_do, todo_putting};
+ghost use Rattle.shared_rule.specs.Todos.{IsLatestBy, nothing_to_do, todo_putting};
+ghost use Rattle.shared_rule.specs.declared.lw_lock.LwLock.TheVariants.{OfSlots};
 ghost use Rattle.lock_world.specs.WaitLists.{fast_lock};
 ghost use Rattle.lock_world.specs.Wakes.Waking.{NoneOr};
 ghost use Rattle.lw_word.specs.LockState.{state_of, put_in};
@@ -58,6 +59,7 @@ fn attempt_share<T: PartTable, G: Grouping>(
     requires session { HasSession place.old.me.0 }
     requires lawful { MayShareFastBy (account_at T.content place.old) owner }
     requires no_other_try { NoneOr (todo_at place.old).tries (fast_lock owner) }
+    requires no_other_list { NoneOr (account_at T.content place.old).lists.stands (fast_lock owner) }
     requires free { IsFreeToShare shown × (shared ≡ shared_word shown) }
     requires groups { G.groups ≡ top.now.key.groups }
     ensures seat { IsSameSeat place.old place.new }
@@ -82,6 +84,7 @@ pub(crate) fn attempt_free_share<T: PartTable>(
     requires session { HasSession place.old.me.0 }
     requires lawful { MayShareFastBy (account_at T.content place.old) owner }
     requires no_other_try { NoneOr (todo_at place.old).tries (fast_lock owner) }
+    requires no_other_list { NoneOr (account_at T.content place.old).lists.stands (fast_lock owner) }
     ensures seat { IsSameSeat place.old place.new }
     ensures won { OnTrue result (GetsSlots T.content top.now.key.groups Shared owner place.old place.new) }
     ensures lost { OnFalse result (IsAsBefore T.content place.old place.new) }
@@ -110,6 +113,7 @@ pub(crate) fn share_fast<T: PartTable, R: Wait>(
     requires lawful { MayShareFastBy (account_at T.content place.old) owner }
     requires idle { (account_at T.content place.old).lists ≡ no_lists }
     requires todo { todo_at place.old ≡ nothing_to_do }
+    requires latest { IsLatestBy (account_at T.content place.old) (OfSlots owner) }
     ensures { GetsSlots T.content top.now.key.groups Shared owner place.old place.new }
 {
     if !attempt_free_share(top, place, owner) {

@@ -6,7 +6,8 @@ ghost use Rattle.std.specs.Prelude.{◌≡◌, ◌<◌};
 ghost use Rattle.shared_rule.specs.Acquires.{GotNothing, IsAsBefore, IsTrying, GetsSlots, MayGetSlots};
 ghost use Rattle.lock_world.specs.WaitLists.{fast_lock};
 ghost use Rattle.lock_world.specs.Wakes.Waking.{NoneOr};
-ghost use Rattle.shared_rule.specs.Todos.{TriesAtMost, todo_attempted, todo_back};
+ghost use Rattle.shared_rule.specs.Todos.{IsLatestBy, TriesAtMost, todo_attempted, todo_back};
+ghost use Rattle.shared_rule.specs.declared.lw_lock.LwLock.TheVariants.{OfSlots};
 ghost use Rattle.shared_rule.specs.LwLocks.{no_lists};
 ghost use Rattle.shared_rule.specs.Plays.{account_at, number_at, todo_at, FitsTable, HasSession, IsSameSeat};
 
@@ -35,6 +36,7 @@ fn attempt_slots<T: PartTable>(
     requires session { HasSession place.old.me.0 }
     requires lawful { MayGetSlots mode (account_at T.content place.old) owner }
     requires no_other_try { NoneOr (todo_at place.old).tries (fast_lock owner) }
+    requires no_other_list { NoneOr (account_at T.content place.old).lists.stands (fast_lock owner) }
     ensures seat { IsSameSeat place.old place.new }
     ensures won { OnTrue result (GetsSlots T.content top.now.key.groups mode owner place.old place.new) }
     ensures lost { OnFalse result (IsAsBefore T.content place.old place.new) }
@@ -75,6 +77,7 @@ fn attempt_slots_a_while<T: PartTable>(
     requires session { HasSession place.old.me.0 }
     requires lawful { MayGetSlots mode (account_at T.content place.old) owner }
     requires no_other_try { NoneOr (todo_at place.old).tries (fast_lock owner) }
+    requires no_other_list { NoneOr (account_at T.content place.old).lists.stands (fast_lock owner) }
     ensures seat { IsSameSeat place.old place.new }
     ensures won { OnTrue result (GetsSlots T.content top.now.key.groups mode owner place.old place.new) }
     ensures lost { OnFalse result (IsAsBefore T.content place.old place.new) }
@@ -102,6 +105,7 @@ fn attempt_slots_unless_held<T: PartTable, R: Wait>(
     requires session { HasSession place.old.me.0 }
     requires lawful { MayGetSlots mode (account_at T.content place.old) owner }
     requires no_other_try { NoneOr (todo_at place.old).tries (fast_lock owner) }
+    requires no_other_list { NoneOr (account_at T.content place.old).lists.stands (fast_lock owner) }
     ensures seat { IsSameSeat place.old place.new }
     ensures won { OnTrue result (GetsSlots T.content top.now.key.groups mode owner place.old place.new) }
     ensures lost { OnFalse result (GotNothing T.content place.old place.new (todo_attempted (todo_at place.old))) }
@@ -134,6 +138,7 @@ fn get_slots_or_sleep<T: PartTable, R: Wait>(
     requires lawful { MayGetSlots mode (account_at T.content place.old) owner }
     requires idle { (account_at T.content place.old).lists ≡ no_lists }
     requires todo { TriesAtMost (fast_lock owner) (todo_at place.old) }
+    requires latest { IsLatestBy (account_at T.content place.old) (OfSlots owner) }
     ensures seat { IsSameSeat place.old place.new }
     ensures won { OnTrue result (GetsSlots T.content top.now.key.groups mode owner place.old place.new) }
     ensures lost { OnFalse result (GotNothing T.content place.old place.new (todo_back (fast_lock owner))) }
@@ -166,6 +171,7 @@ fn get_slots_in_turn<T: PartTable, R: Wait>(
     requires lawful { MayGetSlots mode (account_at T.content place.old) owner }
     requires idle { (account_at T.content place.old).lists ≡ no_lists }
     requires todo { TriesAtMost (fast_lock owner) (todo_at place.old) }
+    requires latest { IsLatestBy (account_at T.content place.old) (OfSlots owner) }
     ensures seat { IsSameSeat place.old place.new }
     ensures won { OnTrue result (GetsSlots T.content top.now.key.groups mode owner place.old place.new) }
     ensures lost { OnFalse result (GotNothing T.content place.old place.new (todo_back (fast_lock owner))) }
@@ -195,6 +201,7 @@ pub(crate) fn get_slots_held<T: PartTable, R: Wait>(
     requires lawful { MayGetSlots mode (account_at T.content place.old) owner }
     requires idle { (account_at T.content place.old).lists ≡ no_lists }
     requires todo { TriesAtMost (fast_lock owner) (todo_at place.old) }
+    requires latest { IsLatestBy (account_at T.content place.old) (OfSlots owner) }
     ensures { GetsSlots T.content top.now.key.groups mode owner place.old place.new }
 {
     for _ in rt.forever() {

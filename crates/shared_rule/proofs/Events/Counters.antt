@@ -80,7 +80,7 @@ module _ {T : Type 0} (content : T → Content) (sizes : Sizes) (x : History T) 
               (let few = may'.few in
               let longer : length (counting (w.sessions.counted x.number) tag mode) ≡ length (w.sessions.counted x.number) + 1 = length-append (w.sessions.counted x.number) _ in
               omega (arith, few, longer));
-          keeps = record { asks = λ d is was. tt; todo_ = λ d is. is; flagged_ = λ d was. was };
+          keeps = record { in_order = tt; asks = λ d is was. tt; todo_ = λ d is. is; flagged_ = λ d was. was };
         };
         home = λ p none. (none, refl);
         lists = λ lock nobody. (nobody, refl);
@@ -115,7 +115,7 @@ module _ {T : Type 0} (content : T → Content) (sizes : Sizes) (x : History T) 
               let as_many = length-filter (λ (c : Counted). not (is_of tag mode c)) (w.sessions.counted x.number) in
               let fewer = count_by-le-length (λ (c : Counted). not (is_of tag mode c)) (w.sessions.counted x.number) in
               omega (arith, few, as_many, fewer));
-          keeps = record { asks = λ d is was. tt; todo_ = λ d is. is; flagged_ = λ d was. was };
+          keeps = record { in_order = tt; asks = λ d is was. tt; todo_ = λ d is. is; flagged_ = λ d was. was };
         };
         home = λ p none. (none, refl);
         lists = λ lock nobody. (nobody, refl);

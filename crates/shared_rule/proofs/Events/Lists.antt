@@ -39,9 +39,12 @@ use Rattle.lock_world.proofs.Accounts.Lists.{account-taking_off, account-telling
 use Rattle.lock_world.proofs.Accounts.Lists.{lock_list-lawful, has_list-lawful, join_list-lawful, leave_list-lawful, take_off-lawful, tell-lawful}
 use Rattle.shared_rule.specs.declared.history.Mark.{Mark}
 use Rattle.lock_world.specs.Wakes.Waking.{NoneOr}
-use Rattle.shared_rule.specs.Todos.{Todo, todo_told_by, flagged_told_by}
+use Rattle.shared_rule.specs.Todos.{Todo, todo_told_by, flagged_told_by, JoinsLatest}
 use Rattle.shared_rule.specs.Todos.{TellsNobodyBy, IsLeftWellBy, lock_of_list}
 use Rattle.lw_word.specs.LightweightWord.{IsHeldByNobody, IsListLocked}
+use Rattle.lock_world.specs.Wakes.Owing.{IsLatest}
+use Rattle.lock_world.proofs.Wakes.Readings.{some-same}
+use Rattle.shared_rule.proofs.Orders.{latest-by, none-shared}
 use Rattle.shared_rule.proofs.Owings.{keeps-locking, keeps-unlocking, keeps-joining, keeps-leaving, keeps-setting_ok, keeps-flagging, lock-in_hand, tells-told}
 use Rattle.shared_rule.specs.Marks as mark
 use Rattle.shared_rule.specs.declared.history.History.{History}
@@ -285,8 +288,8 @@ module _ {T : Type 0} (content : T → Content) (sizes : Sizes) (x : History T) 
       ap list_here known ∙ (λ i. record { lock = mine.lock; waiters = sym is.1 i })
 
   pub joining-lawful : (mine : ListInHand) (mode : LwMode) → MayJoinListBy a mine → flagged ≡ true → todo.owes_release_ok ≡ None
-      → ((its : ListInHand) → a.lists.in_hand ≡ Some its → NoneOr todo.tries its.lock) → IsAlwaysLawful content sizes x (Sleep x.number) (λ _. Unit {0}) (λ _. 1) (λ _. mark.JoinedList mode)
-  joining-lawful mine mode may set owes_none no_other w steps n below shown _ =
+      → ((its : ListInHand) → a.lists.in_hand ≡ Some its → NoneOr todo.tries its.lock) → JoinsLatest a → IsAlwaysLawful content sizes x (Sleep x.number) (λ _. Unit {0}) (λ _. 1) (λ _. mark.JoinedList mode)
+  joining-lawful mine mode may set owes_none no_other joins w steps n below shown _ =
       let may' : MayJoinListBy (account w x.number) mine = subst (λ b. MayJoinListBy b mine) steps.account may in
       let lawful = join_list-lawful w steps.safe x.number steps.makes mine may' in
       let waiter : LwWaiter = record { session = x.number; mode = mode } in
@@ -307,7 +310,12 @@ module _ {T : Type 0} (content : T → Content) (sizes : Sizes) (x : History T) 
           keeps = keeps-joining w x.number todo flagged mode (lock_of_list a.lists.in_hand)
               (ap (λ (b : Account). lock_of_list b.lists.in_hand) steps.account ∙ lock-in_hand (w.sessions.has_list x.number) w.words.list) set owes_none
               (λ lock has. no_other (record { lock = lock; waiters = w.words.list lock })
-              (ap (λ (b : Account). b.lists.in_hand) steps.account ∙ ap (λ its. list_in_hand its w.words.list) has));
+              (ap (λ (b : Account). b.lists.in_hand) steps.account ∙ ap (λ its. list_in_hand its w.words.list) has))
+              (λ lock has.
+              let its : Some (lock_number joins.lock) ≡ Some lock = sym joins.in_hand ∙ ap (λ (b : Account). lock_of_list b.lists.in_hand) steps.account
+              ∙ lock-in_hand (w.sessions.has_list x.number) w.words.list ∙ has in
+              subst (IsLatest w x.number) (some-same (lock_number joins.lock) lock its)
+              (latest-by w x.number a steps.account steps.safe (none-shared content x.number x.marks) joins.lock joins.there joins.latest));
         };
         home = λ p none. (none, refl);
         lists = λ l nobody. (nobody, kept-beside w mine.lock _ lawful.has.in_hand l nobody);
@@ -356,7 +364,7 @@ module _ {T : Type 0} (content : T → Content) (sizes : Sizes) (x : History T) 
           words = refl;
           none_beyond = steps.none_beyond;
           few_counted = steps.few_counted x.number;
-          keeps = record { asks = λ d is was. tt; todo_ = λ d is. is; flagged_ = λ d was. was };
+          keeps = record { in_order = tt; asks = λ d is was. tt; todo_ = λ d is. is; flagged_ = λ d was. was };
         };
         home = λ p none. (none, refl);
         lists = λ l nobody. (nobody, kept-beside w mine.lock _ lawful.has.in_hand l nobody);
@@ -377,7 +385,7 @@ module _ {T : Type 0} (content : T → Content) (sizes : Sizes) (x : History T) 
           words = refl;
           none_beyond = steps.none_beyond;
           few_counted = steps.few_counted x.number;
-          keeps = record { asks = λ d is was. tt; todo_ = λ d is. is; flagged_ = λ d was. was };
+          keeps = record { in_order = tt; asks = λ d is was. tt; todo_ = λ d is. is; flagged_ = λ d was. was };
         };
         home = λ p none. (none, refl);
         lists = λ l nobody. (nobody, refl);
@@ -404,7 +412,7 @@ module _ {T : Type 0} (content : T → Content) (sizes : Sizes) (x : History T) 
           words = same ∙ stored;
           none_beyond = steps.none_beyond;
           few_counted = steps.few_counted x.number;
-          keeps = record { asks = λ d is was. tt; todo_ = λ d is. is; flagged_ = λ d was. was };
+          keeps = record { in_order = tt; asks = λ d is was. tt; todo_ = λ d is. is; flagged_ = λ d was. was };
         };
         home = λ p none. (none, refl);
         lists = λ l nobody. (nobody, ap (λ (words : Words). words.list l) same);

@@ -44,7 +44,7 @@ module _ {T : Type 0} (content : T → Content) (sizes : Sizes) (x : History T) 
       words = ap (λ f. record (w.words) { database = f }) (sym (set_at-same w.words.database owner n shown));
       none_beyond = steps.none_beyond;
       few_counted = steps.few_counted x.number;
-      keeps = record { asks = λ d is was. tt; todo_ = λ d is. is; flagged_ = λ d was. was };
+      keeps = record { in_order = tt; asks = λ d is was. tt; todo_ = λ d is. is; flagged_ = λ d was. was };
     };
     home = λ p none. (none, refl);
     lists = λ lock nobody. (nobody, refl);
@@ -65,7 +65,7 @@ module _ {T : Type 0} (content : T → Content) (sizes : Sizes) (x : History T) 
       words = slot-same w.words owner place n shown;
       none_beyond = subst (NoneBeyondSlots sizes.groups) (slot-same w.words owner place n shown) steps.none_beyond;
       few_counted = steps.few_counted x.number;
-      keeps = record { asks = λ d is was. tt; todo_ = λ d is. is; flagged_ = λ d was. was };
+      keeps = record { in_order = tt; asks = λ d is was. tt; todo_ = λ d is. is; flagged_ = λ d was. was };
     };
     home = λ p none. (none, refl);
     lists = λ lock nobody. (nobody, refl);
@@ -87,7 +87,7 @@ module _ {T : Type 0} (content : T → Content) (sizes : Sizes) (x : History T) 
       words = ap (λ f. record (w.words) { fast = f }) (sym (set_at-same w.words.fast x.number n shown));
       none_beyond = steps.none_beyond;
       few_counted = steps.few_counted x.number;
-      keeps = record { asks = λ d is was. tt; todo_ = λ d is. is; flagged_ = λ d was. was };
+      keeps = record { in_order = tt; asks = λ d is was. tt; todo_ = λ d is. is; flagged_ = λ d was. was };
     };
     home = λ p none. (none, refl);
     lists = λ lock nobody. (nobody, refl);
@@ -107,7 +107,7 @@ module _ {T : Type 0} (content : T → Content) (sizes : Sizes) (x : History T) 
       words = ap (λ f. record (w.words) { strong = f }) (sym (set_at-same w.words.strong index n shown));
       none_beyond = steps.none_beyond;
       few_counted = steps.few_counted x.number;
-      keeps = record { asks = λ d is was. tt; todo_ = λ d is. is; flagged_ = λ d was. was };
+      keeps = record { in_order = tt; asks = λ d is was. tt; todo_ = λ d is. is; flagged_ = λ d was. was };
     };
     home = λ p none. (none, refl);
     lists = λ lock nobody. (nobody, refl);

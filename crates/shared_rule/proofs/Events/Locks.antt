@@ -34,11 +34,11 @@ use Rattle.lock_world.proofs.Accounts.Facts.{slots-told}
 use Rattle.lock_world.proofs.Accounts.Slots.{slots_now, account-taking_fast, account-putting_fast, account-passing}
 use Rattle.lock_world.proofs.Accounts.Slots.{account-sharing_fast, account-unsharing_fast}
 use Rattle.shared_rule.specs.declared.history.Mark.{Mark}
-use Rattle.lock_world.specs.Wakes.Waking.{NoneOr}
 use Rattle.shared_rule.specs.Todos.{todo_told_by, flagged_told_by}
 use Rattle.lock_world.specs.WaitLists.{fast_lock}
 use Rattle.lw_word.specs.declared.words.LwMode.TheVariants.{Exclusive, Shared}
 use Rattle.lw_word.specs.LockState.{state_of, put_in}
+use Rattle.shared_rule.proofs.Orders.{MayAttempt, earlier-by}
 use Rattle.shared_rule.proofs.Owings.{keeps-taking, keeps-sharing, keeps-putting, keeps-unsharing, keeps-passing, put-exclusive, put-shared}
 use Rattle.shared_rule.specs.Marks as mark
 use Rattle.shared_rule.specs.declared.history.History.{History}
@@ -93,7 +93,7 @@ beyond-all groups few slot rest j later = rest j (omega (arith, few, later))
 abbrev taking_fast-noted :
     {T : Type 0} (content : T → Content) (sizes : Sizes) (x : History T) (owner : ℕ) (w : World)
     → Stepper sizes w x.number (told content x.number x.marks) → owner < w.numbers.limit
-    → IsHeldByNobody (w.words.fast owner) → NoneOr (todo_told_by x.number x.marks).tries (fast_lock owner)
+    → IsHeldByNobody (w.words.fast owner) → MayAttempt (told content x.number x.marks) (todo_told_by x.number x.marks) (fast_lock owner)
     → IsNoted content sizes.groups w x.number (told content x.number x.marks) (todo_told_by x.number x.marks) (flagged_told_by x.marks) (mark.TookFast owner (w.words.database owner)
     (listed slot_count (w.words.slot owner))) (set_word w.words (Fast owner) (taken_word (w.words.fast owner)))
 taking_fast-noted content sizes x owner w steps exists free tries = record {
@@ -108,14 +108,14 @@ taking_fast-noted content sizes x owner w steps exists free tries = record {
   words = refl;
   none_beyond = steps.none_beyond;
   few_counted = steps.few_counted x.number;
-  keeps = keeps-taking w x.number (todo_told_by x.number x.marks) (flagged_told_by x.marks) (Fast owner) tries;
+  keeps = keeps-taking w x.number (todo_told_by x.number x.marks) (flagged_told_by x.marks) (Fast owner) tries.0 (earlier-by w x.number (told content x.number x.marks) steps.account (fast_lock owner) tries.1);
 }
 
 -- So is sharing it.
 abbrev sharing_fast-noted :
     {T : Type 0} (content : T → Content) (sizes : Sizes) (x : History T) (owner : ℕ) (w : World)
     → Stepper sizes w x.number (told content x.number x.marks) → owner < w.numbers.limit
-    → IsFreeToShare (w.words.fast owner) → MayShareFastBy (told content x.number x.marks) owner → NoneOr (todo_told_by x.number x.marks).tries (fast_lock owner)
+    → IsFreeToShare (w.words.fast owner) → MayShareFastBy (told content x.number x.marks) owner → MayAttempt (told content x.number x.marks) (todo_told_by x.number x.marks) (fast_lock owner)
     → IsNoted content sizes.groups w x.number (told content x.number x.marks) (todo_told_by x.number x.marks) (flagged_told_by x.marks) (mark.SharedFast owner (w.words.database owner)
     (listed slot_count (w.words.slot owner))) (set_word w.words (Fast owner) (shared_word (w.words.fast owner)))
 sharing_fast-noted content sizes x owner w steps exists free may tries = record {
@@ -134,7 +134,7 @@ sharing_fast-noted content sizes x owner w steps exists free may tries = record 
   words = refl;
   none_beyond = steps.none_beyond;
   few_counted = steps.few_counted x.number;
-  keeps = keeps-sharing w x.number (todo_told_by x.number x.marks) (flagged_told_by x.marks) (Fast owner) tries;
+  keeps = keeps-sharing w x.number (todo_told_by x.number x.marks) (flagged_told_by x.marks) (Fast owner) tries.0 (earlier-by w x.number (told content x.number x.marks) steps.account (fast_lock owner) tries.1);
 }
 
 -- Whatever is so noted, with the word next, leaves the contents as they are.
@@ -226,7 +226,7 @@ module _ {T : Type 0} (content : T → Content) (begun : T → Option Request) (
   -- Taking it,
   taking-sees :
       (old new : ℕ) → ((w : World) → Stepper sizes w x.number (told content x.number x.marks) → owner < w.numbers.limit)
-      → IsHeldByNobody old → new ≡ taken_word old → NoneOr (todo_told_by x.number x.marks).tries (fast_lock owner)
+      → IsHeldByNobody old → new ≡ taken_word old → MayAttempt (told content x.number x.marks) (todo_told_by x.number x.marks) (fast_lock owner)
       → (w : World) → Stepper sizes w x.number (told content x.number x.marks) → w.words.fast owner ≡ old
       → Sees content sizes.groups x owner w mark.TookFast new
   taking-sees old new there free is_new tries w steps shown =
@@ -239,7 +239,7 @@ module _ {T : Type 0} (content : T → Content) (begun : T → Option Request) (
 
   -- of a session that there can be
   pub takes_fast_at : (groups old new : ℕ) → groups ≡ sizes.groups → owner < sizes.sessions → IsHeldByNobody old → new ≡ taken_word old
-      → NoneOr (todo_told_by x.number x.marks).tries (fast_lock owner) → (i : ℕ) → i ≡ at_word
+      → MayAttempt (told content x.number x.marks) (todo_told_by x.number x.marks) (fast_lock owner) → (i : ℕ) → i ≡ at_word
       → Allows (Ruled content begun sizes) slots id me i (λ n. either (n == old) new n)
       (TookSlotsOr content groups unnoted (step slots i old new none) me)
   takes_fast_at groups old new same exists free is_new tries i at =
@@ -251,7 +251,7 @@ module _ {T : Type 0} (content : T → Content) (begun : T → Option Request) (
 
   -- of the session's own slots
   pub tries_fast_at : (groups old new : ℕ) → groups ≡ sizes.groups → owner ≡ x.number → IsHeldByNobody old → new ≡ taken_word old
-      → NoneOr (todo_told_by x.number x.marks).tries (fast_lock owner) → (i : ℕ)
+      → MayAttempt (told content x.number x.marks) (todo_told_by x.number x.marks) (fast_lock owner) → (i : ℕ)
       → i ≡ at_word
       → Allows (Ruled content begun sizes) slots id me i (λ n. either (n == old) new n)
       (TookSlotsOr content groups noted_load (step slots i old new none) me)
@@ -275,7 +275,7 @@ module _ {T : Type 0} (content : T → Content) (begun : T → Option Request) (
   -- and sharing it.
   pub shares_fast_at :
       (groups old new : ℕ) → groups ≡ sizes.groups → owner < sizes.sessions → IsFreeToShare old → new ≡ shared_word old
-      → MayShareFastBy (told content x.number x.marks) owner → NoneOr (todo_told_by x.number x.marks).tries (fast_lock owner) → (i : ℕ) → i ≡ at_word
+      → MayShareFastBy (told content x.number x.marks) owner → MayAttempt (told content x.number x.marks) (todo_told_by x.number x.marks) (fast_lock owner) → (i : ℕ) → i ≡ at_word
       → Allows (Ruled content begun sizes) slots id me i (λ n. either (n == old) new n)
       (SharedSlotsOr content groups unnoted (step slots i old new none) me)
   shares_fast_at groups old new same exists free is_new may tries i at =

@@ -32,12 +32,12 @@ use Rattle.lock_world.proofs.Words.Holders.{free-not_held}
 use Rattle.lock_world.proofs.Accounts.Lawful.{put-lawful, put_recorded-lawful, hand-known}
 use Rattle.lock_world.proofs.Accounts.Partitions.{account-taking, account-putting}
 use Rattle.lock_world.proofs.Accounts.Facts.{content-known}
-use Rattle.lock_world.specs.Wakes.Waking.{NoneOr}
 use Rattle.shared_rule.specs.Todos.{todo_told_by, flagged_told_by}
 use Rattle.shared_rule.specs.Todos.{todo_putting}
 use Rattle.lock_world.specs.WaitLists.{partition_lock}
 use Rattle.lw_word.specs.declared.words.LwMode.TheVariants.{Exclusive}
 use Rattle.lw_word.specs.LockState.{state_of, put_in}
+use Rattle.shared_rule.proofs.Orders.{MayAttempt, earlier-by}
 use Rattle.shared_rule.proofs.Owings.{KeepsOwed, keeps-taking, keeps-putting, put-exclusive}
 use Rattle.shared_rule.specs.Marks.{TookPart, PutPart}
 use Rattle.shared_rule.specs.declared.history.Mark.{Mark}
@@ -138,7 +138,7 @@ module _ {T : Type 0} (content : T → Content) (begun : T → Option Request) (
   at_home s r free = subst (λ h. IsHomeUnlessInHand content begun h (r.world.contents.now p) (get_elem? s.homes (content_slot_of p))) (free-in_no_hand r.world r.safe p free) (r.contents p exists)
 
   -- Taking it is noted so.
-  abbrev taking-noted : (w : World) → Stepper sizes w x.number (told content x.number x.marks) → IsHeldByNobody (w.words.partition p) → NoneOr (todo_told_by x.number x.marks).tries (partition_lock p) → (part : T) → content part ≡ w.contents.now p
+  abbrev taking-noted : (w : World) → Stepper sizes w x.number (told content x.number x.marks) → IsHeldByNobody (w.words.partition p) → MayAttempt (told content x.number x.marks) (todo_told_by x.number x.marks) (partition_lock p) → (part : T) → content part ≡ w.contents.now p
       → IsNoted content sizes.groups w x.number (told content x.number x.marks) (todo_told_by x.number x.marks) (flagged_told_by x.marks) (TookPart p part) (set_word w.words (Partition p) (taken_word (w.words.partition p)))
   taking-noted w steps free tries part is_content = record {
     step = TakeExclusive (Partition p);
@@ -150,12 +150,12 @@ module _ {T : Type 0} (content : T → Content) (begun : T → Option Request) (
     words = refl;
     none_beyond = steps.none_beyond;
     few_counted = steps.few_counted x.number;
-    keeps = keeps-taking w x.number (todo_told_by x.number x.marks) (flagged_told_by x.marks) (Partition p) tries;
+    keeps = keeps-taking w x.number (todo_told_by x.number x.marks) (flagged_told_by x.marks) (Partition p) tries.0 (earlier-by w x.number (told content x.number x.marks) steps.account (partition_lock p) tries.1);
   }
 
   -- The exchange takes it where it finds the number of a free word.
   pub takes_part : (old new : ℕ) (step : Step (Kept T)) → step.first ≡ old → step.word ≡ index_of_word (Partition p) → IsHeldByNobody old → new ≡ taken_word old
-      → NoneOr (todo_told_by x.number x.marks).tries (partition_lock p)
+      → MayAttempt (told content x.number x.marks) (todo_told_by x.number x.marks) (partition_lock p)
       → Allows (Ruled content begun sizes) TABLE_SLOTS id me (index_of_word (Partition p)) (λ n. either (n == old) new n) (TookPartition content begun step me)
   takes_part old new step first word free is_new tries s r many at below =
       exchanged n old new (λ m. (view : View T) × (act : Act (Kept T)) × Valid s.homes me.1 act
@@ -277,7 +277,7 @@ module _ {T : Type 0} (content : T → Content) (begun : T → Option Request) (
 -- The same of the word at an index, in a table with this many slots.
 module _ {T : Type 0} (content : T → Content) (begun : T → Option Request) (sizes : Sizes) (id : ℕ) (me : Side T) (x : History T) (others : List (History T)) (is : me.0.sessions ≡ x ∷ others)
     (p : ℕ) (exists : p < 16) (slots i : ℕ) (many : slots ≡ TABLE_SLOTS) (at : i ≡ index_of_word (Partition p)) where
-  pub takes_part_at : (old new : ℕ) → IsHeldByNobody old → new ≡ taken_word old → NoneOr (todo_told_by x.number x.marks).tries (partition_lock p)
+  pub takes_part_at : (old new : ℕ) → IsHeldByNobody old → new ≡ taken_word old → MayAttempt (told content x.number x.marks) (todo_told_by x.number x.marks) (partition_lock p)
       → Allows (Ruled content begun sizes) slots id me i (λ n. either (n == old) new n) (TookPartition content begun (step slots i old new none) me)
   takes_part_at old new free is_new tries =
       subst (λ n. Allows (Ruled content begun sizes) n id me i (λ n. either (n == old) new n) (TookPartition content begun (step n i old new none) me)) (sym many)

@@ -142,7 +142,7 @@ module _ {T : Type 0} (content : T → Content) (begun : T → Option Request) (
       (opened-counted s r id view has.number at has.next)
       refl (told-opened s.views r.world.numbers r.events id view has.number at (r.seats.next id view has.number at has.next).1 r.steps)
       (closed-opened s.views r.world.numbers r.events id view has.number at (r.seats.next id view has.number at has.next).1 r.steps)
-      (wakes-seated s.views _ r.world (after_issuing r.world has.number) (record { session = has.number; step = SplitSeat }) r.safe (inl (may, refl)) r.wakes tt refl
+      (wakes-seated s.views _ r.world (after_issuing r.world has.number) (record { session = has.number; step = SplitSeat }) r.safe (inl (may, refl)) r.wakes tt tt refl
       (each-opened s.views r.world.numbers r.events id view has.number at may.next r.steps (TellsTodo r.wakes.duties) (r.wakes.none_todo has.number (let e : has.number ≡ r.world.numbers.issued = may.next in omega (arith, e))) r.wakes.todo)
       (each-opened s.views r.world.numbers r.events id view has.number at may.next r.steps (TellsFlagged r.wakes.duties) (r.wakes.none_flagged has.number (let e : has.number ≡ r.world.numbers.issued = may.next in omega (arith, e))) r.wakes.flagged)
       (λ k later. let e : has.number ≡ r.world.numbers.issued = may.next in let after : has.number + 1 ≤ k = later in omega (arith, e, after))))
@@ -166,7 +166,7 @@ module _ {T : Type 0} (content : T → Content) (begun : T → Option Request) (
       (wakes-seated s.views _ r.world (after_closing r.world k) (record { session = k; step = JoinSeat None }) r.safe (may_close, refl) r.wakes
       (nothing-left r.world r.wakes.duties k may_close.no_word may_close.no_fast_word may_close.no_shared_word may_close.no_shared_fast_word
       (sym free ∙ ap (λ (z : View T). first_todo z.sessions) one.one ∙ r.wakes.todo (record { number = k; marks = one.marks }) (record { seat = other; place = 0; view = lone k one.marks; there = stands; stands = refl }))
-      may_close.no_list may_close.none_untold) refl
+      may_close.no_list may_close.none_untold) tt refl
       (each-closing s.views r.world.numbers r.events id opener other k one.marks at stands apart r.steps (TellsTodo r.wakes.duties) r.wakes.todo)
       (each-closing s.views r.world.numbers r.events id opener other k one.marks at stands apart r.steps (TellsFlagged r.wakes.duties) r.wakes.flagged)
       (λ j later. later)))
@@ -256,7 +256,7 @@ module _ {T : Type 0} (content : T → Content) (begun : T → Option Request) (
         (wakes-seated s.views after r.world (after_keeping_apart r.world b x.number) (record { session = b; step = JoinSeat (Some x.number) }) r.safe (may_be, refl) r.wakes
         (nothing-left r.world r.wakes.duties b may_be.no_word may_be.no_fast_word may_be.no_shared_word may_be.no_shared_fast_word
         (sym idle.free ∙ r.wakes.todo theirs (record { seat = other; place = 0; view = lone b marks; there = there; stands = refl }))
-        (no-list (r.world.sessions.has_list b) r.world.words.list (ap (λ (l : ListAccount). l.in_hand) no_lists_there)) (λ o. ap (λ (l : ListAccount). l.off o) no_lists_there)) refl
+        (no-list (r.world.sessions.has_list b) r.world.words.list (ap (λ (l : ListAccount). l.in_hand) no_lists_there)) (λ o. ap (λ (l : ListAccount). l.off o) no_lists_there)) tt refl
         each_todo each_flagged (λ j later. later))
 
   -- A session is kept apart.
@@ -325,7 +325,7 @@ module _ {T : Type 0} (content : T → Content) (begun : T → Option Request) (
       (told-kept (slice_set s.views id (record { next = view.next; closed = view.closed; sessions = x ∷ before }) ++ record { next = None; closed = []; sessions = y ∷ [] } ∷ [])
       r.world.numbers r.events (after_going_on r.world y.number).numbers.kept_by (told-parted s.views r.world.numbers r.events id view (x ∷ before) y at is r.steps))
       (closed-parted s.views r.world.numbers r.events id view (x ∷ before) y at is)
-      (wakes-seated s.views _ r.world (after_going_on r.world y.number) (record { session = y.number; step = SplitSeat }) r.safe (inr ((x.number, kept), refl)) r.wakes tt refl
+      (wakes-seated s.views _ r.world (after_going_on r.world y.number) (record { session = y.number; step = SplitSeat }) r.safe (inr ((x.number, kept), refl)) r.wakes tt tt refl
       (each-parted s.views r.world.numbers r.events id view (x ∷ before) y at is (TellsTodo r.wakes.duties) r.wakes.todo)
       (each-parted s.views r.world.numbers r.events id view (x ∷ before) y at is (TellsFlagged r.wakes.duties) r.wakes.flagged)
       (λ j later. later))

@@ -86,7 +86,7 @@ module _ {T : Type 0} (content : T → Content) (sizes : Sizes) (x : History T) 
           none_beyond = set-none_beyond sizes.groups w.words s place (word_with shown (relation_of tag) mode) within
               steps.none_beyond;
           few_counted = steps.few_counted s;
-          keeps = record { asks = λ d is was. tt; todo_ = λ d is. is; flagged_ = λ d was. was };
+          keeps = record { in_order = tt; asks = λ d is was. tt; todo_ = λ d is. is; flagged_ = λ d was. was };
         };
         lists = λ lock nobody. (nobody, refl);
         home = λ p none. (none, refl);
@@ -119,7 +119,7 @@ module _ {T : Type 0} (content : T → Content) (sizes : Sizes) (x : History T) 
           words = ap (λ k. set_word w.words (Slot s place) (word_without k mode)) (sym shows);
           none_beyond = set-none_beyond sizes.groups w.words s place (word_without shown mode) within steps.none_beyond;
           few_counted = steps.few_counted s;
-          keeps = record { asks = λ d is was. tt; todo_ = λ d is. is; flagged_ = λ d was. was };
+          keeps = record { in_order = tt; asks = λ d is was. tt; todo_ = λ d is. is; flagged_ = λ d was. was };
         };
         lists = λ lock nobody. (nobody, refl);
         home = λ p none. (none, refl);
@@ -161,7 +161,7 @@ module _ {T : Type 0} (content : T → Content) (sizes : Sizes) (x : History T) 
           words = ap (λ k. set_word w.words (Slot owner place) (word_without k mode)) (sym shows);
           none_beyond = set-none_beyond sizes.groups w.words owner place (word_without shown mode) within steps.none_beyond;
           few_counted = steps.few_counted s;
-          keeps = record { asks = λ d is was. tt; todo_ = λ d is. is; flagged_ = λ d was. was };
+          keeps = record { in_order = tt; asks = λ d is was. tt; todo_ = λ d is. is; flagged_ = λ d was. was };
         };
         lists = λ lock nobody. (nobody, refl);
         home = home-recorded w.contents p s held own
@@ -193,7 +193,7 @@ module _ {T : Type 0} (content : T → Content) (sizes : Sizes) (x : History T) 
           words = refl;
           none_beyond = steps.none_beyond;
           few_counted = steps.few_counted s;
-          keeps = record { asks = λ d is was. tt; todo_ = λ d is. is; flagged_ = λ d was. was };
+          keeps = record { in_order = tt; asks = λ d is was. tt; todo_ = λ d is. is; flagged_ = λ d was. was };
         };
         lists = λ lock nobody. (nobody, refl);
         home = λ p none. (none, refl);

@@ -68,7 +68,7 @@ module _ {T : Type 0} (content : T → Content) (sizes : Sizes) (x : History T) 
           words = same;
           none_beyond = steps.none_beyond;
           few_counted = steps.few_counted x.number;
-          keeps = record { asks = λ d is was. tt; todo_ = λ d is. is; flagged_ = λ d was. was };
+          keeps = record { in_order = tt; asks = λ d is was. tt; todo_ = λ d is. is; flagged_ = λ d was. was };
         };
         home = λ p none. (none, refl);
         lists = λ lock nobody. (nobody, refl);
@@ -88,7 +88,7 @@ module _ {T : Type 0} (content : T → Content) (sizes : Sizes) (x : History T) 
       words = ap (λ k. set_word w.words (word.Wait other) (asked_word k)) (sym shown);
       none_beyond = steps.none_beyond;
       few_counted = steps.few_counted x.number;
-      keeps = record { asks = λ d is was. tt; todo_ = λ d is. is; flagged_ = λ d was. was };
+      keeps = record { in_order = tt; asks = λ d is was. tt; todo_ = λ d is. is; flagged_ = λ d was. was };
     };
     home = λ p none. (none, refl);
     lists = λ lock nobody. (nobody, refl);
@@ -117,7 +117,7 @@ module _ {T : Type 0} (content : T → Content) (sizes : Sizes) (x : History T) 
           words = refl;
           none_beyond = steps.none_beyond;
           few_counted = steps.few_counted x.number;
-          keeps = record { asks = λ d is was. tt; todo_ = λ d is. is; flagged_ = λ d was. was };
+          keeps = record { in_order = tt; asks = λ d is was. tt; todo_ = λ d is. is; flagged_ = λ d was. was };
         };
         home = home-recorded w.contents p x.number its own (set_at w.contents.now p (content now)) (Join tag mode) (λ _. false) (set_at-else w.contents.now p (content now));
         lists = λ lock nobody. (nobody, refl);
@@ -182,7 +182,7 @@ module _ {T : Type 0} (content : T → Content) (sizes : Sizes) (x : History T) 
           words = ap (λ k. set_word w.words (word.Wait other) (granted_word k)) (sym shown) ∙ ap (set_word w.words (word.Wait other)) (granted_word-wraps n below waits);
           none_beyond = steps.none_beyond;
           few_counted = steps.few_counted x.number;
-          keeps = record { asks = λ d is was. tt; todo_ = λ d is. is; flagged_ = λ d was. was };
+          keeps = record { in_order = tt; asks = λ d is was. tt; todo_ = λ d is. is; flagged_ = λ d was. was };
         };
         home = home-recorded w.contents p x.number its own (set_at w.contents.now p (content now)) done (unmarked_but (waits_there granted) other) (set_at-else w.contents.now p (content now));
         lists = λ lock nobody. (nobody, refl);
@@ -213,7 +213,7 @@ module _ {T : Type 0} (content : T → Content) (sizes : Sizes) (x : History T) 
           words = ap (λ k. set_word w.words (word.Wait other) (granted_word k)) (sym shown) ∙ ap (set_word w.words (word.Wait other)) (granted_word-wraps n below waits);
           none_beyond = steps.none_beyond;
           few_counted = steps.few_counted x.number;
-          keeps = record { asks = λ d is was. tt; todo_ = λ d is. is; flagged_ = λ d was. was };
+          keeps = record { in_order = tt; asks = λ d is was. tt; todo_ = λ d is. is; flagged_ = λ d was. was };
         };
         home = home-recorded w.contents p x.number its own w.contents.now done (unmarked_but (is_unmarked (w.contents.hand p)) other) (λ q _. refl);
         lists = λ lock nobody. (nobody, refl);
@@ -266,7 +266,7 @@ module _ {T : Type 0} (content : T → Content) (sizes : Sizes) (x : History T) 
           words = refl;
           none_beyond = steps.none_beyond;
           few_counted = steps.few_counted x.number;
-          keeps = record { asks = λ d is was. tt; todo_ = λ d is. is; flagged_ = λ d was. was };
+          keeps = record { in_order = tt; asks = λ d is was. tt; todo_ = λ d is. is; flagged_ = λ d was. was };
         };
         home = λ p none. (none, refl);
         lists = λ lock nobody. (nobody, refl);
@@ -298,7 +298,7 @@ module _ {T : Type 0} (content : T → Content) (sizes : Sizes) (x : History T) 
           words = refl;
           none_beyond = steps.none_beyond;
           few_counted = steps.few_counted x.number;
-          keeps = record { asks = λ d is was. tt; todo_ = λ d is. is; flagged_ = λ d was. was };
+          keeps = record { in_order = tt; asks = λ d is was. tt; todo_ = λ d is. is; flagged_ = λ d was. was };
         };
         home = home-recorded w.contents p x.number its own (set_at w.contents.now p (content now)) (Leave wait.tag) (waits_there granted) (set_at-else w.contents.now p (content now));
         lists = λ lock nobody. (nobody, refl);

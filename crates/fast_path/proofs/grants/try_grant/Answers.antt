@@ -18,6 +18,7 @@ grant_with_slots-requires-clause-in_hand g c =
     (g.B.Board.view c.try_take_fast.new.self)
     c.args.uses.now number refl
     (record {
+      no_content = ready.no_content;
       no_slots = ready.no_slots;
       no_shared_slots = ready.no_shared_slots;
       no_zero = ready.no_zero;

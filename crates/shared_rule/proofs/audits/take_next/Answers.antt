@@ -1,5 +1,5 @@
 use Rattle.std.proofs.Common.{ap, ◌∙◌, inl}
-use Rattle.lock_world.specs.Account.{Account}
+use Rattle.lock_world.specs.Account.{Account, ListAccount}
 use Rattle.shared_rule.specs.History.{first_account}
 use Rattle.shared_rule.specs.Todos.{Todo, first_todo, todo_attempted}
 use Rattle.shared_rule.proofs.Taken.{account-noted, todo-noted}
@@ -30,3 +30,6 @@ returns-clause-todo g c =
 
 pub take_part_alone-requires-clause-no_other_try : goal.take_part_alone-requires-clause-no_other_try
 take_part_alone-requires-clause-no_other_try g c = inl (ap (λ (todo : Todo). todo.tries) c.requires.todo)
+
+pub take_part_alone-requires-clause-no_other_list : goal.take_part_alone-requires-clause-no_other_list
+take_part_alone-requires-clause-no_other_list g c = inl (ap (λ (l : ListAccount). l.stands) c.requires.idle)

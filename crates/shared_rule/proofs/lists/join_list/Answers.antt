@@ -10,7 +10,7 @@ use Rattle.shared_rule.specs.History.{first_account, first_number, list_here}
 use Rattle.shared_rule.specs.Plays.{Side, account_at}
 use Rattle.lock_world.specs.Wakes.Waking.{NoneOr}
 use Rattle.shared_rule.specs.Todos.{first_todo}
-use Rattle.shared_rule.proofs.Taken.{flagged-known, owes-known}
+use Rattle.shared_rule.proofs.Taken.{flagged-known, owes-known, joins-known}
 use Rattle.shared_rule.proofs.Events.Words.{stores_at}
 use Rattle.shared_rule.proofs.Events.Lists.{joining-lawful}
 use Rattle.shared_rule.proofs.Led.{led-noted, led_to-as}
@@ -33,7 +33,7 @@ store_as-requires-clause-allowed g c =
     (joining-lawful content c.args.top.now.key session.history may.0 c.args.mode may.1
     (flagged-known place.me.0 session c.requires.flagged) (owes-known place.me.0 session c.requires.owes_no_ok)
     (subst (λ (sessions : List (History g.row.T.Denot)). (mine : ListInHand) → (first_account content sessions).lists.in_hand ≡ Some mine → NoneOr (first_todo sessions).tries mine.lock)
-    session.sessions c.requires.no_other))
+    session.sessions c.requires.no_other) (joins-known content place.me.0 session c.requires.latest))
 
 pub returns-clause-led : goal.returns-clause-led
 returns-clause-led g c =

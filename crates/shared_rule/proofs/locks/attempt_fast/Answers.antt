@@ -2,7 +2,7 @@ use Rattle.std.proofs.Common.{rules, subst}
 use Rattle.lw_word.specs.declared.words.LwMode.TheVariants.{Exclusive}
 use Rattle.shared_rule.specs.Acquires.{GetsSlots}
 use Rattle.lock_world.specs.WaitLists.{fast_lock}
-use Rattle.shared_rule.proofs.Taken.{tries-known}
+use Rattle.shared_rule.proofs.Taken.{attempt-known}
 use Rattle.shared_rule.proofs.Acquires.{took-slots}
 use Rattle.shared_rule.proofs.Events.Locks.{takes_fast_at}
 use Rattle.shared_rule.proofs.locks.attempt_fast.Goals as goal
@@ -15,7 +15,7 @@ compare_exchange-requires g c =
       search rules,
       takes_fast_at g.T.PartTable.content g.T.PartTable.begun c.args.top.now.key c.args.top.now.table_id.slots
           place.id place.me session.history session.others session.sessions
-          c.args.owner (search rules) g.G.Grouping.groups c.args.shown c.args.taken c.requires.groups c.requires.exists c.requires.free.0 c.requires.free.1 (tries-known place.me.0 session (fast_lock c.args.owner) c.requires.no_other_try)
+          c.args.owner (search rules) g.G.Grouping.groups c.args.shown c.args.taken c.requires.groups c.requires.exists c.requires.free.0 c.requires.free.1 (attempt-known g.T.PartTable.content place.me.0 session (fast_lock c.args.owner) c.requires.no_other_try c.requires.no_other_list)
           c.fast_word.result c.fast_word.ensures.index,
     )
 

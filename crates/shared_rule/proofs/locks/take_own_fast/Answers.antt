@@ -3,7 +3,7 @@ use Rattle.shared_rule.specs.declared.history.History.{History}
 use Rattle.shared_rule.specs.History.{first_number}
 use Rattle.shared_rule.specs.Plays.{TookSlots}
 use Rattle.lock_world.specs.WaitLists.{fast_lock}
-use Rattle.shared_rule.proofs.Taken.{tries-known}
+use Rattle.shared_rule.proofs.Taken.{attempt-known}
 use Rattle.shared_rule.proofs.Events.Locks.{tries_fast_at}
 use Rattle.shared_rule.proofs.locks.take_own_fast.Goals as goal
 
@@ -17,7 +17,7 @@ compare_exchange-requires g c =
       search rules,
       tries_fast_at g.T.PartTable.content g.T.PartTable.begun c.args.top.now.key c.args.top.now.table_id.slots
           place.id place.me session.history session.others session.sessions
-          c.args.number (search rules) g.G.Grouping.groups c.args.shown c.args.taken c.requires.groups own c.requires.free.0 c.requires.free.1 (tries-known place.me.0 session (fast_lock c.args.number) c.requires.no_other_try)
+          c.args.number (search rules) g.G.Grouping.groups c.args.shown c.args.taken c.requires.groups own c.requires.free.0 c.requires.free.1 (attempt-known g.T.PartTable.content place.me.0 session (fast_lock c.args.number) c.requires.no_other_try c.requires.no_other_list)
           c.fast_word.result c.fast_word.ensures.index,
     )
 

@@ -5,7 +5,7 @@ use Rattle.shared_rule.specs.declared.kept.Kept.TheVariants.{Part, Nothing}
 use Rattle.shared_rule.specs.Layout.{content_slot_of}
 use Rattle.shared_rule.specs.History.{noting}
 use Rattle.lock_world.specs.WaitLists.{partition_lock}
-use Rattle.shared_rule.proofs.Taken.{tries-known}
+use Rattle.shared_rule.proofs.Taken.{attempt-known}
 use Rattle.shared_rule.proofs.Events.Partitions.{takes_part_at, part-same}
 use Rattle.lock_world.specs.AccountSteps.{account_taking}
 use Rattle.shared_rule.specs.Plays.{Side, account_at, number_at}
@@ -22,7 +22,7 @@ compare_exchange-requires g c =
       search rules,
       takes_part_at g.T.PartTable.content g.T.PartTable.begun c.args.top.now.key place.id place.me session.history session.others session.sessions
           c.args.part c.requires.exists c.args.top.now.table_id.slots c.partition_word.result sized.slots c.partition_word.ensures.index
-          c.args.shown c.args.taken c.requires.free.0 c.requires.free.1 (tries-known place.me.0 session (partition_lock c.args.part) c.requires.no_other_try),
+          c.args.shown c.args.taken c.requires.free.0 c.requires.free.1 (attempt-known g.T.PartTable.content place.me.0 session (partition_lock c.args.part) c.requires.no_other_try c.requires.no_other_list),
     )
 
 pub exchange-requires : goal.exchange-requires

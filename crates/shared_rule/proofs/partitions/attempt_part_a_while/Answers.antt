@@ -1,4 +1,4 @@
-use Rattle.shared_rule.proofs.Acquires.{nothing-then, nothing-then_part, tries-still}
+use Rattle.shared_rule.proofs.Acquires.{nothing-then, nothing-then_part, tries-still, nowhere-still}
 use Rattle.lock_world.specs.WaitLists.{partition_lock}
 use Rattle.shared_rule.proofs.partitions.attempt_part_a_while.Goals as goal
 
@@ -15,3 +15,7 @@ loop-attempt-preserved g c =
 pub attempt_free_part-requires-clause-no_other_try : goal.attempt_free_part-requires-clause-no_other_try
 attempt_free_part-requires-clause-no_other_try g c =
     tries-still g.T.PartTable.content c.args.place.now c.loop-attempt.place c.loop-attempt.place c.loop-attempt.invariant (partition_lock c.args.part) c.requires.no_other_try
+
+pub attempt_free_part-requires-clause-no_other_list : goal.attempt_free_part-requires-clause-no_other_list
+attempt_free_part-requires-clause-no_other_list g c =
+    nowhere-still g.T.PartTable.content c.args.place.now c.loop-attempt.place c.loop-attempt.place c.loop-attempt.invariant (partition_lock c.args.part) c.requires.no_other_list

@@ -1,6 +1,8 @@
-use Rattle.std.proofs.Common.{ap, ◌∙◌}
+use Rattle.std.proofs.Common.{sym, ap, ◌∙◌, subst}
 use Rattle.lock_world.specs.Account.{Account}
 use Rattle.lock_world.specs.WaitLists.{partition_lock}
+use Rattle.shared_rule.specs.declared.lw_lock.LwLock.TheVariants.{OfPart}
+use Rattle.shared_rule.specs.Todos.{IsLatestBy}
 use Rattle.shared_rule.specs.Plays.{todo_at}
 use Rattle.shared_rule.proofs.Acquires.{tried-then_part, round-lost, round-first, at_most-attempted}
 use Rattle.shared_rule.proofs.partitions.take_part_held.Goals as goal
@@ -21,3 +23,7 @@ pub loop-preserved : goal.loop-preserved
 loop-preserved g c =
     round-lost g.T.PartTable.content (partition_lock c.args.part) c.args.place.now c.loop.place c.take_part_in_turn.new.place c.loop.invariant.0
     (c.in_default.ensures {u = tt}).lost
+
+pub take_part_in_turn-requires-clause-latest : goal.take_part_in_turn-requires-clause-latest
+take_part_in_turn-requires-clause-latest g c =
+    subst (λ (a : Account). IsLatestBy a (OfPart c.args.part)) (sym c.loop.invariant.0.led.account) c.requires.latest

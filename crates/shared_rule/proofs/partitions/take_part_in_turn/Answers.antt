@@ -1,6 +1,8 @@
 use Rattle.lock_world.specs.WaitLists.{partition_lock}
+use Rattle.shared_rule.specs.declared.lw_lock.LwLock.TheVariants.{OfPart}
+use Rattle.shared_rule.specs.Plays.{account_at}
 use Rattle.shared_rule.specs.Todos.{todo_back}
-use Rattle.shared_rule.proofs.Acquires.{nothing-then_got, nothing-then_part, at_most-still, where-some, where-none}
+use Rattle.shared_rule.proofs.Acquires.{nothing-then_got, nothing-then_part, at_most-still, nowhere-idle, latest-still, where-some, where-none}
 use Rattle.shared_rule.proofs.partitions.take_part_in_turn.Goals as goal
 
 pub returns-in-None-clause-lost : goal.returns-in-None-clause-lost
@@ -21,3 +23,12 @@ pub take_part_or_sleep-requires-clause-todo : goal.take_part_or_sleep-requires-c
 take_part_or_sleep-requires-clause-todo g c =
     at_most-still g.T.PartTable.content c.args.place.now c.attempt_part_a_while.new.place c.attempt_part_a_while.new.place (c.in-None.ensures {u = tt}).lost
     (partition_lock c.args.part) c.requires.todo
+
+pub attempt_part_a_while-requires-clause-no_other_list : goal.attempt_part_a_while-requires-clause-no_other_list
+attempt_part_a_while-requires-clause-no_other_list g c =
+    nowhere-idle g.T.PartTable.content (account_at g.T.PartTable.content c.args.place.now) (partition_lock c.args.part) c.requires.idle
+
+pub take_part_or_sleep-requires-clause-latest : goal.take_part_or_sleep-requires-clause-latest
+take_part_or_sleep-requires-clause-latest g c =
+    latest-still g.T.PartTable.content c.args.place.now c.attempt_part_a_while.new.place c.attempt_part_a_while.new.place (c.in-None.ensures {u = tt}).lost
+    (OfPart c.args.part) c.requires.latest

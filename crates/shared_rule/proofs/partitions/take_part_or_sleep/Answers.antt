@@ -1,5 +1,5 @@
 use Rattle.lock_world.specs.WaitLists.{partition_lock}
-use Rattle.shared_rule.proofs.Acquires.{took_part-between, nothing-between, may-sleep, tries-queued, told-tries, told-hand, has-part}
+use Rattle.shared_rule.proofs.Acquires.{took_part-between, nothing-between, may-sleep, tries-queued, there-queued, told-tries, told-hand, has-part}
 use Rattle.shared_rule.proofs.partitions.take_part_or_sleep.Goals as goal
 
 pub returns-in-Some-clause-won : goal.returns-in-Some-clause-won
@@ -39,3 +39,8 @@ pub set_release_ok-requires-clause-tells_nobody : goal.set_release_ok-requires-c
 set_release_ok-requires-clause-tells_nobody g c = λ owes some. absurd (some
     (told-hand g.T.PartTable.content (partition_lock c.args.part) c.args.place.now c.queue_self.new.place c.attempt_part_unless_held.new.place c.sleep_until_told.new.place c.requires.idle c.requires.todo
     c.queue_self.ensures.led c.queue_self.ensures.slots (c.in-None.ensures {u = tt}).lost c.sleep_until_told.new.place c.sleep_until_told.ensures.led))
+
+pub attempt_part_unless_held-requires-clause-no_other_list : goal.attempt_part_unless_held-requires-clause-no_other_list
+attempt_part_unless_held-requires-clause-no_other_list g c =
+    there-queued g.T.PartTable.content (partition_lock c.args.part) c.args.place.now c.queue_self.new.place c.queue_self.new.place c.queue_self.new.place c.requires.idle c.requires.todo
+    c.queue_self.ensures.led c.queue_self.ensures.slots

@@ -1,10 +1,11 @@
 use Rattle.std.proofs.Common.{◌≡◌, ℕ, Option, Some, None, refl, sym, ap, ◌∙◌, subst}
 use Rattle.lock_world.specs.Account.{Account, ListAccount, ListInHand}
 use Rattle.shared_rule.specs.LwLocks.{lock_number}
+use Rattle.shared_rule.proofs.Orders.{latest-with}
 use Rattle.shared_rule.proofs.Queueing.{list-in_hand, stands-still, queued}
 use Rattle.lock_world.specs.Wakes.Waking.{NoneOr}
-use Rattle.shared_rule.specs.Plays.{todo_at}
-use Rattle.shared_rule.specs.Todos.{Todo, tries_next, lock_of_list}
+use Rattle.shared_rule.specs.Plays.{account_at, todo_at}
+use Rattle.shared_rule.specs.Todos.{Todo, IsLatestBy, tries_next, lock_of_list}
 use Rattle.shared_rule.proofs.queues.queue_self.Goals as goal
 
 -- the number of the lock whose list is in hand
@@ -62,3 +63,16 @@ unlock_list-requires-clause-left_well g c =
     tries_next (ap (λ (todo : Todo). todo.tries) c.join_list.ensures.led.todo
     ∙ ap (λ (a : Account). lock_of_list a.lists.in_hand) c.set_has_waiters.ensures.led.account
     ∙ ap lock_of_list (list-in_hand g.T.PartTable.content c.args.place.now c.lock_list-list.new.place (lock_number c.args.lock.now) c.lock_list-list.result.value c.lock_list-list.ensures.led))
+
+pub join_list-requires-clause-latest : goal.join_list-requires-clause-latest
+join_list-requires-clause-latest g c =
+    let content = g.T.PartTable.content in
+    let n = lock_number c.args.lock.now in
+    let list = list-in_hand content c.args.place.now c.lock_list-list.new.place n c.lock_list-list.result.value c.lock_list-list.ensures.led in
+    record {
+      lock = c.args.lock.now;
+      there = c.requires.there;
+      in_hand = ap (λ (a : Account). lock_of_list a.lists.in_hand) c.set_has_waiters.ensures.led.account ∙ ap lock_of_list list;
+      latest = subst (λ (a : Account). IsLatestBy a c.args.lock.now) (sym (c.set_has_waiters.ensures.led.account ∙ c.lock_list-list.ensures.led.account))
+          (latest-with (account_at content c.args.place.now) _ c.args.lock.now c.requires.latest);
+    }

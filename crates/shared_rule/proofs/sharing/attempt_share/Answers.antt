@@ -5,7 +5,7 @@ use Rattle.shared_rule.specs.History.{first_account}
 use Rattle.lw_word.specs.declared.words.LwMode.TheVariants.{Shared}
 use Rattle.shared_rule.specs.Acquires.{GetsSlots}
 use Rattle.lock_world.specs.WaitLists.{fast_lock}
-use Rattle.shared_rule.proofs.Taken.{tries-known}
+use Rattle.shared_rule.proofs.Taken.{attempt-known}
 use Rattle.shared_rule.proofs.Acquires.{shared-slots}
 use Rattle.shared_rule.proofs.Events.Locks.{shares_fast_at}
 use Rattle.shared_rule.proofs.sharing.attempt_share.Goals as goal
@@ -20,7 +20,7 @@ compare_exchange-requires g c =
           place.id place.me session.history session.others session.sessions
           c.args.owner (search rules) g.G.Grouping.groups c.args.shown c.args.shared c.requires.groups c.requires.exists c.requires.free.0 c.requires.free.1
           (subst (λ (sessions : List (History g.row.T.Denot)). MayShareFastBy (first_account g.T.PartTable.content sessions) c.args.owner)
-          session.sessions c.requires.lawful) (tries-known place.me.0 session (fast_lock c.args.owner) c.requires.no_other_try)
+          session.sessions c.requires.lawful) (attempt-known g.T.PartTable.content place.me.0 session (fast_lock c.args.owner) c.requires.no_other_try c.requires.no_other_list)
           c.fast_word.result c.fast_word.ensures.index,
     )
 

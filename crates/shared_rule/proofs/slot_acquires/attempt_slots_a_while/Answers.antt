@@ -1,4 +1,4 @@
-use Rattle.shared_rule.proofs.Acquires.{nothing-then, nothing-then_slots, may-still, tries-still}
+use Rattle.shared_rule.proofs.Acquires.{nothing-then, nothing-then_slots, may-still, tries-still, nowhere-still}
 use Rattle.lock_world.specs.WaitLists.{fast_lock}
 use Rattle.shared_rule.proofs.slot_acquires.attempt_slots_a_while.Goals as goal
 
@@ -19,3 +19,7 @@ attempt_slots-requires-clause-lawful g c =
 pub attempt_slots-requires-clause-no_other_try : goal.attempt_slots-requires-clause-no_other_try
 attempt_slots-requires-clause-no_other_try g c =
     tries-still g.T.PartTable.content c.args.place.now c.loop-attempt.place c.loop-attempt.place c.loop-attempt.invariant (fast_lock c.args.owner) c.requires.no_other_try
+
+pub attempt_slots-requires-clause-no_other_list : goal.attempt_slots-requires-clause-no_other_list
+attempt_slots-requires-clause-no_other_list g c =
+    nowhere-still g.T.PartTable.content c.args.place.now c.loop-attempt.place c.loop-attempt.place c.loop-attempt.invariant (fast_lock c.args.owner) c.requires.no_other_list

@@ -1,5 +1,5 @@
 use Rattle.lock_world.specs.WaitLists.{fast_lock}
-use Rattle.shared_rule.proofs.Acquires.{trying-first, trying-then, trying-on, trying-last, trying-tries, trying-slots, trying-may}
+use Rattle.shared_rule.proofs.Acquires.{trying-first, trying-then, trying-on, trying-last, trying-tries, trying-nowhere, trying-slots, trying-may}
 use Rattle.shared_rule.proofs.slot_acquires.attempt_slots_unless_held.Goals as goal
 
 pub loop-init : goal.loop-init
@@ -38,3 +38,7 @@ loop-preserved g c =
     let lock = fast_lock c.args.owner in
     let on = trying-then content lock c.args.place.now c.loop.place c.attempt_slots.new.place c.loop.invariant (c.if-attempt_slots.ensures {u = tt}).lost in
     trying-on content lock c.args.place.now c.attempt_slots.new.place c.is_held.new.place on (c.if-is_held.ensures {u = tt}).free
+
+pub attempt_slots-requires-clause-no_other_list : goal.attempt_slots-requires-clause-no_other_list
+attempt_slots-requires-clause-no_other_list g c =
+    trying-nowhere g.T.PartTable.content (fast_lock c.args.owner) c.args.place.now c.loop.place c.loop.place c.loop.invariant c.requires.no_other_list

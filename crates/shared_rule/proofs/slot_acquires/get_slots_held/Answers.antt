@@ -2,6 +2,8 @@ use Rattle.std.proofs.Common.{sym, ap, ◌∙◌, subst}
 use Rattle.lock_world.specs.Account.{Account}
 use Rattle.lock_world.specs.WaitLists.{fast_lock}
 use Rattle.shared_rule.specs.Acquires.{MayGetSlots}
+use Rattle.shared_rule.specs.declared.lw_lock.LwLock.TheVariants.{OfSlots}
+use Rattle.shared_rule.specs.Todos.{IsLatestBy}
 use Rattle.shared_rule.specs.Plays.{todo_at}
 use Rattle.shared_rule.proofs.Acquires.{tried-then_slots, round-lost, round-first, at_most-attempted}
 use Rattle.shared_rule.proofs.slot_acquires.get_slots_held.Goals as goal
@@ -26,3 +28,7 @@ pub loop-preserved : goal.loop-preserved
 loop-preserved g c =
     round-lost g.T.PartTable.content (fast_lock c.args.owner) c.args.place.now c.loop.place c.get_slots_in_turn.new.place c.loop.invariant.0
     (c.if-get_slots_in_turn.ensures {u = tt}).lost
+
+pub get_slots_in_turn-requires-clause-latest : goal.get_slots_in_turn-requires-clause-latest
+get_slots_in_turn-requires-clause-latest g c =
+    subst (λ (a : Account). IsLatestBy a (OfSlots c.args.owner)) (sym c.loop.invariant.0.led.account) c.requires.latest

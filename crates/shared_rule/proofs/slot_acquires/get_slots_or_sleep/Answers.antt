@@ -1,5 +1,5 @@
 use Rattle.lock_world.specs.WaitLists.{fast_lock}
-use Rattle.shared_rule.proofs.Acquires.{got_slots-between, nothing-between, may-queued, queued-slots, got-slots, may-sleep, tries-queued, told-tries, told-hand, has-slots}
+use Rattle.shared_rule.proofs.Acquires.{got_slots-between, nothing-between, may-queued, queued-slots, got-slots, may-sleep, tries-queued, there-queued, told-tries, told-hand, has-slots}
 use Rattle.shared_rule.proofs.slot_acquires.get_slots_or_sleep.Goals as goal
 
 pub returns-then-attempt_slots_unless_held-clause-won : goal.returns-then-attempt_slots_unless_held-clause-won
@@ -54,3 +54,8 @@ pub set_release_ok-requires-clause-tells_nobody : goal.set_release_ok-requires-c
 set_release_ok-requires-clause-tells_nobody g c = λ owes some. absurd (some
     (told-hand g.T.PartTable.content (fast_lock c.args.owner) c.args.place.now c.queue_self.new.place c.attempt_slots_unless_held.new.place c.sleep_until_told.new.place c.requires.idle c.requires.todo
     c.queue_self.ensures.led c.queue_self.ensures.slots (c.if-attempt_slots_unless_held.ensures {u = tt}).lost c.sleep_until_told.new.place c.sleep_until_told.ensures.led))
+
+pub attempt_slots_unless_held-requires-clause-no_other_list : goal.attempt_slots_unless_held-requires-clause-no_other_list
+attempt_slots_unless_held-requires-clause-no_other_list g c =
+    there-queued g.T.PartTable.content (fast_lock c.args.owner) c.args.place.now c.queue_self.new.place c.queue_self.new.place c.queue_self.new.place c.requires.idle c.requires.todo
+    c.queue_self.ensures.led c.queue_self.ensures.slots

@@ -2,6 +2,8 @@ use Rattle.std.proofs.Common.{◌≡◌, sym, ap, ◌∙◌, subst}
 use Rattle.lock_world.specs.Account.{Account}
 use Rattle.shared_rule.specs.Boards.{parts_in_hand, slots_out}
 use Rattle.shared_rule.specs.Todos.{todo_attempted}
+use Rattle.shared_rule.specs.History.{first_account}
+use Rattle.shared_rule.proofs.Orders.{latest-slots}
 use Rattle.shared_rule.proofs.Idle.{lists-told, idle-still}
 use Rattle.shared_rule.proofs.seat_board.SeatBoardBoard.take_fast.Goals as goal
 
@@ -19,3 +21,7 @@ invariant_of-self-clause-idle g c =
 pub invariant_of-self-clause-out : goal.invariant_of-self-clause-out
 invariant_of-self-clause-out g c =
     subst (λ slots. slots ≡ slots_out (parts_in_hand slots)) (sym c.take_fast.ensures.slots) c.args.self.now.out
+
+pub take_fast-requires-clause-latest : goal.take_fast-requires-clause-latest
+take_fast-requires-clause-latest g c =
+    latest-slots (first_account g.T.PartTable.content c.args.self.now.place.me.0.sessions) c.args.owner c.requires.no_content c.requires.no_slots c.requires.no_shared_slots

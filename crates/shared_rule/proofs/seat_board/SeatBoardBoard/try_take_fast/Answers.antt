@@ -1,7 +1,7 @@
-use Rattle.std.proofs.Common.{◌≡◌, sym, subst}
+use Rattle.std.proofs.Common.{◌≡◌, sym, ◌∙◌, subst}
 use Rattle.shared_rule.specs.Boards.{parts_in_hand, slots_out}
 use Rattle.shared_rule.specs.Plays.{account_at}
-use Rattle.shared_rule.proofs.Idle.{idle-still, tries-lists}
+use Rattle.shared_rule.proofs.Idle.{lists-told, idle-still, tries-lists}
 use Rattle.shared_rule.proofs.seat_board.SeatBoardBoard.try_take_fast.Goals as goal
 
 pub invariant_of-self-clause-lone : goal.invariant_of-self-clause-lone
@@ -18,3 +18,6 @@ invariant_of-self-clause-idle g c =
     idle-still g.T.PartTable.content before.me.0.sessions after.me.0.sessions
     (tries-lists _ _ (account_at g.T.PartTable.content before) c.try_take_fast.result (account_at g.T.PartTable.content after)
     c.try_take_fast.ensures.tried) c.try_take_fast.ensures.todo c.args.self.now.idle
+
+pub try_take_fast-requires-clause-idle : goal.try_take_fast-requires-clause-idle
+try_take_fast-requires-clause-idle g c = lists-told g.T.PartTable.content c.args.self.now.place.me.0.sessions ∙ c.args.self.now.idle.none
