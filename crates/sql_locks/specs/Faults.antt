@@ -2,7 +2,7 @@ use Rattle.std.specs.Prelude.{◌≡◌, ◌≢◌, ℕ, ◌+◌, ◌==◌, ◌|
 use Rattle.sql_locks.specs.Text.{is_line_feed, is_in_class}
 use Rattle.sql_locks.specs.declared.byte_classes.ByteClass.TheVariants.{Name, Blank, Digit, Operator, Tag}
 use Rattle.sql_locks.specs.declared.faults.Defect.{Defect}
-use Rattle.sql_locks.specs.declared.faults.Defect.TheVariants.{NotUtf8, UnendedText, UnendedName, UnendedDollarText, UnendedComment, UnendedRows, BackslashCommand, StrayCharacter, NoName, UnknownRelation, ViewCycle, UnknownStatement, UnknownAlteration, BadMode}
+use Rattle.sql_locks.specs.declared.faults.Defect.TheVariants.{NotUtf8, UnendedText, UnendedName, UnendedDollarText, UnendedComment, UnendedRows, BackslashCommand, StrayCharacter, NoName, NoNameBehind, UnendedParenthesis, StrayParenthesis, UnendedBody, UnknownRelation, ViewCycle, UnknownStatement, UnknownAlteration, BadMode, RuledRelation}
 use Rattle.sql_locks.specs.declared.faults.SqlFault.{SqlFault}
 use Rattle.sql_locks.specs.declared.faults.SqlFault.TheVariants.{BadWord, NoMemory}
 
@@ -20,11 +20,16 @@ BeginsWith StrayCharacter b =
     (is_in_class Blank b ≡ false) × (is_in_class Digit b ≡ false) × (is_in_class Operator b ≡ false)
     × (is_in_class Tag b ≡ false) × (b ≢ 59) × (b ≢ 40) × (b ≢ 41) × (b ≢ 44)
 BeginsWith NoName b = ⊥
+BeginsWith NoNameBehind b = ⊥
+BeginsWith UnendedParenthesis b = ⊥
+BeginsWith StrayParenthesis b = ⊥
+BeginsWith UnendedBody b = ⊥
 BeginsWith UnknownRelation b = ⊥
 BeginsWith ViewCycle b = ⊥
 BeginsWith UnknownStatement b = ⊥
 BeginsWith UnknownAlteration b = ⊥
 BeginsWith BadMode b = ⊥
+BeginsWith RuledRelation b = ⊥
 
 -- The rest of the text has this defect at its front.
 abbrev pub HasDefect : Defect → List ℕ → Type 0

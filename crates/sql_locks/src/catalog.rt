@@ -83,8 +83,12 @@ pub struct ForeignKey {
     /// The columns of both, where they were named.
     pub columns: Vec<String>,
     pub referred_columns: Vec<String>,
-    /// Whether a change of the table referred to changes rows of this one: `CASCADE`, `SET NULL` or `SET DEFAULT`.
-    pub cascades: bool,
+    /// Whether a `DELETE` from the table referred to, or an `UPDATE` of its key, changes rows of this one: by `CASCADE`, `SET NULL` or
+    /// `SET DEFAULT`.
+    pub changes_on_delete: bool,
+    pub changes_on_update: bool,
+    /// Whether all rows are known to keep it.
+    pub is_valid: bool,
 }
 
 /// The relations that statements made, by their numbers, their names, and their links. The name of a relation that was

@@ -24,6 +24,14 @@ pub enum Defect {
     StrayCharacter,
     #[error("a name is missing before this word")]
     NoName,
+    #[error("a name is missing behind this word")]
+    NoNameBehind,
+    #[error("a parenthesis does not end")]
+    UnendedParenthesis,
+    #[error("a parenthesis that ends none")]
+    StrayParenthesis,
+    #[error("a body that begins with BEGIN ATOMIC does not end")]
+    UnendedBody,
     #[error("no such relation")]
     UnknownRelation,
     #[error("a view that reads itself")]
@@ -34,6 +42,8 @@ pub enum Defect {
     UnknownAlteration,
     #[error("no lock mode")]
     BadMode,
+    #[error("a change of rows of a relation with a rule, whose locks are not known")]
+    RuledRelation,
 }
 
 /// What ends the reading of a text of SQL statements early.

@@ -7,7 +7,7 @@ use crate::paths::{
 use modes_core::Mode;
 
 /// Each form with what it locks, in the order of the server.
-pub static ALTER_TABLE_ROWS: [FormRow; 43] = [
+pub static ALTER_TABLE_ROWS: [FormRow; 46] = [
     FormRow {
         form: Form::AddColumn,
         sql: "ALTER TABLE ADD COLUMN",
@@ -270,6 +270,17 @@ pub static ALTER_TABLE_ROWS: [FormRow; 43] = [
         awaits: Awaits::Nobody,
     },
     FormRow {
+        form: Form::ReferToPartition,
+        sql: "REFERENCES a partitioned table",
+        parts: &[Part {
+            path: TARGET,
+            mode: Mode::ShareRowExclusive,
+        }],
+        work: Work::Moment,
+        until: Until::Commit,
+        awaits: Awaits::Nobody,
+    },
+    FormRow {
         form: Form::AddUnique,
         sql: "ALTER TABLE ADD UNIQUE",
         parts: &[
@@ -407,6 +418,23 @@ pub static ALTER_TABLE_ROWS: [FormRow; 43] = [
         awaits: Awaits::Nobody,
     },
     FormRow {
+        form: Form::RenameKey,
+        sql: "ALTER TABLE RENAME CONSTRAINT of a key",
+        parts: &[
+            Part {
+                path: TARGET,
+                mode: Mode::AccessExclusive,
+            },
+            Part {
+                path: OTHER,
+                mode: Mode::ShareUpdateExclusive,
+            },
+        ],
+        work: Work::Moment,
+        until: Until::Commit,
+        awaits: Awaits::Nobody,
+    },
+    FormRow {
         form: Form::OwnerTo,
         sql: "ALTER TABLE OWNER TO",
         parts: &[
@@ -497,6 +525,17 @@ pub static ALTER_TABLE_ROWS: [FormRow; 43] = [
             },
         ],
         work: Work::Rewrite,
+        until: Until::Commit,
+        awaits: Awaits::Nobody,
+    },
+    FormRow {
+        form: Form::SetLoggedAlready,
+        sql: "ALTER TABLE SET LOGGED of a logged table",
+        parts: &[Part {
+            path: TARGET,
+            mode: Mode::AccessExclusive,
+        }],
+        work: Work::Moment,
         until: Until::Commit,
         awaits: Awaits::Nobody,
     },

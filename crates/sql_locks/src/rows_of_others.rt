@@ -1,11 +1,11 @@
 //! The locks of triggers, rules, policies, comments and maintenance.
 
 use crate::forms::{Awaits, Form, FormRow, Part, Until, Work};
-use crate::paths::{FAMILY, INDEXES, TARGET};
+use crate::paths::{FAMILY, FAMILY_INDEXES, INDEXES, TARGET};
 use modes_core::Mode;
 
 /// Each form with what it locks, in the order of the server.
-pub static OTHER_ROWS: [FormRow; 17] = [
+pub static OTHER_ROWS: [FormRow; 20] = [
     FormRow {
         form: Form::CreateTrigger,
         sql: "CREATE TRIGGER",
@@ -117,6 +117,17 @@ pub static OTHER_ROWS: [FormRow; 17] = [
         awaits: Awaits::Nobody,
     },
     FormRow {
+        form: Form::DropStatistics,
+        sql: "DROP STATISTICS",
+        parts: &[Part {
+            path: TARGET,
+            mode: Mode::ShareUpdateExclusive,
+        }],
+        work: Work::Moment,
+        until: Until::Commit,
+        awaits: Awaits::Nobody,
+    },
+    FormRow {
         form: Form::PublishTable,
         sql: "CREATE PUBLICATION FOR TABLE",
         parts: &[Part {
@@ -154,11 +165,11 @@ pub static OTHER_ROWS: [FormRow; 17] = [
         sql: "VACUUM",
         parts: &[
             Part {
-                path: TARGET,
+                path: FAMILY,
                 mode: Mode::ShareUpdateExclusive,
             },
             Part {
-                path: INDEXES,
+                path: FAMILY_INDEXES,
                 mode: Mode::RowExclusive,
             },
         ],
@@ -171,11 +182,11 @@ pub static OTHER_ROWS: [FormRow; 17] = [
         sql: "VACUUM FULL",
         parts: &[
             Part {
-                path: TARGET,
+                path: FAMILY,
                 mode: Mode::AccessExclusive,
             },
             Part {
-                path: INDEXES,
+                path: FAMILY_INDEXES,
                 mode: Mode::AccessExclusive,
             },
         ],
@@ -193,6 +204,34 @@ pub static OTHER_ROWS: [FormRow; 17] = [
             },
             Part {
                 path: INDEXES,
+                mode: Mode::AccessShare,
+            },
+        ],
+        work: Work::Scan,
+        until: Until::Commit,
+        awaits: Awaits::Nobody,
+    },
+    FormRow {
+        form: Form::AnalyzeChildren,
+        sql: "ANALYZE of a parent",
+        parts: &[Part {
+            path: FAMILY,
+            mode: Mode::AccessShare,
+        }],
+        work: Work::Scan,
+        until: Until::Commit,
+        awaits: Awaits::Nobody,
+    },
+    FormRow {
+        form: Form::AnalyzePartitions,
+        sql: "ANALYZE of a partitioned table",
+        parts: &[
+            Part {
+                path: FAMILY,
+                mode: Mode::ShareUpdateExclusive,
+            },
+            Part {
+                path: FAMILY_INDEXES,
                 mode: Mode::AccessShare,
             },
         ],

@@ -8,7 +8,7 @@ use crate::paths::{
 use modes_core::Mode;
 
 /// Each form with what it locks, in the order of the server.
-pub static QUERY_ROWS: [FormRow; 24] = [
+pub static QUERY_ROWS: [FormRow; 26] = [
     FormRow {
         form: Form::Select,
         sql: "SELECT",
@@ -55,6 +55,17 @@ pub static QUERY_ROWS: [FormRow; 24] = [
         awaits: Awaits::Nobody,
     },
     FormRow {
+        form: Form::DefineChange,
+        sql: "PREPARE AS UPDATE",
+        parts: &[Part {
+            path: TARGET,
+            mode: Mode::RowExclusive,
+        }],
+        work: Work::Moment,
+        until: Until::Commit,
+        awaits: Awaits::Nobody,
+    },
+    FormRow {
         form: Form::CopyTo,
         sql: "COPY TO",
         parts: &[Part {
@@ -83,11 +94,28 @@ pub static QUERY_ROWS: [FormRow; 24] = [
         awaits: Awaits::Nobody,
     },
     FormRow {
+        form: Form::InsertOnConflict,
+        sql: "INSERT ON CONFLICT",
+        parts: &[
+            Part {
+                path: TARGET,
+                mode: Mode::RowExclusive,
+            },
+            Part {
+                path: INDEXES,
+                mode: Mode::RowExclusive,
+            },
+        ],
+        work: Work::Rows,
+        until: Until::Commit,
+        awaits: Awaits::Nobody,
+    },
+    FormRow {
         form: Form::CopyFrom,
         sql: "COPY FROM",
         parts: &[
             Part {
-                path: TARGET,
+                path: FAMILY,
                 mode: Mode::RowExclusive,
             },
             Part {

@@ -2,13 +2,13 @@
 
 use crate::forms::{Awaits, Form, FormRow, Part, Until, Work};
 use crate::paths::{
-    DEFAULT, FAMILY, INDEXES, OTHER, OTHER_DEFAULT, OTHER_KEY, OWNED, REFERRED, REFERRING, STORED,
-    STORED_INDEXES, TABLE, TARGET,
+    DEFAULT, FAMILY, FAMILY_INDEXES, INDEXES, OTHER, OTHER_DEFAULT, OTHER_KEY, OWNED, REFERRED,
+    REFERRING, STORED, STORED_INDEXES, TABLE, TARGET,
 };
 use modes_core::Mode;
 
 /// Each form with what it locks, in the order of the server.
-pub static RELATION_ROWS: [FormRow; 31] = [
+pub static RELATION_ROWS: [FormRow; 35] = [
     FormRow {
         form: Form::CreateTable,
         sql: "CREATE TABLE",
@@ -224,6 +224,23 @@ pub static RELATION_ROWS: [FormRow; 31] = [
         awaits: Awaits::Nobody,
     },
     FormRow {
+        form: Form::RefreshWithNoData,
+        sql: "REFRESH MATERIALIZED VIEW WITH NO DATA",
+        parts: &[
+            Part {
+                path: TARGET,
+                mode: Mode::AccessExclusive,
+            },
+            Part {
+                path: INDEXES,
+                mode: Mode::AccessExclusive,
+            },
+        ],
+        work: Work::Moment,
+        until: Until::Commit,
+        awaits: Awaits::Nobody,
+    },
+    FormRow {
         form: Form::RefreshConcurrently,
         sql: "REFRESH MATERIALIZED VIEW CONCURRENTLY",
         parts: &[
@@ -360,6 +377,23 @@ pub static RELATION_ROWS: [FormRow; 31] = [
         awaits: Awaits::Nobody,
     },
     FormRow {
+        form: Form::DropPartitionedIndex,
+        sql: "DROP INDEX of a partitioned table",
+        parts: &[
+            Part {
+                path: OTHER,
+                mode: Mode::AccessExclusive,
+            },
+            Part {
+                path: TARGET,
+                mode: Mode::AccessExclusive,
+            },
+        ],
+        work: Work::Moment,
+        until: Until::Commit,
+        awaits: Awaits::Nobody,
+    },
+    FormRow {
         form: Form::DropIndexConcurrently,
         sql: "DROP INDEX CONCURRENTLY",
         parts: &[
@@ -381,11 +415,11 @@ pub static RELATION_ROWS: [FormRow; 31] = [
         sql: "REINDEX TABLE",
         parts: &[
             Part {
-                path: TARGET,
+                path: FAMILY,
                 mode: Mode::Share,
             },
             Part {
-                path: INDEXES,
+                path: FAMILY_INDEXES,
                 mode: Mode::AccessExclusive,
             },
         ],
@@ -415,11 +449,11 @@ pub static RELATION_ROWS: [FormRow; 31] = [
         sql: "REINDEX TABLE CONCURRENTLY",
         parts: &[
             Part {
-                path: TARGET,
+                path: FAMILY,
                 mode: Mode::ShareUpdateExclusive,
             },
             Part {
-                path: INDEXES,
+                path: FAMILY_INDEXES,
                 mode: Mode::ShareUpdateExclusive,
             },
         ],
@@ -450,6 +484,34 @@ pub static RELATION_ROWS: [FormRow; 31] = [
         parts: &[Part {
             path: TARGET,
             mode: Mode::ShareUpdateExclusive,
+        }],
+        work: Work::Moment,
+        until: Until::Commit,
+        awaits: Awaits::Nobody,
+    },
+    FormRow {
+        form: Form::AttachIndex,
+        sql: "ALTER INDEX ATTACH PARTITION",
+        parts: &[
+            Part {
+                path: TARGET,
+                mode: Mode::ShareUpdateExclusive,
+            },
+            Part {
+                path: OTHER,
+                mode: Mode::AccessExclusive,
+            },
+        ],
+        work: Work::Moment,
+        until: Until::Commit,
+        awaits: Awaits::Nobody,
+    },
+    FormRow {
+        form: Form::DetachIndex,
+        sql: "ALTER TABLE DETACH PARTITION with an index",
+        parts: &[Part {
+            path: TARGET,
+            mode: Mode::AccessExclusive,
         }],
         work: Work::Moment,
         until: Until::Commit,

@@ -1,0 +1,4 @@
+pub mod Clash
+pub mod Outcome
+pub mod Report
+pub mod Status

@@ -1,4 +1,8 @@
 //! Whom lock modes keep waiting, and for whom they wait.
+ghost use Rattle.std.specs.Prelude.{◌≡◌, ◌||◌, ◌&&◌};
+ghost use Rattle.modes_core.specs.Mode.{mode_eq};
+ghost use Rattle.modes_core.specs.ModeSet.{set_has};
+ghost use Rattle.sql_report.specs.Clash.{clashes};
 
 use modes_core::{Mode, ModeSet, conflicts};
 use std::alloc::AllocError;
@@ -39,19 +43,29 @@ static OTHERS: [Others; 5] = [
     },
 ];
 
-/// What modes on one relation, or on several, keep waiting: the modes with which they conflict.
-pub fn conflicts_of(modes: ModeSet) -> ModeSet {
-    let mut all = ModeSet::empty();
-    for mode in Mode::ALL {
-        if modes.has(mode) {
-            for other in Mode::ALL {
-                if conflicts(mode).has(other) {
-                    all = all.with(other);
-                }
-            }
-        }
+/// The modes that conflict with one of `modes`: what `modes` on one relation, or on several, keep waiting.
+pub fn conflicts_of(modes: ModeSet) -> ModeSet
+    ensures { (other : Mode) → set_has result other ≡ clashes modes other }
+{
+    let all = with_clashing(ModeSet::empty(), modes, Mode::AccessShare);
+    let all = with_clashing(all, modes, Mode::RowShare);
+    let all = with_clashing(all, modes, Mode::RowExclusive);
+    let all = with_clashing(all, modes, Mode::ShareUpdateExclusive);
+    let all = with_clashing(all, modes, Mode::Share);
+    let all = with_clashing(all, modes, Mode::ShareRowExclusive);
+    let all = with_clashing(all, modes, Mode::Exclusive);
+    with_clashing(all, modes, Mode::AccessExclusive)
+}
+
+/// The set `all`, and `mode` where that conflicts with one of `modes`.
+fn with_clashing(all: ModeSet, modes: ModeSet, mode: Mode) -> ModeSet
+    ensures { (other : Mode) → set_has result other ≡ (mode_eq other mode && clashes modes mode) || set_has all other }
+{
+    if conflicts(mode).meets(modes) {
+        all.with(mode)
+    } else {
+        all
     }
-    all
 }
 
 /// Adds who waits, or that only `DROP TABLE` and its like do.

@@ -4,10 +4,12 @@
 
 mod effects;
 mod options;
+mod outcome;
 mod report;
 mod run;
 mod texts;
 
 pub use options::{FailOn, SqlOptions, SqlTask, parse_options};
-pub use report::{Refused, Report, make_report};
-pub use run::{is_for_sql, run_sql};
+pub use outcome::{Effort, Outcome, are_known, locks_of_acts, modes_on, outcome_of, stopped_by};
+pub use report::{Answer, Refused, Report, is_open_after, make_report};
+pub use run::{is_for_sql, run_sql, status_of};

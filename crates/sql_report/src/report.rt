@@ -1,19 +1,40 @@
 //! What is said of each statement of a text.
+ghost use Rattle.std.specs.Prelude.{◌≡◌, map, string_bytes, All, IfOk};
+ghost use Rattle.std.specs.List.{flat_map};
+ghost use Rattle.modes_core.specs.declared.modes.Mode.TheVariants.{AccessShare, RowExclusive};
+ghost use Rattle.sql_report.specs.Report.{line_of, lines_that_stop, line_of_statement, text_of, transaction_after, AreAnswersOf, BeginsWith, CameTo, IsAnswer};
 
-use crate::effects::{conflicts_of, push_before, push_modes, push_waiting};
-use crate::texts::{awaits_text, fault_text, longer, shown, until_text, work_text};
+use crate::effects::{push_before, push_modes, push_waiting};
+use crate::outcome::{Outcome, are_known, modes_on, outcome_of};
+use crate::texts::{awaits_text, fault_text, shown, until_text, work_text};
 use modes_core::{Mode, ModeSet};
-use sql_locks::{Awaits, SqlFault, Until, Work, locks_of, row_of};
+use sql_locks::{Awaits, Defect, Lock, SqlFault};
 use sql_statements::{Control, SqlStatement, StatementReader, split_statements};
 use std::alloc::{AllocError, Global};
+
+/// What is said of one statement.
+#[derive(Debug, Drop)]
+pub struct Answer {
+    /// The line on which it begins, from 1.
+    pub line: usize,
+    /// Its locks, in the order in which they are taken.
+    pub locks: Vec<Lock>,
+    /// The modes that it keeps waiting on relations that others know.
+    pub stopped: ModeSet,
+    /// All that is printed of it.
+    pub text: String,
+}
 
 /// What is said of a text of statements.
 #[derive(Debug, Drop)]
 pub struct Report {
+    /// Of each statement, in their order.
+    pub answers: Vec<Answer>,
+    /// The lines of the statements that keep reads waiting, and of those that keep writes waiting, of a relation that others know.
+    pub reads: Vec<usize>,
+    pub writes: Vec<usize>,
+    /// All that is printed: the answers' texts, and sums behind them.
     pub text: String,
-    /// Whether a statement keeps reads waiting, or writes, of a relation that others know.
-    pub stops_reads: bool,
-    pub stops_writes: bool,
 }
 
 /// Why a text of statements is refused.
@@ -52,35 +73,14 @@ impl Refused {
     }
 }
 
-/// The modes on one relation.
-#[derive(Clone, Copy, Debug)]
-struct Held {
-    relation: usize,
-    modes: ModeSet,
-}
-
-/// What the locks of a statement come to.
-#[derive(Drop)]
-struct Outcome {
-    held: Vec<Held>,
-    work: Work,
-    until: Until,
-    awaits: Awaits,
-    /// The modes that relations keep waiting which others know.
-    stopped: ModeSet,
-}
-
-/// What is said of the statements, and of all of them at the end.
+/// What reads the statements, and how far their transaction is.
 #[derive(Drop)]
 struct Writer {
     alloc: Global,
     reader: StatementReader,
+    /// Whether all statements are one transaction.
+    is_single: bool,
     is_in_transaction: bool,
-    text: String,
-    count: usize,
-    /// The lines of the statements that keep reads and writes waiting.
-    reads: Vec<usize>,
-    writes: Vec<usize>,
 }
 
 /// Says of each statement of `migration` what it locks, where the statements of `schema` were run before, all in one transaction where
@@ -90,27 +90,36 @@ pub fn make_report(
     schema: &[u8],
     migration: &[u8],
     is_single: bool,
-) -> Result<Report, Refused> {
+) -> Result<Report, Refused>
+    ensures answers { IfOk result (λ report. AreAnswersOf migration.now report.answers.items) }
+    ensures reads { IfOk result (λ report. report.reads.items ≡ lines_that_stop AccessShare report.answers.items) }
+    ensures writes { IfOk result (λ report. report.writes.items ≡ lines_that_stop RowExclusive report.answers.items) }
+    ensures printed { IfOk result (λ report. BeginsWith (flat_map text_of report.answers.items) report.text) }
+{
     let mut writer = Writer {
         alloc,
         reader: StatementReader::new(alloc),
-        is_in_transaction: false,
-        text: String::new(alloc),
-        count: 0,
-        reads: Vec::new(alloc),
-        writes: Vec::new(alloc),
+        is_single,
+        is_in_transaction: is_single,
     };
     if let Err(fault) = writer.read_schema(schema) {
         return Err(Refused::of_fault(alloc, "schema, ", schema, fault));
     }
-    writer.is_in_transaction = is_single;
-    match writer.read_migration(migration, is_single) {
-        Ok(()) => Ok(Report {
-            stops_reads: !writer.reads.is_empty(),
-            stops_writes: !writer.writes.is_empty(),
-            text: writer.text,
-        }),
+    match writer.report(migration) {
+        Ok(report) => Ok(report),
         Err(fault) => Err(Refused::of_fault(alloc, "", migration, fault)),
+    }
+}
+
+/// Whether a transaction is open behind a statement that does this to it, where `was_open` says so before it, and all statements are one
+/// transaction where `is_single`.
+pub fn is_open_after(control: Control, was_open: bool, is_single: bool) -> bool
+    ensures { result ≡ transaction_after is_single was_open control }
+{
+    match control {
+        Control::Begin => true,
+        Control::Commit | Control::Rollback => is_single,
+        Control::Stay | Control::Savepoint => was_open,
     }
 }
 
@@ -124,129 +133,136 @@ impl Writer {
         Ok(())
     }
 
-    /// Says of each statement what it locks.
-    fn read_migration(&mut self, migration: &[u8], is_single: bool) -> Result<(), SqlFault> {
-        for statement in split_statements(self.alloc, migration)? {
-            let title = shown(self.alloc, migration, statement.from, statement.to)?;
-            self.read_statement(title.as_str(), statement, is_single)?;
-        }
-        self.push_summary()?;
-        Ok(())
+    /// Says of each statement of `migration` what it locks, and what all come to.
+    fn report(&mut self, migration: &[u8]) -> Result<Report, SqlFault>
+        ensures answers { IfOk result (λ report. AreAnswersOf migration.now report.answers.items) }
+        ensures reads { IfOk result (λ report. report.reads.items ≡ lines_that_stop AccessShare report.answers.items) }
+        ensures writes { IfOk result (λ report. report.writes.items ≡ lines_that_stop RowExclusive report.answers.items) }
+        ensures printed { IfOk result (λ report. BeginsWith (flat_map text_of report.answers.items) report.text) }
+    {
+        let statements = split_statements(self.alloc, migration)?;
+        let answers = self.answer_all(migration, statements)?;
+        Ok(report_of(self.alloc, answers)?)
     }
 
-    /// Says of one statement what it locks.
-    fn read_statement(
+    /// Says of each of `statements`, those of `migration`, what it locks.
+    fn answer_all(
         &mut self,
-        title: &str,
-        statement: SqlStatement,
-        is_single: bool,
-    ) -> Result<(), SqlFault> {
+        migration: &[u8],
+        statements: Vec<SqlStatement>,
+    ) -> Result<Vec<Answer>, SqlFault>
+        ensures lines { IfOk result (λ answers. map line_of answers.items ≡ map line_of_statement statements.items) }
+        ensures each { IfOk result (λ answers. All IsAnswer answers.items) }
+    {
+        let mut answers = Vec::new(self.alloc);
+        for statement in statements {
+            let answer = self.answer(migration, statement)?;
+            answers.push(answer)?;
+        }
+        Ok(answers)
+    }
+
+    /// Says of `statement`, one of `migration`, what it locks.
+    fn answer(&mut self, migration: &[u8], statement: SqlStatement) -> Result<Answer, SqlFault>
+        ensures line { IfOk result (λ answer. answer.line ≡ statement.line) }
+        ensures answer { IfOk result IsAnswer }
+    {
         let line = statement.line;
+        let title = shown(self.alloc, migration, statement.from, statement.to)?;
         self.reader.read_statement(statement.words)?;
-        self.count = self.count.saturating_add(1);
-        write!(self.text, "line {line}: {title}\n")?;
         let control = self.reader.control;
         if control == Control::Begin {
             self.is_in_transaction = true;
         }
         let outcome = self.outcome()?;
-        self.push_outcome(&outcome)?;
-        self.push_advisory()?;
-        if outcome.stopped.has(Mode::AccessShare) {
-            self.reads.push(line)?;
-        }
-        if outcome.stopped.has(Mode::RowExclusive) {
-            self.writes.push(line)?;
-        }
-        if control == Control::Commit || control == Control::Rollback {
-            self.is_in_transaction = is_single;
-        }
+        let text = self.text_of(line, title.as_str(), &outcome)?;
+        self.is_in_transaction = is_open_after(control, self.is_in_transaction, self.is_single);
         self.reader.settle(!self.is_in_transaction)?;
-        Ok(())
+        Ok(Answer {
+            line,
+            locks: outcome.locks,
+            stopped: outcome.stopped,
+            text,
+        })
     }
 
     /// What the locks of the statement come to that was read.
-    fn outcome(&self) -> Result<Outcome, AllocError> {
-        let mut outcome = Outcome {
-            held: Vec::new(self.alloc),
-            work: Work::Moment,
-            until: Until::Commit,
-            awaits: Awaits::Nobody,
-            stopped: ModeSet::empty(),
-        };
-        for act in &self.reader.acts {
-            let Some(row) = row_of(act.form) else {
-                continue;
-            };
-            outcome.work = longer(outcome.work, row.work);
-            if row.until == Until::OwnEnd {
-                outcome.until = Until::OwnEnd;
-            }
-            if row.awaits != Awaits::Nobody {
-                outcome.awaits = row.awaits;
-            }
-            let links = self.reader.catalog.links.as_slice();
-            for lock in &locks_of(self.alloc, links, act, row.parts)? {
-                outcome.hold(lock.relation, lock.mode)?;
-            }
-        }
-        let mut modes = ModeSet::empty();
-        for held in &outcome.held {
-            if !self.is_own(held.relation) {
-                modes = union(modes, held.modes);
-            }
-        }
-        outcome.stopped = conflicts_of(modes);
-        Ok(outcome)
+    fn outcome(&self) -> Result<Outcome, SqlFault>
+        ensures { IfOk result (λ outcome. CameTo outcome.locks.items outcome.stopped) }
+    {
+        let catalog = &self.reader.catalog;
+        outcome_of(
+            self.alloc,
+            catalog.relations.as_slice(),
+            catalog.links.as_slice(),
+            self.reader.acts.as_slice(),
+            self.reader.fault_at(0, Defect::UnknownStatement),
+        )
     }
 
-    /// Whether nobody else knows a relation.
-    fn is_own(&self, relation: usize) -> bool {
-        match self.reader.catalog.relations.get(relation) {
-            Some(relation) => relation.is_own,
-            None => false,
+    /// What is printed of the statement that was read, which begins on `line` as `title` and comes to `outcome`.
+    fn text_of(&self, line: usize, title: &str, outcome: &Outcome) -> Result<String, AllocError> {
+        let mut text = format!(in self.alloc; "line {line}: {title}\n")?;
+        if !outcome.locks.is_empty() {
+            let are_known = self.push_locks(&mut text, outcome.locks.as_slice())?;
+            self.push_effort(&mut text, outcome, are_known)?;
         }
+        self.push_advisory(&mut text)?;
+        Ok(text)
     }
 
-    /// Adds what the locks come to.
-    fn push_outcome(&mut self, outcome: &Outcome) -> Result<(), AllocError> {
-        if outcome.held.is_empty() {
-            return Ok(());
-        }
+    /// Adds the modes of each relation, in the order of the first locks, and tells whether others know one of these relations.
+    fn push_locks(&self, text: &mut String, locks: &[Lock]) -> Result<bool, AllocError> {
+        let relations = self.reader.catalog.relations.as_slice();
         let mut is_known = false;
-        for held in &outcome.held {
-            let name = self.reader.name_of_relation(held.relation)?;
-            write!(self.text, "  {name}: ")?;
-            push_modes(&mut self.text, held.modes)?;
-            if self.is_own(held.relation) {
-                self.text.push_str(", made here and known to nobody else")?;
-            } else {
-                is_known = true;
+        for (place, lock) in locks.iter().enumerate() {
+            let before = locks.get(..place).unwrap_or(&[]);
+            if before.iter().any(|other| other.relation == lock.relation) {
+                continue;
             }
-            self.text.push('\n')?;
+            let name = self.reader.name_of_relation(lock.relation)?;
+            write!(text, "  {name}: ")?;
+            push_modes(text, modes_on(locks, lock.relation))?;
+            if are_known(relations, lock.relation) {
+                is_known = true;
+            } else {
+                text.push_str(", made here and known to nobody else")?;
+            }
+            text.push('\n')?;
         }
-        let work = work_text(outcome.work);
-        let until = until_text(outcome.until, self.is_in_transaction);
+        Ok(is_known)
+    }
+
+    /// Adds how long the statement works, and whom it keeps waiting where others know what it locks.
+    fn push_effort(
+        &self,
+        text: &mut String,
+        outcome: &Outcome,
+        are_known: bool,
+    ) -> Result<(), AllocError> {
+        let effort = outcome.effort;
+        let work = work_text(effort.work);
+        let until = until_text(effort.until, self.is_in_transaction);
         write!(
-            self.text,
+            text,
             "  works for {work}, and holds its locks until {until}\n"
         )?;
-        if is_known {
-            self.text.push_str("  keeps waiting: ")?;
-            push_waiting(&mut self.text, outcome.stopped)?;
-            self.text.push_str("\n  waits behind: ")?;
-            push_before(&mut self.text, outcome.stopped)?;
-            self.text.push('\n')?;
+        if are_known {
+            text.push_str("  keeps waiting: ")?;
+            push_waiting(text, outcome.stopped)?;
+            text.push_str("\n  waits behind: ")?;
+            push_before(text, outcome.stopped)?;
+            text.push('\n')?;
         }
-        if outcome.awaits != Awaits::Nobody {
-            let awaits = awaits_text(outcome.awaits);
-            write!(self.text, "  waits for the end of {awaits}\n")?;
+        if effort.awaits != Awaits::Nobody {
+            let awaits = awaits_text(effort.awaits);
+            write!(text, "  waits for the end of {awaits}\n")?;
         }
         Ok(())
     }
 
     /// Adds the advisory locks of the statement.
-    fn push_advisory(&mut self) -> Result<(), AllocError> {
+    fn push_advisory(&self, text: &mut String) -> Result<(), AllocError> {
         for lock in &self.reader.advisory {
             let words = &self.reader.cursor.words;
             let function = word_text(words.get(lock.function));
@@ -256,58 +272,77 @@ impl Writer {
             } else {
                 Mode::Exclusive
             };
-            write!(self.text, "  advisory lock {first}")?;
+            write!(text, "  advisory lock {first}")?;
             if let Some(second) = lock.second {
                 let second = word_text(words.get(second));
-                write!(self.text, ", {second}")?;
+                write!(text, ", {second}")?;
             }
             let until = if function.contains("xact") {
                 "the transaction's end"
             } else {
                 "it is unlocked, or the session ends"
             };
-            write!(self.text, ": {mode}, until {until}\n")?;
+            write!(text, ": {mode}, until {until}\n")?;
         }
-        Ok(())
-    }
-
-    /// Adds what all statements come to.
-    fn push_summary(&mut self) -> Result<(), AllocError> {
-        let count = self.count;
-        write!(self.text, "statements: {count}\nkeep reads waiting: ")?;
-        push_lines(&mut self.text, &self.reads)?;
-        self.text.push_str("\nkeep writes waiting: ")?;
-        push_lines(&mut self.text, &self.writes)?;
-        self.text.push('\n')
-    }
-}
-
-impl Outcome {
-    /// Adds a lock.
-    fn hold(&mut self, relation: usize, mode: Mode) -> Result<(), AllocError> {
-        for held in self.held.iter_mut() {
-            if held.relation == relation {
-                held.modes = held.modes.with(mode);
-                return Ok(());
-            }
-        }
-        self.held.push(Held {
-            relation,
-            modes: ModeSet::empty().with(mode),
-        })?;
         Ok(())
     }
 }
 
-/// All modes of two sets.
-fn union(modes: ModeSet, others: ModeSet) -> ModeSet {
-    let mut all = modes;
-    for mode in Mode::ALL {
-        if others.has(mode) {
-            all = all.with(mode);
-        }
+/// The report of `answers`: their texts one behind another, and the sums.
+fn report_of(alloc: Global, answers: Vec<Answer>) -> Result<Report, AllocError>
+    ensures reads { IfOk result (λ report. report.reads.items ≡ lines_that_stop AccessShare report.answers.items) }
+    ensures writes { IfOk result (λ report. report.writes.items ≡ lines_that_stop RowExclusive report.answers.items) }
+    ensures printed { IfOk result (λ report. BeginsWith (flat_map text_of report.answers.items) report.text) }
+    ensures answers { IfOk result (λ report. report.answers.items ≡ answers.items) }
+{
+    let reads = lines_stopping(alloc, answers.as_slice(), Mode::AccessShare)?;
+    let writes = lines_stopping(alloc, answers.as_slice(), Mode::RowExclusive)?;
+    let sums = sums_of(alloc, answers.len(), reads.as_slice(), writes.as_slice())?;
+    let mut text = texts_of(alloc, answers.as_slice())?;
+    text.push_str(sums.as_str())?;
+    Ok(Report {
+        answers,
+        reads,
+        writes,
+        text,
+    })
+}
+
+/// The lines of those of `answers` whose statements keep `mode` waiting.
+fn lines_stopping(alloc: Global, answers: &[Answer], mode: Mode) -> Result<Vec<usize>, AllocError>
+    ensures { IfOk result (λ lines. lines.items ≡ lines_that_stop mode answers.now) }
+{
+    answers
+        .iter()
+        .filter(|answer| answer.stopped.has(mode))
+        .map(|answer| answer.line)
+        .collect(alloc)
+}
+
+/// The texts of `answers`, one behind another.
+fn texts_of(alloc: Global, answers: &[Answer]) -> Result<String, AllocError>
+    ensures { IfOk result (λ text. string_bytes text ≡ flat_map text_of answers.now) }
+{
+    let mut text = String::new(alloc);
+    for answer in answers {
+        text.push_str(answer.text.as_str())?;
     }
-    all
+    Ok(text)
+}
+
+/// What all statements come to, `count` of them, of which those on the lines `reads` and `writes` keep reads and writes waiting.
+fn sums_of(
+    alloc: Global,
+    count: usize,
+    reads: &[usize],
+    writes: &[usize],
+) -> Result<String, AllocError> {
+    let mut text = format!(in alloc; "statements: {count}\nkeep reads waiting: ")?;
+    push_lines(&mut text, reads)?;
+    text.push_str("\nkeep writes waiting: ")?;
+    push_lines(&mut text, writes)?;
+    text.push('\n')?;
+    Ok(text)
 }
 
 /// The text of a word, if there is one.
@@ -318,8 +353,8 @@ fn word_text(word: Option<&sql_statements::SqlWord>) -> &str {
     }
 }
 
-/// Adds how many lines there are, and which.
-fn push_lines(text: &mut String, lines: &Vec<usize>) -> Result<(), AllocError> {
+/// Adds to `text` how many `lines` there are, and which.
+fn push_lines(text: &mut String, lines: &[usize]) -> Result<(), AllocError> {
     let count = lines.len();
     write!(text, "{count}")?;
     let mut is_first = true;

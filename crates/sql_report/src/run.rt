@@ -1,5 +1,6 @@
 //! The subcommand `sql`, as a function of its words and its streams.
-ghost use Rattle.std.specs.Prelude.{◌≤◌};
+ghost use Rattle.std.specs.Prelude.{◌≡◌, ◌≤◌};
+ghost use Rattle.sql_report.specs.Status.{status_for};
 
 use crate::options::{FailOn, SqlOptions, SqlTask, parse_options};
 use crate::report::{Refused, Report, make_report};
@@ -89,16 +90,28 @@ fn run_report<H: AllocGlobal + Files, R: Read, W: Write, E: Write>(
     }
 }
 
-/// The status of a report.
-fn status_of(report: &Report, fail_on: FailOn) -> u8
-    ensures { result ≤ 4 }
+/// The status of `report`: 4 where a statement keeps those waiting whom `fail_on` names, else 0.
+pub fn status_of(report: &Report, fail_on: FailOn) -> u8
+    ensures status { result ≡ status_for fail_on report.now.reads.items report.now.writes.items }
+    ensures at_most { result ≤ 4 }
 {
-    let fails = match fail_on {
-        FailOn::Nothing => false,
-        FailOn::Reads => report.stops_reads,
-        FailOn::Writes => report.stops_writes,
-    };
-    if fails { KEEPS_WAITING } else { SUCCESS }
+    match fail_on {
+        FailOn::Nothing => SUCCESS,
+        FailOn::Reads => status_of_lines(report.reads.as_slice()),
+        FailOn::Writes => status_of_lines(report.writes.as_slice()),
+    }
+}
+
+/// The status where the statements on `lines` keep those waiting whom the words name.
+fn status_of_lines(lines: &[usize]) -> u8
+    ensures reads { result ≡ status_for FailOn.Reads lines.now lines.now }
+    ensures writes { result ≡ status_for FailOn.Writes lines.now lines.now }
+    ensures at_most { result ≤ 4 }
+{
+    match lines {
+        [] => SUCCESS,
+        _ => KEEPS_WAITING,
+    }
 }
 
 /// Prints a text, and answers this status where that succeeds.

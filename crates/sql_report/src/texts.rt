@@ -60,7 +60,7 @@ fn two_words(alloc: Global, text: &[u8], from: usize) -> Result<String, AllocErr
         if words.len() > 0 {
             words.push(' ')?;
         }
-        words.push_str(word)?;
+        words.push_str(word.strip_suffix(";").unwrap_or(word))?;
     }
     words.make_ascii_uppercase();
     Ok(words)

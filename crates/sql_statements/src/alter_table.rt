@@ -1,15 +1,18 @@
 //! `ALTER TABLE`, with one form or several.
 
-use crate::constraints::{Constraint, ConstraintKind};
+use crate::names::name_in_schema;
 use crate::reader::{Change, StatementReader};
 use sql_locks::{Defect, Form, LinkKind, RelationKind, SqlFault};
 
 impl StatementReader {
     /// Reads what stands behind `ALTER TABLE`.
     pub fn read_alter_table(&mut self) -> Result<(), SqlFault> {
-        self.eat_if_exists();
+        if self.cursor.is_at("all") && self.cursor.is_ahead(1, "in") {
+            return Err(self.fault_at(0, Defect::UnknownStatement));
+        }
+        let may_miss = self.eat_if_exists();
         let is_only = self.cursor.eat("only");
-        let Some(table) = self.relation()? else {
+        let Some(table) = self.relation_or_none(may_miss)? else {
             return Ok(());
         };
         for _ in 0..self.cursor.words.len() {
@@ -63,199 +66,6 @@ impl StatementReader {
         }
     }
 
-    /// Reads a form that adds a column or a constraint.
-    fn read_add(&mut self, table: usize, is_only: bool) -> Result<(), SqlFault> {
-        if let Some(constraint) = self.constraint("")? {
-            return self.add_constraint(table, constraint, is_only);
-        }
-        self.cursor.eat("column");
-        self.eat_if_exists();
-        let column = self.name()?;
-        if self.is_serial() {
-            let sequence = self.make_sequence(table, column.as_str())?;
-            self.act_with(Form::NewSequence, table, sequence)?;
-            self.act_on(Form::AddColumnRewrite, table, None, is_only)?;
-        }
-        self.act_on(Form::AddColumn, table, None, is_only)?;
-        self.read_new_column(table, column.as_str(), is_only)
-    }
-
-    /// Reads what stands behind the name of a column that is added.
-    fn read_new_column(
-        &mut self,
-        table: usize,
-        column: &str,
-        is_only: bool,
-    ) -> Result<(), SqlFault> {
-        for _ in 0..self.cursor.words.len() {
-            if self.cursor.is_at_end() || self.cursor.is_mark(",") {
-                break;
-            }
-            if let Some(constraint) = self.constraint(column)? {
-                self.add_column_constraint(table, constraint, is_only)?;
-            } else if self.cursor.eat("default") {
-                if self.is_volatile() {
-                    self.act_on(Form::AddColumnRewrite, table, None, is_only)?;
-                }
-            } else if self.cursor.eat("stored") {
-                self.act_on(Form::AddColumnRewrite, table, None, is_only)?;
-            } else {
-                self.cursor.skip();
-            }
-        }
-        Ok(())
-    }
-
-    /// Whether the default that comes next calls a function that gives another value each time.
-    fn is_volatile(&self) -> bool {
-        self.cursor.is_mark_ahead(1, "(")
-            && !self.cursor.is_at("now")
-            && !self.cursor.is_at("lower")
-            && !self.cursor.is_at("upper")
-            && !self.cursor.is_at("coalesce")
-            && !self.cursor.is_at("numeric")
-            && !self.cursor.is_at("varchar")
-    }
-
-    /// Adds the form of a constraint of a column that is added.
-    fn add_column_constraint(
-        &mut self,
-        table: usize,
-        constraint: Constraint,
-        is_only: bool,
-    ) -> Result<(), SqlFault> {
-        match constraint.kind {
-            ConstraintKind::Key | ConstraintKind::KeyUsingIndex => {
-                let index = self.make_key_index(table, &constraint)?;
-                self.act_with(Form::NewIndex, table, index)?;
-            }
-            ConstraintKind::ForeignKey => {
-                if let Some(referred) = constraint.other {
-                    self.act_with(Form::AddColumnReferences, table, referred)?;
-                    self.make_foreign_key(table, referred, constraint)?;
-                }
-            }
-            ConstraintKind::Check => {
-                if constraint.suffix == "check" {
-                    self.act_on(Form::AddColumnCheck, table, None, is_only)?;
-                }
-            }
-        }
-        Ok(())
-    }
-
-    /// Adds the form of a constraint of a table.
-    fn add_constraint(
-        &mut self,
-        table: usize,
-        constraint: Constraint,
-        is_only: bool,
-    ) -> Result<(), SqlFault> {
-        match constraint.kind {
-            ConstraintKind::Key => {
-                let index = self.make_key_index(table, &constraint)?;
-                self.act_with(Form::AddUnique, table, index)?;
-            }
-            ConstraintKind::KeyUsingIndex => {
-                let form = if self.is_renamed(&constraint)? {
-                    Form::AddRenamedIndex
-                } else {
-                    Form::AddUsingIndex
-                };
-                self.act_on(form, table, constraint.other, is_only)?;
-            }
-            ConstraintKind::ForeignKey => {
-                if let Some(referred) = constraint.other {
-                    let form = if constraint.is_not_valid {
-                        Form::AddForeignKeyNotValid
-                    } else {
-                        Form::AddForeignKey
-                    };
-                    self.act_with(form, table, referred)?;
-                    self.make_foreign_key(table, referred, constraint)?;
-                }
-            }
-            ConstraintKind::Check => {
-                let form = if constraint.is_not_valid {
-                    Form::AddCheckNotValid
-                } else {
-                    Form::AddCheck
-                };
-                self.act_on(form, table, None, is_only)?;
-            }
-        }
-        Ok(())
-    }
-
-    /// Whether the index that a key uses gets the name of the constraint.
-    fn is_renamed(&self, constraint: &Constraint) -> Result<bool, SqlFault> {
-        let Some(index) = constraint.other else {
-            return Ok(false);
-        };
-        let name = self.name_of_relation(index)?;
-        Ok(constraint.name.len() > 0 && constraint.name.as_str() != name.as_str())
-    }
-
-    /// Reads a form that drops a column or a constraint.
-    fn read_drop(&mut self, table: usize, is_only: bool) -> Result<(), SqlFault> {
-        let is_constraint = self.cursor.eat("constraint");
-        if !is_constraint {
-            self.cursor.eat("column");
-        }
-        self.eat_if_exists();
-        let name = self.name()?;
-        let form = if is_constraint {
-            Form::DropConstraint
-        } else {
-            Form::DropColumn
-        };
-        self.act_on(form, table, None, is_only)?;
-        if is_constraint {
-            self.drop_index_of(table, name.as_str())?;
-        }
-        self.drop_foreign_keys(table, name.as_str(), is_constraint)
-    }
-
-    /// Adds the index of the key that has this name, which goes.
-    fn drop_index_of(&mut self, table: usize, name: &str) -> Result<(), SqlFault> {
-        if let Some(index) = self.catalog.find(name) {
-            if self.kind(index) == RelationKind::Index {
-                self.act_with(Form::DropUnique, table, index)?;
-                self.change(Change::Drop(index))?;
-            }
-        }
-        Ok(())
-    }
-
-    /// Adds the tables of the foreign keys that go with a constraint or a column of this name.
-    fn drop_foreign_keys(
-        &mut self,
-        table: usize,
-        name: &str,
-        is_constraint: bool,
-    ) -> Result<(), SqlFault> {
-        let mut gone = Vec::new(self.alloc);
-        for key in &self.catalog.foreign_keys {
-            let is_gone = if is_constraint {
-                key.name.as_str() == name
-            } else {
-                key.columns.iter().any(|column| column.as_str() == name)
-            };
-            if key.table == table && is_gone {
-                gone.push((
-                    key.referred,
-                    String::from_str(self.alloc, key.name.as_str())?,
-                ))?;
-            }
-        }
-        for (referred, name) in gone {
-            self.act_with(Form::DropForeignKey, table, referred)?;
-            self.change(Change::Unlink(LinkKind::Refers, table, referred))?;
-            self.change(Change::DropForeignKey(table, name))?;
-        }
-        Ok(())
-    }
-
     /// Reads a form that alters a column.
     fn read_alter_column(&mut self, table: usize, is_only: bool) -> Result<(), SqlFault> {
         if self.cursor.eat("constraint") {
@@ -280,6 +90,9 @@ impl StatementReader {
         self.act_on(form, table, None, is_only)?;
         if form == Form::AlterType {
             self.alter_foreign_keys(table, column.as_str())?;
+        }
+        if self.cursor.eat_all(&["set", "default"]) {
+            self.note_default(table)?;
         }
         if self.cursor.is_at("add") && self.cursor.has("identity") {
             let sequence = self.make_sequence(table, column.as_str())?;
@@ -318,73 +131,54 @@ impl StatementReader {
             self.change(Change::Rename(table, name))?;
             return Ok(());
         }
+        if self.cursor.eat("constraint") {
+            return self.read_renamed_constraint(table, is_only);
+        }
         self.act_on(Form::RenameColumn, table, None, is_only)?;
+        self.cursor.eat("column");
+        let old = self.name()?;
+        self.cursor.eat("to");
+        let new = self.name()?;
+        self.change(Change::RenameColumn(table, old, new))?;
+        Ok(())
+    }
+
+    /// Reads the old and the new name of a constraint.
+    fn read_renamed_constraint(&mut self, table: usize, is_only: bool) -> Result<(), SqlFault> {
+        let old = self.name()?;
+        self.cursor.eat("to");
+        let new = self.name()?;
+        match self.catalog.find(old.as_str()) {
+            Some(index) if self.kind(index) == RelationKind::Index => {
+                self.act_with(Form::RenameKey, table, index)?;
+                self.change(Change::Rename(index, new))?;
+            }
+            _ => {
+                self.act_on(Form::RenameColumn, table, None, is_only)?;
+                self.change(Change::RenameForeignKey(table, old, new))?;
+            }
+        }
         Ok(())
     }
 
     /// Reads the name of the constraint that is validated.
     fn read_validate(&mut self, table: usize, is_only: bool) -> Result<(), SqlFault> {
         let name = self.name()?;
-        let referred = self
+        let key = self
             .catalog
             .foreign_keys
             .iter()
             .find(|key| key.table == table && key.name.as_str() == name.as_str())
-            .map(|key| key.referred);
-        match referred {
-            Some(referred) => self.act_with(Form::ValidateForeignKey, table, referred)?,
+            .map(|key| (key.referred, key.is_valid));
+        match key {
+            Some((_, true)) => self.act_on(Form::ValidateConstraint, table, None, true)?,
+            Some((referred, false)) => {
+                self.act_with(Form::ValidateForeignKey, table, referred)?;
+                self.change(Change::ValidateForeignKey(table, name))?;
+            }
             None => self.act_on(Form::ValidateConstraint, table, None, is_only)?,
         }
         Ok(())
-    }
-
-    /// Reads a form that attaches or detaches a partition, and tells whether it is one.
-    fn read_partitions(&mut self, table: usize) -> Result<bool, SqlFault> {
-        if self.cursor.eat_all(&["attach", "partition"]) {
-            if let Some(partition) = self.relation()? {
-                self.act_with(Form::AttachPartition, table, partition)?;
-                self.change(Change::Link(LinkKind::Child, table, partition))?;
-                self.change(Change::Link(LinkKind::Partition, table, partition))?;
-                if self.cursor.is_at("default") {
-                    self.change(Change::Link(LinkKind::Default, table, partition))?;
-                }
-            }
-            return Ok(true);
-        }
-        if self.cursor.eat_all(&["detach", "partition"]) {
-            if let Some(partition) = self.relation()? {
-                let form = if self.cursor.is_at("concurrently") {
-                    Form::DetachConcurrently
-                } else {
-                    Form::DetachPartition
-                };
-                self.act_with(form, table, partition)?;
-                self.change(Change::Unlink(LinkKind::Child, table, partition))?;
-                self.change(Change::Unlink(LinkKind::Partition, table, partition))?;
-                self.change(Change::Unlink(LinkKind::Default, table, partition))?;
-            }
-            return Ok(true);
-        }
-        Ok(false)
-    }
-
-    /// Reads a form that gives a table a parent or takes one away, and tells whether it is one.
-    fn read_parent(&mut self, table: usize) -> Result<bool, SqlFault> {
-        if self.cursor.eat("inherit") {
-            if let Some(parent) = self.relation()? {
-                self.act_with(Form::Inherit, table, parent)?;
-                self.change(Change::Link(LinkKind::Child, parent, table))?;
-            }
-            return Ok(true);
-        }
-        if self.cursor.eat_all(&["no", "inherit"]) {
-            if let Some(parent) = self.relation()? {
-                self.act_with(Form::NoInherit, table, parent)?;
-                self.change(Change::Unlink(LinkKind::Child, parent, table))?;
-            }
-            return Ok(true);
-        }
-        Ok(false)
     }
 
     /// Reads one of the other forms, and answers which it is.
@@ -403,7 +197,45 @@ impl StatementReader {
             }
             return Ok(Some(Form::ReplicaIdentity));
         }
+        if self.cursor.eat_all(&["set", "schema"]) {
+            let schema = self.name()?;
+            self.move_to_schema(table, schema.as_str())?;
+            return Ok(Some(Form::SetSchema));
+        }
+        if self.cursor.eat_all(&["set", "logged"]) {
+            return Ok(Some(self.set_logged(table, true)?));
+        }
+        if self.cursor.eat_all(&["set", "unlogged"]) {
+            return Ok(Some(self.set_logged(table, false)?));
+        }
         Ok(self.plain_alteration())
+    }
+
+    /// Has a table be logged or not, and answers in which form.
+    fn set_logged(&mut self, table: usize, is_logged: bool) -> Result<Form, SqlFault> {
+        if self.belongings.is_unlogged(table) != is_logged {
+            return Ok(Form::SetLoggedAlready);
+        }
+        self.belongings.set_logged(table, is_logged)?;
+        Ok(Form::SetLogged)
+    }
+
+    /// Gives a table, its indexes and its sequences the names that they have in another schema.
+    fn move_to_schema(&mut self, table: usize, schema: &str) -> Result<(), SqlFault> {
+        let mut moved = Vec::new(self.alloc);
+        moved.push(table)?;
+        for link in &self.catalog.links {
+            let goes = link.kind == LinkKind::Index || link.kind == LinkKind::Owns;
+            if goes && link.from == table {
+                moved.push(link.to)?;
+            }
+        }
+        for number in &moved {
+            let name = self.name_of_relation(*number)?;
+            let name = name_in_schema(self.alloc, name.as_str(), schema)?;
+            self.change(Change::Rename(*number, name))?;
+        }
+        Ok(())
     }
 
     /// The form that comes next, of those that name no other relation.
@@ -411,13 +243,12 @@ impl StatementReader {
         let cursor = &mut self.cursor;
         if cursor.eat_all(&["owner", "to"]) {
             Some(Form::OwnerTo)
-        } else if cursor.eat_all(&["set", "schema"]) {
-            Some(Form::SetSchema)
-        } else if cursor.eat_all(&["set", "logged"])
-            || cursor.eat_all(&["set", "unlogged"])
-            || cursor.eat_all(&["set", "access", "method"])
-        {
-            Some(Form::SetLogged)
+        } else if cursor.eat_all(&["set", "access", "method"]) {
+            if cursor.is_at("heap") {
+                Some(Form::SetLoggedAlready)
+            } else {
+                Some(Form::SetLogged)
+            }
         } else if cursor.eat_all(&["set", "tablespace"]) {
             Some(Form::SetTablespace)
         } else if cursor.eat_all(&["set", "without", "cluster"]) {

@@ -6,6 +6,9 @@ use sql_locks::{Form, SqlFault};
 impl StatementReader {
     /// Adds the tables that checks of foreign keys reach where `form` changes rows of `table`.
     pub fn add_checks(&mut self, form: Form, table: usize) -> Result<(), SqlFault> {
+        if self.is_planned {
+            return Ok(());
+        }
         let columns = self.columns_set()?;
         let inserts = match form {
             Form::Insert | Form::CopyFrom => true,
@@ -22,8 +25,11 @@ impl StatementReader {
             if key.table == table && (inserts || share_one(&key.columns, &columns)) {
                 checks.push((Form::CheckReferred, key.referred))?;
             }
-            if key.referred == table && (deletes || share_one(&key.referred_columns, &columns)) {
-                let form = if key.cascades {
+            let updates = share_one(&key.referred_columns, &columns);
+            if key.referred == table && (deletes || updates) {
+                let changes = (deletes && key.changes_on_delete)
+                    || (updates && key.changes_on_update);
+                let form = if changes {
                     Form::CascadeToReferring
                 } else {
                     Form::CheckReferring

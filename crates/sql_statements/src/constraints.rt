@@ -1,8 +1,9 @@
 //! Constraints, as they stand in a `CREATE TABLE` and behind `ADD` in an `ALTER TABLE`.
 
-use crate::names::made_name;
+use crate::belongings::copy_names;
+use crate::indexes::IndexWords;
 use crate::reader::{Change, StatementReader};
-use sql_locks::{ForeignKey, LinkKind, RelationKind, SqlFault};
+use sql_locks::{ForeignKey, Form, LinkKind, RelationKind, SqlFault};
 
 /// What a constraint demands.
 #[derive(Clone, Copy, Debug, PartialEq, Eq)]
@@ -28,8 +29,11 @@ pub struct Constraint {
     /// The table that a foreign key refers to, or the index that a key uses.
     pub other: Option<usize>,
     pub other_columns: Vec<String>,
-    pub cascades: bool,
+    pub changes_on_delete: bool,
+    pub changes_on_update: bool,
     pub is_not_valid: bool,
+    /// Whether children don't have it.
+    pub is_not_inherited: bool,
 }
 
 /// The key words with which a constraint or a default begins.
@@ -61,8 +65,10 @@ impl StatementReader {
             columns: self.columns()?,
             other: None,
             other_columns: Vec::new(alloc),
-            cascades: false,
+            changes_on_delete: false,
+            changes_on_update: false,
             is_not_valid: false,
+            is_not_inherited: false,
         };
         if constraint.columns.is_empty() && !column.is_empty() {
             constraint.columns.push(String::from_str(alloc, column)?)?;
@@ -89,6 +95,9 @@ impl StatementReader {
             cursor.eat_all(&["nulls", "not", "distinct"]);
             Some((ConstraintKind::Key, "key"))
         } else if cursor.eat("exclude") {
+            if cursor.eat("using") {
+                cursor.advance();
+            }
             Some((ConstraintKind::Key, "excl"))
         } else if cursor.eat_all(&["foreign", "key"]) || cursor.is_at("references") {
             Some((ConstraintKind::ForeignKey, "fkey"))
@@ -109,10 +118,11 @@ impl StatementReader {
             if self.cursor.is_at_end() || self.cursor.eat_mark(")") {
                 break;
             }
-            match self.cursor.name() {
-                Some(place) => columns.push(self.name_at(place)?)?,
-                None => self.cursor.skip(),
+            if let Some(place) = self.cursor.name() {
+                columns.push(self.name_at(place)?)?;
             }
+            self.cursor.skip_element();
+            self.cursor.eat_mark(",");
         }
         Ok(columns)
     }
@@ -123,18 +133,25 @@ impl StatementReader {
             if self.cursor.is_at_element_end() || self.begins_constraint() {
                 break;
             }
-            if self.cursor.is_at("cascade")
-                || self.cursor.eat_all(&["set", "null"])
-                || self.cursor.eat_all(&["set", "default"])
-            {
-                constraint.cascades = true;
-            }
-            if self.cursor.eat_all(&["not", "valid"]) {
+            if self.cursor.eat_all(&["on", "delete"]) {
+                constraint.changes_on_delete = self.eat_change();
+            } else if self.cursor.eat_all(&["on", "update"]) {
+                constraint.changes_on_update = self.eat_change();
+            } else if self.cursor.eat_all(&["not", "valid"]) {
                 constraint.is_not_valid = true;
+            } else if self.cursor.eat_all(&["no", "inherit"]) {
+                constraint.is_not_inherited = true;
             } else if !self.cursor.is_at_end() {
                 self.cursor.skip();
             }
         }
+    }
+
+    /// Goes on behind what a foreign key does with its rows, and tells whether that changes them.
+    fn eat_change(&mut self) -> bool {
+        self.cursor.eat("cascade")
+            || self.cursor.eat_all(&["set", "null"])
+            || self.cursor.eat_all(&["set", "default"])
     }
 
     /// Whether a constraint or a default comes next.
@@ -151,11 +168,32 @@ impl StatementReader {
     ) -> Result<usize, SqlFault> {
         let name = self.constraint_name(table, constraint)?;
         let number = self.make(name.as_str(), RelationKind::Index)?;
-        self.catalog.link(LinkKind::Index, table, number)?;
-        if constraint.suffix == "pkey" {
-            self.catalog.link(LinkKind::Key, table, number)?;
-        }
+        self.link_index(number, table, constraint.suffix)?;
+        let words = IndexWords {
+            columns: copy_names(self.alloc, &constraint.columns)?,
+            names: copy_names(self.alloc, &constraint.columns)?,
+            suffix: constraint.suffix,
+            whole: None,
+        };
+        self.know_index(number, table, words)?;
         Ok(number)
+    }
+
+    /// Adds the partitions of a table that a foreign key refers to, and the indexes of their keys.
+    pub fn refer_to_partitions(&mut self, referred: usize) -> Result<(), SqlFault> {
+        if !self.belongings.is_partitioned(referred) {
+            return Ok(());
+        }
+        if let Some(index) = self.key_of(referred) {
+            self.act(Form::ReadDefinition, index)?;
+        }
+        for partition in self.partitions_of(referred)? {
+            self.act(Form::ReferToPartition, partition)?;
+            if let Some(index) = self.key_of(partition) {
+                self.act(Form::ReadDefinition, index)?;
+            }
+        }
+        Ok(())
     }
 
     /// Has the table get a foreign key.
@@ -166,14 +204,20 @@ impl StatementReader {
         constraint: Constraint,
     ) -> Result<(), SqlFault> {
         let name = self.constraint_name(table, &constraint)?;
+        let mut referred_columns = constraint.other_columns;
+        if referred_columns.is_empty() {
+            referred_columns = self.columns_of_key(referred)?;
+        }
         self.change(Change::Link(LinkKind::Refers, table, referred))?;
         self.change(Change::AddForeignKey(ForeignKey {
             name,
             table,
             referred,
             columns: constraint.columns,
-            referred_columns: constraint.other_columns,
-            cascades: constraint.cascades,
+            referred_columns,
+            changes_on_delete: constraint.changes_on_delete,
+            changes_on_update: constraint.changes_on_update,
+            is_valid: !constraint.is_not_valid,
         }))?;
         Ok(())
     }
@@ -183,21 +227,6 @@ impl StatementReader {
         if constraint.name.len() > 0 {
             return Ok(String::from_str(self.alloc, constraint.name.as_str())?);
         }
-        let mut columns = String::new(self.alloc);
-        if constraint.suffix != "pkey" {
-            for column in &constraint.columns {
-                if columns.len() > 0 {
-                    columns.push('_')?;
-                }
-                columns.push_str(column.as_str())?;
-            }
-        }
-        let table = self.name_of_relation(table)?;
-        Ok(made_name(
-            self.alloc,
-            table.as_str(),
-            columns.as_str(),
-            constraint.suffix,
-        )?)
+        Ok(self.name_of_index(table, &constraint.columns, constraint.suffix)?)
     }
 }

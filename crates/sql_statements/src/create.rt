@@ -1,11 +1,14 @@
 //! `CREATE` of all but tables.
 
-use crate::names::made_name;
+use crate::belongings::ViewNames;
+use crate::cursor::NamePlace;
+use crate::indexes::IndexWords;
 use crate::reader::{Change, StatementReader};
 use sql_locks::{Defect, Form, LinkKind, RelationKind, SqlFault};
+use std::alloc::AllocError;
 
 /// What is made, altered and dropped without a lock on a relation.
-pub static LOCKLESS_OBJECTS: [&str; 17] = [
+pub static LOCKLESS_OBJECTS: [&str; 22] = [
     "function",
     "procedure",
     "type",
@@ -23,6 +26,11 @@ pub static LOCKLESS_OBJECTS: [&str; 17] = [
     "database",
     "tablespace",
     "event",
+    "access",
+    "conversion",
+    "server",
+    "text",
+    "transform",
 ];
 
 impl StatementReader {
@@ -33,15 +41,15 @@ impl StatementReader {
         self.cursor.eat("local");
         self.cursor.eat("temporary");
         self.cursor.eat("temp");
-        self.cursor.eat("unlogged");
+        let is_logged = !self.cursor.eat("unlogged");
         self.cursor.eat("foreign");
-        self.cursor.eat("recursive");
+        let is_recursive = self.cursor.eat("recursive");
         self.cursor.eat("constraint");
         if self.cursor.eat("table") {
-            return self.read_create_table();
+            return self.read_create_table(is_logged);
         }
         if self.cursor.eat("view") {
-            return self.read_create_view(replaces);
+            return self.read_create_view(replaces, is_recursive);
         }
         if self.cursor.eat_all(&["materialized", "view"]) {
             return self.read_create_materialized_view();
@@ -59,15 +67,21 @@ impl StatementReader {
     }
 
     /// Reads what stands behind `CREATE VIEW`.
-    fn read_create_view(&mut self, replaces: bool) -> Result<(), SqlFault> {
+    fn read_create_view(&mut self, replaces: bool, is_recursive: bool) -> Result<(), SqlFault> {
         let begin = self.cursor.place;
         let name = self.name()?;
+        let own = if is_recursive {
+            Some(self.cursor.place.saturating_sub(1))
+        } else {
+            None
+        };
         let before = self.catalog.find(name.as_str());
         if !self.cursor.skip_to("as") {
             return Err(self.fault(Defect::NoName));
         }
         let first = self.acts.len();
-        self.read_query(Form::ReadDefinition)?;
+        let names = self.names_left()?;
+        self.read_query_with(Form::ReadDefinition, own)?;
         let view = match before {
             Some(view) if replaces => view,
             _ => self
@@ -78,27 +92,65 @@ impl StatementReader {
             return Err(self.fault_at(begin, Defect::ViewCycle));
         }
         self.act(Form::CreateView, view)?;
+        self.know_view(view, names)
+    }
+
+    /// Keeps the names of a view's query.
+    fn know_view(&mut self, view: usize, names: Vec<String>) -> Result<(), SqlFault> {
+        self.belongings.views.push(ViewNames { view, names })?;
         Ok(())
+    }
+
+    /// All names that are left of the statement, and stars.
+    fn names_left(&mut self) -> Result<Vec<String>, SqlFault> {
+        let begin = self.cursor.place;
+        let mut names = Vec::new(self.alloc);
+        for _ in begin..self.cursor.words.len() {
+            if self.cursor.is_name_ahead(0) {
+                names.push(self.part()?)?;
+            } else {
+                if self.cursor.is_star() {
+                    names.push(String::from_str(self.alloc, "*")?)?;
+                }
+                self.cursor.advance();
+            }
+        }
+        self.cursor.place = begin;
+        Ok(names)
+    }
+
+    /// The one part of a name that comes next.
+    fn part(&mut self) -> Result<String, SqlFault> {
+        let begin = self.cursor.place;
+        self.cursor.advance();
+        Ok(self.name_at(NamePlace {
+            begin,
+            end: self.cursor.place,
+        })?)
     }
 
     /// Reads what stands behind `CREATE MATERIALIZED VIEW`.
     fn read_create_materialized_view(&mut self) -> Result<(), SqlFault> {
-        self.eat_if_exists();
+        let may_exist = self.eat_if_exists();
         let name = self.name()?;
         if !self.cursor.skip_to("as") {
             return Err(self.fault(Defect::NoName));
         }
+        if may_exist && self.catalog.find(name.as_str()).is_some() {
+            return self.read_query(Form::ReadDefinition);
+        }
+        let names = self.names_left()?;
         let view = self
             .catalog
             .add(self.alloc, name.as_str(), RelationKind::MaterializedView)?;
         self.act(Form::CreateTableAs, view)?;
         let first = self.acts.len();
-        self.read_query(Form::Select)?;
+        self.read_filling_query()?;
         self.link_readings(LinkKind::Stores, view, first)?;
-        Ok(())
+        self.know_view(view, names)
     }
 
-    /// Links a view with the relations of all forms from the one of this number on, and tells whether it is none of these.
+    /// Links a view with the relations of all forms from the one of this number on, and tells whether none of these is the view or reads it.
     fn link_readings(
         &mut self,
         kind: LinkKind,
@@ -110,7 +162,7 @@ impl StatementReader {
                 break;
             };
             let read = act.target;
-            if read == view {
+            if read == view || self.reads(read, view)? {
                 return Ok(false);
             }
             self.change(Change::Link(kind, view, read))?;
@@ -118,10 +170,18 @@ impl StatementReader {
         Ok(true)
     }
 
+    /// Whether the view `reader` reads the relation `read`, or a view that does.
+    fn reads(&self, reader: usize, read: usize) -> Result<bool, AllocError> {
+        Ok(self.followed(LinkKind::Reads, reader)?.contains(&read))
+    }
+
     /// Reads what stands behind `CREATE SEQUENCE`.
     fn read_create_sequence(&mut self) -> Result<(), SqlFault> {
-        self.eat_if_exists();
+        let may_exist = self.eat_if_exists();
         let name = self.name()?;
+        if may_exist && self.catalog.find(name.as_str()).is_some() {
+            return Ok(());
+        }
         let sequence = self.make(name.as_str(), RelationKind::Sequence)?;
         self.act(Form::CreateSequence, sequence)?;
         self.read_owned_by(sequence)
@@ -158,8 +218,17 @@ impl StatementReader {
         let Some(table) = self.relation()? else {
             return Ok(());
         };
+        let begin = self.cursor.place;
+        let names = self.names_left()?;
+        self.cursor.place = begin;
+        let words = IndexWords {
+            columns: self.index_columns()?,
+            names,
+            suffix: "idx",
+            whole: None,
+        };
         if name.len() == 0 {
-            name = self.index_name(table)?;
+            name = self.name_of_index(table, &words.columns, "idx")?;
         }
         if may_exist && self.catalog.find(name.as_str()).is_some() {
             self.act(Form::CreateIndexThatExists, table)?;
@@ -168,89 +237,40 @@ impl StatementReader {
         let index = self
             .catalog
             .add(self.alloc, name.as_str(), RelationKind::Index)?;
-        self.change(Change::Link(LinkKind::Index, table, index))?;
+        self.know_index(index, table, words)?;
+        if !self.belongings.is_partitioned(table) {
+            self.change(Change::Link(LinkKind::Index, table, index))?;
+        }
         let form = if is_concurrent {
             Form::CreateIndexConcurrently
         } else {
             Form::CreateIndex
         };
         self.act_on(form, table, Some(index), is_only)?;
+        if !is_only {
+            self.make_parts(form, table, index)?;
+        }
         Ok(())
     }
 
-    /// The name that the server makes for an index of a table, whose columns come next.
-    fn index_name(&mut self, table: usize) -> Result<String, SqlFault> {
-        let begin = self.cursor.place;
+    /// The columns of an index, by which the server names it.
+    fn index_columns(&mut self) -> Result<Vec<String>, SqlFault> {
         if self.cursor.eat("using") {
             self.cursor.advance();
         }
-        self.cursor.advance();
-        let columns = match self.cursor.name() {
-            Some(place) => self.name_at(place)?,
-            None => String::from_str(self.alloc, "expr")?,
-        };
-        self.cursor.place = begin;
-        let table = self.name_of_relation(table)?;
-        Ok(made_name(self.alloc, table.as_str(), columns.as_str(), "idx")?)
-    }
-
-    /// Reads what stands behind a `CREATE` of something that belongs to a table.
-    fn read_create_on_table(&mut self) -> Result<(), SqlFault> {
-        let form = if self.cursor.eat("trigger") {
-            Form::CreateTrigger
-        } else if self.cursor.eat("rule") {
-            Form::CreateRule
-        } else if self.cursor.eat("policy") {
-            Form::CreatePolicy
-        } else if self.cursor.eat("statistics") {
-            Form::CreateStatistics
-        } else if self.cursor.eat("publication") {
-            return self.read_published();
-        } else {
-            return Err(self.fault_at(0, Defect::UnknownStatement));
-        };
-        let behind = match form {
-            Form::CreateRule => "to",
-            Form::CreateStatistics => "from",
-            _ => "on",
-        };
-        self.cursor.name();
-        if !self.cursor.skip_to(behind) {
-            return Err(self.fault(Defect::NoName));
-        }
-        if let Some(table) = self.relation()? {
-            self.act(form, table)?;
-        }
-        Ok(())
-    }
-
-    /// Reads the tables of a publication.
-    pub fn read_published(&mut self) -> Result<(), SqlFault> {
+        let mut columns = Vec::new(self.alloc);
+        self.cursor.eat_mark("(");
         for _ in 0..self.cursor.words.len() {
-            if self.cursor.is_at_end() || self.cursor.eat("table") {
+            if self.cursor.is_name_ahead(0) {
+                columns.push(self.part()?)?;
+            } else {
+                columns.push(String::from_str(self.alloc, "expr")?)?;
+            }
+            self.cursor.skip_element();
+            if !self.cursor.eat_mark(",") {
                 break;
             }
-            self.cursor.advance();
         }
-        for _ in 0..self.cursor.words.len() {
-            if self.cursor.is_at_end() {
-                break;
-            }
-            let is_only = self.cursor.eat("only");
-            if self.cursor.is_at("with") || self.cursor.is_at("tables") {
-                break;
-            }
-            if let Some(table) = self.relation()? {
-                self.act_on(Form::PublishTable, table, None, is_only)?;
-            }
-            for _ in 0..self.cursor.words.len() {
-                if self.cursor.is_at_end() || self.cursor.eat_mark(",") {
-                    break;
-                }
-                self.cursor.skip();
-            }
-            self.cursor.eat("table");
-        }
-        Ok(())
+        Ok(columns)
     }
 }

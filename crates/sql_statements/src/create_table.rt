@@ -1,5 +1,6 @@
 //! `CREATE TABLE`.
 
+use crate::belongings::AttachedKind;
 use crate::constraints::{Constraint, ConstraintKind};
 use crate::names::made_name;
 use crate::reader::{Change, StatementReader};
@@ -7,15 +8,22 @@ use sql_locks::{Form, LinkKind, RelationKind, SqlFault};
 
 impl StatementReader {
     /// Reads what stands behind `CREATE TABLE`.
-    pub fn read_create_table(&mut self) -> Result<(), SqlFault> {
+    pub fn read_create_table(&mut self, is_logged: bool) -> Result<(), SqlFault> {
         let may_exist = self.eat_if_exists();
         let name = self.name()?;
         if may_exist && self.catalog.find(name.as_str()).is_some() {
+            if self.cursor.skip_to("as") {
+                return self.read_query(Form::ReadDefinition);
+            }
             return Ok(());
         }
         let table = self
             .catalog
             .add(self.alloc, name.as_str(), RelationKind::Table)?;
+        self.belongings.set_logged(table, is_logged)?;
+        if self.cursor.has_outside(&["partition", "by"]) {
+            self.belongings.partitioned.push(table)?;
+        }
         if self.cursor.eat_all(&["partition", "of"]) {
             self.read_partition_of(table)?;
         } else if self.cursor.eat("of") {
@@ -39,7 +47,7 @@ impl StatementReader {
         if self.cursor.has("default") && !self.cursor.has("values") {
             self.change(Change::Link(LinkKind::Default, parent, table))?;
         }
-        Ok(())
+        self.make_indexes_of_parent(parent, table)
     }
 
     /// Reads the columns and constraints of a table.
@@ -59,22 +67,43 @@ impl StatementReader {
     /// Reads a column or a constraint of a table.
     fn read_element(&mut self, table: usize) -> Result<(), SqlFault> {
         if self.cursor.eat("like") {
-            if let Some(other) = self.relation()? {
-                self.act_with(Form::CreateTableLike, table, other)?;
-            }
-            self.skip_element();
-            return Ok(());
+            return self.read_like(table);
         }
         if let Some(constraint) = self.constraint("")? {
             self.add_to_new_table(table, constraint)?;
-            self.skip_element();
+            self.cursor.skip_element();
             return Ok(());
         }
         let column = self.name()?;
         if self.is_serial() {
-            self.make_sequence(table, column.as_str())?;
+            let sequence = self.make_sequence(table, column.as_str())?;
+            self.act(Form::CreateSequence, sequence)?;
         }
         self.read_column(table, column.as_str())
+    }
+
+    /// Reads the table that a new one is like.
+    fn read_like(&mut self, table: usize) -> Result<(), SqlFault> {
+        let Some(other) = self.relation()? else {
+            self.cursor.skip_element();
+            return Ok(());
+        };
+        self.act_with(Form::CreateTableLike, table, other)?;
+        let mut has_indexes = false;
+        for _ in 0..self.cursor.words.len() {
+            if self.cursor.is_at_element_end() {
+                break;
+            }
+            let includes = self.cursor.eat("including");
+            if self.cursor.is_at_one(&["all", "indexes"]) {
+                has_indexes = includes;
+            }
+            self.cursor.advance();
+        }
+        if has_indexes {
+            self.make_indexes_like(table, other)?;
+        }
+        Ok(())
     }
 
     /// Whether the type that comes next has a sequence, or an identity stands behind it.
@@ -106,6 +135,7 @@ impl StatementReader {
         let name = made_name(self.alloc, owner.as_str(), column, "seq")?;
         let sequence = self.make(name.as_str(), RelationKind::Sequence)?;
         self.change(Change::Link(LinkKind::Owns, table, sequence))?;
+        self.belongings.attach(AttachedKind::Default, name, table)?;
         Ok(sequence)
     }
 
@@ -115,6 +145,7 @@ impl StatementReader {
             if self.cursor.is_at_element_end() {
                 break;
             }
+            self.note_default(table)?;
             match self.constraint(column)? {
                 Some(constraint) => self.add_to_new_table(table, constraint)?,
                 None => self.cursor.skip(),
@@ -133,22 +164,13 @@ impl StatementReader {
             ConstraintKind::ForeignKey => {
                 if let Some(referred) = constraint.other {
                     self.act_with(Form::CreateTableReferences, table, referred)?;
+                    self.refer_to_partitions(referred)?;
                     self.make_foreign_key(table, referred, constraint)?;
                 }
             }
             _ => {}
         }
         Ok(())
-    }
-
-    /// Goes on behind what is left of a column or a constraint.
-    fn skip_element(&mut self) {
-        for _ in 0..self.cursor.words.len() {
-            if self.cursor.is_at_element_end() {
-                break;
-            }
-            self.cursor.skip();
-        }
     }
 
     /// Reads what stands behind the columns of a table: its parents, and the query that fills it.
@@ -161,7 +183,7 @@ impl StatementReader {
                 self.read_parents(table)?;
             } else if self.cursor.eat("as") {
                 self.act(Form::CreateTableAs, table)?;
-                return self.read_query(Form::Select);
+                return self.read_filling_query();
             } else {
                 self.cursor.skip();
             }

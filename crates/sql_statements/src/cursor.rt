@@ -1,6 +1,6 @@
 //! The words of one statement, read from left to right.
 
-use sql_locks::WordKind;
+use sql_locks::{Defect, SqlFault, WordKind};
 
 /// A word of a statement.
 #[derive(Debug, Drop)]
@@ -27,6 +27,15 @@ impl SqlWord {
     /// Whether the word is this mark.
     pub fn is_mark(&self, mark: &str) -> bool {
         self.kind == WordKind::Mark && self.text.as_str() == mark
+    }
+
+    /// The fault of this word that has the defect `what`.
+    pub fn fault(&self, what: Defect) -> SqlFault {
+        SqlFault::BadWord {
+            line: self.line,
+            what,
+            from: self.from,
+        }
     }
 
     /// Whether the word can be a name.
@@ -107,13 +116,11 @@ impl Cursor {
 
     /// Goes on behind these key words where they come next, and tells whether they do.
     pub fn eat_all(&mut self, key_words: &[&str]) -> bool {
-        for (ahead, key_word) in key_words.iter().enumerate() {
-            if !self.is_ahead(ahead, key_word) {
-                return false;
-            }
+        let found = self.are_ahead(0, key_words);
+        if found {
+            self.place = self.place.saturating_add(key_words.len());
         }
-        self.place = self.place.saturating_add(key_words.len());
-        true
+        found
     }
 
     /// Whether the word that comes `ahead` words behind the next one is this mark.
@@ -140,10 +147,34 @@ impl Cursor {
 
     /// Goes on behind a star, where one comes next.
     pub fn eat_star(&mut self) {
-        if let Some(word) = self.ahead(0) {
-            if word.text.as_str() == "*" {
-                self.advance();
+        if self.is_star() {
+            self.advance();
+        }
+    }
+
+    /// Whether the next word is a semicolon, as one stands between the commands of a rule.
+    pub fn is_semicolon(&self) -> bool {
+        match self.ahead(0) {
+            Some(word) => word.kind == WordKind::Semicolon,
+            None => false,
+        }
+    }
+
+    /// Whether the next word is a star.
+    pub fn is_star(&self) -> bool {
+        match self.ahead(0) {
+            Some(word) => word.text.as_str() == "*",
+            None => false,
+        }
+    }
+
+    /// Goes on to where the element of a list ends that stands here.
+    pub fn skip_element(&mut self) {
+        for _ in 0..self.words.len() {
+            if self.is_at_element_end() {
+                break;
             }
+            self.skip();
         }
     }
 
@@ -191,6 +222,31 @@ impl Cursor {
             }
         }
         false
+    }
+
+    /// Whether these key words come one after another among the words that are left, outside all parentheses.
+    pub fn has_outside(&self, key_words: &[&str]) -> bool {
+        let mut depth = 0usize;
+        for ahead in 0..self.words.len() {
+            if self.is_mark_ahead(ahead, "(") {
+                depth = depth.saturating_add(1);
+            } else if self.is_mark_ahead(ahead, ")") {
+                depth = depth.saturating_sub(1);
+            } else if depth == 0 && self.are_ahead(ahead, key_words) {
+                return true;
+            }
+        }
+        false
+    }
+
+    /// Whether these key words come one after another, from the word on that comes `ahead` words behind the next one.
+    fn are_ahead(&self, ahead: usize, key_words: &[&str]) -> bool {
+        for (place, key_word) in key_words.iter().enumerate() {
+            if !self.is_ahead(ahead.saturating_add(place), key_word) {
+                return false;
+            }
+        }
+        true
     }
 
     /// Where the name stands that comes next, and goes on behind it: names joined by points. None where no name comes.

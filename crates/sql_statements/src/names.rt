@@ -70,3 +70,15 @@ pub fn made_name(
         format!(in alloc; "{table}_{columns}_{suffix}")
     }
 }
+
+/// The name that a relation has in this schema.
+pub fn name_in_schema(alloc: Global, name: &str, schema: &str) -> Result<String, AllocError> {
+    let own = match name.rsplit_once('.') {
+        Some((_, own)) if !name.contains('"') => own,
+        _ => name,
+    };
+    if schema == USUAL_SCHEMA {
+        return String::from_str(alloc, own);
+    }
+    format!(in alloc; "{schema}.{own}")
+}

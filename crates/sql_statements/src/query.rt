@@ -1,54 +1,11 @@
 //! The relations that a query, an `INSERT`, an `UPDATE`, a `DELETE` or a `MERGE` reaches.
 
-use crate::names::part_of;
-use crate::reader::{Advisory, StatementReader};
-use sql_locks::{Defect, Form, RelationKind, SqlFault, WordKind};
+use crate::belongings::AttachedKind;
+use crate::functions::read_function;
+use crate::query_levels::{ENDS_OF_FROM, Level, NO_ALIASES};
+use crate::reader::StatementReader;
+use sql_locks::{Defect, Form, LinkKind, RelationKind, SqlFault};
 use std::alloc::AllocError;
-
-/// What stands in one pair of parentheses, or outside all.
-#[derive(Clone, Copy, Debug)]
-struct Level {
-    /// Whether no word was read that says what it is.
-    is_fresh: bool,
-    /// Whether a query stands there, so that `FROM` names relations.
-    is_query: bool,
-    /// Whether the words are those of a list behind `FROM`.
-    is_in_from: bool,
-    /// Whether a relation comes next.
-    expects_relation: bool,
-    /// Whether the name of a common table expression comes next.
-    expects_expression: bool,
-    /// Whether its common table expressions are read.
-    is_in_with: bool,
-    /// Whether `USING` names relations, as in a `DELETE` and a `MERGE`.
-    uses: bool,
-    /// How many relations were read before it.
-    before: usize,
-}
-
-impl Level {
-    /// A level where nothing was read, behind so many relations.
-    fn new(before: usize) -> Self {
-        Level {
-            is_fresh: true,
-            is_query: false,
-            is_in_from: false,
-            expects_relation: false,
-            expects_expression: false,
-            is_in_with: false,
-            uses: false,
-            before,
-        }
-    }
-
-    /// The level behind an opening parenthesis: a list of relations, where one was to come.
-    fn within(self, before: usize) -> Self {
-        let mut level = Level::new(before);
-        level.is_in_from = self.expects_relation;
-        level.expects_relation = self.expects_relation;
-        level
-    }
-}
 
 /// A relation that is read, with the place of the name by which the query knows it.
 #[derive(Clone, Copy, Debug)]
@@ -73,50 +30,46 @@ struct Query {
     is_only: bool,
 }
 
-/// The key words that end a list behind `FROM`.
-static ENDS_OF_FROM: [&str; 14] = [
-    "where",
-    "group",
-    "having",
-    "window",
-    "order",
-    "limit",
-    "offset",
-    "fetch",
-    "union",
-    "intersect",
-    "except",
-    "returning",
-    "when",
-    "set",
-];
-
-/// The key words behind a relation that are not another name for it.
-static NO_ALIASES: [&str; 18] = [
-    "join",
-    "inner",
-    "left",
-    "right",
-    "full",
-    "cross",
-    "natural",
-    "on",
-    "using",
-    "for",
-    "values",
-    "default",
-    "select",
-    "overriding",
-    "tablesample",
-    "with",
-    "lateral",
-    "do",
-];
-
 impl StatementReader {
     /// Reads the query that comes next, up to its end or the parenthesis that ends it, and adds the form of each relation:
     /// `reads` of those that it reads.
     pub fn read_query(&mut self, reads: Form) -> Result<(), SqlFault> {
+        self.read_query_with(reads, None)
+    }
+
+    /// Reads the query of a definition that the server plans no more than its views: it has the modes of what is read and written, and none
+    /// on indexes and children.
+    pub fn read_definition(&mut self) -> Result<(), SqlFault> {
+        let first = self.acts.len();
+        self.read_query(Form::ReadDefinition)?;
+        for place in first..self.acts.len() {
+            let Some(act) = self.acts.get(place).copied() else {
+                break;
+            };
+            if self.kind(act.target) == RelationKind::View {
+                for read in &self.read_by(act.target)? {
+                    self.act(Form::ReadDefinition, *read)?;
+                }
+            }
+        }
+        Ok(())
+    }
+
+    /// What a view reads, and all that the views among these read.
+    fn read_by(&self, view: usize) -> Result<Vec<usize>, AllocError> {
+        self.followed(LinkKind::Reads, view)
+    }
+
+    /// Reads the query that fills a new table, or that is not run where the statement ends in `WITH NO DATA`.
+    pub fn read_filling_query(&mut self) -> Result<(), SqlFault> {
+        if self.cursor.has_outside(&["with", "no", "data"]) {
+            return self.read_definition();
+        }
+        self.read_query(Form::Select)
+    }
+
+    /// Reads the query that comes next, in which the name at the place `own` is no relation but the query itself.
+    pub fn read_query_with(&mut self, reads: Form, own: Option<usize>) -> Result<(), SqlFault> {
         let mut query = Query {
             reads,
             outer: Vec::new(self.alloc),
@@ -125,11 +78,17 @@ impl StatementReader {
             expressions: Vec::new(self.alloc),
             is_only: false,
         };
+        if let Some(own) = own {
+            query.expressions.push(own)?;
+        }
         for _ in 0..self.cursor.words.len() {
             if self.cursor.is_at_end() || (self.cursor.is_mark(")") && query.outer.is_empty()) {
                 break;
             }
             query.read_word(self)?;
+        }
+        if query.level.expects_relation {
+            return Err(self.fault(Defect::NoName));
         }
         for reading in &query.readings {
             self.act_on(reading.form, reading.target, None, reading.is_only)?;
@@ -155,6 +114,10 @@ impl Query {
             return Ok(());
         }
         if !reader.cursor.is_name_ahead(0) {
+            // The commands of a rule stand one behind another.
+            if reader.cursor.is_semicolon() {
+                self.level = Level::new(self.readings.len());
+            }
             reader.cursor.advance();
             return Ok(());
         }
@@ -207,6 +170,10 @@ impl Query {
             return Ok(());
         }
         if reader.cursor.eat("lateral") {
+            return Ok(());
+        }
+        if reader.cursor.eat_all(&["rows", "from"]) {
+            self.level.expects_relation = false;
             return Ok(());
         }
         self.level.expects_relation = false;
@@ -309,20 +276,46 @@ impl Query {
     /// Reads the relation that a statement changes.
     fn read_target(&mut self, reader: &mut StatementReader, form: Form) -> Result<(), SqlFault> {
         self.is_only = reader.cursor.eat("only");
+        let begin = reader.cursor.place;
         let before = self.readings.len();
-        self.read_relation(reader, form)?;
+        let is_defined = self.reads == Form::ReadDefinition;
+        self.read_relation(reader, if is_defined { Form::DefineChange } else { form })?;
         let Some(reading) = self.readings.get(before).copied() else {
             return Ok(());
         };
-        if form == Form::Insert && reader.cursor.has("conflict") && reader.cursor.has("update") {
-            self.readings.push(Reading {
-                form: Form::Update,
-                target: reading.target,
-                alias: reading.alias,
-                is_only: false,
-            })?;
+        if is_defined {
+            return Ok(());
+        }
+        if has_rule(reader, form, reading.target) {
+            return Err(reader.fault_at(begin, Defect::RuledRelation));
+        }
+        if form == Form::Insert {
+            self.read_conflict(reader, reading)?;
+            reader.add_parents(reading.target)?;
         }
         reader.add_checks(form, reading.target)
+    }
+
+    /// Adds the indexes that an `INSERT` looks at where it says what to do on a conflict, unless it says nothing of which one.
+    fn read_conflict(
+        &mut self,
+        reader: &StatementReader,
+        reading: Reading,
+    ) -> Result<(), AllocError> {
+        for ahead in 0..reader.cursor.words.len() {
+            let names_index = reader.cursor.is_mark_ahead(ahead.saturating_add(1), "(")
+                || reader.cursor.is_ahead(ahead.saturating_add(1), "on");
+            if names_index && reader.cursor.is_ahead(ahead, "conflict") {
+                self.readings.push(Reading {
+                    form: Form::InsertOnConflict,
+                    target: reading.target,
+                    alias: reading.alias,
+                    is_only: false,
+                })?;
+                break;
+            }
+        }
+        Ok(())
     }
 
     /// Reads a clause of a query.
@@ -396,6 +389,17 @@ impl Query {
     }
 }
 
+/// Whether a relation has a rule for a change of rows of this form.
+fn has_rule(reader: &StatementReader, form: Form, target: usize) -> bool {
+    let kind = match form {
+        Form::Insert => AttachedKind::InsertRule,
+        Form::Update => AttachedKind::UpdateRule,
+        Form::Delete => AttachedKind::DeleteRule,
+        _ => return false,
+    };
+    reader.belongings.has(kind, target)
+}
+
 /// Reads the other name of a relation, if it has one, and answers its place.
 fn read_alias(reader: &mut StatementReader) -> Option<usize> {
     let is_said = reader.cursor.eat("as");
@@ -421,91 +425,5 @@ fn read_new_table(reader: &mut StatementReader) -> Result<(), SqlFault> {
     let name = reader.name()?;
     let number = reader.make(name.as_str(), RelationKind::Table)?;
     reader.act(Form::CreateTableAs, number)?;
-    Ok(())
-}
-
-/// Reads a call of a function that takes locks, one of a sequence or of an advisory lock, or passes over another word.
-fn read_function(reader: &mut StatementReader) -> Result<(), SqlFault> {
-    if reader.cursor.is_mark_ahead(1, "(") {
-        if reader.cursor.is_at_one(&["nextval", "setval"]) {
-            read_sequence(reader)?;
-        }
-        if reader.cursor.is_at_one(&ADVISORY) {
-            read_advisory(reader)?;
-        }
-    }
-    reader.cursor.advance();
-    Ok(())
-}
-
-/// The functions that take an advisory lock.
-static ADVISORY: [&str; 8] = [
-    "pg_advisory_lock",
-    "pg_advisory_lock_shared",
-    "pg_advisory_xact_lock",
-    "pg_advisory_xact_lock_shared",
-    "pg_try_advisory_lock",
-    "pg_try_advisory_lock_shared",
-    "pg_try_advisory_xact_lock",
-    "pg_try_advisory_xact_lock_shared",
-];
-
-/// Reads the sequence behind `nextval` or `setval`, where it is a text.
-fn read_sequence(reader: &mut StatementReader) -> Result<(), SqlFault> {
-    let Some(name) = sequence_name(reader)? else {
-        return Ok(());
-    };
-    match find_sequence(reader, name.as_str()) {
-        Some(number) => {
-            reader.act(Form::Nextval, number)?;
-            Ok(())
-        }
-        None => Err(reader.fault_at(
-            reader.cursor.place.saturating_add(2),
-            Defect::UnknownRelation,
-        )),
-    }
-}
-
-/// The number of the sequence of this name, with the usual schema or without.
-fn find_sequence(reader: &StatementReader, name: &str) -> Option<usize> {
-    match name.strip_prefix("public.") {
-        Some(plain) => reader.catalog.find(plain),
-        None => reader.catalog.find(name),
-    }
-}
-
-/// The name of a sequence in the text that comes two words behind the next one.
-fn sequence_name(reader: &StatementReader) -> Result<Option<String>, AllocError> {
-    let Some(word) = reader.cursor.ahead(2) else {
-        return Ok(None);
-    };
-    let Some(rest) = word.text.as_str().strip_prefix("'") else {
-        return Ok(None);
-    };
-    let Some(inner) = rest.strip_suffix("'") else {
-        return Ok(None);
-    };
-    let kind = if inner.starts_with("\"") {
-        WordKind::QuotedName
-    } else {
-        WordKind::Name
-    };
-    Ok(Some(part_of(reader.alloc, kind, inner)?))
-}
-
-/// Reads the keys of an advisory lock.
-fn read_advisory(reader: &mut StatementReader) -> Result<(), AllocError> {
-    let function = reader.cursor.place;
-    let second = if reader.cursor.is_mark_ahead(3, ",") {
-        Some(function.saturating_add(4))
-    } else {
-        None
-    };
-    reader.advisory.push(Advisory {
-        function,
-        first: function.saturating_add(2),
-        second,
-    })?;
     Ok(())
 }

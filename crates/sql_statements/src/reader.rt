@@ -1,5 +1,6 @@
 //! A statement as it is read: the relations that it names, with the form in which it reaches each, and what it changes.
 
+use crate::belongings::{AttachedKind, Belongings, rename_in};
 use crate::cursor::{Cursor, NamePlace, SqlWord};
 use crate::names::name_of;
 use sql_locks::{Act, Catalog, Defect, ForeignKey, Form, LinkKind, RelationKind, SqlFault};
@@ -18,6 +19,12 @@ pub enum Change {
     Unlink(LinkKind, usize, usize),
     /// A foreign key of a table goes.
     DropForeignKey(usize, String),
+    /// A foreign key of a table gets another name.
+    RenameForeignKey(usize, String, String),
+    /// All rows of a table are known to keep this foreign key.
+    ValidateForeignKey(usize, String),
+    /// A column of a table gets another name.
+    RenameColumn(usize, String, String),
     /// A table gets a foreign key.
     AddForeignKey(ForeignKey),
 }
@@ -52,6 +59,10 @@ pub struct StatementReader {
     pub changes: Vec<Change>,
     pub advisory: Vec<Advisory>,
     pub control: Control,
+    /// What statements said of relations beside the catalog.
+    pub belongings: Belongings,
+    /// Whether the statement is planned and not run, as by an `EXPLAIN`.
+    pub is_planned: bool,
 }
 
 impl StatementReader {
@@ -68,6 +79,8 @@ impl StatementReader {
             changes: Vec::new(alloc),
             advisory: Vec::new(alloc),
             control: Control::Stay,
+            belongings: Belongings::new(alloc),
+            is_planned: false,
         }
     }
 
@@ -79,21 +92,22 @@ impl StatementReader {
         self.changes = Vec::new(self.alloc);
         self.advisory = Vec::new(self.alloc);
         self.control = Control::Stay;
+        self.is_planned = false;
         self.read()
     }
 
-    /// A fault of the word at this place, or of the last one.
+    /// A fault of the word at this place, or of the last one, behind which a name can be missing.
     pub fn fault_at(&self, place: usize, what: Defect) -> SqlFault {
-        let word = match self.cursor.words.get(place) {
-            Some(word) => Some(word),
-            None => self.cursor.words.last(),
+        if let Some(word) = self.cursor.words.get(place) {
+            return word.fault(what);
+        }
+        let what = if what == Defect::NoName {
+            Defect::NoNameBehind
+        } else {
+            what
         };
-        match word {
-            Some(word) => SqlFault::BadWord {
-                line: word.line,
-                what,
-                from: word.from,
-            },
+        match self.cursor.words.last() {
+            Some(word) => word.fault(what),
             None => SqlFault::BadWord {
                 line: 1,
                 what,
@@ -136,6 +150,16 @@ impl StatementReader {
         Err(self.fault_at(begin, Defect::UnknownRelation))
     }
 
+    /// The number of the relation whose name comes next, or none where there is none and `may_miss`.
+    pub fn relation_or_none(&mut self, may_miss: bool) -> Result<Option<usize>, SqlFault> {
+        match self.relation() {
+            Err(SqlFault::BadWord { what, .. }) if may_miss && what == Defect::UnknownRelation => {
+                Ok(None)
+            }
+            found => found,
+        }
+    }
+
     /// The number of the relation of the column whose name comes next.
     pub fn relation_of_column(&mut self) -> Result<Option<usize>, SqlFault> {
         let begin = self.cursor.place;
@@ -173,6 +197,7 @@ impl StatementReader {
         other: Option<usize>,
         is_only: bool,
     ) -> Result<(), AllocError> {
+        let is_only = is_only || self.stays_at(form, target);
         self.acts.push(Act {
             form,
             target,
@@ -180,6 +205,28 @@ impl StatementReader {
             is_only,
         })?;
         Ok(())
+    }
+
+    /// Whether a form reaches no children of this relation, since it goes to partitions alone, or to all but these.
+    fn stays_at(&self, form: Form, target: usize) -> bool {
+        let is_partitioned = self.belongings.is_partitioned(target);
+        match form {
+            Form::CreateIndex
+            | Form::CreateTrigger
+            | Form::AlterTrigger
+            | Form::DropTrigger
+            | Form::CopyFrom
+            | Form::ReindexTable
+            | Form::ReindexTableConcurrently
+            | Form::Vacuum
+            | Form::VacuumFull => !is_partitioned,
+            Form::Insert => !is_partitioned && self.kind(target) == RelationKind::Table,
+            Form::EnableTrigger => {
+                !is_partitioned || !self.belongings.has(AttachedKind::RowTrigger, target)
+            }
+            Form::PublishTable => is_partitioned,
+            _ => false,
+        }
     }
 
     /// Adds a change.
@@ -214,6 +261,42 @@ impl StatementReader {
             }
         }
         None
+    }
+
+    /// The partitions of a table, and all of theirs.
+    pub fn partitions_of(&self, table: usize) -> Result<Vec<usize>, AllocError> {
+        self.followed(LinkKind::Partition, table)
+    }
+
+    /// The children and partitions of a table, and all of theirs.
+    pub fn children_of(&self, table: usize) -> Result<Vec<usize>, AllocError> {
+        self.followed(LinkKind::Child, table)
+    }
+
+    /// The relations to which links of one kind lead from a relation on, without that one.
+    pub fn followed(&self, kind: LinkKind, from: usize) -> Result<Vec<usize>, AllocError> {
+        let mut found = Vec::new(self.alloc);
+        let mut next = from;
+        for place in 0..self.catalog.relations.len() {
+            for link in &self.catalog.links {
+                if link.kind == kind && link.from == next && !found.contains(&link.to) {
+                    found.push(link.to)?;
+                }
+            }
+            match found.get(place) {
+                Some(number) => next = *number,
+                None => break,
+            }
+        }
+        Ok(found)
+    }
+
+    /// Whether the relation of this number was not dropped.
+    pub fn is_live(&self, number: usize) -> bool {
+        match self.catalog.relations.get(number) {
+            Some(relation) => self.catalog.find(relation.name.as_str()) == Some(number),
+            None => false,
+        }
     }
 
     /// A copy of the name of a relation.
@@ -260,8 +343,47 @@ impl StatementReader {
                 self.catalog.drop_foreign_key(table, name.as_str());
             }
             Change::AddForeignKey(key) => self.catalog.add_foreign_key(key)?,
+            Change::RenameForeignKey(table, old, new) => {
+                self.rename_foreign_key(table, old.as_str(), new.as_str())?;
+            }
+            Change::ValidateForeignKey(table, name) => self.validate_key(table, name.as_str()),
+            Change::RenameColumn(table, old, new) => {
+                self.rename_column(table, old.as_str(), new.as_str())?;
+            }
         }
         Ok(())
+    }
+
+    /// Gives a foreign key of a table another name.
+    fn rename_foreign_key(&mut self, table: usize, old: &str, new: &str) -> Result<(), AllocError> {
+        for key in self.catalog.foreign_keys.iter_mut() {
+            if key.table == table && key.name.as_str() == old {
+                key.name = String::from_str(self.alloc, new)?;
+            }
+        }
+        Ok(())
+    }
+
+    /// Has all rows of a table be known to keep a foreign key.
+    fn validate_key(&mut self, table: usize, name: &str) {
+        for key in self.catalog.foreign_keys.iter_mut() {
+            if key.table == table && key.name.as_str() == name {
+                key.is_valid = true;
+            }
+        }
+    }
+
+    /// Gives a column of a table another name, where keys and indexes name it.
+    fn rename_column(&mut self, table: usize, old: &str, new: &str) -> Result<(), AllocError> {
+        for key in self.catalog.foreign_keys.iter_mut() {
+            if key.table == table {
+                rename_in(self.alloc, &mut key.columns, old, new)?;
+            }
+            if key.referred == table {
+                rename_in(self.alloc, &mut key.referred_columns, old, new)?;
+            }
+        }
+        self.belongings.rename_column(self.alloc, table, old, new)
     }
 }
 

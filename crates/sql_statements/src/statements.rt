@@ -1,5 +1,9 @@
 //! A text of statements, parted into them.
 
+ghost use Rattle.std.specs.Prelude.{◌≡◌, ◌++◌, [], ◌∷◌, All, IfOk, OnOk};
+ghost use Rattle.sql_statements.specs.Statements.{kept_of, kept_of_all, said_of, AreStatementsOf, IsPlaced};
+ghost use Rattle.sql_statements.specs.Parting.{gathered};
+
 use crate::cursor::SqlWord;
 use sql_locks::{Defect, SqlFault, Word, WordKind, split_words};
 use std::alloc::{AllocError, Global};
@@ -17,7 +21,10 @@ pub struct SqlStatement {
 }
 
 /// The statements of `text`, without those that have no word. The rows behind `COPY .. FROM stdin` are left out.
-pub fn split_statements(alloc: Global, text: &[u8]) -> Result<Vec<SqlStatement>, SqlFault> {
+pub fn split_statements(alloc: Global, text: &[u8]) -> Result<Vec<SqlStatement>, SqlFault>
+    ensures nothing_lost { IfOk result (λ statements. AreStatementsOf text.now statements.items) }
+    ensures lines { IfOk result (λ statements. All IsPlaced statements.items) }
+{
     if str::from_utf8(text).is_err() {
         return Err(utf8_fault(text));
     }
@@ -26,17 +33,18 @@ pub fn split_statements(alloc: Global, text: &[u8]) -> Result<Vec<SqlStatement>,
     for word in &words {
         parted.take(alloc, word)?;
     }
-    parted.end(alloc)?;
+    parted.finish(alloc)?;
     Ok(parted.statements)
 }
 
-/// The fault of a text that is no UTF-8: the line that has the first byte that is not.
+/// The fault of a text that is no UTF-8: the line and the word that have the first byte that is not.
 fn utf8_fault(text: &[u8]) -> SqlFault {
     let mut line = 1usize;
     let mut from = 0usize;
     for (place, part) in text.split(|byte| *byte == b'\n').enumerate() {
         if str::from_utf8(part).is_err() {
             line = place.saturating_add(1);
+            from = from.saturating_add(place_of_bad_word(part));
             break;
         }
         from = from.saturating_add(part.len()).saturating_add(1);
@@ -46,6 +54,18 @@ fn utf8_fault(text: &[u8]) -> SqlFault {
         what: Defect::NotUtf8,
         from,
     }
+}
+
+/// How many bytes of a line stand before its first word, words ending at spaces, that is no UTF-8.
+fn place_of_bad_word(line: &[u8]) -> usize {
+    let mut from = 0usize;
+    for word in line.split(|byte| *byte == b' ') {
+        if str::from_utf8(word).is_err() {
+            break;
+        }
+        from = from.saturating_add(word.len()).saturating_add(1);
+    }
+    from
 }
 
 /// Statements, of which the last one is being gathered.
@@ -58,22 +78,33 @@ struct Parted {
     /// How many parentheses are open, and blocks of a function's body.
     depth: usize,
     blocks: usize,
+    /// The faults where the outermost of these does not end, while one is open.
+    parenthesis: Option<SqlFault>,
+    body: Option<SqlFault>,
 }
 
 impl Parted {
     /// Nothing was read.
-    fn new(alloc: Global) -> Self {
+    fn new(alloc: Global) -> Self
+        ensures words { result.words.items ≡ [] }
+        ensures statements { result.statements.items ≡ [] }
+    {
         Parted {
             statements: Vec::new(alloc),
             words: Vec::new(alloc),
             read: 0,
             depth: 0,
             blocks: 0,
+            parenthesis: None,
+            body: None,
         }
     }
 
     /// Reads one more word.
-    fn take(&mut self, alloc: Global, word: &Word<'_>) -> Result<(), SqlFault> {
+    fn take(&mut self, alloc: Global, word: &Word<'_>) -> Result<(), SqlFault>
+        ensures said { OnOk result (gathered self.new ≡ gathered self.old ++ said_of (word.now ∷ [])) }
+        ensures lines { OnOk result (All IsPlaced self.old.statements.items → All IsPlaced self.new.statements.items) }
+    {
         let from = self.read;
         self.read = self.read.saturating_add(word.text.len());
         match word.kind {
@@ -87,7 +118,10 @@ impl Parted {
     }
 
     /// Adds a word to the statement.
-    fn gather(&mut self, alloc: Global, word: &Word<'_>, from: usize) -> Result<(), SqlFault> {
+    fn gather(&mut self, alloc: Global, word: &Word<'_>, from: usize) -> Result<(), SqlFault>
+        ensures said { OnOk result (kept_of self.new.words.items ≡ kept_of self.old.words.items ++ said_of (word.now ∷ [])) }
+        ensures statements { self.new.statements.items ≡ self.old.statements.items }
+    {
         let Ok(text) = str::from_utf8(word.text) else {
             return Err(SqlFault::BadWord {
                 line: word.line,
@@ -101,16 +135,40 @@ impl Parted {
             line: word.line,
             from,
         };
-        if added.is_mark("(") {
-            self.depth = self.depth.saturating_add(1);
-        } else if added.is_mark(")") {
-            self.depth = self.depth.saturating_sub(1);
-        } else if self.opens_block(&added) {
-            self.blocks = self.blocks.saturating_add(1);
-        } else if self.blocks > 0 && added.is_key_word("end") {
-            self.blocks = self.blocks.saturating_sub(1);
-        }
+        self.nest(&added)?;
         self.words.push(added)?;
+        Ok(())
+    }
+
+    /// Counts the parenthesis or the block that a word opens or ends.
+    fn nest(&mut self, word: &SqlWord) -> Result<(), SqlFault>
+        ensures words { self.new.words.items ≡ self.old.words.items }
+        ensures statements { self.new.statements.items ≡ self.old.statements.items }
+    {
+        if word.is_mark("(") {
+            if self.depth == 0 {
+                self.parenthesis = Some(word.fault(Defect::UnendedParenthesis));
+            }
+            self.depth = self.depth.saturating_add(1);
+        } else if word.is_mark(")") {
+            if self.depth == 0 {
+                return Err(word.fault(Defect::StrayParenthesis));
+            }
+            self.depth = self.depth.saturating_sub(1);
+            if self.depth == 0 {
+                self.parenthesis = None;
+            }
+        } else if self.opens_block(word) {
+            if self.blocks == 0 {
+                self.body = Some(word.fault(Defect::UnendedBody));
+            }
+            self.blocks = self.blocks.saturating_add(1);
+        } else if self.blocks > 0 && word.is_key_word("end") {
+            self.blocks = self.blocks.saturating_sub(1);
+            if self.blocks == 0 {
+                self.body = None;
+            }
+        }
         Ok(())
     }
 
@@ -125,8 +183,27 @@ impl Parted {
         }
     }
 
+    /// Ends the last statement, where no semicolon stands behind it.
+    fn finish(&mut self, alloc: Global) -> Result<(), SqlFault>
+        ensures said { OnOk result (kept_of_all self.new.statements.items ≡ gathered self.old) }
+        ensures lines { OnOk result (All IsPlaced self.old.statements.items → All IsPlaced self.new.statements.items) }
+    {
+        match (self.parenthesis, self.body) {
+            (Some(fault), _) => Err(fault),
+            (None, Some(fault)) => Err(fault),
+            (None, None) => {
+                self.end(alloc)?;
+                Ok(())
+            }
+        }
+    }
+
     /// Ends the statement.
-    fn end(&mut self, alloc: Global) -> Result<(), AllocError> {
+    fn end(&mut self, alloc: Global) -> Result<(), AllocError>
+        ensures said { OnOk result (kept_of_all self.new.statements.items ≡ gathered self.old) }
+        ensures words { self.new.words.items ≡ [] }
+        ensures lines { OnOk result (All IsPlaced self.old.statements.items → All IsPlaced self.new.statements.items) }
+    {
         let mut words = Vec::new(alloc);
         std::mem::swap(&mut words, &mut self.words);
         self.depth = 0;

@@ -1,0 +1,2 @@
+pub mod BoolSteps
+pub mod LockSteps

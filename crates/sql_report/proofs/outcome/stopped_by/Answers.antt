@@ -1,0 +1,18 @@
+use Rattle.std.proofs.Common.{rules, ◌≡◌, ◌<◌, ◌&&◌, Bool, length, sym, ◌∙◌, ap}
+use Rattle.modes_core.specs.declared.modes.Mode.{Mode}
+use Rattle.modes_core.specs.declared.modes.Mode.TheVariants.{AccessShare}
+use Rattle.modes_core.specs.Conflict.{conflict}
+use Rattle.sql_locks.specs.declared.locks.Lock.{Lock}
+use Rattle.sql_report.specs.Outcome.{others_know}
+use Rattle.sql_report.proofs.LockSteps.{any_more}
+use Rattle.sql_report.proofs.outcome.stopped_by.Goals as goal
+
+pub loop-lock-init : goal.loop-lock-init
+loop-lock-init c = λ mode. ap (λ (f : Mode → Bool). f mode) c.empty-stopped.ensures
+
+pub loop-lock-preserved : goal.loop-lock-preserved
+loop-lock-preserved c = λ mode.
+    let none : Lock = record { relation = 0; mode = AccessShare } in
+    let lt : c.loop-lock.lock-index < length c.args.locks.now = search rules in
+    c.with_stopped-stopped.ensures mode ∙ any_more (λ lock. others_know c.args.relations.now lock.relation && conflict lock.mode mode)
+    c.args.locks.now c.loop-lock.lock-index none _ lt (c.loop-lock.invariant mode)

@@ -1,0 +1,209 @@
+//! What statements said of relations beside the catalog: what belongs to tables, what indexes are made of, and what views name.
+
+use std::alloc::{AllocError, Global};
+
+/// What belongs to a table under a name of its own, and is no relation.
+#[derive(Clone, Copy, Debug, PartialEq, Eq)]
+pub enum AttachedKind {
+    /// A trigger for each row, which the partitions of a table have too.
+    RowTrigger,
+    /// A trigger for each statement.
+    Trigger,
+    /// A rule for an `INSERT`, one for an `UPDATE`, and one for a `DELETE`.
+    InsertRule,
+    UpdateRule,
+    DeleteRule,
+    Policy,
+    Statistics,
+    /// A publication that has the table.
+    Publication,
+    /// A column's default that has its value from the sequence of this name.
+    Default,
+}
+
+/// What belongs to a table.
+#[derive(Debug, Drop)]
+pub struct Attached {
+    pub kind: AttachedKind,
+    pub name: String,
+    /// The table's number.
+    pub table: usize,
+}
+
+/// An index, and what it is made of.
+#[derive(Debug, Drop)]
+pub struct IndexOf {
+    /// The numbers of the index and of its table.
+    pub index: usize,
+    pub table: usize,
+    /// The columns, and all names that its definition has.
+    pub columns: Vec<String>,
+    pub names: Vec<String>,
+    /// What the server puts behind the name that it makes itself.
+    pub suffix: &'static str,
+    /// The index of the partitioned table that it is a part of.
+    pub whole: Option<usize>,
+}
+
+/// A view, and the names that its query has.
+#[derive(Debug, Drop)]
+pub struct ViewNames {
+    pub view: usize,
+    pub names: Vec<String>,
+}
+
+/// What statements said of relations beside the catalog. What is said of a relation that was dropped stays, and is asked for no more.
+#[derive(Drop)]
+pub struct Belongings {
+    pub attached: Vec<Attached>,
+    pub indexes: Vec<IndexOf>,
+    pub views: Vec<ViewNames>,
+    /// The numbers of the tables with `PARTITION BY`, and of those that are not logged.
+    pub partitioned: Vec<usize>,
+    pub unlogged: Vec<usize>,
+}
+
+impl Belongings {
+    /// Nothing was said.
+    pub fn new(alloc: Global) -> Self {
+        Belongings {
+            attached: Vec::new(alloc),
+            indexes: Vec::new(alloc),
+            views: Vec::new(alloc),
+            partitioned: Vec::new(alloc),
+            unlogged: Vec::new(alloc),
+        }
+    }
+
+    /// Has something belong to a table.
+    pub fn attach(
+        &mut self,
+        kind: AttachedKind,
+        name: String,
+        table: usize,
+    ) -> Result<(), AllocError> {
+        match self.attached.push(Attached { kind, name, table }) {
+            Ok(()) => Ok(()),
+            Err(_) => Err(AllocError),
+        }
+    }
+
+    /// Takes away what belongs to a table under this name.
+    pub fn detach(&mut self, kind: AttachedKind, name: &str, table: usize) {
+        self.attached.retain(|attached| {
+            attached.kind != kind || attached.table != table || attached.name.as_str() != name
+        });
+    }
+
+    /// Whether something of this kind belongs to a table.
+    pub fn has(&self, kind: AttachedKind, table: usize) -> bool {
+        self.attached.iter().any(|attached| attached.kind == kind && attached.table == table)
+    }
+
+    /// Whether something of this kind and name belongs to a table.
+    pub fn has_named(&self, kind: AttachedKind, name: &str, table: usize) -> bool {
+        self.attached.iter().any(|attached| {
+            attached.kind == kind && attached.table == table && attached.name.as_str() == name
+        })
+    }
+
+    /// The tables to which something of this kind and name belongs.
+    pub fn tables_of(
+        &self,
+        alloc: Global,
+        kind: AttachedKind,
+        name: &str,
+    ) -> Result<Vec<usize>, AllocError> {
+        let mut tables = Vec::new(alloc);
+        for attached in &self.attached {
+            if attached.kind == kind && attached.name.as_str() == name {
+                tables.push(attached.table)?;
+            }
+        }
+        Ok(tables)
+    }
+
+    /// Whether a table has `PARTITION BY`.
+    pub fn is_partitioned(&self, table: usize) -> bool {
+        self.partitioned.iter().any(|other| *other == table)
+    }
+
+    /// Whether a table is not logged.
+    pub fn is_unlogged(&self, table: usize) -> bool {
+        self.unlogged.iter().any(|other| *other == table)
+    }
+
+    /// Has a table be logged, or not.
+    pub fn set_logged(&mut self, table: usize, is_logged: bool) -> Result<(), AllocError> {
+        self.unlogged.retain(|other| *other != table);
+        if !is_logged {
+            self.unlogged.push(table)?;
+        }
+        Ok(())
+    }
+
+    /// Whether a view names a column, or all.
+    pub fn view_names(&self, view: usize, column: &str) -> bool {
+        self.views.iter().any(|names| {
+            names.view == view
+                && names
+                    .names
+                    .iter()
+                    .any(|name| name.as_str() == column || name.as_str() == "*")
+        })
+    }
+
+    /// Has a column get another name.
+    pub fn rename_column(
+        &mut self,
+        alloc: Global,
+        table: usize,
+        old: &str,
+        new: &str,
+    ) -> Result<(), AllocError> {
+        for index in self.indexes.iter_mut() {
+            if index.table == table {
+                rename_in(alloc, &mut index.columns, old, new)?;
+                rename_in(alloc, &mut index.names, old, new)?;
+            }
+        }
+        Ok(())
+    }
+}
+
+/// Whether two lists of names are the same.
+pub fn are_same(names: &Vec<String>, others: &Vec<String>) -> bool {
+    if names.len() != others.len() {
+        return false;
+    }
+    for (name, other) in names.iter().zip(others.iter()) {
+        if name.as_str() != other.as_str() {
+            return false;
+        }
+    }
+    true
+}
+
+/// A copy of a list of names.
+pub fn copy_names(alloc: Global, names: &Vec<String>) -> Result<Vec<String>, AllocError> {
+    let mut copied = Vec::new(alloc);
+    for name in names {
+        copied.push(String::from_str(alloc, name.as_str())?)?;
+    }
+    Ok(copied)
+}
+
+/// Has a name stand in a list in place of another one.
+pub fn rename_in(
+    alloc: Global,
+    names: &mut Vec<String>,
+    old: &str,
+    new: &str,
+) -> Result<(), AllocError> {
+    for name in names.iter_mut() {
+        if name.as_str() == old {
+            *name = String::from_str(alloc, new)?;
+        }
+    }
+    Ok(())
+}

@@ -1,0 +1,286 @@
+//! Indexes: those that statements make, those that each partition gets with them, and those that go with a column or a key.
+
+use crate::belongings::{IndexOf, are_same, copy_names};
+use crate::names::made_name;
+use crate::reader::{Change, StatementReader};
+use sql_locks::{Form, LinkKind, RelationKind, SqlFault};
+use std::alloc::AllocError;
+
+/// What an index that is to be made is made of.
+#[derive(Debug, Drop)]
+pub struct IndexWords {
+    pub columns: Vec<String>,
+    /// All names that its definition has.
+    pub names: Vec<String>,
+    /// What the server puts behind the name that it makes itself.
+    pub suffix: &'static str,
+    /// The index of the partitioned table that it is to be a part of.
+    pub whole: Option<usize>,
+}
+
+impl StatementReader {
+    /// A copy of what an index is made of, as a part of the index `whole`.
+    fn words_of(&self, of: &IndexOf, whole: Option<usize>) -> Result<IndexWords, AllocError> {
+        Ok(IndexWords {
+            columns: copy_names(self.alloc, &of.columns)?,
+            names: copy_names(self.alloc, &of.names)?,
+            suffix: of.suffix,
+            whole,
+        })
+    }
+
+    /// Copies of what the indexes of a table are made of, with the number of each.
+    fn words_of_table(&self, table: usize) -> Result<Vec<(usize, IndexWords)>, AllocError> {
+        let mut all = Vec::new(self.alloc);
+        for of in &self.belongings.indexes {
+            if of.table == table && self.is_live(of.index) {
+                let words = self.words_of(of, Some(of.index))?;
+                if all.push((of.index, words)).is_err() {
+                    return Err(AllocError);
+                }
+            }
+        }
+        Ok(all)
+    }
+
+    /// Adds an index to those that are known, of this table.
+    pub fn know_index(
+        &mut self,
+        index: usize,
+        table: usize,
+        words: IndexWords,
+    ) -> Result<(), AllocError> {
+        match self.belongings.indexes.push(IndexOf {
+            index,
+            table,
+            columns: words.columns,
+            names: words.names,
+            suffix: words.suffix,
+            whole: words.whole,
+        }) {
+            Ok(()) => Ok(()),
+            Err(_) => Err(AllocError),
+        }
+    }
+
+    /// Links an index with its table, unless that is partitioned: such an index has no rows.
+    pub fn link_index(
+        &mut self,
+        index: usize,
+        table: usize,
+        suffix: &str,
+    ) -> Result<(), AllocError> {
+        if self.belongings.is_partitioned(table) {
+            return Ok(());
+        }
+        self.catalog.link(LinkKind::Index, table, index)?;
+        if suffix == "pkey" {
+            self.catalog.link(LinkKind::Key, table, index)?;
+        }
+        Ok(())
+    }
+
+    /// Makes an index of a table with the name that the server makes for it.
+    pub fn make_index(&mut self, table: usize, words: IndexWords) -> Result<usize, AllocError> {
+        let name = self.name_of_index(table, &words.columns, words.suffix)?;
+        let index = self
+            .catalog
+            .add(self.alloc, name.as_str(), RelationKind::Index)?;
+        self.link_index(index, table, words.suffix)?;
+        self.know_index(index, table, words)?;
+        Ok(index)
+    }
+
+    /// The name that the server makes for an index of a table, one that nothing has.
+    pub fn name_of_index(
+        &self,
+        table: usize,
+        columns: &Vec<String>,
+        suffix: &str,
+    ) -> Result<String, AllocError> {
+        let mut joined = String::new(self.alloc);
+        if suffix != "pkey" {
+            for column in columns {
+                if joined.len() > 0 {
+                    joined.push('_')?;
+                }
+                joined.push_str(column.as_str())?;
+            }
+        }
+        let table = self.name_of_relation(table)?;
+        self.free_name(table.as_str(), joined.as_str(), suffix)
+    }
+
+    /// The name that the server makes of a table, columns and a suffix, with a number behind it where another relation has it.
+    pub fn free_name(
+        &self,
+        table: &str,
+        columns: &str,
+        suffix: &str,
+    ) -> Result<String, AllocError> {
+        let name = made_name(self.alloc, table, columns, suffix)?;
+        if self.catalog.find(name.as_str()).is_none() {
+            return Ok(name);
+        }
+        for number in 1..=self.catalog.relations.len() {
+            let numbered = format!(in self.alloc; "{name}{number}")?;
+            if self.catalog.find(numbered.as_str()).is_none() {
+                return Ok(numbered);
+            }
+        }
+        Ok(name)
+    }
+
+    /// Has each partition of a table, and each of theirs, get an index like this one of the table.
+    pub fn make_parts(&mut self, form: Form, table: usize, whole: usize) -> Result<(), SqlFault> {
+        let mut parts = Vec::new(self.alloc);
+        for partition in &self.partitions_of(table)? {
+            parts.push(*partition)?;
+        }
+        for partition in &parts {
+            let Some(words) = self.words_of_index(whole)? else {
+                return Ok(());
+            };
+            let index = self.make_index(*partition, words)?;
+            self.act_with(form, *partition, index)?;
+        }
+        Ok(())
+    }
+
+    /// A copy of what an index is made of, for one that is to be a part of it.
+    fn words_of_index(&self, index: usize) -> Result<Option<IndexWords>, AllocError> {
+        for of in &self.belongings.indexes {
+            if of.index == index {
+                return Ok(Some(self.words_of(of, Some(index))?));
+            }
+        }
+        Ok(None)
+    }
+
+    /// Has a new or an attached partition get an index for each of its parent's that it has none like.
+    pub fn make_indexes_of_parent(
+        &mut self,
+        parent: usize,
+        partition: usize,
+    ) -> Result<(), SqlFault> {
+        for (whole, words) in self.words_of_table(parent)? {
+            if self.take_index(partition, &words, whole) {
+                self.act(Form::AttachIndex, whole)?;
+                continue;
+            }
+            let index = self.make_index(partition, words)?;
+            self.act_with(Form::AttachIndex, whole, index)?;
+        }
+        Ok(())
+    }
+
+    /// Has an index of a partition that is like these words be a part of the index `whole`, and tells whether there is one.
+    fn take_index(&mut self, partition: usize, words: &IndexWords, whole: usize) -> bool {
+        for of in self.belongings.indexes.iter_mut() {
+            if of.table == partition
+                && of.whole.is_none()
+                && (of.suffix == "idx") == (words.suffix == "idx")
+                && are_same(&of.columns, &words.columns)
+            {
+                of.whole = Some(whole);
+                return true;
+            }
+        }
+        false
+    }
+
+    /// Has a new table get an index like each of another one's, as `LIKE .. INCLUDING INDEXES` has it.
+    pub fn make_indexes_like(&mut self, table: usize, other: usize) -> Result<(), SqlFault> {
+        for (_, mut words) in self.words_of_table(other)? {
+            words.whole = None;
+            let index = self.make_index(table, words)?;
+            self.act_with(Form::CreateTableKey, table, index)?;
+        }
+        Ok(())
+    }
+
+    /// The indexes that are parts of this one.
+    pub fn parts_of(&self, whole: usize) -> Result<Vec<usize>, AllocError> {
+        let mut parts = Vec::new(self.alloc);
+        for of in &self.belongings.indexes {
+            if of.whole == Some(whole) && self.is_live(of.index) {
+                parts.push(of.index)?;
+            }
+        }
+        Ok(parts)
+    }
+
+    /// The table of an index.
+    pub fn table_of_index(&self, index: usize) -> Option<usize> {
+        for of in &self.belongings.indexes {
+            if of.index == index {
+                return Some(of.table);
+            }
+        }
+        None
+    }
+
+    /// The columns of an index.
+    pub fn columns_of_index(&self, index: usize) -> Result<Vec<String>, AllocError> {
+        for of in &self.belongings.indexes {
+            if of.index == index {
+                return copy_names(self.alloc, &of.columns);
+            }
+        }
+        Ok(Vec::new(self.alloc))
+    }
+
+    /// The index of a table's primary key.
+    pub fn key_of(&self, table: usize) -> Option<usize> {
+        for of in &self.belongings.indexes {
+            if of.table == table && of.suffix == "pkey" && self.is_live(of.index) {
+                return Some(of.index);
+            }
+        }
+        None
+    }
+
+    /// The columns of a table's primary key.
+    pub fn columns_of_key(&self, table: usize) -> Result<Vec<String>, AllocError> {
+        match self.key_of(table) {
+            Some(index) => self.columns_of_index(index),
+            None => Ok(Vec::new(self.alloc)),
+        }
+    }
+
+    /// Adds the parts of an index of a partitioned table, which go with it.
+    pub fn drop_parts(&mut self, whole: usize) -> Result<(), SqlFault> {
+        let mut gone = self.parts_of(whole)?;
+        for place in 0..self.belongings.indexes.len() {
+            let Some(part) = gone.get(place).copied() else {
+                break;
+            };
+            for other in &self.parts_of(part)? {
+                gone.push(*other)?;
+            }
+        }
+        for part in &gone {
+            if let Some(table) = self.table_of_index(*part) {
+                self.act_with(Form::DropPartitionedIndex, *part, table)?;
+            }
+            self.change(Change::Drop(*part))?;
+        }
+        Ok(())
+    }
+
+    /// Adds the indexes of these tables that have a column, which goes.
+    pub fn drop_indexes_with(&mut self, tables: &Vec<usize>, column: &str) -> Result<(), SqlFault> {
+        let mut gone = Vec::new(self.alloc);
+        for of in &self.belongings.indexes {
+            let has_column = of.names.iter().any(|name| name.as_str() == column);
+            if has_column && self.is_live(of.index) && tables.contains(&of.table) {
+                gone.push((of.index, of.table))?;
+            }
+        }
+        for (index, table) in &gone {
+            self.act_with(Form::DropUnique, *table, *index)?;
+            self.change(Change::Drop(*index))?;
+        }
+        Ok(())
+    }
+}
