@@ -16,6 +16,7 @@ mod desk;
 mod gates;
 mod limits;
 mod listings;
+mod lives;
 mod memory;
 mod monitors;
 mod pair;
@@ -73,6 +74,8 @@ enum Story<'a> {
     LetGoByCancel,
     /// One sleeps in a queue until it is asked to cancel.
     WokenAsAsked,
+    /// So many connections come and go, one after another.
+    Lives(u32),
 }
 
 /// Tells `story`, with sessions from `desk`.
@@ -102,6 +105,7 @@ fn tell<
         Story::Crowd => crowds::crowd_at(rt, alloc, desk),
         Story::LetGoByCancel => wakes::let_go_by_a_cancel(rt, alloc, desk),
         Story::WokenAsAsked => wakes::woken_as_asked(rt, alloc, desk),
+        Story::Lives(lives) => lives::come_and_go(rt, alloc, desk, lives),
     }
 }
 
@@ -306,6 +310,7 @@ fn many_sessions_do_as_the_stories_say(rt: HostRuntime) -> Result<(), Fail> {
         (crowds::SESSIONS, Story::Crowd),
         (3, Story::LetGoByCancel),
         (2, Story::WokenAsAsked),
+        (1, Story::Lives(10_000)),
     ] {
         let config = Config {
             sessions,
