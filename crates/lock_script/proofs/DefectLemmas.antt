@@ -66,6 +66,11 @@ pub called-not_free : {X : Type 0} (those : List (Named X)) (word : List ℕ) (p
 called-not_free [] word place called free = omega (arith, called.0)
 called-not_free (one ∷ others) word place called free = free place one called.0 (called.1 one)
 
+-- so does who is found by it
+pub found-not_free : {X : Type 0} (those : List (Named X)) (word : List ℕ) (found : Option ℕ) → IfSome found (IsCalled those word) → is_some found ≡ true → IsFree those word → ⊥
+found-not_free those word None called is free = let never : ⊥ = cc in never
+found-not_free those word (Some place) called is free = called-not_free those word place called free
+
 -- the words of texts that are lent
 abbrev pub texts : List (Bor (List ℕ)) → List (List ℕ)
 texts words = map (λ (word : Bor (List ℕ)). word.now) words

@@ -7,5 +7,6 @@ mod Known
 mod NameOrder
 mod NameLemmas
 mod TextBytes
+mod KeptLemmas
 mod WordLemmas
 pub mod Lending

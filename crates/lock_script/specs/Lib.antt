@@ -7,5 +7,6 @@ pub mod Lines
 pub mod Meaning
 pub mod Names
 pub mod Words
+pub mod Kept
 pub mod Lending
 pub mod Rows
