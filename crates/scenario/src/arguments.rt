@@ -3,6 +3,7 @@ ghost use Rattle.std.specs.Prelude.{IfOk};
 ghost use Rattle.scenario.specs.Tasks.{HasSlotGroups, IsForManager, IsPlayable, OfHammer, OfRun};
 
 use crate::forms::{push_script_lines, push_verbs};
+use crate::options::{FAILURES, FailOn, RunOptions};
 use crate::statuses::push_statuses_of_run;
 use crate::style::{DRAWINGS, Drawing, Style};
 use clap::error::ErrorKind;
@@ -77,7 +78,10 @@ const PROGRAM_EXAMPLE: &str = "Example:
 const RUN_EXAMPLES: &str = "Examples:
   lock_scenario run < scenarios/object_lock.scn
   lock_scenario run --json < scenarios/object_lock.scn | jq .
-  lock_scenario run --graph dot < FILE | sed -n '/^digraph/,/^}/p' | dot -Tsvg";
+  lock_scenario run --graph dot < FILE | sed -n '/^digraph/,/^}/p' | dot -Tsvg
+  lock_scenario run --json --graph dot < FILE |
+    jq -r 'select(.graph).text' | dot -Tsvg
+  lock_scenario run --keep --fail-on refused,stuck < FILE";
 
 /// What `modes --help` shows beside its options.
 const MODES_HELP: &str =
@@ -192,6 +196,21 @@ fn with_styles<'a>(alloc: Global, run: Command<'a>) -> Result<Command<'a>, Alloc
     run.arg(echo)?.arg(json)?.arg(graph)
 }
 
+/// The subcommand with the options of how its script is run, and what it fails for.
+fn with_manners<'a>(alloc: Global, run: Command<'a>) -> Result<Command<'a>, AllocError> {
+    let keep = Arg::new(alloc, "keep")
+        .long("keep")
+        .help("Keep a line whose session waits, and run it once that goes on")
+        .action(ArgAction::SetTrue);
+    let fail_on = Arg::new(alloc, "fail-on")
+        .long("fail-on")
+        .value_name("WHAT")
+        .help("End with status 4 on these, with commas between")
+        .value_delimiter(',')
+        .value_parser(FAILURES.as_slice());
+    run.arg(keep)?.arg(fail_on)
+}
+
 /// The subcommand with the options of how large the lock manager is, and how many sessions it has where they don't say.
 fn with_config<'a>(
     alloc: Global,
@@ -247,7 +266,8 @@ fn orders_command<'a>(alloc: Global) -> Result<Command<'a>, AllocError> {
         .arg(ends)
 }
 
-/// The command line: `run [--sessions N] [--max-local M] [--slot-groups G] [--echo] [--json] [--graph LANGUAGE]`,
+/// The command line: `run [--sessions N] [--max-local M] [--slot-groups G] [--echo] [--json] [--graph LANGUAGE]
+/// [--keep] [--fail-on WHAT]`,
 /// `orders [--sessions N] [--max-local M] [--slot-groups G] [--limit K] [--seed S] [--ends]`,
 /// `shell [--sessions N] [--max-local M] [--slot-groups G]`, `modes`, `hammer --sessions N --rounds K`, or `--man`.
 fn command<'a>(alloc: Global, helps: &'a Helps) -> Result<Command<'a>, AllocError> {
@@ -257,6 +277,7 @@ fn command<'a>(alloc: Global, helps: &'a Helps) -> Result<Command<'a>, AllocErro
         .after_help(helps.run.as_str());
     let run = with_config(alloc, run, USUAL_SESSIONS_SHOWN)?;
     let run = with_styles(alloc, run)?;
+    let run = with_manners(alloc, run)?;
     let shell = Command::new(alloc, SHELL)
         .about("Run lines as they are typed, with help")
         .after_help(SHELL_HELP);
@@ -293,8 +314,8 @@ pub struct Hammer {
 /// What the words ask for.
 #[derive(Clone, Copy, Debug, PartialEq, Eq)]
 pub enum Task {
-    /// To run the script on standard input, and to show it in this style.
-    Run(Config, Style),
+    /// To run the script on standard input in this way.
+    Run(Config, RunOptions),
     /// To run the lines of the script on standard input in every order.
     Orders(Config, OrdersOptions),
     /// To run lines as they are typed.
@@ -381,7 +402,7 @@ fn task_of<'a>(alloc: Global, words: &'a [String]) -> Result<Task, Error>
         Some((name, orders)) if name == ORDERS => {
             Ok(Task::Orders(config_of(orders), options_of(orders)))
         }
-        Some((_, run)) => Ok(Task::Run(config_of(run), style_of(run))),
+        Some((_, run)) => Ok(Task::Run(config_of(run), run_options_of(run))),
         None => Ok(Task::Man),
     }
 }
@@ -407,6 +428,15 @@ fn options_of(words: &ArgMatches) -> OrdersOptions {
         limit: words.get_one::<u32>("limit").unwrap_or(USUAL_ORDERS),
         seed: words.get_one::<u32>("seed").unwrap_or(USUAL_SEED),
         ends: words.get_flag("ends"),
+    }
+}
+
+/// How the words of a run ask for it.
+fn run_options_of(words: &ArgMatches) -> RunOptions {
+    RunOptions {
+        style: style_of(words),
+        keep: words.get_flag("keep"),
+        fail_on: FailOn::named(words.get_strs("fail-on").unwrap_or(&[])),
     }
 }
 

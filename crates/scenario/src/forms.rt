@@ -23,6 +23,9 @@ static COMMENT: OtherLine = OtherLine {
     help: "a comment",
 };
 
+/// The words that end a shell, of which the first one is told.
+pub static LEAVING: [&str; 4] = ["end", "quit", "exit", "\\q"];
+
 /// What a shell has beside the lines of a script.
 pub static SHELL_LINES: [OtherLine; 6] = [
     OtherLine {
@@ -85,11 +88,17 @@ pub fn push_shell_lines(text: &mut String) -> Result<(), AllocError> {
     for line in &SHELL_LINES {
         push_line(text, line)?;
     }
-    Ok(())
+    text.push_str("\nInstead of end, quit, exit and \\q leave too.\n")
+}
+
+/// Whether a line that begins with this word ends a shell.
+pub fn ends_shell(verb: &str) -> bool {
+    LEAVING.iter().any(|word| *word == verb)
 }
 
 /// Adds the forms of the lines that begin with this word, of a script and of a shell.
 pub fn push_forms(text: &mut String, verb: &str) -> Result<(), AllocError> {
+    let verb = if ends_shell(verb) { LEAVING[0] } else { verb };
     if let Some(row) = command_row(verb) {
         push_row(text, row)?;
     }

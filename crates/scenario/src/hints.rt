@@ -1,7 +1,7 @@
 //! What somebody is told at a shell, help and what is wrong with a line, and of a bad line where orders are run.
 
 use crate::forms::{SHELL_LINES, push_forms, push_script_lines, push_shell_lines};
-use crate::mode_help::{push_mode, push_modes};
+use crate::mode_help::{mode_called, push_mode, push_modes};
 use crate::statements::{begins_statement, push_statements};
 use lock_script::{
     CommandRow, Defect, Name, WordKind, command_row, command_rows, parse_name, split_words,
@@ -25,10 +25,9 @@ static SQL_WORDS: [(&str, &str); 7] = [
 ];
 
 /// The same of who is used to other shells.
-static SHELL_WORDS: [(&str, &str); 6] = [
+static SHELL_WORDS: [(&str, &str); 5] = [
     ("quit", "end"),
     ("exit", "end"),
-    ("\\q", "end"),
     ("?", "help"),
     ("\\?", "help"),
     ("\\h", "help"),
@@ -100,11 +99,43 @@ pub fn push_correction(
     write!(text, "{what}")?;
     if let Some(word) = word_meant(what, words.as_slice(), reader.names) {
         write!(text, " {word:?}")?;
+        if what == Defect::BadMode {
+            if let Some(mode) = mode_meant(alloc, words.as_slice())? {
+                return write!(text, ", perhaps {:?}\n", mode.name());
+            }
+        }
         if let Some(nearest) = nearest_to(alloc, what, word, reader)? {
             return write!(text, ", perhaps {nearest:?}\n");
         }
     }
+    if what == Defect::WrongNumberOfWords {
+        if let Some(mode) = mode_meant(alloc, words.as_slice())? {
+            return write!(text, ", perhaps {:?} as one word\n", mode.name());
+        }
+    }
     push_rule(text, what, words.as_slice(), reader)
+}
+
+/// The mode that SQL calls by the words from the one on that is a mode's, as `ACCESS EXCLUSIVE`, if it does. The word
+/// `session` behind them is left out.
+fn mode_meant(alloc: Global, words: &[&str]) -> Result<Option<Mode>, AllocError> {
+    let Some(place) = words.first().and_then(|verb| mode_place(*verb)) else {
+        return Ok(None);
+    };
+    let Some(words) = words.get(place..) else {
+        return Ok(None);
+    };
+    let words = match words.split_last() {
+        Some((last, others)) if *last == "session" => others,
+        _ => words,
+    };
+    let topic = topic_of(alloc, words)?;
+    Ok(mode_called(topic.as_str()))
+}
+
+/// Where in the lines of a command the mode stands.
+fn mode_place(verb: &str) -> Option<usize> {
+    command_row(verb)?.place_of(WordKind::ModeName)
 }
 
 /// The word of a line that has the defect, if it is one's.

@@ -174,3 +174,13 @@ fn in_the_way(alloc: Global, line: u32, names: &Names, name: Name, blocker: Bloc
         "mode": blocker.mode.name(), "how": in_the_way_text(blocker.how)
     })
 }
+
+/// Who waits at the end of a script, and how many lines of theirs were not reached.
+pub fn left(alloc: Global, waiting: &[Name], lines: u64) -> Object {
+    let mut names = Vec::new(alloc);
+    for name in waiting {
+        names.push(Value::try_from_str(alloc, name.as_str())?)?;
+    }
+    let names = Value::Array(names);
+    json!(in alloc; {"left_waiting": names, "not_reached": lines})
+}

@@ -35,6 +35,16 @@ pub fn push_mode(text: &mut String, words: &str) -> Result<(), AllocError> {
     Ok(())
 }
 
+/// The mode that these words name, as `access exclusive` of SQL does, if they name one.
+pub fn mode_called(words: &str) -> Option<Mode> {
+    for mode in &Mode::ALL {
+        if is_name_of(*mode, words) {
+            return Some(*mode);
+        }
+    }
+    None
+}
+
 /// Adds a line for each mode that this one conflicts with.
 fn push_conflicts(text: &mut String, mode: Mode) -> Result<(), AllocError> {
     for other in &Mode::ALL {

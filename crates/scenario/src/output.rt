@@ -10,7 +10,7 @@ use crate::answers::{Answer, Row, Said};
 use crate::json::{self, Object};
 use crate::picture::Picture;
 use crate::style::{Form, Pen, Style};
-use crate::text::{RowText, SaidText};
+use crate::text::{LeftText, RowText, SaidText};
 use lock_manager::{Blocker, Listing, QueueRow, SlotRow, TableRow};
 use lock_script::{Fault, Name, Names};
 use std::alloc::Global;
@@ -55,6 +55,20 @@ pub trait Listener {
     fn end_line(&mut self) -> Result<(), Fault>
         ensures heard { OnOk result (hears self.old Done self.new) }
         ensures unheard { IfErr result IsUnheard };
+
+    /// A line was read, with this number, which is kept until its session goes on. It is answered then.
+    fn keep_line(&mut self, _number: u32, _text: &str) -> Result<(), Fault>
+        ensures unheard { IfErr result IsUnheard }
+    {
+        Ok(())
+    }
+
+    /// The script has ended where lines are kept: who waits, and how many lines were kept and not reached.
+    fn left(&mut self, _waiting: &[Name], _lines: u64) -> Result<(), Fault>
+        ensures unheard { IfErr result IsUnheard }
+    {
+        Ok(())
+    }
 }
 
 /// Tells a listener an answer, row by row. The sessions are known by `names`.
@@ -296,6 +310,17 @@ impl<W: Write + Drop> Listener for Output<W> {
     }
 
     fn end_line(&mut self) -> Result<(), Fault> {
+        self.flush()
+    }
+
+    fn left(&mut self, waiting: &[Name], lines: u64) -> Result<(), Fault> {
+        if waiting.is_empty() {
+            return Ok(());
+        }
+        match self.form {
+            Form::Text => written(writeln!(self.writer, "{}", LeftText { waiting, lines }))?,
+            Form::Json(alloc) => self.write_object(alloc, json::left(alloc, waiting, lines))?,
+        }
         self.flush()
     }
 }

@@ -4,13 +4,16 @@ ghost use Rattle.scenario.specs.Tasks.{IsForManager, IsPlayable};
 
 use crate::arguments::{Hammer, NoRun, Task, parse_arguments};
 use crate::hammer::{run_hammer, run_watched_hammer};
+use crate::kept::run_in_turn;
 use crate::man::man_page;
 use crate::modes::print_modes;
+use crate::options::RunOptions;
 use crate::orders::{OnManagers, bad_line_text, refused_session_text};
+use crate::outcome::{Outcome, Witness};
+use crate::output::Output;
 use crate::progress::ProgressLine;
-use crate::run::{run_shell, run_styled_script};
-use crate::style::Style;
-use crate::timelines::draw_script;
+use crate::run::run_shell;
+use crate::timelines::draw_heard_script;
 use crate::workers::OpenGate;
 use lock_manager::Config;
 use lock_script::{Defect, Fault};
@@ -26,6 +29,9 @@ const SUCCESS: u8 = 0;
 
 /// The status where the program's own words are refused.
 const REFUSED_WORDS: u8 = 2;
+
+/// The status of a run in which something came that its words name.
+const FAILED: u8 = 4;
 
 /// Where a script comes from.
 #[derive(Drop)]
@@ -82,8 +88,8 @@ impl Failure {
     }
 }
 
-/// Runs the program, and answers its status: 0, 3 for a bad line of the script, 2 for refused words, and 1 for any
-/// other fault. The words are those of the command line, or the error of reading them. The script comes from
+/// Runs the program, and answers its status: 0, 4 where a run fails by its own words, 3 for a bad line of the script, 2
+/// for refused words, and 1 for any other fault. The words are those of the command line, or the error of reading them. The script comes from
 /// `input`. What it prints, and texts that are asked for, go to `output`. Why the program ends early goes to
 /// `errors`; at a terminal it also says there that it reads one, and how far a hammer is.
 pub fn run_program<
@@ -92,7 +98,7 @@ pub fn run_program<
     W: Write + Drop,
     E: Write + Send,
 >(rt: &H, words: io::Result<Vec<String>>, input: Source<R>, output: W, errors: &mut Errors<E>) -> u8
-    ensures { result ≤ 3 }
+    ensures { result ≤ 4 }
 {
     let ended = match words {
         Ok(words) => run_words(rt, words.as_slice(), input, output, errors),
@@ -120,14 +126,16 @@ fn run_words<
     output: W,
     errors: &mut Errors<E>,
 ) -> Result<u8, Failure>
-    ensures { IfOk result (λ status. status ≤ 2) }
+    ensures { IfOk result (λ status. status ≤ 4) }
 {
     let alloc = rt.alloc();
     match parse_arguments(alloc, words) {
         Ok(Task::Modes) => print_modes(output)?,
         Ok(Task::Man) => print_man(alloc, output)?,
         Ok(Task::Hammer(hammer)) => run_hammers(rt, hammer, output, errors)?,
-        Ok(Task::Run(config, style)) => run_input(rt, config, style, input, output, errors)?,
+        Ok(Task::Run(config, options)) => {
+            return run_input(rt, config, options, input, output, errors);
+        }
         Ok(Task::Shell(config)) => run_typed(rt, config, input, output)?,
         Ok(Task::Orders(config, options)) => {
             run_all_orders(rt, config, options, input, output, errors)?
@@ -143,26 +151,43 @@ fn run_words<
     Ok(SUCCESS)
 }
 
-/// Runs the script of the input, and shows it in this style.
+/// Runs the script of the input in this way, and answers the status.
 fn run_input<H: AllocGlobal + Wait, R: Read + Drop, W: Write + Drop, E: Write>(
     rt: &H,
     config: Config,
-    style: Style,
+    options: RunOptions,
     input: Source<R>,
     output: W,
     errors: &mut Errors<E>,
-) -> Result<(), Fault>
+) -> Result<u8, Failure>
     requires { IsForManager config }
+    ensures { IfOk result (λ status. status ≤ 4) }
 {
-    let output = BufWriter::new(rt.alloc(), output).map_err(|_| Fault::NoMemory)?;
+    let alloc = rt.alloc();
+    let output = BufWriter::new(alloc, output).map_err(|_| Fault::NoMemory)?;
     if input.is_terminal {
         say_input_is_typed(errors.writer);
     }
-    match style.graph {
+    let mut outcome = Outcome::new(alloc);
+    let ended = match options.style.graph {
         Some(drawing) if drawing.is_of_all_lines() => {
-            draw_script(rt, input.reader, output, config, style)
+            draw_heard_script(rt, input.reader, output, config, options, &mut outcome)
         }
-        _ => run_styled_script(rt, input.reader, output, config, style),
+        _ => {
+            let witness = Witness {
+                output: Output::styled(alloc, output, options.style),
+                outcome: &mut outcome,
+            };
+            run_in_turn(rt, input.reader, witness, config, options.keep)
+        }
+    };
+    match ended {
+        Ok(()) if outcome.fails(options.fail_on) => Ok(FAILED),
+        Ok(()) => Ok(SUCCESS),
+        Err(fault) => {
+            let text = outcome.correction(&fault);
+            Err(Failure { fault, text })
+        }
     }
 }
 

@@ -46,7 +46,7 @@ pub fn run_styled_script<H: AllocGlobal + Wait, R: Read + Drop, W: Write + Drop>
     requires { IsForManager config }
 {
     let output = Output::styled(rt.alloc(), writer, style);
-    act_out(rt, reader, output, config, None)
+    act_out(rt, reader, output, config, Manner::Script)
 }
 
 /// Runs the lines that the reader gives as a shell does: a bad line is told, with the nearest good word, and the
@@ -66,7 +66,7 @@ pub fn run_shell<H: AllocGlobal + Wait, R: Read + Drop, W: Write + Drop>(
         is_terminal,
     };
     let output = Output::new(writer);
-    act_out(rt, reader, output, config, Some(shell))
+    act_out(rt, reader, output, config, Manner::Shell(shell))
 }
 
 /// Runs the script that the reader gives against a lock manager of its own, and tells the listener what each line is
@@ -79,7 +79,31 @@ pub fn run_before<H: AllocGlobal + Wait, R: Read + Drop, L: Listener + Drop>(
 ) -> Result<(), Fault>
     requires { IsForManager config }
 {
-    act_out(rt, reader, listener, config, None)
+    act_out(rt, reader, listener, config, Manner::Script)
+}
+
+/// Runs a script as `run_before` does, but that a line whose session waits is kept, and run once that goes on. Each
+/// session's lines are run in their order. The listener is told who is left waiting, and how many lines were not reached.
+pub fn run_kept_before<H: AllocGlobal + Wait, R: Read + Drop, L: Listener + Drop>(
+    rt: &H,
+    reader: R,
+    listener: L,
+    config: Config,
+) -> Result<(), Fault>
+    requires { IsForManager config }
+{
+    act_out(rt, reader, listener, config, Manner::Keeping(rt.alloc()))
+}
+
+/// How lines are run.
+#[derive(Clone, Copy)]
+enum Manner {
+    /// One after the other, to the first fault.
+    Script,
+    /// One after the other, but that those whose sessions wait are kept, in this memory.
+    Keeping(Global),
+    /// As they are typed.
+    Shell(Shell),
 }
 
 /// Runs a script, or a shell, against a lock manager of its own.
@@ -88,7 +112,7 @@ fn act_out<H: AllocGlobal + Wait, R: Read + Drop, L: Listener + Drop>(
     reader: R,
     listener: L,
     config: Config,
-    shell: Option<Shell>,
+    manner: Manner,
 ) -> Result<(), Fault>
     requires { IsForManager config }
 {
@@ -97,7 +121,7 @@ fn act_out<H: AllocGlobal + Wait, R: Read + Drop, L: Listener + Drop>(
         return Err(Fault::NoMemory);
     };
     let desk = ManagerDesk::new(&manager, opener);
-    let Ok((desk, ended)) = play(rt, alloc, desk, reader, listener, shell) else {
+    let Ok((desk, ended)) = play(rt, alloc, desk, reader, listener, manner) else {
         return Err(Fault::NoMemory);
     };
     let opener = desk.into_opener();
@@ -120,7 +144,7 @@ fn play<
     desk: D,
     reader: R,
     listener: L,
-    shell: Option<Shell>,
+    manner: Manner,
 ) -> Result<(D, Result<(), Fault>), AllocError>
     requires seats { SeatsAre B.seat D.seat }
     requires none_issued { D.issued desk ≡ 0 }
@@ -129,7 +153,7 @@ fn play<
     ensures none_live { IfOk result (λ played. D.live played.0 ≡ 0) }
 {
     let mut scene = Scene::new(alloc, desk, listener)?;
-    let ended = scene.act_out(rt, reader, shell);
+    let ended = scene.act_out(rt, reader, manner);
     let Scene { stage, listener: _ } = scene;
     let Stage {
         desk,
@@ -184,7 +208,7 @@ impl<T: PartTable, B: Board<T>, D: Desk<OwnSession<T, B>>, L: Listener> Scene<T,
         &mut self,
         rt: &H,
         reader: R,
-        shell: Option<Shell>,
+        manner: Manner,
     ) -> Result<(), Fault>
         requires seats { SeatsAre B.seat D.seat }
         ensures manager { D.manager self.new.stage.desk ≡ D.manager self.old.stage.desk }
@@ -192,9 +216,10 @@ impl<T: PartTable, B: Board<T>, D: Desk<OwnSession<T, B>>, L: Listener> Scene<T,
         ensures none_open { self.new.stage.sessions.resting ≡ [] }
         ensures none_live { D.live self.new.stage.desk ≡ 0 }
     {
-        match shell {
-            None => self.play(rt, reader),
-            Some(shell) => self.have_shell(rt, reader, shell),
+        match manner {
+            Manner::Script => self.play(rt, reader),
+            Manner::Keeping(alloc) => self.play_keeping(rt, reader, alloc),
+            Manner::Shell(shell) => self.have_shell(rt, reader, shell),
         }
     }
 

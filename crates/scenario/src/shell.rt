@@ -2,6 +2,7 @@
 ghost use Rattle.std.specs.Prelude.{◌≡◌, []};
 ghost use Rattle.lock_manager.specs.Crews.{SeatsAre};
 
+use crate::forms::ends_shell;
 use crate::hints::{Reader, help, push_correction};
 use crate::output::Listener;
 use crate::run::Scene;
@@ -42,13 +43,16 @@ impl Shell {
     fn understand(self, line: &str) -> Result<Typed, AllocError> {
         let words = split_words(line);
         match words.as_slice().split_first() {
-            Some((verb, [])) if *verb == "end" => Ok(Typed::End),
-            Some((verb, _)) if *verb == "end" => {
+            Some((verb, [])) if ends_shell(*verb) => Ok(Typed::End),
+            Some((verb, _)) if ends_shell(*verb) => {
                 // Whoever means to close one session would lose them all.
                 let text = told(self.alloc, line, Defect::WrongNumberOfWords, &[])?;
                 Ok(Typed::Help(text))
             }
-            Some((verb, words)) if *verb == "help" => Ok(Typed::Help(help(self.alloc, words)?)),
+            Some((verb, _)) if *verb == "help" => {
+                let words = words_behind_first(self.alloc, line)?;
+                Ok(Typed::Help(help(self.alloc, words.as_slice())?))
+            }
             _ => Ok(Typed::Line),
         }
     }
@@ -64,6 +68,24 @@ fn names_of<S, W>(alloc: Global, sessions: &OpenSessions<S, W>) -> Result<Vec<Na
         names.push(sessions.waiting.at(place).name)?;
     }
     Ok(names)
+}
+
+/// All words of a line behind the first one, of which an SQL command may have more than a line of a script.
+fn words_behind_first(alloc: Global, line: &str) -> Result<Vec<&str>, AllocError> {
+    let mut words = Vec::new(alloc);
+    let mut is_first = true;
+    for part in line.split(' ') {
+        for word in part.split('\t') {
+            if word.is_empty() {
+                continue;
+            }
+            if !is_first {
+                words.push(word)?;
+            }
+            is_first = false;
+        }
+    }
+    Ok(words)
 }
 
 impl<T: PartTable, B: Board<T>, D: Desk<OwnSession<T, B>>, L: Listener> Scene<T, B, D, L> {

@@ -1,241 +1,78 @@
 //! The lock that an SQL command takes on its table, for the help of a shell.
 
+use crate::statement_rows::{OTHERS, STATEMENTS};
 use modes_core::Mode;
 use std::alloc::AllocError;
+use std::str::Split;
 
-/// SQL commands, the mode that each takes on its table, and what else is to be said.
-static STATEMENTS: [(&str, Mode, &str); 63] = [
-    ("SELECT", Mode::AccessShare, ""),
-    ("SELECT FOR UPDATE", Mode::RowShare, ""),
-    ("SELECT FOR NO KEY UPDATE", Mode::RowShare, ""),
-    ("SELECT FOR SHARE", Mode::RowShare, ""),
-    ("SELECT FOR KEY SHARE", Mode::RowShare, ""),
-    ("SELECT NEXTVAL", Mode::RowExclusive, " on the sequence"),
-    ("COPY TO", Mode::AccessShare, ""),
-    ("COPY FROM", Mode::RowExclusive, ""),
-    ("PG_DUMP", Mode::AccessShare, ""),
-    ("INSERT", Mode::RowExclusive, ""),
-    (
-        "INSERT",
-        Mode::RowShare,
-        " on the table that a foreign key refers to",
-    ),
-    ("UPDATE", Mode::RowExclusive, ""),
-    (
-        "UPDATE",
-        Mode::RowShare,
-        " on the table that a changed foreign key refers to, or that refers to a changed key",
-    ),
-    ("DELETE", Mode::RowExclusive, ""),
-    (
-        "DELETE",
-        Mode::RowShare,
-        " on a table that refers to it, RowExclusiveLock where that cascades",
-    ),
-    ("MERGE", Mode::RowExclusive, ""),
-    ("VACUUM", Mode::ShareUpdateExclusive, ""),
-    ("VACUUM FULL", Mode::AccessExclusive, ""),
-    ("ANALYZE", Mode::ShareUpdateExclusive, ""),
-    ("CREATE STATISTICS", Mode::ShareUpdateExclusive, ""),
-    ("DROP STATISTICS", Mode::ShareUpdateExclusive, ""),
-    (
-        "COMMENT ON TABLE",
-        Mode::ShareUpdateExclusive,
-        ", and so on a column or a view",
-    ),
-    (
-        "COMMENT ON CONSTRAINT",
-        Mode::AccessShare,
-        ", and so on a trigger, a rule or a policy",
-    ),
-    (
-        "CREATE PUBLICATION FOR TABLE",
-        Mode::ShareUpdateExclusive,
-        "",
-    ),
-    (
-        "ALTER PUBLICATION",
-        Mode::ShareUpdateExclusive,
-        " on the tables that it names",
-    ),
-    ("CREATE INDEX", Mode::Share, ""),
-    (
-        "CREATE INDEX CONCURRENTLY",
-        Mode::ShareUpdateExclusive,
-        " session, and waits until each writer's transaction has ended",
-    ),
-    ("CREATE TRIGGER", Mode::ShareRowExclusive, ""),
-    ("ALTER TRIGGER", Mode::AccessExclusive, ""),
-    ("DROP TRIGGER", Mode::AccessExclusive, ""),
-    (
-        "CREATE RULE",
-        Mode::AccessExclusive,
-        ", and so ALTER RULE, DROP RULE",
-    ),
-    (
-        "CREATE POLICY",
-        Mode::AccessExclusive,
-        ", and so ALTER POLICY, DROP POLICY",
-    ),
-    (
-        "CREATE TABLE REFERENCES",
-        Mode::ShareRowExclusive,
-        " on the table that it refers to",
-    ),
-    (
-        "CREATE TABLE PARTITION OF",
-        Mode::AccessExclusive,
-        " on the parent and a default partition",
-    ),
-    (
-        "CREATE TABLE INHERITS",
-        Mode::ShareUpdateExclusive,
-        " on the parent",
-    ),
-    (
-        "CREATE VIEW",
-        Mode::AccessShare,
-        " on its tables, and AccessExclusiveLock on the view",
-    ),
-    ("ALTER VIEW", Mode::AccessExclusive, " on the view"),
-    ("DROP VIEW", Mode::AccessExclusive, " on the view"),
-    (
-        "ALTER SEQUENCE",
-        Mode::ShareRowExclusive,
-        ", in most forms; AccessExclusiveLock with RENAME, OWNER TO, SET SCHEMA",
-    ),
-    ("DROP SEQUENCE", Mode::AccessExclusive, ""),
-    (
-        "REINDEX",
-        Mode::Share,
-        ", and AccessExclusiveLock on the index",
-    ),
-    (
-        "REINDEX CONCURRENTLY",
-        Mode::ShareUpdateExclusive,
-        " session, and waits until each transaction that uses the table has ended",
-    ),
-    (
-        "ALTER INDEX",
-        Mode::ShareUpdateExclusive,
-        " on the index, in most forms",
-    ),
-    ("DROP INDEX", Mode::AccessExclusive, ""),
-    (
-        "DROP INDEX CONCURRENTLY",
-        Mode::ShareUpdateExclusive,
-        " session, and waits until each transaction that uses the table has ended",
-    ),
-    (
-        "DROP TABLE",
-        Mode::AccessExclusive,
-        ", also on a partition's parent, and on both tables of a foreign key",
-    ),
-    (
-        "TRUNCATE",
-        Mode::AccessExclusive,
-        ", with CASCADE on the tables that refer to it too",
-    ),
-    ("CLUSTER", Mode::AccessExclusive, ""),
-    ("REFRESH MATERIALIZED VIEW", Mode::AccessExclusive, ""),
-    (
-        "REFRESH MATERIALIZED VIEW CONCURRENTLY",
-        Mode::Exclusive,
-        "",
-    ),
-    (
-        "ALTER TABLE",
-        Mode::AccessExclusive,
-        ", in most forms: columns, types, constraints, names, owners",
-    ),
-    (
-        "ALTER TABLE VALIDATE CONSTRAINT",
-        Mode::ShareUpdateExclusive,
-        ", and so SET STATISTICS, CLUSTER ON, SET (fillfactor ..)",
-    ),
-    (
-        "ALTER TABLE SET (user_catalog_table)",
-        Mode::AccessExclusive,
-        "",
-    ),
-    (
-        "ALTER TABLE ADD FOREIGN KEY",
-        Mode::ShareRowExclusive,
-        " on both tables",
-    ),
-    (
-        "ALTER TABLE ADD COLUMN REFERENCES",
-        Mode::AccessExclusive,
-        ", and ShareRowExclusiveLock on the table that it refers to",
-    ),
-    (
-        "ALTER TABLE DROP CONSTRAINT",
-        Mode::AccessExclusive,
-        ", of a foreign key on both tables",
-    ),
-    (
-        "ALTER TABLE DISABLE TRIGGER",
-        Mode::ShareRowExclusive,
-        ", and so ENABLE TRIGGER",
-    ),
-    (
-        "ALTER TABLE INHERIT",
-        Mode::AccessExclusive,
-        ", and ShareUpdateExclusiveLock on the parent",
-    ),
-    (
-        "ALTER TABLE NO INHERIT",
-        Mode::AccessExclusive,
-        ", and AccessShareLock on the parent",
-    ),
-    (
-        "ALTER TABLE ATTACH PARTITION",
-        Mode::ShareUpdateExclusive,
-        " on the parent, AccessExclusiveLock on a default partition and the table attached",
-    ),
-    (
-        "ALTER TABLE DETACH PARTITION",
-        Mode::AccessExclusive,
-        " on both tables and a default partition",
-    ),
-    (
-        "ALTER TABLE DETACH PARTITION CONCURRENTLY",
-        Mode::ShareUpdateExclusive,
-        " on both tables, and waits until each transaction that uses the parent has ended",
-    ),
-    (
-        "LOCK TABLE",
-        Mode::AccessExclusive,
-        ", or the mode that it names",
-    ),
-];
+/// The word of an SQL command that may be left out.
+const MAY_BE_MISSING: &str = "COLUMN";
 
-/// SQL commands that take no lock on a table, and what does in a script what each does.
-static OTHERS: [(&str, &str); 7] = [
-    ("COMMIT", "commit NAME"),
-    ("ROLLBACK", "abort NAME"),
-    ("SAVEPOINT", "begin NAME"),
-    ("RELEASE SAVEPOINT", "subcommit NAME"),
-    (
-        "ROLLBACK TO SAVEPOINT",
-        "subabort NAME, and then begin NAME",
-    ),
-    ("GRANT", "nothing here: it locks no table"),
-    ("REVOKE", "nothing here: it locks no table"),
-];
-
-/// Adds a line for each SQL command that begins with these words. Where none does, as with `alter table add column`, it
-/// is the commands that begin as the longest one does with which these words begin.
+/// Adds a line for each SQL command that begins with these words. Where none does, as with `alter table t add column c`,
+/// it is the command of which the most words stand among these. Where that is no more than the first words of these, it is
+/// the commands that begin as the longest one does with which these words begin.
 pub fn push_statements(text: &mut String, words: &str) -> Result<(), AllocError> {
     let before = text.len();
     push_beginning(text, words)?;
     if text.len() != before {
         return Ok(());
     }
-    match longest_within(words) {
-        Some(name) => push_beginning(text, name),
-        None => Ok(()),
+    let longest = longest_within(words);
+    let beginning = match longest {
+        Some(name) => count_of(name),
+        None => 0,
+    };
+    match (fullest_within(words, beginning), longest) {
+        (Some(name), _) => push_called(text, name),
+        (None, Some(name)) => push_beginning(text, name),
+        (None, None) => Ok(()),
     }
+}
+
+/// How many words an SQL command has, without those that may be missing.
+fn count_of(name: &str) -> usize {
+    name.split(' ')
+        .filter(|word| *word != MAY_BE_MISSING)
+        .count()
+}
+
+/// Adds a line for each SQL command of this name.
+fn push_called(text: &mut String, called: &str) -> Result<(), AllocError> {
+    for (name, mode, note) in &STATEMENTS {
+        if *name == called {
+            write!(text, "  {name} takes {mode}{note}\n")?;
+        }
+    }
+    Ok(())
+}
+
+/// The SQL command that has the most words of those that all stand among these, if it has more than so many.
+fn fullest_within(words: &str, beginning: usize) -> Option<&'static str> {
+    let mut fullest = None;
+    let mut most = beginning;
+    for (name, _, _) in &STATEMENTS {
+        if most < count_of(name) && stands_within(name, words) {
+            fullest = Some(*name);
+            most = count_of(name);
+        }
+    }
+    fullest
+}
+
+/// Whether the words of an SQL command stand among these in their order, the first one first.
+fn stands_within(name: &str, words: &str) -> bool {
+    let mut left = words.split(' ');
+    let mut is_first = true;
+    for word in name.split(' ') {
+        if word == MAY_BE_MISSING {
+            continue;
+        }
+        if !is_word_in(word, &mut left, is_first) {
+            return false;
+        }
+        is_first = false;
+    }
+    true
 }
 
 /// Adds a line for each SQL command that begins with these words.
@@ -251,6 +88,29 @@ fn push_beginning(text: &mut String, words: &str) -> Result<(), AllocError> {
         }
     }
     Ok(())
+}
+
+/// Whether a word is among those that are left, or is the next of them if it has to be. Those up to it are taken.
+fn is_word_in<'a>(word: &str, left: &mut Split<'a, char>, is_next: bool) -> bool {
+    while let Some(other) = left.next() {
+        if is_same_word(word, other) {
+            return true;
+        }
+        if is_next {
+            return false;
+        }
+    }
+    false
+}
+
+/// Whether the words are the same one in letters of either case. What `(..)` stands for begins with a parenthesis.
+fn is_same_word(word: &str, other: &str) -> bool {
+    if word == "(..)" {
+        return other.starts_with('(');
+    }
+    let word = word.strip_suffix(')').unwrap_or(word);
+    let other = other.strip_suffix(')').unwrap_or(other);
+    word.eq_ignore_ascii_case(other)
 }
 
 /// The longest SQL command with which these words begin.

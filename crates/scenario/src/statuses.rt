@@ -15,7 +15,7 @@ struct Status {
 }
 
 /// All statuses of the program.
-static STATUSES: [Status; 4] = [
+static STATUSES: [Status; 5] = [
     Status {
         number: 0,
         of_run: "the script ended,",
@@ -33,8 +33,13 @@ static STATUSES: [Status; 4] = [
     },
     Status {
         number: 3,
-        of_run: "a bad line, of which lock_scenario shell < FILE says more.",
+        of_run: "a bad line,",
         of_program: "a bad line of a script; what the lines before it printed stays",
+    },
+    Status {
+        number: 4,
+        of_run: "what --fail-on names: a session waits, a call is refused, or a session is left waiting.",
+        of_program: "what --fail-on of run names: a wait, a refused call, or somebody left waiting",
     },
 ];
 

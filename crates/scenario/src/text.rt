@@ -212,3 +212,25 @@ impl fmt::Display for HashText {
         write!(f, "hash {hash} partition {partition} strong {strong}")
     }
 }
+
+/// Who waits at the end of a script, and how many lines of theirs were not reached, as text.
+#[derive(Clone, Copy, Drop)]
+pub struct LeftText<'a> {
+    pub waiting: &'a [Name],
+    pub lines: u64,
+}
+
+impl fmt::Display for LeftText<'_> {
+    fn fmt<W: fmt::Write>(&self, f: &mut fmt::Formatter<W>) -> fmt::Result {
+        let mut before = "left waiting:";
+        for name in self.waiting {
+            write!(f, "{before} {name}")?;
+            before = ",";
+        }
+        match self.lines {
+            0 => Ok(()),
+            1 => write!(f, "; not reached: 1 line"),
+            lines => write!(f, "; not reached: {lines} lines"),
+        }
+    }
+}

@@ -3,9 +3,11 @@ ghost use Rattle.scenario.specs.Tasks.{IsForManager};
 
 use crate::answers::{Row, Said};
 use crate::json;
+use crate::kept::run_in_turn;
+use crate::options::{FailOn, RunOptions};
+use crate::outcome::Outcome;
 use crate::output::Listener;
 use crate::picture::Picture;
-use crate::run::run_before;
 use crate::style::{Drawing, Pen, Style};
 use lock_manager::{Config, Mode, Owner, Tag};
 use lock_script::{Fault, Name, Names, parse_name, parse_owner, parse_tag, split_words};
@@ -25,17 +27,34 @@ pub fn draw_script<H: AllocGlobal + Wait, R: Read + Drop, W: Write + Drop>(
 ) -> Result<(), Fault>
     requires { IsForManager config }
 {
+    let mut outcome = Outcome::new(rt.alloc());
+    let options = RunOptions {
+        style,
+        keep: false,
+        fail_on: FailOn::named(&[]),
+    };
+    draw_heard_script(rt, reader, writer, config, options, &mut outcome)
+}
+
+/// Draws a script as `draw_script` does, and keeps lines where `options` do. What the run comes to is told to `outcome`.
+pub fn draw_heard_script<H: AllocGlobal + Wait, R: Read + Drop, W: Write + Drop>(
+    rt: &H,
+    reader: R,
+    writer: W,
+    config: Config,
+    options: RunOptions,
+    outcome: &mut Outcome,
+) -> Result<(), Fault>
+    requires { IsForManager config }
+{
     let alloc = rt.alloc();
     let mut sketch = Sketch::new(alloc);
-    run_before(
-        rt,
-        reader,
-        Draftsman {
-            sketch: &mut sketch,
-        },
-        config,
-    )?;
-    write_sketch(alloc, writer, &sketch, style)
+    let draftsman = Draftsman {
+        sketch: &mut sketch,
+        outcome,
+    };
+    run_in_turn(rt, reader, draftsman, config, options.keep)?;
+    write_sketch(alloc, writer, &sketch, options.style)
 }
 
 /// Writes the picture in the style that is asked for.
@@ -233,6 +252,7 @@ impl Sketch {
 #[derive(Drop)]
 struct Draftsman<'a> {
     sketch: &'a mut Sketch,
+    outcome: &'a mut Outcome,
 }
 
 impl Listener for Draftsman<'_> {
@@ -241,13 +261,23 @@ impl Listener for Draftsman<'_> {
     ghost hears = { λ _ _ _. ⊤ };
 
     fn begin_line(&mut self, number: u32, text: &str) -> Result<(), Fault> {
+        self.outcome
+            .read(number, text)
+            .map_err(|_| Fault::NoMemory)?;
         self.sketch
             .begin_line(number, text)
             .map_err(|_| Fault::NoMemory)
     }
 
     fn said(&mut self, _names: &Names, name: Name, said: Said) -> Result<(), Fault> {
+        self.outcome
+            .hear(&name, &said)
+            .map_err(|_| Fault::NoMemory)?;
         self.sketch.hear(&name, said).map_err(|_| Fault::NoMemory)
+    }
+
+    fn keep_line(&mut self, number: u32, text: &str) -> Result<(), Fault> {
+        self.outcome.read(number, text).map_err(|_| Fault::NoMemory)
     }
 
     fn row(&mut self, _names: &Names, _row: Row) -> Result<(), Fault> {

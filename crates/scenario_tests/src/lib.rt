@@ -14,6 +14,8 @@ mod hammers;
 #[cfg(test)]
 mod inputs;
 #[cfg(test)]
+mod kept;
+#[cfg(test)]
 mod language_lines;
 #[cfg(test)]
 mod mans;

@@ -36,7 +36,8 @@ const TAIL: &str = ".SH REFUSALS\n.nf\n\
     0  the script, its orders, the shell or the hammer ran to their end, or a text was asked for\n\
     1  a fault of input, output or memory\n\
     2  the program\\(aqs own words were refused\n\
-    3  a bad line of a script; what the lines before it printed stays\n.fi\n";
+    3  a bad line of a script; what the lines before it printed stays\n\
+    4  what \\-\\-fail\\-on of run names: a wait, a refused call, or somebody left waiting\n.fi\n";
 
 /// The titles of the sections between them, and the words that ask for their texts.
 static SECTIONS: [(&str, &str); 6] = [

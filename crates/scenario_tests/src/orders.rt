@@ -281,7 +281,7 @@ const GUARDED_LOCKED: &str = "
 #   left waiting: ";
 
 /// Words, and a run of the program on them.
-static RUNS: [(&str, Run); 18] = [
+static RUNS: [(&str, Run<'static>); 18] = [
     ("lock_scenario orders", (UPGRADE, false, 0, UPGRADED, "")),
     (
         "lock_scenario orders",

@@ -158,6 +158,8 @@ Options:
       --echo              Print each line of the script before its answers
       --json              Print an object of JSON for each line, instead of its text
       --graph <LANGUAGE>  Draw who waits for whom, behind each list, or the whole script [possible values: mermaid, dot, timeline, gantt]
+      --keep              Keep a line whose session waits, and run it once that goes on
+      --fail-on <WHAT>    End with status 4 on these, with commas between [possible values: waits, refused, stuck]
   -h, --help              Print help
 
 Lines of a script, after lock_scenario run < FILE:
@@ -195,12 +197,16 @@ A lock is the transaction's, and with the word session at the end of its line
   the session's.
 
 Status: 0 the script ended, 1 input, output or memory failed, 2 these words were
-  refused, 3 a bad line, of which lock_scenario shell < FILE says more.
+  refused, 3 a bad line, 4 what --fail-on names: a session waits, a call is
+  refused, or a session is left waiting.
 
 Examples:
   lock_scenario run < scenarios/object_lock.scn
   lock_scenario run --json < scenarios/object_lock.scn | jq .
   lock_scenario run --graph dot < FILE | sed -n '/^digraph/,/^}/p' | dot -Tsvg
+  lock_scenario run --json --graph dot < FILE |
+    jq -r 'select(.graph).text' | dot -Tsvg
+  lock_scenario run --keep --fail-on refused,stuck < FILE
 ";
 
 /// The text of `modes --help`.
@@ -258,14 +264,14 @@ const INVITATION: &str =
 
 /// A script, and whether reading it fails at its end; the status of the program on it, and what it writes to its
 /// output and to its errors.
-pub type Run = (&'static str, bool, u8, &'static str, &'static str);
+pub type Run<'a> = (&'a str, bool, u8, &'a str, &'a str);
 
 const RUN: &str = "lock_scenario run";
 
 const OPENED: &str = "a: session 0 database 5\n";
 
 /// Words with a run of the program on them.
-static RUNS: [(&str, Run); 18] = [
+static RUNS: [(&str, Run<'static>); 18] = [
     ("lock_scenario modes", ("frob", false, 0, MODES, "")),
     ("lock_scenario modes --help", ("", false, 0, MODES_HELP, "")),
     (RUN, ("session a 5\n", false, 0, OPENED, "")),
@@ -286,7 +292,7 @@ static RUNS: [(&str, Run); 18] = [
             false,
             3,
             OPENED,
-            "line 2: unknown command\n",
+            "line 2: unknown command \"frob\"; lock_scenario run --help lists the commands\n",
         ),
     ),
     (RUN, ("session a 5\nses", true, 1, OPENED, "read failed\n")),
@@ -388,7 +394,7 @@ static RUNS: [(&str, Run); 18] = [
 ];
 
 /// Words that say what a run shows, with a run of the program on them.
-static SHOWN: [(&str, Run); 4] = [
+static SHOWN: [(&str, Run<'static>); 4] = [
     (
         "lock_scenario run --echo",
         (
@@ -396,7 +402,7 @@ static SHOWN: [(&str, Run); 4] = [
             false,
             3,
             "> session a 5\na: session 0 database 5\n> frob\n",
-            "line 2: unknown command\n",
+            "line 2: unknown command \"frob\"; lock_scenario run --help lists the commands\n",
         ),
     ),
     (
@@ -434,7 +440,7 @@ static SHOWN: [(&str, Run); 4] = [
 ];
 
 /// Why words can't be read, with a run of the program then.
-static UNREAD: [(ErrorKind, Run); 2] = [
+static UNREAD: [(ErrorKind, Run<'static>); 2] = [
     (
         ErrorKind::InvalidData,
         (
@@ -452,7 +458,7 @@ static UNREAD: [(ErrorKind, Run); 2] = [
 ];
 
 /// Words with a run of the program on them, where the script is typed and the errors are read at a terminal.
-static TYPED: [(&str, Run); 4] = [
+static TYPED: [(&str, Run<'static>); 4] = [
     // A hammer that is over before its line's time has come.
     (
         "lock_scenario hammer --sessions 1 --rounds 1",
@@ -486,7 +492,7 @@ pub fn expect_program(
     rt: &(impl Abort + AllocGlobal + Clock + Threads + Wait + Sync),
     words: io::Result<Vec<String>>,
     is_terminal: bool,
-    run: Run,
+    run: Run<'_>,
 ) {
     let (script, fails, status, printed, said) = run;
     let reader = Source {

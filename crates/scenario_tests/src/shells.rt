@@ -4,7 +4,7 @@ use crate::programs::{Run, expect_program, words_of};
 use std::test::Fail;
 
 /// Lines of a shell, and what each is answered.
-static ANSWERS: [(&str, &str); 49] = [
+static ANSWERS: [(&str, &str); 61] = [
     ("session a 5", "a: session 0 database 5\n"),
     ("session bob 5", "bob: session 1 database 5\n"),
     ("", ""),
@@ -104,10 +104,6 @@ static ANSWERS: [(&str, &str); 49] = [
         "QUIT",
         "bad line: unknown command \"QUIT\", perhaps \"end\"\n",
     ),
-    (
-        "\\q",
-        "bad line: unknown command \"\\\\q\", perhaps \"end\"\n",
-    ),
     ("?", "bad line: unknown command \"?\", perhaps \"help\"\n"),
     (
         "frobnicate a",
@@ -137,6 +133,59 @@ static ANSWERS: [(&str, &str); 49] = [
         "end a",
         "bad line: wrong number of words; the form is\n\
          \u{20} end                             close all sessions, and leave\n",
+    ),
+    (
+        "quit now",
+        "bad line: wrong number of words; the form is\n\
+         \u{20} end                             close all sessions, and leave\n",
+    ),
+    (
+        "lock a 5/1 ACCESS EXCLUSIVE",
+        "bad line: bad mode \"ACCESS\", perhaps \"AccessExclusiveLock\"\n",
+    ),
+    (
+        "lock a 5/1 share row exclusive",
+        "bad line: wrong number of words, perhaps \"ShareRowExclusiveLock\" as one word\n",
+    ),
+    (
+        "try a 5/1 row share session",
+        "bad line: wrong number of words, perhaps \"RowShareLock\" as one word\n",
+    ),
+    (
+        "help alter table accounts add column extra int",
+        "\u{20} ALTER TABLE ADD COLUMN takes AccessExclusiveLock\n",
+    ),
+    (
+        "help alter table items add constraint fk foreign key (o) references orders (id)",
+        "\u{20} ALTER TABLE ADD FOREIGN KEY takes ShareRowExclusiveLock on both tables\n",
+    ),
+    (
+        "help alter table t alter owner set statistics 500",
+        "\u{20} ALTER TABLE ALTER COLUMN SET STATISTICS takes ShareUpdateExclusiveLock\n",
+    ),
+    (
+        "help ALTER TABLE t SET (fillfactor = 70)",
+        "\u{20} ALTER TABLE SET (..) takes ShareUpdateExclusiveLock, most storage parameters\n",
+    ),
+    (
+        "help alter table child no inherit parent",
+        "\u{20} ALTER TABLE NO INHERIT takes AccessExclusiveLock, and AccessShareLock on the parent\n",
+    ),
+    (
+        "help create or replace view v as select 1",
+        "\u{20} CREATE VIEW takes AccessShareLock on its tables, and AccessExclusiveLock on the view\n",
+    ),
+    (
+        "help create policy",
+        "\u{20} CREATE POLICY takes AccessExclusiveLock, and so ALTER POLICY, DROP POLICY\n",
+    ),
+    (
+        "help alter sequence s restart",
+        "\u{20} ALTER SEQUENCE takes ShareRowExclusiveLock, in most forms; AccessExclusiveLock with RENAME, OWNER TO, SET SCHEMA\n",
+    ),
+    (
+        "help create unique index concurrently i on t (c)",
+        "\u{20} CREATE INDEX CONCURRENTLY takes ShareUpdateExclusiveLock session, and waits until each writer's transaction has ended\n",
     ),
     (
         "help insert into t values",
@@ -227,8 +276,19 @@ fn answers_each_line(rt: HostRuntime) -> Result<(), Fail> {
     Ok(())
 }
 
+/// Other words end a shell too, each alone in its line.
+#[test]
+fn ends_by_the_words_of_other_shells(rt: HostRuntime) -> Result<(), Fail> {
+    for word in ["end", "quit", "exit", "\\q", "  quit  "] {
+        let lines = format!(in rt.alloc(); "session a 5\n{word}\nsession b 5\n")?;
+        let told = printed(&rt, "lock_scenario shell", lines.as_str())?;
+        assert_eq!(rt; told.as_str(), "a: session 0 database 5\n", "{word}");
+    }
+    Ok(())
+}
+
 /// Shells that somebody types, and one that a reader ends which fails.
-static TYPED: [(bool, Run); 4] = [
+static TYPED: [(bool, Run<'static>); 4] = [
     (
         true,
         (
@@ -287,6 +347,6 @@ fn helps(rt: HostRuntime) -> Result<(), Fail> {
         assert!(rt; all.as_str().contains(part), "{part:?}");
     }
     let table = printed(&rt, "lock_scenario shell", "help ALTER table\n")?;
-    assert_eq!(rt; table.as_str().lines().count(), 12);
+    assert_eq!(rt; table.as_str().lines().count(), 48);
     Ok(())
 }

@@ -1,0 +1,37 @@
+//! How a script is run, and what the program's status says of it.
+
+use crate::style::Style;
+
+/// How a run goes, what it shows, and what it fails for.
+#[derive(Clone, Copy, Debug, PartialEq, Eq)]
+pub struct RunOptions {
+    pub style: Style,
+    /// Whether a line whose session waits is kept, and run once that goes on.
+    pub keep: bool,
+    pub fail_on: FailOn,
+}
+
+/// The names of what a run may fail for, as the command line has them.
+pub static FAILURES: [&str; 3] = ["waits", "refused", "stuck"];
+
+/// What a run fails for, though its script has no bad line.
+#[derive(Clone, Copy, Debug, PartialEq, Eq)]
+pub struct FailOn {
+    /// A session waits.
+    pub waits: bool,
+    /// A call is refused.
+    pub refused: bool,
+    /// A session is left waiting at the end.
+    pub stuck: bool,
+}
+
+impl FailOn {
+    /// Those of these names.
+    pub fn named(names: &[&str]) -> Self {
+        FailOn {
+            waits: names.contains(&FAILURES[0]),
+            refused: names.contains(&FAILURES[1]),
+            stuck: names.contains(&FAILURES[2]),
+        }
+    }
+}
