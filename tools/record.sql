@@ -6,7 +6,7 @@
 -- which locks it added (pg_locks). Nothing is printed unless all of them ran; psql's status is 3 where one failed. Advisory locks
 -- that the statements left to the session are given back at the end.
 --
--- More variables: `-v session=NAME` names the script's session (else `mig`). `-v names=on` gives the objects names, with `name` lines.
+-- More variables: `-v session=NAME` names the script's session (else `mig`). The objects have names, with `name` lines; `-v names=off` writes their numbers.
 -- It needs a server of version 14 or later, and psql 11 or later. tools/README.md says what it can't see.
 
 \set QUIET on
@@ -17,7 +17,7 @@
 \pset null ''
 \if :{?session} \else \set session mig
 \endif
-\if :{?names} \else \set names off
+\if :{?names} \else \set names on
 \endif
 \if :{?oldest} \else \set oldest 140000
 \endif

@@ -10,7 +10,7 @@
 -- statement with CONCURRENTLY, but for DETACH. A lock that is held for less than a look may be missed: let the table be large, or hold
 -- the statement up.
 --
--- More variables: `-v session=NAME` names the script's session (else `build`). `-v names=on` gives the objects names, with `name` lines.
+-- More variables: `-v session=NAME` names the script's session (else `build`). The objects have names, with `name` lines; `-v names=off` writes their numbers.
 -- `-v patience=SECONDS` says how long to wait for the session (else 60). It needs a server of version 14 or later, and psql 11 or later.
 
 \set QUIET on
@@ -20,7 +20,7 @@
 \pset tuples_only on
 \if :{?session} \else \set session build
 \endif
-\if :{?names} \else \set names off
+\if :{?names} \else \set names on
 \endif
 \if :{?patience} \else \set patience 60
 \endif

@@ -9,14 +9,16 @@ use Rattle.modes_core.specs.declared.sessions.Owner.TheVariants.{Transaction}
 use Rattle.modes_core.specs.declared.tags.Tag.{Tag}
 use Rattle.modes_core.specs.Mode.{name_of}
 use Rattle.lock_script.specs.Command.{NamesCaller, NamesOpen}
-use Rattle.lock_script.specs.Defects.{lock_words, commands, words_behind, AreAsMany, IsUnnamed, IsBarred, IsTaken, IsWrong, IsRight, IsFirstWrong, IsMisfit, IsRefused, MeansNothing}
+use Rattle.lock_script.specs.Defects.{lock_words, commands, words_behind, AreAsMany, IsTakenName, IsTakenTag, IsUnnamed, IsBarred, IsTaken, IsWrong, IsRight, IsFirstWrong, IsMisfit, IsRefused, MeansNothing}
 use Rattle.lock_script.specs.declared.commands.WordKind.{WordKind}
-use Rattle.lock_script.specs.declared.commands.WordKind.TheVariants.{FreeName, OpenName, CallerName, Number, CounterIndex, TagWord, ModeName, OwnerWord}
-use Rattle.lock_script.specs.Meaning.{IsCommandOf, NamesNew, NamesTarget, NamesLone, NamesOwned, NamesActor, NamesBoth, NamesQueue, NamesBlocked, NamesCount, NamesTag}
+use Rattle.lock_script.specs.declared.commands.WordKind.TheVariants.{FreeName, OpenName, CallerName, Number, CounterIndex, FreeObjectName, FreeTag, TagWord, ModeName, OwnerWord}
+use Rattle.lock_script.specs.Meaning.{IsCommandOf, NamesNew, NamesTarget, NamesLone, NamesOwned, NamesActor, NamesBoth, NamesQueue, NamesBlocked, NamesCount, NamesTag, NamesObject}
 use Rattle.lock_script.specs.Names.{IsCalled, IsFree}
 use Rattle.lock_script.specs.Sessions.{IsAt, IsUnknown}
-use Rattle.lock_script.specs.Words.{is_name, number_in, strong_index_in, tag_of, owner_of}
+use Rattle.lock_script.specs.Objects.{is_object_name, tag_in, tag_called, name_given}
+use Rattle.lock_script.specs.Words.{is_name, number_in, strong_index_in, owner_of}
 use Rattle.lock_script.specs.declared.sessions.Named.{Named}
+use Rattle.lock_script.specs.declared.objects.NamedObject.{NamedObject}
 use Rattle.lock_script.specs.declared.sessions.OpenSessions.{OpenSessions}
 use Rattle.lock_script.specs.declared.sessions.Caller.{Caller}
 use Rattle.lock_script.specs.declared.sessions.Opened.{Opened}
@@ -27,7 +29,7 @@ use Rattle.lock_script.specs.declared.command.Command.{Command}
 use Rattle.lock_script.specs.declared.command.Command.TheVariants.{Session, Try, Fast, Lock, Unlock, Commit, Abort, Begin, SubCommit, SubAbort, Owned, Waiters, Queue, Blockers, Cancel, Count, Hash, Close}
 use Rattle.lock_script.specs.declared.command.Command.TheVariants as command
 use Rattle.lock_script.specs.declared.faults.Defect.{Defect}
-use Rattle.lock_script.specs.declared.faults.Defect.TheVariants.{BadName, SessionExists, NoSuchSession, SessionWaits}
+use Rattle.lock_script.specs.declared.faults.Defect.TheVariants.{BadName, SessionExists, NameExists, NoSuchSession, SessionWaits, BadObject, ObjectNamed}
 
 -- What holds of the error that a result is.
 pub of_err : {T E : Type 0} (P : E → Type 0) (r : Result T E) (e : E) → IsErrAnd r (λ (d : E). d ≡ e) → P e → IfErr r P
@@ -41,7 +43,7 @@ of_none P (Some x) e here = let never : ⊥ = cc in absurd never
 pub clash : (b : Bool) → b ≡ true → b ≡ false → ⊥
 clash b is lacks = let never : ⊥ = cc in never
 
-not_both : {T : Type 0} (o : Option T) (x : T) → o ≡ Some x → o ≡ None → ⊥
+pub not_both : {T : Type 0} (o : Option T) (x : T) → o ≡ Some x → o ≡ None → ⊥
 not_both o x is lacks = let never : ⊥ = cc in never
 
 -- an error instead of a value says that there is none
@@ -75,20 +77,35 @@ found-not_free those word (Some place) called is free = called-not_free those wo
 abbrev pub texts : List (Bor (List ℕ)) → List (List ℕ)
 texts words = map (λ (word : Bor (List ℕ)). word.now) words
 
-number-right : {S W : Type 0} (sessions : OpenSessions S W) (word : List ℕ) (number : ℕ) → number_in word ≡ Some number → IsRight sessions Number word
-number-right sessions word number h defect wrong = not_both (number_in word) number h wrong.1
+number-right : {S W : Type 0} (sessions : OpenSessions S W) (objects : List NamedObject) (word : List ℕ) (number : ℕ) → number_in word ≡ Some number → IsRight sessions objects Number word
+number-right sessions objects word number h defect wrong = not_both (number_in word) number h wrong.1
 
-counter-right : {S W : Type 0} (sessions : OpenSessions S W) (word : List ℕ) (index : ℕ) → strong_index_in word ≡ Some index → IsRight sessions CounterIndex word
-counter-right sessions word index h defect wrong = not_both (strong_index_in word) index h wrong.1
+counter-right : {S W : Type 0} (sessions : OpenSessions S W) (objects : List NamedObject) (word : List ℕ) (index : ℕ) → strong_index_in word ≡ Some index → IsRight sessions objects CounterIndex word
+counter-right sessions objects word index h defect wrong = not_both (strong_index_in word) index h wrong.1
 
-pub tag-right : {S W : Type 0} (sessions : OpenSessions S W) (word : List ℕ) (tag : Tag) → tag_of word ≡ Some tag → IsRight sessions TagWord word
-tag-right sessions word tag h defect wrong = not_both (tag_of word) tag h wrong.1
+pub tag-right : {S W : Type 0} (sessions : OpenSessions S W) (objects : List NamedObject) (word : List ℕ) (tag : Tag) → tag_in objects word ≡ Some tag → IsRight sessions objects TagWord word
+tag-right sessions objects word tag h defect wrong = not_both (tag_in objects word) tag h wrong.1
 
-mode-right : {S W : Type 0} (sessions : OpenSessions S W) (word : List ℕ) (mode : Mode) → name_of mode ≡ word → IsRight sessions ModeName word
-mode-right sessions word mode h defect wrong = wrong.1 mode h
+mode-right : {S W : Type 0} (sessions : OpenSessions S W) (objects : List NamedObject) (word : List ℕ) (mode : Mode) → name_of mode ≡ word → IsRight sessions objects ModeName word
+mode-right sessions objects word mode h defect wrong = wrong.1 mode h
 
-owner-right : {S W : Type 0} (sessions : OpenSessions S W) (word : List ℕ) (owner : Owner) → owner_of word ≡ Some owner → IsRight sessions OwnerWord word
-owner-right sessions word owner h defect wrong = not_both (owner_of word) owner h wrong.1
+owner-right : {S W : Type 0} (sessions : OpenSessions S W) (objects : List NamedObject) (word : List ℕ) (owner : Owner) → owner_of word ≡ Some owner → IsRight sessions objects OwnerWord word
+owner-right sessions objects word owner h defect wrong = not_both (owner_of word) owner h wrong.1
+
+-- a name that is no object's
+pub free_name-right : (objects : List NamedObject) (word : List ℕ) → is_object_name word ≡ true → tag_called objects word ≡ None → (defect : Defect) → IsTakenName objects word defect → ⊥
+free_name-right objects word name free BadName wrong = clash (is_object_name word) name wrong
+free_name-right objects word name free NameExists wrong = not_both (tag_called objects word) wrong.1.0 wrong.1.1 free
+free_name-right objects word name free _ wrong = wrong
+
+-- an object that has none
+pub unnamed-right : (objects : List NamedObject) (word : List ℕ) (tag : Tag) → tag_in objects word ≡ Some tag → name_given objects tag ≡ None → (defect : Defect) → IsTakenTag objects word defect → ⊥
+unnamed-right objects word tag is none BadObject wrong = not_both (tag_in objects word) tag is wrong
+unnamed-right objects word tag is none ObjectNamed wrong =
+    let same : ◌≡◌ {A = Option Tag} (Some tag) (Some wrong.0) = sym is ∙ wrong.2 in
+    let it : tag ≡ wrong.0 = cc in
+    not_both (name_given objects wrong.0) wrong.1 wrong.3 (subst (λ (t : Tag). name_given objects t ≡ None) it none)
+unnamed-right objects word tag is none _ wrong = wrong
 
 module _ {S W : Type 0} (sessions : OpenSessions S W) where
   at-known : (word : List ℕ) (place : Place) → IsAt sessions word place → IsUnknown sessions word → ⊥
@@ -128,21 +145,22 @@ module _ {S W : Type 0} (sessions : OpenSessions S W) where
   both-named (a ∷ b ∷ []) d e by other n h k = (h, k)
   both-named (a ∷ b ∷ c ∷ words) d e by other n h k = absurd (omega arith)
 
-  pub blocked-named : (words : List (Bor (List ℕ))) (d e f : Bor (List ℕ)) (by : Caller) (other : Opened) (tag : Tag) → length words ≡ 3 → NamesCaller sessions (get_or words 0 d).now by → NamesOpen sessions (get_or words 1 e).now other → tag_of (get_or words 2 f).now ≡ Some tag → NamesBlocked sessions (texts words) by other tag
+module _ {S W : Type 0} (sessions : OpenSessions S W) (objects : List NamedObject) where
+  pub blocked-named : (words : List (Bor (List ℕ))) (d e f : Bor (List ℕ)) (by : Caller) (other : Opened) (tag : Tag) → length words ≡ 3 → NamesCaller sessions (get_or words 0 d).now by → NamesOpen sessions (get_or words 1 e).now other → tag_in objects (get_or words 2 f).now ≡ Some tag → NamesBlocked sessions objects (texts words) by other tag
   blocked-named [] d e f by other tag n h k t = absurd (omega arith)
   blocked-named (a ∷ []) d e f by other tag n h k t = absurd (omega arith)
   blocked-named (a ∷ b ∷ []) d e f by other tag n h k t = absurd (omega arith)
   blocked-named (a ∷ b ∷ c ∷ []) d e f by other tag n h k t = (h, k, t)
   blocked-named (a ∷ b ∷ c ∷ x ∷ words) d e f by other tag n h k t = absurd (omega arith)
 
-  pub owned-named : (words : List (Bor (List ℕ))) (d e f : Bor (List ℕ)) (target : Target) → length words ≡ 3 → NamesTarget sessions (get_or words 0 d).now (get_or words 1 e).now (get_or words 2 f).now target → NamesOwned sessions (texts words) target Transaction
+  pub owned-named : (words : List (Bor (List ℕ))) (d e f : Bor (List ℕ)) (target : Target) → length words ≡ 3 → NamesTarget sessions objects (get_or words 0 d).now (get_or words 1 e).now (get_or words 2 f).now target → NamesOwned sessions objects (texts words) target Transaction
   owned-named [] d e f target n h = absurd (omega arith)
   owned-named (a ∷ []) d e f target n h = absurd (omega arith)
   owned-named (a ∷ b ∷ []) d e f target n h = absurd (omega arith)
   owned-named (a ∷ b ∷ c ∷ []) d e f target n h = (h, refl)
   owned-named (a ∷ b ∷ c ∷ x ∷ words) d e f target n h = absurd (omega arith)
 
-  pub owned-named_owner : (words : List (Bor (List ℕ))) (d e f k : Bor (List ℕ)) (target : Target) (owner : Owner) → length words ≡ 4 → NamesTarget sessions (get_or words 0 d).now (get_or words 1 e).now (get_or words 2 f).now target → owner_of (get_or words 3 k).now ≡ Some owner → NamesOwned sessions (texts words) target owner
+  pub owned-named_owner : (words : List (Bor (List ℕ))) (d e f k : Bor (List ℕ)) (target : Target) (owner : Owner) → length words ≡ 4 → NamesTarget sessions objects (get_or words 0 d).now (get_or words 1 e).now (get_or words 2 f).now target → owner_of (get_or words 3 k).now ≡ Some owner → NamesOwned sessions objects (texts words) target owner
   owned-named_owner [] d e f k target owner n h o = absurd (omega arith)
   owned-named_owner (a ∷ []) d e f k target owner n h o = absurd (omega arith)
   owned-named_owner (a ∷ b ∷ []) d e f k target owner n h o = absurd (omega arith)
@@ -151,49 +169,49 @@ module _ {S W : Type 0} (sessions : OpenSessions S W) where
   owned-named_owner (a ∷ b ∷ c ∷ x ∷ y ∷ words) d e f k target owner n h o = absurd (omega arith)
 
   -- The first word that is wrong, where it is not the first of all.
-  pub second_wrong : (one two : WordKind) (words : List (Bor (List ℕ))) (d e : Bor (List ℕ)) (defect : Defect) → ((a b : List ℕ) → AreAsMany (one ∷ two ∷ []) (a ∷ b ∷ [])) → length words ≡ 2 → IsRight sessions one (get_or words 0 d).now → IsWrong sessions two (get_or words 1 e).now defect → IsMisfit sessions (one ∷ two ∷ []) (texts words) defect
+  pub second_wrong : (one two : WordKind) (words : List (Bor (List ℕ))) (d e : Bor (List ℕ)) (defect : Defect) → ((a b : List ℕ) → AreAsMany (one ∷ two ∷ []) (a ∷ b ∷ [])) → length words ≡ 2 → IsRight sessions objects one (get_or words 0 d).now → IsWrong sessions objects two (get_or words 1 e).now defect → IsMisfit sessions objects (one ∷ two ∷ []) (texts words) defect
   second_wrong one two [] d e defect many n right wrong = absurd (omega arith)
   second_wrong one two (a ∷ []) d e defect many n right wrong = absurd (omega arith)
   second_wrong one two (a ∷ b ∷ []) d e defect many n right wrong = inr (many a.now b.now, inr (right, inl wrong))
   second_wrong one two (a ∷ b ∷ c ∷ words) d e defect many n right wrong = absurd (omega arith)
 
-  pub first_taken : (words : List (Bor (List ℕ))) (d : Bor (List ℕ)) (name : List ℕ) (found : Option Place) → length words ≡ 2 → is_name (get_or words 0 d).now ≡ true → name ≡ (get_or words 0 d).now → is_some found ≡ true → IfSome found (IsAt sessions name) → IsMisfit sessions (FreeName ∷ Number ∷ []) (texts words) SessionExists
+  pub first_taken : (words : List (Bor (List ℕ))) (d : Bor (List ℕ)) (name : List ℕ) (found : Option Place) → length words ≡ 2 → is_name (get_or words 0 d).now ≡ true → name ≡ (get_or words 0 d).now → is_some found ≡ true → IfSome found (IsAt sessions name) → IsMisfit sessions objects (FreeName ∷ Number ∷ []) (texts words) SessionExists
   first_taken [] d name found n its same some here = absurd (omega arith)
   first_taken (a ∷ []) d name found n its same some here = absurd (omega arith)
   first_taken (a ∷ b ∷ []) d name found n its same some here =
-      let place = taken-at name found some here in
+      let place = taken-at sessions name found some here in
       inr (tt, inl (its, (place.0, subst (λ (word : List ℕ). IsAt sessions word place.0) same place.1)))
   first_taken (a ∷ b ∷ c ∷ words) d name found n its same some here = absurd (omega arith)
 
-  pub second_of_three : (words : List (Bor (List ℕ))) (d e : Bor (List ℕ)) (defect : Defect) → length words ≡ 3 → IsRight sessions CallerName (get_or words 0 d).now → IsWrong sessions OpenName (get_or words 1 e).now defect → IsMisfit sessions (CallerName ∷ OpenName ∷ TagWord ∷ []) (texts words) defect
+  pub second_of_three : (words : List (Bor (List ℕ))) (d e : Bor (List ℕ)) (defect : Defect) → length words ≡ 3 → IsRight sessions objects CallerName (get_or words 0 d).now → IsWrong sessions objects OpenName (get_or words 1 e).now defect → IsMisfit sessions objects (CallerName ∷ OpenName ∷ TagWord ∷ []) (texts words) defect
   second_of_three [] d e defect n right wrong = absurd (omega arith)
   second_of_three (a ∷ []) d e defect n right wrong = absurd (omega arith)
   second_of_three (a ∷ b ∷ []) d e defect n right wrong = absurd (omega arith)
   second_of_three (a ∷ b ∷ c ∷ []) d e defect n right wrong = inr (tt, inr (right, inl wrong))
   second_of_three (a ∷ b ∷ c ∷ x ∷ words) d e defect n right wrong = absurd (omega arith)
 
-  pub third_of_three : (words : List (Bor (List ℕ))) (d e f : Bor (List ℕ)) (defect : Defect) → length words ≡ 3 → IsRight sessions CallerName (get_or words 0 d).now → IsRight sessions OpenName (get_or words 1 e).now → IsWrong sessions TagWord (get_or words 2 f).now defect → IsMisfit sessions (CallerName ∷ OpenName ∷ TagWord ∷ []) (texts words) defect
+  pub third_of_three : (words : List (Bor (List ℕ))) (d e f : Bor (List ℕ)) (defect : Defect) → length words ≡ 3 → IsRight sessions objects CallerName (get_or words 0 d).now → IsRight sessions objects OpenName (get_or words 1 e).now → IsWrong sessions objects TagWord (get_or words 2 f).now defect → IsMisfit sessions objects (CallerName ∷ OpenName ∷ TagWord ∷ []) (texts words) defect
   third_of_three [] d e f defect n right right' wrong = absurd (omega arith)
   third_of_three (a ∷ []) d e f defect n right right' wrong = absurd (omega arith)
   third_of_three (a ∷ b ∷ []) d e f defect n right right' wrong = absurd (omega arith)
   third_of_three (a ∷ b ∷ c ∷ []) d e f defect n right right' wrong = inr (tt, inr (right, inr (right', inl wrong)))
   third_of_three (a ∷ b ∷ c ∷ x ∷ words) d e f defect n right right' wrong = absurd (omega arith)
 
-  pub owner_wrong : (words : List (Bor (List ℕ))) (d e f k : Bor (List ℕ)) (target : Target) (defect : Defect) → length words ≡ 4 → NamesTarget sessions (get_or words 0 d).now (get_or words 1 e).now (get_or words 2 f).now target → IsWrong sessions OwnerWord (get_or words 3 k).now defect → IsMisfit sessions lock_words (texts words) defect
+  pub owner_wrong : (words : List (Bor (List ℕ))) (d e f k : Bor (List ℕ)) (target : Target) (defect : Defect) → length words ≡ 4 → NamesTarget sessions objects (get_or words 0 d).now (get_or words 1 e).now (get_or words 2 f).now target → IsWrong sessions objects OwnerWord (get_or words 3 k).now defect → IsMisfit sessions objects lock_words (texts words) defect
   owner_wrong [] d e f k target defect n h wrong = absurd (omega arith)
   owner_wrong (a ∷ []) d e f k target defect n h wrong = absurd (omega arith)
   owner_wrong (a ∷ b ∷ []) d e f k target defect n h wrong = absurd (omega arith)
   owner_wrong (a ∷ b ∷ c ∷ []) d e f k target defect n h wrong = absurd (omega arith)
   owner_wrong (a ∷ b ∷ c ∷ x ∷ []) d e f k target defect n h wrong =
-      inr (tt, inr (caller-right a.now target.caller h.0, inr (tag-right sessions b.now target.tag h.1, inr (mode-right sessions c.now target.mode h.2, inl wrong))))
+      inr (tt, inr (caller-right sessions a.now target.caller h.0, inr (tag-right sessions objects b.now target.tag h.1, inr (mode-right sessions objects c.now target.mode h.2, inl wrong))))
   owner_wrong (a ∷ b ∷ c ∷ x ∷ y ∷ words) d e f k target defect n h wrong = absurd (omega arith)
 
   -- Words of which each is right have no defect.
   abbrev AreRight : List WordKind → List (List ℕ) → Type 0
-  AreRight (kind ∷ kinds) (word ∷ words) = IsRight sessions kind word × AreRight kinds words
+  AreRight (kind ∷ kinds) (word ∷ words) = IsRight sessions objects kind word × AreRight kinds words
   AreRight _ _ = Unit {0}
 
-  none_wrong : (kinds : List WordKind) (words : List (List ℕ)) (defect : Defect) → AreRight kinds words → IsFirstWrong sessions kinds words defect → ⊥
+  none_wrong : (kinds : List WordKind) (words : List (List ℕ)) (defect : Defect) → AreRight kinds words → IsFirstWrong sessions objects kinds words defect → ⊥
   none_wrong [] words defect right wrong = wrong
   none_wrong (kind ∷ kinds) [] defect right wrong = wrong
   none_wrong (kind ∷ kinds) (word ∷ words) defect right (inl wrong) = right.0 defect wrong
@@ -203,75 +221,82 @@ module _ {S W : Type 0} (sessions : OpenSessions S W) where
   abbrev Fits : List WordKind → List (List ℕ) → Type 0
   Fits kinds words = AreAsMany kinds words × AreRight kinds words
 
-  not_misfit : (kinds : List WordKind) (words : List (List ℕ)) (defect : Defect) → Fits kinds words → IsMisfit sessions kinds words defect → ⊥
+  not_misfit : (kinds : List WordKind) (words : List (List ℕ)) (defect : Defect) → Fits kinds words → IsMisfit sessions objects kinds words defect → ⊥
   not_misfit kinds words defect fit (inl fewer) = fewer.1 fit.0
   not_misfit kinds words defect fit (inr wrong) = none_wrong kinds words defect fit.1 wrong.1
 
   fits-new : (words : List (List ℕ)) (name : ArrayString 16) (database : ℕ) → NamesNew sessions words name database → Fits (FreeName ∷ Number ∷ []) words
   fits-new [] name database h = absurd h
   fits-new (a ∷ []) name database h = absurd h
-  fits-new (a ∷ b ∷ []) name database h = (tt, (free-right a h.1 h.2, (number-right sessions b database h.3, tt)))
+  fits-new (a ∷ b ∷ []) name database h = (tt, (free-right sessions a h.1 h.2, (number-right sessions objects b database h.3, tt)))
   fits-new (a ∷ b ∷ c ∷ words) name database h = absurd h
 
   fits-actor : (words : List (List ℕ)) (caller : Caller) → NamesActor sessions words caller → Fits (CallerName ∷ []) words
   fits-actor [] caller h = absurd h
-  fits-actor (a ∷ []) caller h = (tt, (caller-right a caller h, tt))
+  fits-actor (a ∷ []) caller h = (tt, (caller-right sessions a caller h, tt))
   fits-actor (a ∷ b ∷ words) caller h = absurd h
 
-  fits-lone : (words : List (List ℕ)) (target : Target) → NamesLone sessions words target → Fits (CallerName ∷ TagWord ∷ ModeName ∷ []) words
+  fits-lone : (words : List (List ℕ)) (target : Target) → NamesLone sessions objects words target → Fits (CallerName ∷ TagWord ∷ ModeName ∷ []) words
   fits-lone [] target h = absurd h
   fits-lone (a ∷ []) target h = absurd h
   fits-lone (a ∷ b ∷ []) target h = absurd h
-  fits-lone (a ∷ b ∷ c ∷ []) target h = (tt, (caller-right a target.caller h.0, (tag-right sessions b target.tag h.1, (mode-right sessions c target.mode h.2, tt))))
+  fits-lone (a ∷ b ∷ c ∷ []) target h = (tt, (caller-right sessions a target.caller h.0, (tag-right sessions objects b target.tag h.1, (mode-right sessions objects c target.mode h.2, tt))))
   fits-lone (a ∷ b ∷ c ∷ x ∷ words) target h = absurd h
 
-  fits-owned : (words : List (List ℕ)) (target : Target) (owner : Owner) → NamesOwned sessions words target owner → Fits lock_words words
+  fits-owned : (words : List (List ℕ)) (target : Target) (owner : Owner) → NamesOwned sessions objects words target owner → Fits lock_words words
   fits-owned [] target owner h = absurd h
   fits-owned (a ∷ []) target owner h = absurd h
   fits-owned (a ∷ b ∷ []) target owner h = absurd h
-  fits-owned (a ∷ b ∷ c ∷ []) target owner h = (tt, (caller-right a target.caller h.0.0, (tag-right sessions b target.tag h.0.1, (mode-right sessions c target.mode h.0.2, tt))))
-  fits-owned (a ∷ b ∷ c ∷ x ∷ []) target owner h = (tt, (caller-right a target.caller h.0.0, (tag-right sessions b target.tag h.0.1, (mode-right sessions c target.mode h.0.2, (owner-right sessions x owner h.1, tt)))))
+  fits-owned (a ∷ b ∷ c ∷ []) target owner h = (tt, (caller-right sessions a target.caller h.0.0, (tag-right sessions objects b target.tag h.0.1, (mode-right sessions objects c target.mode h.0.2, tt))))
+  fits-owned (a ∷ b ∷ c ∷ x ∷ []) target owner h = (tt, (caller-right sessions a target.caller h.0.0, (tag-right sessions objects b target.tag h.0.1, (mode-right sessions objects c target.mode h.0.2, (owner-right sessions objects x owner h.1, tt)))))
   fits-owned (a ∷ b ∷ c ∷ x ∷ y ∷ words) target owner h = absurd h
 
   fits-both : (words : List (List ℕ)) (by : Caller) (other : Opened) → NamesBoth sessions words by other → Fits (CallerName ∷ OpenName ∷ []) words
   fits-both [] by other h = absurd h
   fits-both (a ∷ []) by other h = absurd h
-  fits-both (a ∷ b ∷ []) by other h = (tt, (caller-right a by h.0, (open-right b other h.1, tt)))
+  fits-both (a ∷ b ∷ []) by other h = (tt, (caller-right sessions a by h.0, (open-right sessions b other h.1, tt)))
   fits-both (a ∷ b ∷ c ∷ words) by other h = absurd h
 
-  fits-queue : (words : List (List ℕ)) (caller : Caller) (tag : Tag) → NamesQueue sessions words caller tag → Fits (CallerName ∷ TagWord ∷ []) words
+  fits-queue : (words : List (List ℕ)) (caller : Caller) (tag : Tag) → NamesQueue sessions objects words caller tag → Fits (CallerName ∷ TagWord ∷ []) words
   fits-queue [] caller tag h = absurd h
   fits-queue (a ∷ []) caller tag h = absurd h
-  fits-queue (a ∷ b ∷ []) caller tag h = (tt, (caller-right a caller h.0, (tag-right sessions b tag h.1, tt)))
+  fits-queue (a ∷ b ∷ []) caller tag h = (tt, (caller-right sessions a caller h.0, (tag-right sessions objects b tag h.1, tt)))
   fits-queue (a ∷ b ∷ c ∷ words) caller tag h = absurd h
 
-  fits-blocked : (words : List (List ℕ)) (by : Caller) (other : Opened) (tag : Tag) → NamesBlocked sessions words by other tag → Fits (CallerName ∷ OpenName ∷ TagWord ∷ []) words
+  fits-blocked : (words : List (List ℕ)) (by : Caller) (other : Opened) (tag : Tag) → NamesBlocked sessions objects words by other tag → Fits (CallerName ∷ OpenName ∷ TagWord ∷ []) words
   fits-blocked [] by other tag h = absurd h
   fits-blocked (a ∷ []) by other tag h = absurd h
   fits-blocked (a ∷ b ∷ []) by other tag h = absurd h
-  fits-blocked (a ∷ b ∷ c ∷ []) by other tag h = (tt, (caller-right a by h.0, (open-right b other h.1, (tag-right sessions c tag h.2, tt))))
+  fits-blocked (a ∷ b ∷ c ∷ []) by other tag h = (tt, (caller-right sessions a by h.0, (open-right sessions b other h.1, (tag-right sessions objects c tag h.2, tt))))
   fits-blocked (a ∷ b ∷ c ∷ x ∷ words) by other tag h = absurd h
 
   fits-count : (words : List (List ℕ)) (caller : Caller) (index : ℕ) → NamesCount sessions words caller index → Fits (CallerName ∷ CounterIndex ∷ []) words
   fits-count [] caller index h = absurd h
   fits-count (a ∷ []) caller index h = absurd h
-  fits-count (a ∷ b ∷ []) caller index h = (tt, (caller-right a caller h.0, (counter-right sessions b index h.1, tt)))
+  fits-count (a ∷ b ∷ []) caller index h = (tt, (caller-right sessions a caller h.0, (counter-right sessions objects b index h.1, tt)))
   fits-count (a ∷ b ∷ c ∷ words) caller index h = absurd h
 
-  fits-tag : (words : List (List ℕ)) (tag : Tag) → NamesTag words tag → Fits (TagWord ∷ []) words
+  fits-naming : (words : List (List ℕ)) (name : ArrayString 63) (tag : Tag) → NamesObject objects words name tag → Fits (FreeObjectName ∷ FreeTag ∷ []) words
+  fits-naming [] name tag h = absurd h
+  fits-naming (a ∷ []) name tag h = absurd h
+  fits-naming (a ∷ b ∷ []) name tag h = (tt, (free_name-right objects a h.1 h.2, (unnamed-right objects b tag h.3 h.4, tt)))
+  fits-naming (a ∷ b ∷ c ∷ words) name tag h = absurd h
+
+  fits-tag : (words : List (List ℕ)) (tag : Tag) → NamesTag objects words tag → Fits (TagWord ∷ []) words
   fits-tag [] tag h = absurd h
-  fits-tag (a ∷ []) tag h = (tt, (tag-right sessions a tag h, tt))
+  fits-tag (a ∷ []) tag h = (tt, (tag-right sessions objects a tag h, tt))
   fits-tag (a ∷ b ∷ words) tag h = absurd h
 
   -- A line whose words are a command's, and fit, is not refused.
-  not_refused : (verb known : List ℕ) (words : List (List ℕ)) (kinds : List WordKind) (defect : Defect) → verb ≡ known → words_behind known commands ≡ Some kinds → Fits kinds words → IsRefused sessions (words_behind verb commands) words defect → ⊥
+  not_refused : (verb known : List ℕ) (words : List (List ℕ)) (kinds : List WordKind) (defect : Defect) → verb ≡ known → words_behind known commands ≡ Some kinds → Fits kinds words → IsRefused sessions objects (words_behind verb commands) words defect → ⊥
   not_refused verb known words kinds defect is takes fit refused =
       let found : words_behind verb commands ≡ Some kinds =
       ap (λ (v : List ℕ). words_behind v commands) is ∙ takes in
-      not_misfit kinds words defect fit (subst (λ (o : Option (List WordKind)). IsRefused sessions o words defect) found refused)
+      not_misfit kinds words defect fit (subst (λ (o : Option (List WordKind)). IsRefused sessions objects o words defect) found refused)
 
-  command-not_refused : (verb : List ℕ) (words : List (List ℕ)) (defect : Defect) → IsRefused sessions (words_behind verb commands) words defect → (its : Command) → IsCommandOf sessions verb words its → ⊥
+  command-not_refused : (verb : List ℕ) (words : List (List ℕ)) (defect : Defect) → IsRefused sessions objects (words_behind verb commands) words defect → (its : Command) → IsCommandOf sessions objects verb words its → ⊥
   command-not_refused verb words defect r (Session name database) h = not_refused verb (codes "session") words _ defect h.0 refl (fits-new words name database h.1) r
+  command-not_refused verb words defect r (command.Name name tag) h = not_refused verb (codes "name") words _ defect h.0 refl (fits-naming words name tag h.1) r
   command-not_refused verb words defect r (Try target owner) h = not_refused verb (codes "try") words _ defect h.0 refl (fits-owned words target owner h.1) r
   command-not_refused verb words defect r (Fast target owner) h = not_refused verb (codes "fast") words _ defect h.0 refl (fits-owned words target owner h.1) r
   command-not_refused verb words defect r (Lock target owner) h = not_refused verb (codes "lock") words _ defect h.0 refl (fits-owned words target owner h.1) r
@@ -292,6 +317,6 @@ module _ {S W : Type 0} (sessions : OpenSessions S W) where
   command-not_refused verb words defect r (Close caller) h = not_refused verb (codes "close") words _ defect h.0 refl (fits-actor words caller h.1) r
 
   -- So a line that is refused means nothing.
-  pub means_nothing : (line : List (List ℕ)) (verb : List ℕ) (words : List (List ℕ)) (defect : Defect) → line ≡ verb ∷ words → slice_index_or verb 0 0 ≢ 35 → IsRefused sessions (words_behind verb commands) words defect → MeansNothing sessions line
+  pub means_nothing : (line : List (List ℕ)) (verb : List ℕ) (words : List (List ℕ)) (defect : Defect) → line ≡ verb ∷ words → slice_index_or verb 0 0 ≢ 35 → IsRefused sessions objects (words_behind verb commands) words defect → MeansNothing sessions objects line
   means_nothing line verb words defect is speaks refused =
-      subst (λ (l : List (List ℕ)). MeansNothing sessions l) (sym is) (speaks, command-not_refused verb words defect refused)
+      subst (λ (l : List (List ℕ)). MeansNothing sessions objects l) (sym is) (speaks, command-not_refused verb words defect refused)

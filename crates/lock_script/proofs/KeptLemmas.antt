@@ -1,6 +1,5 @@
 -- Lines of which the first is taken whose session doesn't wait.
 use Rattle.std.proofs.Common.{◌≡◌, ◌≢◌, ◌∙◌, ℕ, ◌<◌, suc, zero, Bool, true, false, cond, filter, List, [], ◌∷◌, length, get_or, remove, refl, ap, sym, subst, arith}
-use Rattle.std.specs.Str.{bytes_eq}
 use Rattle.std.proofs.lemmas.Slice.Eq.{bytes_eq-Decides}
 use Rattle.lock_script.specs.Kept.{is_of, IsKeptOrder}
 use Rattle.lock_script.specs.declared.kept.KeptLine.{KeptLine}

@@ -7,6 +7,7 @@ mod Known
 mod NameOrder
 mod NameLemmas
 mod TextBytes
+mod ObjectLemmas
 mod KeptLemmas
 mod WordLemmas
 pub mod Lending

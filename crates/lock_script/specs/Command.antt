@@ -1,7 +1,9 @@
-use Rattle.std.specs.Prelude.{◌≡◌, ◌<◌, ℕ, true, List}
+use Rattle.std.specs.Prelude.{◌≡◌, ◌<◌, ℕ, true, List, None}
 use Rattle.lock_script.specs.Names.{IsCalled}
+use Rattle.lock_script.specs.Objects.{name_given, tag_called}
 use Rattle.lock_script.specs.Sessions.{IsAt, MayAct, IsThere}
 use Rattle.lock_script.specs.Words.{is_name}
+use Rattle.lock_script.specs.declared.objects.NamedObject.{NamedObject}
 use Rattle.lock_script.specs.declared.sessions.OpenSessions.{OpenSessions}
 use Rattle.lock_script.specs.declared.sessions.Caller.{Caller}
 use Rattle.lock_script.specs.declared.sessions.Opened.{Opened}
@@ -14,10 +16,16 @@ abbrev pub NamesCounter : Command → Type 0
 NamesCounter (Count caller index) = index < 1024
 NamesCounter _ = Unit {0}
 
+-- The name that a command gives is no object's, and the object has none.
+abbrev pub NamesFree : List NamedObject → Command → Type 0
+NamesFree objects (command.Name name tag) = (tag_called objects name.bytes ≡ None) × (name_given objects tag ≡ None)
+NamesFree objects _ = Unit {0}
+
 module _ {S W : Type 0} where
   -- The session that a command addresses stands among those that don't wait; the one that a cancel asks is open.
   abbrev pub Addresses : OpenSessions S W → Command → Type 0
   Addresses sessions (Session name database) = Unit {0}
+  Addresses sessions (command.Name name tag) = Unit {0}
   Addresses sessions (Try target owner) = MayAct sessions target.caller.place
   Addresses sessions (Fast target owner) = MayAct sessions target.caller.place
   Addresses sessions (Lock target owner) = MayAct sessions target.caller.place

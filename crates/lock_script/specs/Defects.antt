@@ -1,18 +1,22 @@
 use Rattle.std.specs.Prelude.{◌≡◌, ◌≢◌, ◌⊎◌, ℕ, true, false, List, [], ◌∷◌, ◌++◌, ⊤, Option, Some, None, codes, if◌then◌else◌}
 use Rattle.std.specs.Str.{bytes_eq}
+use Rattle.arrayvec.specs.declared.array_string.ArrayString.{ArrayString}
 use Rattle.modes_core.specs.declared.modes.Mode.{Mode}
+use Rattle.modes_core.specs.declared.tags.Tag.{Tag}
 use Rattle.modes_core.specs.Mode.{name_of}
 use Rattle.lock_script.specs.Meaning.{IsSilent, Means}
 use Rattle.lock_script.specs.Names.{IsCalled, IsFree}
 use Rattle.lock_script.specs.Sessions.{IsAt, IsUnknown}
-use Rattle.lock_script.specs.Words.{is_name, number_in, strong_index_in, tag_of, owner_of}
+use Rattle.lock_script.specs.Objects.{is_object_name, name_given, tag_called, tag_in}
+use Rattle.lock_script.specs.Words.{is_name, number_in, strong_index_in, owner_of}
+use Rattle.lock_script.specs.declared.objects.NamedObject.{NamedObject}
 use Rattle.lock_script.specs.declared.sessions.OpenSessions.{OpenSessions}
 use Rattle.lock_script.specs.declared.sessions.Place.{Place}
 use Rattle.lock_script.specs.declared.command.Command.{Command}
 use Rattle.lock_script.specs.declared.commands.WordKind.{WordKind}
-use Rattle.lock_script.specs.declared.commands.WordKind.TheVariants.{FreeName, OpenName, CallerName, Number, CounterIndex, TagWord, ModeName, OwnerWord}
+use Rattle.lock_script.specs.declared.commands.WordKind.TheVariants.{FreeName, OpenName, CallerName, Number, CounterIndex, FreeObjectName, FreeTag, TagWord, ModeName, OwnerWord}
 use Rattle.lock_script.specs.declared.faults.Defect.{Defect}
-use Rattle.lock_script.specs.declared.faults.Defect.TheVariants.{UnknownCommand, WrongNumberOfWords, BadName, SessionExists, NoSuchSession, SessionWaits, BadNumber, BadObject, BadMode, BadOwner}
+use Rattle.lock_script.specs.declared.faults.Defect.TheVariants.{UnknownCommand, WrongNumberOfWords, BadName, SessionExists, NoSuchSession, SessionWaits, NameExists, BadNumber, BadObject, ObjectNamed, BadMode, BadOwner}
 
 -- Which defect a line has, where its words mean nothing.
 
@@ -20,11 +24,12 @@ use Rattle.lock_script.specs.declared.faults.Defect.TheVariants.{UnknownCommand,
 abbrev pub lock_words : List WordKind
 lock_words = CallerName ∷ TagWord ∷ ModeName ∷ OwnerWord ∷ []
 
--- The commands, each with the words behind it. First those that open or close a session, and that begin or end a
--- transaction's levels.
+-- The commands, each with the words behind it. First those that name an object, open or close a session, and begin or
+-- end a transaction's levels.
 abbrev pub session_commands : List (List ℕ × List WordKind)
 session_commands =
     (codes "session", FreeName ∷ Number ∷ [])
+    ∷ (codes "name", FreeObjectName ∷ FreeTag ∷ [])
     ∷ (codes "commit", CallerName ∷ [])
     ∷ (codes "abort", CallerName ∷ [])
     ∷ (codes "begin", CallerName ∷ [])
@@ -73,9 +78,29 @@ AreAsMany (kind ∷ kinds) (word ∷ words) = AreAsMany kinds words
 AreAsMany _ _ = ⊥
 
 -- why the words behind `hash` are no tag
-abbrev pub IsNoTag : List (List ℕ) → Defect → Type 0
-IsNoTag (word ∷ []) defect = (defect ≡ BadObject) × (tag_of word ≡ None)
-IsNoTag _ defect = defect ≡ WrongNumberOfWords
+abbrev pub IsNoTag : List NamedObject → List (List ℕ) → Defect → Type 0
+IsNoTag objects (word ∷ []) defect = (defect ≡ BadObject) × (tag_in objects word ≡ None)
+IsNoTag objects _ defect = defect ≡ WrongNumberOfWords
+
+-- why a word is no name that an object may be given
+abbrev pub IsTakenName : List NamedObject → List ℕ → Defect → Type 0
+IsTakenName objects word BadName = is_object_name word ≡ false
+IsTakenName objects word NameExists = (is_object_name word ≡ true) × ((tag : Tag) × (tag_called objects word ≡ Some tag))
+IsTakenName objects word _ = ⊥
+
+-- why a word stands for no object that may be given a name
+abbrev pub IsTakenTag : List NamedObject → List ℕ → Defect → Type 0
+IsTakenTag objects word BadObject = tag_in objects word ≡ None
+IsTakenTag objects word ObjectNamed =
+    (tag : Tag) × (name : ArrayString 63) × (tag_in objects word ≡ Some tag) × (name_given objects tag ≡ Some name)
+IsTakenTag objects word _ = ⊥
+
+-- why the words behind `name` name nothing
+abbrev pub IsNoNaming : List NamedObject → List (List ℕ) → Defect → Type 0
+IsNoNaming objects (name ∷ object ∷ []) defect =
+    IsTakenName objects name defect
+    ⊎ (((other : Defect) → ¬ IsTakenName objects name other) × IsTakenTag objects object defect)
+IsNoNaming objects _ defect = defect ≡ WrongNumberOfWords
 
 module _ {S W : Type 0} where
   -- why a word is not the name of an open session
@@ -97,42 +122,48 @@ module _ {S W : Type 0} where
   IsTaken sessions word _ = ⊥
 
   -- why a word is not of this kind
-  abbrev pub IsWrong : OpenSessions S W → WordKind → List ℕ → Defect → Type 0
-  IsWrong sessions FreeName word defect = IsTaken sessions word defect
-  IsWrong sessions OpenName word defect = IsUnnamed sessions word defect
-  IsWrong sessions CallerName word defect = IsBarred sessions word defect
-  IsWrong sessions Number word defect = (defect ≡ BadNumber) × (number_in word ≡ None)
-  IsWrong sessions CounterIndex word defect = (defect ≡ BadNumber) × (strong_index_in word ≡ None)
-  IsWrong sessions TagWord word defect = (defect ≡ BadObject) × (tag_of word ≡ None)
-  IsWrong sessions ModeName word defect = (defect ≡ BadMode) × ((mode : Mode) → name_of mode ≢ word)
-  IsWrong sessions OwnerWord word defect = (defect ≡ BadOwner) × (owner_of word ≡ None)
+  abbrev pub IsWrong : OpenSessions S W → List NamedObject → WordKind → List ℕ → Defect → Type 0
+  IsWrong sessions objects FreeName word defect = IsTaken sessions word defect
+  IsWrong sessions objects OpenName word defect = IsUnnamed sessions word defect
+  IsWrong sessions objects CallerName word defect = IsBarred sessions word defect
+  IsWrong sessions objects Number word defect = (defect ≡ BadNumber) × (number_in word ≡ None)
+  IsWrong sessions objects CounterIndex word defect = (defect ≡ BadNumber) × (strong_index_in word ≡ None)
+  IsWrong sessions objects FreeObjectName word defect = IsTakenName objects word defect
+  IsWrong sessions objects FreeTag word defect = IsTakenTag objects word defect
+  IsWrong sessions objects TagWord word defect = (defect ≡ BadObject) × (tag_in objects word ≡ None)
+  IsWrong sessions objects ModeName word defect = (defect ≡ BadMode) × ((mode : Mode) → name_of mode ≢ word)
+  IsWrong sessions objects OwnerWord word defect = (defect ≡ BadOwner) × (owner_of word ≡ None)
 
   -- nothing is wrong with a word of this kind
-  abbrev pub IsRight : OpenSessions S W → WordKind → List ℕ → Type 0
-  IsRight sessions kind word = (defect : Defect) → ¬ IsWrong sessions kind word defect
+  abbrev pub IsRight : OpenSessions S W → List NamedObject → WordKind → List ℕ → Type 0
+  IsRight sessions objects kind word = (defect : Defect) → ¬ IsWrong sessions objects kind word defect
 
   -- the defect is that of the first word that is wrong
-  abbrev pub IsFirstWrong : OpenSessions S W → List WordKind → List (List ℕ) → Defect → Type 0
-  IsFirstWrong sessions (kind ∷ kinds) (word ∷ words) defect =
-      IsWrong sessions kind word defect ⊎ (IsRight sessions kind word × IsFirstWrong sessions kinds words defect)
-  IsFirstWrong sessions _ _ defect = ⊥
+  abbrev pub IsFirstWrong : OpenSessions S W → List NamedObject → List WordKind → List (List ℕ) → Defect → Type 0
+  IsFirstWrong sessions objects (kind ∷ kinds) (word ∷ words) defect =
+      IsWrong sessions objects kind word defect ⊎ (IsRight sessions objects kind word × IsFirstWrong sessions objects kinds words defect)
+  IsFirstWrong sessions objects _ _ defect = ⊥
 
   -- why words are not of these kinds: by their number, or else by the first of them that is wrong
-  abbrev pub IsMisfit : OpenSessions S W → List WordKind → List (List ℕ) → Defect → Type 0
-  IsMisfit sessions kinds words defect =
+  abbrev pub IsMisfit : OpenSessions S W → List NamedObject → List WordKind → List (List ℕ) → Defect → Type 0
+  IsMisfit sessions objects kinds words defect =
       ((defect ≡ WrongNumberOfWords) × (¬ AreAsMany kinds words))
-      ⊎ (AreAsMany kinds words × IsFirstWrong sessions kinds words defect)
+      ⊎ (AreAsMany kinds words × IsFirstWrong sessions objects kinds words defect)
+
+  -- why they are not, whichever objects have names
+  abbrev pub IsMisfitAnyway : OpenSessions S W → List WordKind → List (List ℕ) → Defect → Type 0
+  IsMisfitAnyway sessions kinds words defect = (objects : List NamedObject) → IsMisfit sessions objects kinds words defect
 
   -- why they don't stand behind a command, or that there is no such command
-  abbrev pub IsRefused : OpenSessions S W → Option (List WordKind) → List (List ℕ) → Defect → Type 0
-  IsRefused sessions None words defect = defect ≡ UnknownCommand
-  IsRefused sessions (Some kinds) words defect = IsMisfit sessions kinds words defect
+  abbrev pub IsRefused : OpenSessions S W → List NamedObject → Option (List WordKind) → List (List ℕ) → Defect → Type 0
+  IsRefused sessions objects None words defect = defect ≡ UnknownCommand
+  IsRefused sessions objects (Some kinds) words defect = IsMisfit sessions objects kinds words defect
 
   -- the defect of a line's words
-  abbrev pub IsDefectOf : OpenSessions S W → List (List ℕ) → Defect → Type 0
-  IsDefectOf sessions [] defect = ⊥
-  IsDefectOf sessions (verb ∷ words) defect = IsRefused sessions (words_behind verb commands) words defect
+  abbrev pub IsDefectOf : OpenSessions S W → List NamedObject → List (List ℕ) → Defect → Type 0
+  IsDefectOf sessions objects [] defect = ⊥
+  IsDefectOf sessions objects (verb ∷ words) defect = IsRefused sessions objects (words_behind verb commands) words defect
 
   -- The words of a line are neither silent nor a command.
-  abbrev pub MeansNothing : OpenSessions S W → List (List ℕ) → Type 0
-  MeansNothing sessions words = (¬ IsSilent words) × ((command : Command) → ¬ Means sessions words command)
+  abbrev pub MeansNothing : OpenSessions S W → List NamedObject → List (List ℕ) → Type 0
+  MeansNothing sessions objects words = (¬ IsSilent words) × ((command : Command) → ¬ Means sessions objects words command)

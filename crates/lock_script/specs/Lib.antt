@@ -7,6 +7,7 @@ pub mod Lines
 pub mod Meaning
 pub mod Names
 pub mod Words
+pub mod Objects
 pub mod Kept
 pub mod Lending
 pub mod Rows

@@ -1,18 +1,18 @@
 //! The commands of the script language, and the parse of their words.
-ghost use Rattle.std.specs.Prelude.{◌≡◌, [], ◌∷◌, ◌++◌, map, take, Some, IfOk, IfErr, IfSome, MatchOption};
+ghost use Rattle.std.specs.Prelude.{◌≡◌, [], ◌∷◌, ◌++◌, map, take, true, Some, None, IfOk, IfErr, IfSome, MatchOption};
 ghost use Rattle.modes_core.specs.Mode.{name_of};
-ghost use Rattle.lock_script.specs.Command.{Addresses, NamesCounter, NamesOpen, NamesCaller};
-ghost use Rattle.lock_script.specs.Defects.{IsBarred, IsDefectOf, IsFirstWrong, IsMisfit, IsNoTag, IsRefused, IsUnnamed, MeansNothing, commands, lock_commands, lock_words, look_commands, words_behind};
+ghost use Rattle.lock_script.specs.Command.{Addresses, NamesCounter, NamesFree, NamesOpen, NamesCaller};
+ghost use Rattle.lock_script.specs.Defects.{IsBarred, IsDefectOf, IsFirstWrong, IsMisfit, IsMisfitAnyway, IsNoNaming, IsNoTag, IsRefused, IsTakenName, IsTakenTag, IsUnnamed, MeansNothing, commands, lock_commands, lock_words, look_commands, words_behind};
 ghost use Rattle.lock_script.specs.declared.commands.WordKind.TheVariants.{CallerName, CounterIndex, FreeName, ModeName, Number, OpenName, TagWord};
-ghost use Rattle.lock_script.specs.Meaning.{IsCommandOf, IsSilent, Means, NamesActor, NamesBlocked, NamesBoth, NamesCount, NamesLone, NamesNew, NamesOwned, NamesQueue, NamesTag};
-ghost use Rattle.lock_script.specs.Words.{tag_of, words_of};
+ghost use Rattle.lock_script.specs.Meaning.{IsCommandOf, IsSilent, Means, NamesActor, NamesBlocked, NamesBoth, NamesCount, NamesLone, NamesNew, NamesObject, NamesOwned, NamesQueue, NamesTag};
+ghost use Rattle.lock_script.specs.Objects.{is_object_name, name_given, tag_called, tag_in};
+ghost use Rattle.lock_script.specs.Words.{words_of};
 
 use crate::faults::Defect;
 use crate::names::Name;
+use crate::objects::{ObjectName, ObjectNames, parse_object, parse_object_name};
 use crate::sessions::{Caller, OpenSessions, Opened, Place};
-use crate::words::{
-    parse_name, parse_number, parse_owner, parse_strong_index, parse_tag, split_words,
-};
+use crate::words::{parse_name, parse_number, parse_owner, parse_strong_index, split_words};
 use modes_core::{Mode, Owner, Tag};
 
 /// Which lock a line is about, and whose.
@@ -28,6 +28,8 @@ pub struct Target {
 pub enum Command {
     /// `session NAME DB`
     Session { name: Name, database: u32 },
+    /// `name OBJECT TAG`
+    Name { name: ObjectName, tag: Tag },
     /// `try NAME TAG MODE OWNER`
     Try(Target, Owner),
     /// `fast NAME TAG MODE OWNER`
@@ -68,13 +70,18 @@ pub enum Command {
 
 /// What the line asks for, or `None` of a line with no word and of a comment. The first six words say it, since no
 /// command has as many.
-pub fn parse<S, W>(line: &str, sessions: &OpenSessions<S, W>) -> Result<Option<Command>, Defect>
+pub fn parse<S, W>(
+    line: &str,
+    sessions: &OpenSessions<S, W>,
+    objects: &ObjectNames,
+) -> Result<Option<Command>, Defect>
     ensures addressed { IfOk result (λ command. IfSome command (Addresses sessions.now)) }
     ensures counter { IfOk result (λ command. IfSome command NamesCounter) }
+    ensures free { IfOk result (λ command. IfSome command (NamesFree objects.now)) }
     ensures meaning { IfOk result (λ command. MatchOption command (IsSilent (take 6 (words_of line.now)))
-        (Means sessions.now (take 6 (words_of line.now)))) }
-    ensures refused { IfErr result (λ _. MeansNothing sessions.now (take 6 (words_of line.now))) }
-    ensures defect { IfErr result (IsDefectOf sessions.now (take 6 (words_of line.now))) }
+        (Means sessions.now objects.now (take 6 (words_of line.now)))) }
+    ensures refused { IfErr result (λ _. MeansNothing sessions.now objects.now (take 6 (words_of line.now))) }
+    ensures defect { IfErr result (IsDefectOf sessions.now objects.now (take 6 (words_of line.now))) }
 {
     let words = split_words(line);
     let Some((verb, words)) = words.as_slice().split_first() else {
@@ -83,19 +90,20 @@ pub fn parse<S, W>(line: &str, sessions: &OpenSessions<S, W>) -> Result<Option<C
     if verb.starts_with('#') {
         return Ok(None);
     }
-    let command = parse_command(*verb, words, sessions)?;
+    let command = parse_command(*verb, words, sessions, objects)?;
     Ok(Some(command))
 }
 
-/// The command of this first word and the words behind it. Here are those that open or close a session, and that
-/// begin or end a transaction's levels.
+/// The command of this first word and the words behind it. Here are those that name an object, open or close a
+/// session, and begin or end a transaction's levels.
 fn parse_command<S, W>(
     verb: &str,
     words: &[&str],
     sessions: &OpenSessions<S, W>,
+    objects: &ObjectNames,
 ) -> Result<Command, Defect>
-    ensures meaning { IfOk result (IsCommandOf sessions.now verb.now (map (λ word. word.now) words.now)) }
-    ensures refused { IfErr result (IsRefused sessions.now
+    ensures meaning { IfOk result (IsCommandOf sessions.now objects.now verb.now (map (λ word. word.now) words.now)) }
+    ensures refused { IfErr result (IsRefused sessions.now objects.now
         (words_behind verb.now commands) (map (λ word. word.now) words.now)) }
 {
     match verb {
@@ -103,13 +111,17 @@ fn parse_command<S, W>(
             let (name, database) = parse_session(words, sessions)?;
             Ok(Command::Session { name, database })
         }
+        "name" => {
+            let (name, tag) = parse_naming(words, objects)?;
+            Ok(Command::Name { name, tag })
+        }
         "commit" => Ok(Command::Commit(parse_lone_caller(words, sessions)?)),
         "abort" => Ok(Command::Abort(parse_lone_caller(words, sessions)?)),
         "begin" => Ok(Command::Begin(parse_lone_caller(words, sessions)?)),
         "subcommit" => Ok(Command::SubCommit(parse_lone_caller(words, sessions)?)),
         "subabort" => Ok(Command::SubAbort(parse_lone_caller(words, sessions)?)),
         "close" => Ok(Command::Close(parse_lone_caller(words, sessions)?)),
-        _ => parse_lock_command(verb, words, sessions),
+        _ => parse_lock_command(verb, words, sessions, objects),
     }
 }
 
@@ -118,33 +130,34 @@ fn parse_lock_command<S, W>(
     verb: &str,
     words: &[&str],
     sessions: &OpenSessions<S, W>,
+    objects: &ObjectNames,
 ) -> Result<Command, Defect>
-    ensures meaning { IfOk result (IsCommandOf sessions.now verb.now (map (λ word. word.now) words.now)) }
-    ensures refused { IfErr result (IsRefused sessions.now
+    ensures meaning { IfOk result (IsCommandOf sessions.now objects.now verb.now (map (λ word. word.now) words.now)) }
+    ensures refused { IfErr result (IsRefused sessions.now objects.now
         (words_behind verb.now (lock_commands ++ look_commands)) (map (λ word. word.now) words.now)) }
 {
     match verb {
         "try" => {
-            let (target, owner) = parse_owned_target(words, sessions)?;
+            let (target, owner) = parse_owned_target(words, sessions, objects)?;
             Ok(Command::Try(target, owner))
         }
         "fast" => {
-            let (target, owner) = parse_owned_target(words, sessions)?;
+            let (target, owner) = parse_owned_target(words, sessions, objects)?;
             Ok(Command::Fast(target, owner))
         }
         "lock" => {
-            let (target, owner) = parse_owned_target(words, sessions)?;
+            let (target, owner) = parse_owned_target(words, sessions, objects)?;
             Ok(Command::Lock(target, owner))
         }
         "unlock" => {
-            let (target, owner) = parse_owned_target(words, sessions)?;
+            let (target, owner) = parse_owned_target(words, sessions, objects)?;
             Ok(Command::Unlock(target, owner))
         }
         "cancel" => {
             let (by, other) = parse_cancel(words, sessions)?;
             Ok(Command::Cancel(by, other))
         }
-        _ => parse_look_command(verb, words, sessions),
+        _ => parse_look_command(verb, words, sessions, objects),
     }
 }
 
@@ -153,20 +166,21 @@ fn parse_look_command<S, W>(
     verb: &str,
     words: &[&str],
     sessions: &OpenSessions<S, W>,
+    objects: &ObjectNames,
 ) -> Result<Command, Defect>
-    ensures meaning { IfOk result (IsCommandOf sessions.now verb.now (map (λ word. word.now) words.now)) }
-    ensures refused { IfErr result (IsRefused sessions.now
+    ensures meaning { IfOk result (IsCommandOf sessions.now objects.now verb.now (map (λ word. word.now) words.now)) }
+    ensures refused { IfErr result (IsRefused sessions.now objects.now
         (words_behind verb.now look_commands) (map (λ word. word.now) words.now)) }
 {
     match verb {
-        "owned" => Ok(Command::Owned(parse_lone_target(words, sessions)?)),
-        "waiters" => Ok(Command::Waiters(parse_lone_target(words, sessions)?)),
+        "owned" => Ok(Command::Owned(parse_lone_target(words, sessions, objects)?)),
+        "waiters" => Ok(Command::Waiters(parse_lone_target(words, sessions, objects)?)),
         "queue" => {
-            let (caller, tag) = parse_queue(words, sessions)?;
+            let (caller, tag) = parse_queue(words, sessions, objects)?;
             Ok(Command::Queue(caller, tag))
         }
         "blockers" => {
-            let (by, other, tag) = parse_blockers(words, sessions)?;
+            let (by, other, tag) = parse_blockers(words, sessions, objects)?;
             Ok(Command::Blockers(by, other, tag))
         }
         "list" => Ok(Command::List(parse_lone_caller(words, sessions)?)),
@@ -174,7 +188,7 @@ fn parse_look_command<S, W>(
             let (caller, index) = parse_count(words, sessions)?;
             Ok(Command::Count(caller, index))
         }
-        "hash" => Ok(Command::Hash(parse_hash(words)?)),
+        "hash" => Ok(Command::Hash(parse_hash(words, objects)?)),
         _ => Err(Defect::UnknownCommand),
     }
 }
@@ -183,7 +197,7 @@ fn parse_look_command<S, W>(
 fn parse_session<S, W>(words: &[&str], sessions: &OpenSessions<S, W>) -> Result<(Name, u32), Defect>
     ensures named { IfOk result (λ parsed.
         NamesNew sessions.now (map (λ word. word.now) words.now) parsed.0 parsed.1) }
-    ensures refused { IfErr result (IsMisfit sessions.now (FreeName ∷ Number ∷ [])
+    ensures refused { IfErr result (IsMisfitAnyway sessions.now (FreeName ∷ Number ∷ [])
         (map (λ word. word.now) words.now)) }
 {
     let [name, database] = words else {
@@ -197,22 +211,63 @@ fn parse_session<S, W>(words: &[&str], sessions: &OpenSessions<S, W>) -> Result<
     Ok((name, database))
 }
 
+/// The words behind `name`: a name that no object has, and an object that has none.
+fn parse_naming(words: &[&str], objects: &ObjectNames) -> Result<(ObjectName, Tag), Defect>
+    ensures named { IfOk result (λ parsed.
+        NamesObject objects.now (map (λ word. word.now) words.now) parsed.0 parsed.1) }
+    ensures refused { IfErr result (IsNoNaming objects.now (map (λ word. word.now) words.now)) }
+{
+    let [name, object] = words else {
+        return Err(Defect::WrongNumberOfWords);
+    };
+    let name = parse_free_name(name, objects)?;
+    let tag = parse_unnamed(object, objects)?;
+    Ok((name, tag))
+}
+
+/// A name that no object has.
+fn parse_free_name(word: &str, objects: &ObjectNames) -> Result<ObjectName, Defect>
+    ensures name { IfOk result (λ name. (name.bytes ≡ word.now) × (is_object_name word.now ≡ true)) }
+    ensures free { IfOk result (λ name. tag_called objects.now word.now ≡ None) }
+    ensures refused { IfErr result (IsTakenName objects.now word.now) }
+{
+    let name = parse_object_name(word).ok_or(Defect::BadName)?;
+    match objects.tag_called(word) {
+        None => Ok(name),
+        Some(_) => Err(Defect::NameExists),
+    }
+}
+
+/// An object that has no name.
+fn parse_unnamed(word: &str, objects: &ObjectNames) -> Result<Tag, Defect>
+    ensures tag { IfOk result (λ tag. tag_in objects.now word.now ≡ Some tag) }
+    ensures unnamed { IfOk result (λ tag. name_given objects.now tag ≡ None) }
+    ensures refused { IfErr result (IsTakenTag objects.now word.now) }
+{
+    let tag = parse_object(word, objects).ok_or(Defect::BadObject)?;
+    match objects.name_of(tag) {
+        None => Ok(tag),
+        Some(_) => Err(Defect::ObjectNamed),
+    }
+}
+
 /// The words behind `try`, `fast`, `lock` and `unlock`. Where there is no fourth one the owner is the transaction.
 fn parse_owned_target<S, W>(
     words: &[&str],
     sessions: &OpenSessions<S, W>,
+    objects: &ObjectNames,
 ) -> Result<(Target, Owner), Defect>
     ensures named { IfOk result (λ parsed.
-        NamesOwned sessions.now (map (λ word. word.now) words.now) parsed.0 parsed.1) }
-    ensures refused { IfErr result (IsMisfit sessions.now lock_words (map (λ word. word.now) words.now)) }
+        NamesOwned sessions.now objects.now (map (λ word. word.now) words.now) parsed.0 parsed.1) }
+    ensures refused { IfErr result (IsMisfit sessions.now objects.now lock_words (map (λ word. word.now) words.now)) }
 {
     match words {
         [name, tag, mode] => {
-            let target = parse_target(name, tag, mode, sessions)?;
+            let target = parse_target(name, tag, mode, sessions, objects)?;
             Ok((target, Owner::Transaction))
         }
         [name, tag, mode, owner] => {
-            let target = parse_target(name, tag, mode, sessions)?;
+            let target = parse_target(name, tag, mode, sessions, objects)?;
             let owner = parse_owner(owner).ok_or(Defect::BadOwner)?;
             Ok((target, owner))
         }
@@ -221,15 +276,19 @@ fn parse_owned_target<S, W>(
 }
 
 /// The words behind `owned` and `waiters`.
-fn parse_lone_target<S, W>(words: &[&str], sessions: &OpenSessions<S, W>) -> Result<Target, Defect>
-    ensures named { IfOk result (NamesLone sessions.now (map (λ word. word.now) words.now)) }
-    ensures refused { IfErr result (IsMisfit sessions.now (CallerName ∷ TagWord ∷ ModeName ∷ [])
+fn parse_lone_target<S, W>(
+    words: &[&str],
+    sessions: &OpenSessions<S, W>,
+    objects: &ObjectNames,
+) -> Result<Target, Defect>
+    ensures named { IfOk result (NamesLone sessions.now objects.now (map (λ word. word.now) words.now)) }
+    ensures refused { IfErr result (IsMisfit sessions.now objects.now (CallerName ∷ TagWord ∷ ModeName ∷ [])
         (map (λ word. word.now) words.now)) }
 {
     let [name, tag, mode] = words else {
         return Err(Defect::WrongNumberOfWords);
     };
-    parse_target(name, tag, mode, sessions)
+    parse_target(name, tag, mode, sessions, objects)
 }
 
 /// Which lock three words are about, and whose.
@@ -238,15 +297,16 @@ fn parse_target<S, W>(
     tag: &str,
     mode: &str,
     sessions: &OpenSessions<S, W>,
+    objects: &ObjectNames,
 ) -> Result<Target, Defect>
     ensures named { IfOk result (λ target. NamesCaller sessions.now name.now target.caller) }
-    ensures tag { IfOk result (λ target. tag_of tag.now ≡ Some target.tag) }
+    ensures tag { IfOk result (λ target. tag_in objects.now tag.now ≡ Some target.tag) }
     ensures mode { IfOk result (λ target. name_of target.mode ≡ mode.now) }
-    ensures refused { IfErr result (IsFirstWrong sessions.now (CallerName ∷ TagWord ∷ ModeName ∷ [])
+    ensures refused { IfErr result (IsFirstWrong sessions.now objects.now (CallerName ∷ TagWord ∷ ModeName ∷ [])
         (name.now ∷ tag.now ∷ mode.now ∷ [])) }
 {
     let caller = parse_caller(name, sessions)?;
-    let tag = parse_tag(tag).ok_or(Defect::BadObject)?;
+    let tag = parse_object(tag, objects).ok_or(Defect::BadObject)?;
     let mode = Mode::from_name(mode).ok_or(Defect::BadMode)?;
     Ok(Target { caller, tag, mode })
 }
@@ -254,7 +314,7 @@ fn parse_target<S, W>(
 /// The word behind a command that takes a session's name alone.
 fn parse_lone_caller<S, W>(words: &[&str], sessions: &OpenSessions<S, W>) -> Result<Caller, Defect>
     ensures named { IfOk result (NamesActor sessions.now (map (λ word. word.now) words.now)) }
-    ensures refused { IfErr result (IsMisfit sessions.now (CallerName ∷ []) (map (λ word. word.now) words.now)) }
+    ensures refused { IfErr result (IsMisfitAnyway sessions.now (CallerName ∷ []) (map (λ word. word.now) words.now)) }
 {
     let [name] = words else {
         return Err(Defect::WrongNumberOfWords);
@@ -263,28 +323,32 @@ fn parse_lone_caller<S, W>(words: &[&str], sessions: &OpenSessions<S, W>) -> Res
 }
 
 /// The word behind `hash`.
-fn parse_hash(words: &[&str]) -> Result<Tag, Defect>
-    ensures named { IfOk result (NamesTag (map (λ word. word.now) words.now)) }
-    ensures refused { IfErr result (IsNoTag (map (λ word. word.now) words.now)) }
+fn parse_hash(words: &[&str], objects: &ObjectNames) -> Result<Tag, Defect>
+    ensures named { IfOk result (NamesTag objects.now (map (λ word. word.now) words.now)) }
+    ensures refused { IfErr result (IsNoTag objects.now (map (λ word. word.now) words.now)) }
 {
     let [tag] = words else {
         return Err(Defect::WrongNumberOfWords);
     };
-    parse_tag(tag).ok_or(Defect::BadObject)
+    parse_object(tag, objects).ok_or(Defect::BadObject)
 }
 
 /// The words behind `queue`: who looks, and at the queue of which object.
-fn parse_queue<S, W>(words: &[&str], sessions: &OpenSessions<S, W>) -> Result<(Caller, Tag), Defect>
+fn parse_queue<S, W>(
+    words: &[&str],
+    sessions: &OpenSessions<S, W>,
+    objects: &ObjectNames,
+) -> Result<(Caller, Tag), Defect>
     ensures named { IfOk result (λ parsed.
-        NamesQueue sessions.now (map (λ word. word.now) words.now) parsed.0 parsed.1) }
-    ensures refused { IfErr result (IsMisfit sessions.now (CallerName ∷ TagWord ∷ [])
+        NamesQueue sessions.now objects.now (map (λ word. word.now) words.now) parsed.0 parsed.1) }
+    ensures refused { IfErr result (IsMisfit sessions.now objects.now (CallerName ∷ TagWord ∷ [])
         (map (λ word. word.now) words.now)) }
 {
     let [name, object] = words else {
         return Err(Defect::WrongNumberOfWords);
     };
     let caller = parse_caller(name, sessions)?;
-    let object = parse_tag(object).ok_or(Defect::BadObject)?;
+    let object = parse_object(object, objects).ok_or(Defect::BadObject)?;
     Ok((caller, object))
 }
 
@@ -292,10 +356,11 @@ fn parse_queue<S, W>(words: &[&str], sessions: &OpenSessions<S, W>) -> Result<(C
 fn parse_blockers<S, W>(
     words: &[&str],
     sessions: &OpenSessions<S, W>,
+    objects: &ObjectNames,
 ) -> Result<(Caller, Opened, Tag), Defect>
     ensures named { IfOk result (λ parsed.
-        NamesBlocked sessions.now (map (λ word. word.now) words.now) parsed.0 parsed.1 parsed.2) }
-    ensures refused { IfErr result (IsMisfit sessions.now (CallerName ∷ OpenName ∷ TagWord ∷ [])
+        NamesBlocked sessions.now objects.now (map (λ word. word.now) words.now) parsed.0 parsed.1 parsed.2) }
+    ensures refused { IfErr result (IsMisfit sessions.now objects.now (CallerName ∷ OpenName ∷ TagWord ∷ [])
         (map (λ word. word.now) words.now)) }
 {
     let [by, other, object] = words else {
@@ -303,7 +368,7 @@ fn parse_blockers<S, W>(
     };
     let by = parse_caller(by, sessions)?;
     let other = parse_opened(other, sessions)?;
-    let object = parse_tag(object).ok_or(Defect::BadObject)?;
+    let object = parse_object(object, objects).ok_or(Defect::BadObject)?;
     Ok((by, other, object))
 }
 
@@ -311,7 +376,7 @@ fn parse_blockers<S, W>(
 fn parse_count<S, W>(words: &[&str], sessions: &OpenSessions<S, W>) -> Result<(Caller, u16), Defect>
     ensures named { IfOk result (λ parsed.
         NamesCount sessions.now (map (λ word. word.now) words.now) parsed.0 parsed.1) }
-    ensures refused { IfErr result (IsMisfit sessions.now (CallerName ∷ CounterIndex ∷ [])
+    ensures refused { IfErr result (IsMisfitAnyway sessions.now (CallerName ∷ CounterIndex ∷ [])
         (map (λ word. word.now) words.now)) }
 {
     let [name, index] = words else {
@@ -329,7 +394,7 @@ fn parse_cancel<S, W>(
 ) -> Result<(Caller, Opened), Defect>
     ensures named { IfOk result (λ parsed.
         NamesBoth sessions.now (map (λ word. word.now) words.now) parsed.0 parsed.1) }
-    ensures refused { IfErr result (IsMisfit sessions.now (CallerName ∷ OpenName ∷ [])
+    ensures refused { IfErr result (IsMisfitAnyway sessions.now (CallerName ∷ OpenName ∷ [])
         (map (λ word. word.now) words.now)) }
 {
     let [by, other] = words else {

@@ -17,7 +17,11 @@ pub enum WordKind {
     Number,
     /// The index of a strong lock counter, 0 to 1023.
     CounterIndex,
-    /// The lock tag of an object.
+    /// A name that no object has.
+    FreeObjectName,
+    /// The lock tag or the name of an object that has no name.
+    FreeTag,
+    /// The lock tag or the name of an object.
     TagWord,
     /// The name of a lock mode.
     ModeName,
@@ -45,12 +49,21 @@ pub struct CommandRow {
 }
 
 /// All commands, in the order of the help.
-static COMMANDS: [CommandRow; 19] = [
+static COMMANDS: [CommandRow; 20] = [
     CommandRow {
         verb: "session",
         kinds: &[WordKind::FreeName, WordKind::Number],
         form: "NAME DB",
         help: "open a session of a database",
+        help_below: "",
+        looks: false,
+        may_wait: false,
+    },
+    CommandRow {
+        verb: "name",
+        kinds: &[WordKind::FreeObjectName, WordKind::FreeTag],
+        form: "OBJECT TAG",
+        help: "give an object a name, which stands for its tag",
         help_below: "",
         looks: false,
         may_wait: false,

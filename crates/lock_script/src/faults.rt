@@ -21,6 +21,8 @@ pub enum Defect {
     BadName,
     #[error("session exists")]
     SessionExists,
+    #[error("name exists")]
+    NameExists,
     #[error("no such session")]
     NoSuchSession,
     #[error("session waits")]
@@ -29,6 +31,8 @@ pub enum Defect {
     BadNumber,
     #[error("bad object")]
     BadObject,
+    #[error("object has a name")]
+    ObjectNamed,
     #[error("bad mode")]
     BadMode,
     #[error("bad owner")]

@@ -8,6 +8,7 @@ use crate::command::parse;
 use crate::commands::{WordKind, command_row};
 use crate::faults::Defect;
 use crate::names::{MOST_SESSIONS, Name};
+use crate::objects::ObjectNames;
 use crate::sessions::{ByName, OpenSessions};
 use crate::words::{parse_name, split_words};
 use std::alloc::{AllocError, Global};
@@ -115,6 +116,7 @@ impl KeptLines {
         alloc: Global,
         line: &str,
         sessions: &OpenSessions<S, W>,
+        objects: &ObjectNames,
     ) -> Result<Option<Defect>, AllocError> {
         let mut open = OpenSessions::new(alloc)?;
         put_all(&mut open, &sessions.resting);
@@ -122,7 +124,7 @@ impl KeptLines {
         for kept in &self.lines {
             follow(&mut open, kept);
         }
-        Ok(parse(line, &open).err())
+        Ok(parse(line, &open, objects).err())
     }
 }
 

@@ -1,5 +1,5 @@
-//! The language of scripts of lock calls: the lines of a reader, their words, the open sessions by their names, and the
-//! command that a line is. It knows nothing of a lock manager: what a session is, is left to whoever runs scripts.
+//! The language of scripts of lock calls: the lines of a reader, their words, the open sessions and the objects by
+//! their names, and the command that a line is. It knows nothing of a lock manager: what a session is, is left to whoever runs scripts.
 #![tactic(auto)]
 
 mod bytes;
@@ -9,6 +9,7 @@ mod faults;
 mod kept;
 mod lines;
 mod names;
+mod objects;
 mod sessions;
 mod words;
 
@@ -18,7 +19,8 @@ pub use commands::{CommandRow, WordKind, command_row, command_rows};
 pub use faults::{Defect, Fault};
 pub use kept::{KeptLine, KeptLines};
 pub use lines::{Line, LineReader};
-pub use names::{Name, Names};
+pub use names::{Name, Names, SessionNames};
+pub use objects::{NamedObject, ObjectName, ObjectNames, parse_object, parse_object_name};
 pub use sessions::{ByName, Caller, Named, OpenSessions, Opened, Place};
 pub use words::{
     parse_name, parse_number, parse_owner, parse_strong_index, parse_tag, split_words,

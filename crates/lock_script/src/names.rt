@@ -1,8 +1,10 @@
-//! The names under which sessions were opened.
+//! The names of a script: those under which sessions were opened, and those of objects.
 ghost use Rattle.std.specs.Prelude.{◌≡◌, ◌<◌, [], ◌∷◌, ◌++◌, length, slice_get};
 
+use crate::objects::ObjectNames;
 use arrayvec::{ArrayString, ArrayVec};
 use modes_core::{SESSIONS, SessionId};
+use std::alloc::Global;
 use std::marker::Model;
 
 /// How many sessions there are at most.
@@ -13,11 +15,11 @@ pub type Name = ArrayString<16>;
 
 /// The names of the sessions that were opened. A session's number is its place in the order of opening.
 #[derive(Drop)]
-pub struct Names {
+pub struct SessionNames {
     issued: ArrayVec<Name, MOST_SESSIONS>,
 }
 
-impl Model for Names {
+impl Model for SessionNames {
     ghost use Rattle.std.specs.Prelude.{List};
     ghost use Rattle.arrayvec.specs.declared.array_string.ArrayString.{ArrayString};
 
@@ -26,12 +28,12 @@ impl Model for Names {
     ghost view = { λ names. names.issued.items };
 }
 
-impl Names {
+impl SessionNames {
     /// No names.
     pub fn new() -> Self
         ensures { result ≡ [] }
     {
-        Names {
+        SessionNames {
             issued: ArrayVec::new(),
         }
     }
@@ -52,5 +54,26 @@ impl Names {
         ensures { self.new ≡ self.old ++ name ∷ [] }
     {
         self.issued.push(name);
+    }
+}
+
+/// The names by which what a script prints is known: those of the sessions that were opened, and those that it gave
+/// to objects.
+#[derive(Drop)]
+pub struct Names {
+    pub sessions: SessionNames,
+    pub objects: ObjectNames,
+}
+
+impl Names {
+    /// No names.
+    pub fn new(alloc: Global) -> Self
+        ensures sessions { result.sessions ≡ [] }
+        ensures objects { result.objects ≡ [] }
+    {
+        Names {
+            sessions: SessionNames::new(),
+            objects: ObjectNames::new(alloc),
+        }
     }
 }

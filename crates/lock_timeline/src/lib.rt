@@ -3,6 +3,7 @@
 
 mod bars;
 mod gantt;
+mod labels;
 mod lanes;
 mod svg;
 mod timeline;

@@ -5,6 +5,7 @@ ghost use Rattle.std.specs.List.{list_any};
 mod waits;
 
 use crate::bars::{Arrow, Bar};
+use crate::labels::Labels;
 use crate::lanes::{Lane, Name};
 use modes_core::{LockMethod, Mode, Owner, Tag};
 use std::alloc::{AllocError, Global};
@@ -34,6 +35,7 @@ pub struct Timeline {
     pub(crate) arrows: Vec<Arrow>,
     /// The first line that is left out, if one is.
     pub(crate) left_out: Option<u32>,
+    labels: Labels,
     claims: Vec<Claim>,
     /// The numbers of the bars that wait, those of one object in the order of its queue.
     queue: Vec<u32>,
@@ -54,6 +56,7 @@ impl Timeline {
             bars: Vec::new(alloc),
             arrows: Vec::new(alloc),
             left_out: None,
+            labels: Labels::new(alloc),
             claims: Vec::new(alloc),
             queue: Vec::new(alloc),
         }
@@ -78,6 +81,12 @@ impl Timeline {
         let lane = Lane::new(self.alloc, name);
         self.lanes.push(lane)?;
         Ok(())
+    }
+
+    /// Notes that the object `tag` was given the name `name`, which stands in its place from now on. Refused only where
+    /// memory ran out.
+    pub fn name_object(&mut self, tag: Tag, name: &str) -> Result<(), AllocError> {
+        self.labels.push(tag, name)
     }
 
     /// Notes that the session `name` was granted `mode` on `tag` for `owner`, once more if it had the lock. Refused
@@ -277,7 +286,7 @@ impl Timeline {
             None => 0,
         };
         let number = next_of(self.bars.len());
-        let label = format!(in self.alloc; "{tag} {mode}")?;
+        let label = self.labels.of(tag, mode)?;
         self.bars.push(Bar {
             lane,
             row,

@@ -14,6 +14,7 @@ module _ {S W : Type 0} where
   -- The session that does it stands among those that don't wait.
   abbrev pub MayDo : OpenSessions S W → Deed → Type 0
   MayDo sessions (deed.Open name database) = ⊤
+  MayDo sessions (deed.Name name tag) = ⊤
   MayDo sessions (deed.Close caller) = MayAct sessions caller.place
   MayDo sessions (deed.Lock target owner) = MayAct sessions target.caller.place
   MayDo sessions (deed.Make caller call) = MayAct sessions caller.place × ShowsCounter call
@@ -21,6 +22,7 @@ module _ {S W : Type 0} where
 
   pub may_do : (sessions : OpenSessions S W) (it : Command) (number : ℕ) (done : Deed) → IsDeedOf it number done → Addresses sessions it → NamesCounter it → MayDo sessions done
   may_do sessions (command.Session name database) number done is at counter = subst (MayDo sessions) (sym is) tt
+  may_do sessions (command.Name name tag) number done is at counter = subst (MayDo sessions) (sym is) tt
   may_do sessions (command.Close caller) number done is at counter = subst (MayDo sessions) (sym is) at
   may_do sessions (command.Lock target owner) number done is at counter = subst (MayDo sessions) (sym is) at
   may_do sessions (command.Hash tag) number done is at counter = subst (MayDo sessions) (sym is) tt

@@ -70,7 +70,7 @@ module _
   -- a line that has a command
   pub line-plays :
       (number : ℕ) (old new : Cast B) (before mid now : L) (text : List ℕ) (command : Command) → hears before (Line number text) mid →
-      Means old.sessions (words_in text) command → Hears hears mid now (λ heard. Plays seat view stack database_of entries old command heard new) →
+      Means old.sessions old.names.objects (words_in text) command → Hears hears mid now (λ heard. Plays seat view stack database_of entries old command heard new) →
       Hears hears before now (λ heard. PlaysLine seat view stack database_of entries number old text heard new)
   line-plays number old new before mid now text command line means (heard, plays, rest) =
       (Line number text ∷ heard, inr (command, means, (heard, refl, plays)), (mid, line, rest))

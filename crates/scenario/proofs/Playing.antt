@@ -17,6 +17,7 @@ use Rattle.scenario.specs.Polled.{PollsEach}
 use Rattle.scenario.specs.Waits.{GoesOn, LooksOn}
 use Rattle.scenario.proofs.Hearing.{hears-append, hears-more}
 use Rattle.scenario.proofs.Polling.{IsPolling, polls-gone, polls-next}
+use Rattle.lock_script.specs.declared.names.Names.{Names}
 
 all-more : (rounds : List (List Heard)) (heard : List Heard) → flat_map (λ those. those) (rounds ++ heard ∷ []) ≡ flat_map (λ those. those) rounds ++ heard
 all-more [] heard = append-nil heard
@@ -55,7 +56,7 @@ module _ {B L : Type 0} (seat : B → Seated) (view : B → Account) (stack : B 
   pass-goes first old new before now then went_on place it inside names (name, told, at, same, heard) =
       polls-gone (LooksOn seat view stack) (GoesOn seat view stack) hears first.names first.sessions.waiting first.sessions.resting before went_on place
       old.sessions.waiting new.sessions.waiting old.sessions.resting new.sessions.resting now then name told at.after it inside at.goes_on at.called at.rests at.waiting
-      (subst (λ (those : List (ArrayString 16)). hears now (Told those name told) then) names heard)
+      (subst (λ (those : Names). hears now (Told those name told) then) names heard)
 
   -- A pass is over once none is left to be polled.
   pub pass-ends :

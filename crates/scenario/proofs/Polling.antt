@@ -11,6 +11,7 @@ use Rattle.scenario.specs.Heard.{Heard, HearsAll, Told}
 use Rattle.scenario.proofs.Hearing.{hears-more}
 use Rattle.scenario.specs.Polled.{PollsEach}
 use Rattle.scenario.specs.declared.answers.Said.{Said}
+use Rattle.lock_script.specs.declared.names.Names.{Names}
 
 -- the one behind those that stay
 pub at-length : {X : Type 0} (P : X → Type 0) (stay : List X) (x : X) (rest : List X) → HoldsAt P (stay ++ x ∷ rest) (length stay) → P x
@@ -27,7 +28,7 @@ pub with_session-length :
 with_session-length [] x rest after = refl
 with_session-length {S} (one ∷ stay) x rest after = ap (λ (those : List (Named S)). one ∷ those) (with_session-length stay x rest after)
 
-module _ {S W : Type 0} (looks_on : W → W → Type 0) (goes_on : W → Said → S → Type 0) (names : List (ArrayString 16)) where
+module _ {S W : Type 0} (looks_on : W → W → Type 0) (goes_on : W → Said → S → Type 0) (names : Names) where
   -- One more is polled, and waits on.
   pub one-stays :
       (done : List (Named W)) (resting now : List (Named S)) (heard : List Heard) (stay : List (Named W)) (x : Named W) (after : W) →
@@ -89,7 +90,7 @@ not_empty {X} first x e = absurd (omega (arith, length-one_more first x, ap (λ 
 
 -- A pass that is under way: some who waited have been polled, and the rest stand behind those that wait on.
 pub record IsPolling {S W L : Type 0} (looks_on : W → W → Type 0) (goes_on : W → Said → S → Type 0) (hears : L → Heard → L → Type 0)
-    (names : List (ArrayString 16)) (waited : List (Named W)) (rested : List (Named S)) (before : L)
+    (names : Names) (waited : List (Named W)) (rested : List (Named S)) (before : L)
     (went_on : Bool) (place : ℕ) (waiting : List (Named W)) (resting : List (Named S)) (now : L) : Type 0 where
   pub done : List (Named W)
   pub rest : List (Named W)
@@ -104,7 +105,7 @@ pub record IsPolling {S W L : Type 0} (looks_on : W → W → Type 0) (goes_on :
   pub some : went_on ≡ true → heard ≢ []
 
 module _ {S W L : Type 0} (looks_on : W → W → Type 0) (goes_on : W → Said → S → Type 0) (hears : L → Heard → L → Type 0)
-    (names : List (ArrayString 16)) (waited : List (Named W)) (rested : List (Named S)) (before : L) where
+    (names : Names) (waited : List (Named W)) (rested : List (Named S)) (before : L) where
   pub begins-polling : IsPolling looks_on goes_on hears names waited rested before false 0 waited rested before
   begins-polling = record {
     done = [];

@@ -5,11 +5,14 @@ use Rattle.local_locks.specs.declared.records.Entry.{Entry}
 use Rattle.lock_world.specs.Account.{Account}
 use Rattle.modes_core.specs.declared.refusals.Refusal.{Refusal}
 use Rattle.modes_core.specs.declared.refusals.Refusal.TheVariants.{NoMemory, NoMoreSessions}
+use Rattle.modes_core.specs.declared.tags.Tag.{Tag}
 use Rattle.shared_rule.specs.Boards.{Seated, Stack}
 use Rattle.lock_manager.specs.Sessions.{SessionView}
 use Rattle.lock_manager.specs.WaitingSessions.{WaitingView}
 use Rattle.lock_script.specs.declared.command.Command.{Command}
 use Rattle.lock_script.specs.declared.command.Command.TheVariants as command
+use Rattle.lock_script.specs.declared.names.Names.{Names}
+use Rattle.lock_script.specs.declared.objects.NamedObject.{NamedObject}
 use Rattle.lock_script.specs.declared.sessions.OpenSessions.{OpenSessions}
 use Rattle.lock_script.specs.declared.sessions.Place.{Place}
 use Rattle.lock_script.specs.declared.sessions.Place.TheVariants as place
@@ -25,10 +28,11 @@ use Rattle.scenario.specs.Calls.{IsDeedOf}
 
 -- What a command is answered, and what it leaves of a script's sessions.
 
--- The sessions of a script: those that are open, and the names of all that were opened, in the order of their numbers.
+-- The sessions of a script: those that are open, and the names of all that were opened, in the order of their numbers,
+-- beside those that it gave to objects.
 pub record Cast (B : Type 0) : Type 0 where
   pub sessions : OpenSessions (SessionView B) (WaitingView B)
-  pub names : List (ArrayString 16)
+  pub names : Names
 
 -- the number of the session that stands there
 abbrev pub IsNumberAt : {B : Type 0} → (B → Seated) → OpenSessions (SessionView B) (WaitingView B) → Place → ℕ → Type 0
@@ -50,7 +54,14 @@ pub record Opens {B : Type 0} (seat : B → Seated) (database_of : SessionView B
   pub answered : it ≡ answer.Said name (said.Opened (seat session.board).number database)
   pub joins : PutsIn old.sessions.resting (record { name = name; session = session }) new.sessions.resting
   pub waiting : new.sessions.waiting ≡ old.sessions.waiting
-  pub names : new.names ≡ old.names ++ name ∷ []
+  pub names : new.names.sessions ≡ old.names.sessions ++ name ∷ []
+  pub objects : new.names.objects ≡ old.names.objects
+
+-- An object was given a name, or the script's memory didn't suffice, and then it has none.
+abbrev pub NamesObject : List NamedObject → List NamedObject → ArrayString 63 → Tag → Answer → Type 0
+NamesObject old new name tag it =
+    ((it ≡ answer.Row (row.Named (record { name = name; tag = tag }))) × (new ≡ old ++ record { name = name; tag = tag } ∷ []))
+    ⊎ ((it ≡ answer.NoMemory) × (new ≡ old))
 
 -- None was opened.
 pub record OpensNone {B : Type 0} (old new : Cast B) (name : ArrayString 16) (it : Answer) : Type 0 where
@@ -65,6 +76,8 @@ module _
   -- The sessions are left as the library's call leaves them, and its answer is told.
   abbrev pub IsDone : Deed → Answer → Type 0
   IsDone (deed.Open name database) it = Opens seat database_of entries old new name database it ⊎ OpensNone old new name it
+  IsDone (deed.Name name tag) it =
+      NamesObject old.names.objects new.names.objects name tag it × (new.names.sessions ≡ old.names.sessions) × (new.sessions ≡ old.sessions)
   IsDone (deed.Close caller) it = ClosesAt seat view stack old.sessions new.sessions caller it × (new.names ≡ old.names)
   IsDone (deed.Lock target owner) it =
       (AcquiresAt seat view stack old.sessions new.sessions target owner it ⊎ WaitsAt seat view stack old.sessions new.sessions target owner it)

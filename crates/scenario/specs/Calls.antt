@@ -16,6 +16,7 @@ ShowsCounter _ = ⊤
 -- the call that a command is, of the session that it names, where the other one that it names has this number
 abbrev pub IsDeedOf : Command → ℕ → Deed → Type 0
 IsDeedOf (command.Session name database) number it = it ≡ deed.Open name database
+IsDeedOf (command.Name name tag) number it = it ≡ deed.Name name tag
 IsDeedOf (command.Close caller) number it = it ≡ deed.Close caller
 IsDeedOf (command.Lock target owner) number it = it ≡ deed.Lock target owner
 IsDeedOf (command.Hash tag) number it = it ≡ deed.Hash tag

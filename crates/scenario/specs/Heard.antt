@@ -2,6 +2,7 @@ use Rattle.std.specs.Prelude.{◌≡◌, ℕ, ◌+◌, ◌-◌, ◌^◌, min, Li
 use Rattle.arrayvec.specs.declared.array_string.ArrayString.{ArrayString}
 use Rattle.lock_script.specs.declared.faults.Fault.{Fault}
 use Rattle.lock_script.specs.declared.faults.Fault.TheVariants.{BadLine, ReadFailed, WriteFailed, NoMemory, GateHeld}
+use Rattle.lock_script.specs.declared.names.Names.{Names}
 use Rattle.scenario.specs.declared.answers.Row.{Row}
 use Rattle.scenario.specs.declared.answers.Row.TheVariants as row
 use Rattle.scenario.specs.declared.answers.Said.{Said}
@@ -14,9 +15,9 @@ pub data Heard : Type 0 where
   -- a line of the script, with its number and its text
   Line : ℕ → List ℕ → Heard
   -- what the session of this name is told, where the sessions were opened under these names
-  Told : List (ArrayString 16) → ArrayString 16 → Said → Heard
+  Told : Names → ArrayString 16 → Said → Heard
   -- a row of an answer
-  Listed : List (ArrayString 16) → Row → Heard
+  Listed : Names → Row → Heard
   -- a picture of who waits for whom
   Drawn : Heard
   -- a text for somebody at a shell
@@ -42,7 +43,7 @@ abbrev pub Hears : {L : Type 0} → (L → Heard → L → Type 0) → L → L �
 Hears hears old new IsSo = (heard : List Heard) × IsSo heard × HearsAll hears old heard new
 
 -- what is heard of an answer: what a session is told, or its rows, one by one
-abbrev pub told_of : List (ArrayString 16) → Answer → List Heard
+abbrev pub told_of : Names → Answer → List Heard
 told_of names (answer.Said name said) = Told names name said ∷ []
 told_of names (answer.Row row) = Listed names row ∷ []
 told_of names (answer.Listing listing) =
@@ -50,3 +51,4 @@ told_of names (answer.Listing listing) =
     ++ Listed names (row.Rows (min (vec_len listing.fast + vec_len listing.table) (2 ^ 64 - 1))) ∷ []
 told_of names (answer.Queue rows) = map (λ wait. Listed names (row.Wait wait)) rows.items ++ Listed names (row.Waits (vec_len rows)) ∷ []
 told_of names (answer.Blockers name found) = map (λ blocker. Listed names (row.InTheWay name blocker)) found.items
+told_of names answer.NoMemory = []

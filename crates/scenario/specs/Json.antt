@@ -1,5 +1,6 @@
 use Rattle.std.specs.Prelude.{ℕ, List, [], ◌∷◌, Option, Some, None, codes}
 use Rattle.arrayvec.specs.declared.array_string.ArrayString.{ArrayString}
+use Rattle.lock_script.specs.declared.names.Names.{Names}
 use Rattle.serde_json.specs.Data.{Data, number, unsigned, string, object, Members, no_members, put}
 use Rattle.modes_core.specs.Mode.{name_of}
 use Rattle.modes_core.specs.Refusal.{refusal_number}
@@ -44,13 +45,13 @@ refused_with line name number_ text fields =
     told_data line name (codes "refused") ((codes "number", count number_) ∷ (codes "refusal", string text) ∷ fields)
 
 -- whom, and what, a refusal names
-abbrev pub refused_fields : List (ArrayString 16) → Refusal → List (List ℕ × Data)
+abbrev pub refused_fields : Names → Refusal → List (List ℕ × Data)
 refused_fields names (Conflict session mode how) =
     (codes "other", string (name_in names session)) ∷ (codes "mode", string (name_of mode)) ∷ (codes "how", string (how_text how)) ∷ []
 refused_fields names (SimpleDeadlock session) = (codes "other", string (name_in names session)) ∷ []
 refused_fields names _ = []
 
-abbrev pub refused_data : ℕ → List (ArrayString 16) → ArrayString 16 → Refusal → Data
+abbrev pub refused_data : ℕ → Names → ArrayString 16 → Refusal → Data
 refused_data line names name refusal =
     refused_with line name (refusal_number refusal) (refusal_text refusal) (refused_fields names refusal)
 
@@ -58,7 +59,7 @@ refused_data line names name refusal =
 abbrev pub not_owned_data : ℕ → ArrayString 16 → List ℕ → Data
 not_owned_data line name mode = told_data line name (codes "not owned") ((codes "mode", string mode) ∷ [])
 
-abbrev pub said_data : ℕ → List (ArrayString 16) → ArrayString 16 → Said → Data
+abbrev pub said_data : ℕ → Names → ArrayString 16 → Said → Data
 said_data line names name (said.Opened session database) =
     told_data line name (codes "opened") ((codes "number", count session) ∷ (codes "database", count database) ∷ [])
 said_data line names name (said.Asked other) = told_data line name (codes "asked") ((codes "other", string other.bytes) ∷ [])
@@ -71,14 +72,14 @@ said_data line names name (said.Refused refusal) = refused_data line names name 
 said_data line names name plain = told_data line name (plain_text plain) []
 
 -- one that is in the way of the session of this name
-abbrev pub in_the_way_data : ℕ → List (ArrayString 16) → ArrayString 16 → Blocker → Data
+abbrev pub in_the_way_data : ℕ → Names → ArrayString 16 → Blocker → Data
 in_the_way_data line names name it =
     line_object line
     ((codes "row", string (codes "blocker")) ∷ (codes "session", string name.bytes) ∷ (codes "waits_for", string (name_in names it.session))
     ∷ (codes "mode", string (name_of it.mode)) ∷ (codes "how", string (in_the_way_text it.how)) ∷ [])
 
 -- a row, but for one with the text of an object, or with the modes held at joining a queue, of which nothing is said
-abbrev pub row_data : ℕ → List (ArrayString 16) → Row → Option Data
+abbrev pub row_data : ℕ → Names → Row → Option Data
 row_data line names (row.Slot it) = None
 row_data line names (row.Table it) = None
 row_data line names (row.Rows rows) = Some (line_object line ((codes "rows", count rows) ∷ []))
@@ -89,3 +90,4 @@ row_data line names (row.NotWaiting name) = Some (told_data line name (codes "is
 row_data line names (row.Counter index shown) = Some (line_object line ((codes "strong", count index) ∷ (codes "value", count shown) ∷ []))
 row_data line names (row.Hash tag) =
     Some (line_object line ((codes "hash", count (hash_of tag)) ∷ (codes "partition", count (partition_of tag)) ∷ (codes "strong", count (index_of tag)) ∷ []))
+row_data line names (row.Named it) = None

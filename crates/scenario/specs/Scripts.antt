@@ -38,7 +38,7 @@ abbrev pub EndsBadly : {B : Type 0} → ℕ → Option (List ℕ) → Cast B →
 EndsBadly lines left cast line what heard =
     (IfSome left (λ unread. (line ≡ lines + 1) × (reading_of lines unread ≡ Err what)) × (heard ≡ []))
     ⊎ ((text : List ℕ) × IfSome left (λ unread. reading_of lines unread ≡ Ok (Some text)) × (line ≡ lines + 1)
-    × IsDefectOf cast.sessions (words_in text) what × (heard ≡ Line line text ∷ []))
+    × IsDefectOf cast.sessions cast.names.objects (words_in text) what × (heard ≡ Line line text ∷ []))
 
 -- Why a script ends behind so many lines, with this left of it, and what is heard behind them.
 abbrev pub EndsSo : {B : Type 0} → ℕ → Option (List ℕ) → Cast B → Result (Unit {0}) Fault → List Heard → Type 0
@@ -52,7 +52,7 @@ EndsSo lines left cast (Err GateHeld) heard = ⊤
 -- A line ended a script: its words are bad, and it was heard alone; or the listener failed.
 abbrev pub IsBadLine : {B L : Type 0} → (L → Heard → L → Type 0) → ℕ → Cast B → L → List ℕ → Fault → Cast B → L → Type 0
 IsBadLine hears number old before text (BadLine line what) new now =
-    (line ≡ number) × IsDefectOf old.sessions (words_in text) what × HearsAll hears before (Line number text ∷ []) now × (new ≡ old)
+    (line ≡ number) × IsDefectOf old.sessions old.names.objects (words_in text) what × HearsAll hears before (Line number text ∷ []) now × (new ≡ old)
 IsBadLine hears number old before text ReadFailed new now = ⊥
 IsBadLine hears number old before text WriteFailed new now = ⊤
 IsBadLine hears number old before text NoMemory new now = ⊤
@@ -64,7 +64,7 @@ module _
   abbrev pub PlaysLine : ℕ → Cast B → List ℕ → List Heard → Cast B → Type 0
   PlaysLine number old text heard new =
       (IsSilent (words_in text) × (heard ≡ Line number text ∷ []) × (new ≡ old))
-      ⊎ ((command : Command) × Means old.sessions (words_in text) command
+      ⊎ ((command : Command) × Means old.sessions old.names.objects (words_in text) command
       × ((answers : List Heard) × (heard ≡ Line number text ∷ answers) × Plays seat view stack database_of entries old command answers new))
 
   -- These lines are, one after another, each once. The first one has this number.

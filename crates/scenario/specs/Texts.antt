@@ -1,6 +1,7 @@
 use Rattle.std.specs.Prelude.{ℕ, List, [], ◌++◌, true, false, codes, slice_get, Option, Some, None}
 use Rattle.std.specs.Fmt.{decimal}
 use Rattle.arrayvec.specs.declared.array_string.ArrayString.{ArrayString}
+use Rattle.lock_script.specs.declared.names.Names.{Names}
 use Rattle.modes_core.specs.declared.refusals.How.{How}
 use Rattle.modes_core.specs.declared.refusals.How.TheVariants as how
 use Rattle.modes_core.specs.declared.refusals.Refusal.{Refusal}
@@ -25,8 +26,8 @@ bytes_of None = []
 bytes_of (Some name) = name.bytes
 
 -- the name under which the session with this number was opened
-abbrev pub name_in : List (ArrayString 16) → ℕ → List ℕ
-name_in names number = bytes_of (slice_get names number)
+abbrev pub name_in : Names → ℕ → List ℕ
+name_in names number = bytes_of (slice_get names.sessions number)
 
 -- what a session does with the mode that stands in the way
 abbrev pub how_text : How → List ℕ
@@ -56,13 +57,13 @@ refusal_text TooDeep = codes "too deep"
 refusal_text NoNested = codes "no nested transaction"
 
 -- whom, and what, a refusal names
-abbrev pub refused_of : List (ArrayString 16) → Refusal → List ℕ
+abbrev pub refused_of : Names → Refusal → List ℕ
 refused_of names (Conflict session mode how) =
     codes " " ++ name_in names session ++ codes " " ++ name_of mode ++ codes " " ++ how_text how
 refused_of names (SimpleDeadlock session) = codes " " ++ name_in names session
 refused_of names _ = []
 
-abbrev pub refused_text : List (ArrayString 16) → Refusal → List ℕ
+abbrev pub refused_text : Names → Refusal → List ℕ
 refused_text names refusal =
     codes "refused " ++ decimal (refusal_number refusal) ++ codes " " ++ refusal_text refusal ++ refused_of names refusal
 
@@ -83,7 +84,7 @@ plain_text said.Closed = codes "closed"
 plain_text _ = []
 
 -- what a session is told, behind its name
-abbrev pub said_text : List (ArrayString 16) → Said → List ℕ
+abbrev pub said_text : Names → Said → List ℕ
 said_text names (said.Opened session database) = codes "session " ++ decimal session ++ codes " database " ++ decimal database
 said_text names (said.Asked other) = codes "asked " ++ other.bytes
 said_text names (said.Level level) = codes "level " ++ decimal level
@@ -99,7 +100,7 @@ hash_text tag =
     codes "hash " ++ decimal (hash_of tag) ++ codes " partition " ++ decimal (partition_of tag) ++ codes " strong " ++ decimal (index_of tag)
 
 -- a row, but for one with the text of an object, of which nothing is said
-abbrev pub row_text : List (ArrayString 16) → Row → Option (List ℕ)
+abbrev pub row_text : Names → Row → Option (List ℕ)
 row_text names (row.Slot it) = None
 row_text names (row.Table it) = None
 row_text names (row.Rows rows) = Some (codes "rows " ++ decimal rows)
@@ -110,3 +111,4 @@ row_text names (row.InTheWay name it) =
 row_text names (row.NotWaiting name) = Some (name.bytes ++ codes " isn't waiting")
 row_text names (row.Counter index shown) = Some (codes "strong " ++ decimal index ++ codes " " ++ decimal shown)
 row_text names (row.Hash tag) = Some (hash_text tag)
+row_text names (row.Named it) = None

@@ -7,7 +7,7 @@ use lock_manager::{
     Acquired, Asked, Blocker, Listing, Mode, QueueRow, Refusal, SessionId, SlotRow, TableRow, Tag,
     Unlocked,
 };
-use lock_script::Name;
+use lock_script::{Name, NamedObject};
 
 /// What a session is told: the answer to its line, or that it goes on.
 #[derive(Clone, Copy, Debug, PartialEq, Eq)]
@@ -71,6 +71,8 @@ pub enum Row {
     Counter { index: u16, shown: u64 },
     /// An object, of which the hash is told.
     Hash(Tag),
+    /// An object was given a name.
+    Named(NamedObject),
 }
 
 /// What a line of a script is answered.
@@ -86,6 +88,8 @@ pub enum Answer {
     Queue(Vec<QueueRow>),
     /// Those who stand in the way of the session of this name.
     Blockers(Name, Vec<Blocker>),
+    /// The script's own memory didn't suffice, which ends it.
+    NoMemory,
 }
 
 /// What a session is told of an acquire that doesn't wait.

@@ -64,8 +64,10 @@ pub static SHELL_LINES: [OtherLine; 6] = [
 const WORDS: &str =
     "NAME is 1 to 16 of a to z, 0 to 9 and _. DB is a number to 4294967295, INDEX one
   to 1023.
+OBJECT is a letter or _, and up to 62 letters, digits, _, $ and . behind it.
 TAG is DB/REL for a relation, DB/CLASS/OBJ/SUB for another object, and
-  adv/DB/K1/K2/SUB for an advisory lock, of numbers to 4294967295, SUB to 65535.
+  adv/DB/K1/K2/SUB for an advisory lock, of numbers to 4294967295, SUB to 65535;
+  or the name of an object.
 MODE is AccessShareLock, RowShareLock, RowExclusiveLock,
   ShareUpdateExclusiveLock, ShareLock, ShareRowExclusiveLock, ExclusiveLock or
   AccessExclusiveLock.

@@ -4,7 +4,8 @@ use crate::forms::{SHELL_LINES, push_forms, push_script_lines, push_shell_lines}
 use crate::mode_help::{mode_called, push_mode, push_modes};
 use crate::statements::{begins_statement, push_statements};
 use lock_script::{
-    CommandRow, Defect, Name, WordKind, command_row, command_rows, parse_name, split_words,
+    CommandRow, Defect, Name, NamedObject, WordKind, command_row, command_rows, parse_name,
+    parse_tag, split_words,
 };
 use modes_core::Mode;
 use std::alloc::{AllocError, Global};
@@ -83,6 +84,8 @@ fn push_modes_of(text: &mut String, topic: &str) -> Result<(), AllocError> {
 pub struct Reader<'a> {
     /// The names of the sessions that are open.
     pub names: &'a [Name],
+    /// The objects that have names.
+    pub objects: &'a [NamedObject],
     /// Whether it is told in a shell, which has lines of its own.
     pub is_in_shell: bool,
 }
@@ -153,14 +156,21 @@ fn place_meant(what: Defect, row: &CommandRow, words: &[&str], names: &[Name]) -
     match what {
         Defect::SessionExists => row.place_of(WordKind::FreeName),
         Defect::SessionWaits => row.place_of(WordKind::CallerName),
-        Defect::BadObject => row.place_of(WordKind::TagWord),
+        Defect::NameExists => row.place_of(WordKind::FreeObjectName),
+        Defect::ObjectNamed => row.place_of(WordKind::FreeTag),
+        Defect::BadObject => match row.place_of(WordKind::TagWord) {
+            Some(place) => Some(place),
+            None => row.place_of(WordKind::FreeTag),
+        },
         Defect::BadMode => row.place_of(WordKind::ModeName),
         Defect::BadOwner => row.place_of(WordKind::OwnerWord),
         Defect::BadNumber => match row.place_of(WordKind::Number) {
             Some(place) => Some(place),
             None => row.place_of(WordKind::CounterIndex),
         },
-        Defect::BadName if is_named(words) => row.place_of(WordKind::OpenName),
+        Defect::BadName if is_named(words) && !names_object(row) => {
+            row.place_of(WordKind::OpenName)
+        }
         Defect::NoSuchSession if is_open(words, names) => row.place_of(WordKind::OpenName),
         Defect::BadName | Defect::NoSuchSession => Some(1),
         Defect::TooManyLines
@@ -169,6 +179,11 @@ fn place_meant(what: Defect, row: &CommandRow, words: &[&str], names: &[Name]) -
         | Defect::UnknownCommand
         | Defect::WrongNumberOfWords => None,
     }
+}
+
+/// Whether a command gives an object a name.
+fn names_object(row: &CommandRow) -> bool {
+    row.place_of(WordKind::FreeObjectName).is_some()
 }
 
 /// Whether the second word is a name.
@@ -205,6 +220,11 @@ fn nearest_to(
         Defect::NoSuchSession => {
             for name in reader.names {
                 nearest.look_at(alloc, name.as_str(), name.as_str())?;
+            }
+        }
+        Defect::BadObject => {
+            for object in reader.objects {
+                nearest.look_at(alloc, object.name.as_str(), object.name.as_str())?;
             }
         }
         Defect::BadOwner => nearest.look_at(alloc, "session", "session")?,
@@ -286,6 +306,7 @@ fn push_rule(
         }
         (Defect::UnknownCommand, Some(verb)) => push_where_to_look(text, *verb, reader),
         (Defect::NoSuchSession, _) => push_open(text, reader.names),
+        (Defect::NameExists | Defect::ObjectNamed, _) => push_named(text, words, reader.objects),
         (Defect::BadMode, _) if reader.is_in_shell => text.push_str("; help modes lists them\n"),
         _ => text.push_str(rule_of(what, words)),
     }
@@ -314,9 +335,33 @@ fn push_open(text: &mut String, names: &[Name]) -> Result<(), AllocError> {
     text.push('\n')
 }
 
+/// Ends the line with what has the name, or the name that it has, which a line that names an object gives anew.
+fn push_named(
+    text: &mut String,
+    words: &[&str],
+    objects: &[NamedObject],
+) -> Result<(), AllocError> {
+    let (name, tag) = (words.get(1), words.get(2));
+    for object in objects {
+        if name.is_some_and(|name| object.name.as_str() == *name) {
+            return write!(text, "; it is {}\n", object.tag);
+        }
+    }
+    let tag = tag.and_then(|word| parse_tag(*word));
+    for object in objects {
+        if Some(object.tag) == tag {
+            return write!(text, "; its name is {}\n", object.name);
+        }
+    }
+    text.push('\n')
+}
+
 /// What stands at the end of the line that tells of a defect.
 fn rule_of(what: Defect, words: &[&str]) -> &'static str {
     match what {
+        Defect::BadName if is_naming(words) => {
+            "; an object's name is a letter or _, and up to 62 letters, digits, _, $ and . behind it\n"
+        }
         Defect::BadName => "; a name is 1 to 16 of a to z, 0 to 9 and _\n",
         Defect::BadNumber if is_count(words) => "; an INDEX is 0 to 1023\n",
         Defect::BadNumber => "; a number is 0 to 4294967295, of 10 digits at most\n",
@@ -329,6 +374,17 @@ fn rule_of(what: Defect, words: &[&str]) -> &'static str {
         Defect::SessionWaits =>
             "; it goes on once it is granted, or another session cancels its wait\n",
         _ => "\n",
+    }
+}
+
+/// Whether a line gives an object a name.
+fn is_naming(words: &[&str]) -> bool {
+    match words.first() {
+        Some(verb) => match command_row(*verb) {
+            Some(row) => names_object(row),
+            None => false,
+        },
+        None => false,
     }
 }
 

@@ -8,7 +8,7 @@ ghost use Rattle.scenario.specs.Json.{in_the_way_data, line_data, not_owned_data
 use crate::answers::{Row, Said};
 use crate::text::{how_text, in_the_way_text, name_of, plain_text, refusal_text};
 use lock_manager::{Blocker, Mode, QueueRow, Refusal, SlotRow, TableRow};
-use lock_script::{Name, Names};
+use lock_script::{Name, NamedObject, Names};
 use serde_json::{Value, json};
 use std::alloc::{AllocError, Global};
 
@@ -126,27 +126,46 @@ pub fn row(alloc: Global, line: u32, names: &Names, row: Row) -> Object
             "line": line, "hash": tag.hash(), "partition": tag.partition(),
             "strong": tag.strong_index()
         }),
+        Row::Named(named) => name_row(alloc, line, &named),
     }
 }
 
-/// A lock in a slot.
+/// An object was given a name.
+fn name_row(alloc: Global, line: u32, named: &NamedObject) -> Object {
+    let tag = format!(in alloc; "{}", named.tag)?;
+    json!(in alloc; {"line": line, "name": named.name.as_str(), "tag": tag})
+}
+
+/// A lock in a slot. The object's name, if it has one, stands behind its tag.
 fn slot_row(alloc: Global, line: u32, names: &Names, row: SlotRow) -> Object {
     let name = name_of(names, row.session);
     let tag = format!(in alloc; "{}", row.tag)?;
-    json!(in alloc; {
-        "line": line, "row": "fast", "session": name.as_str(), "slot": row.slot,
-        "tag": tag, "mode": row.mode.name()
-    })
+    match names.objects.name_of(row.tag) {
+        Some(object) => json!(in alloc; {
+            "line": line, "row": "fast", "session": name.as_str(), "slot": row.slot,
+            "tag": tag, "name": object.as_str(), "mode": row.mode.name()
+        }),
+        None => json!(in alloc; {
+            "line": line, "row": "fast", "session": name.as_str(), "slot": row.slot,
+            "tag": tag, "mode": row.mode.name()
+        }),
+    }
 }
 
-/// A lock in the table.
+/// A lock in the table. The object's name, if it has one, stands behind its tag.
 fn table_row(alloc: Global, line: u32, names: &Names, row: TableRow) -> Object {
     let name = name_of(names, row.session);
     let tag = format!(in alloc; "{}", row.tag)?;
-    json!(in alloc; {
-        "line": line, "row": "table", "session": name.as_str(),
-        "tag": tag, "mode": row.mode.name(), "granted": row.granted
-    })
+    match names.objects.name_of(row.tag) {
+        Some(object) => json!(in alloc; {
+            "line": line, "row": "table", "session": name.as_str(), "tag": tag,
+            "name": object.as_str(), "mode": row.mode.name(), "granted": row.granted
+        }),
+        None => json!(in alloc; {
+            "line": line, "row": "table", "session": name.as_str(),
+            "tag": tag, "mode": row.mode.name(), "granted": row.granted
+        }),
+    }
 }
 
 /// A wait in a queue, with the modes that its session held when it joined.

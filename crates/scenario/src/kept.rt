@@ -6,7 +6,9 @@ ghost use Rattle.scenario.specs.Tasks.{IsForManager};
 use crate::output::Listener;
 use crate::run::{Scene, run_before, run_kept_before};
 use lock_manager::{Config, Desk, OwnSession};
-use lock_script::{ByName, Fault, KeptLine, KeptLines, LineReader, Name, OpenSessions};
+use lock_script::{
+    ByName, Fault, KeptLine, KeptLines, LineReader, Name, ObjectNames, OpenSessions,
+};
 use lock_table::PartTable;
 use shared_rule::Board;
 use std::alloc::{AllocError, Global};
@@ -106,7 +108,8 @@ impl<T: PartTable, B: Board<T>, D: Desk<OwnSession<T, B>>, L: Listener> Scene<T,
     {
         self.listener.keep_line(number, line)?;
         let stage = &self.stage;
-        kept_or_fault(alloc, kept, number, session, line, &stage.sessions)
+        let (sessions, objects) = (&stage.sessions, &stage.names.objects);
+        kept_or_fault(alloc, kept, number, session, line, sessions, objects)
     }
 
     /// Runs the kept lines whose sessions don't wait, the first of them first, until each one's that is left waits.
@@ -140,8 +143,9 @@ fn kept_or_fault<S, W>(
     session: Name,
     line: &str,
     sessions: &OpenSessions<S, W>,
+    objects: &ObjectNames,
 ) -> Result<(), Fault> {
-    match kept.defect(alloc, line, sessions) {
+    match kept.defect(alloc, line, sessions, objects) {
         Ok(None) => {}
         Ok(Some(what)) => return Err(Fault::BadLine { line: number, what }),
         Err(_) => return Err(Fault::NoMemory),

@@ -98,7 +98,8 @@ fn play_line<T: PartTable, B: Board<T>, D: Desk<OwnSession<T, B>>, H: Wait>(
     requires seats { SeatsAre B.seat D.seat }
     ensures manager { D.manager scene.new.stage.desk ≡ D.manager scene.old.stage.desk }
 {
-    let command = parse(line, &scene.stage.sessions).map_err(|what| Fault::BadLine {
+    let stage = &scene.stage;
+    let command = parse(line, &stage.sessions, &stage.names.objects).map_err(|what| Fault::BadLine {
         line: 0,
         what,
     })?;
@@ -185,6 +186,7 @@ fn news_of(said: &Said) -> News {
 pub fn bad_line_text(alloc: Global, bad: &BadLine) -> Result<String, AllocError> {
     let reader = Reader {
         names: bad.open.as_slice(),
+        objects: &[],
         is_in_shell: false,
     };
     let mut text = format!(in alloc; "line {}: ", bad.number)?;

@@ -6,7 +6,7 @@ use crate::options::FailOn;
 use crate::output::{Listener, Output};
 use crate::picture::Picture;
 use crate::style::Pen;
-use lock_script::{Defect, Fault, Name, Names};
+use lock_script::{Defect, Fault, Name, NamedObject, Names};
 use std::alloc::{AllocError, Global};
 use std::io::Write;
 
@@ -17,8 +17,9 @@ pub struct Outcome {
     /// The line that was read last, and its number.
     text: String,
     number: u32,
-    /// The names of the sessions that are open.
+    /// The names of the sessions that are open, and the objects that have names.
     open: Vec<Name>,
+    objects: Vec<NamedObject>,
     /// Whether somebody waited.
     waited: bool,
     /// Whether a call was refused.
@@ -35,6 +36,7 @@ impl Outcome {
             text: String::new(alloc),
             number: 0,
             open: Vec::new(alloc),
+            objects: Vec::new(alloc),
             waited: false,
             was_refused: false,
             waiting: 0,
@@ -63,6 +65,7 @@ impl Outcome {
     fn correction_of(&self, what: Defect) -> Result<String, AllocError> {
         let reader = Reader {
             names: self.open.as_slice(),
+            objects: self.objects.as_slice(),
             is_in_shell: false,
         };
         let number = self.number;
@@ -108,6 +111,14 @@ impl Outcome {
             }
         }
     }
+
+    /// A row was told.
+    pub fn hear_row(&mut self, row: &Row) -> Result<(), AllocError> {
+        if let Row::Named(object) = row {
+            self.objects.push(*object)?;
+        }
+        Ok(())
+    }
 }
 
 /// Passes on to the output what is heard, and keeps what a run comes to.
@@ -141,6 +152,7 @@ impl<W: Write + Drop> Listener for Witness<'_, W> {
     }
 
     fn row(&mut self, names: &Names, row: Row) -> Result<(), Fault> {
+        self.outcome.hear_row(&row).map_err(|_| Fault::NoMemory)?;
         self.output.row(names, row)
     }
 

@@ -1,5 +1,5 @@
 //! Where the answers of a script go: to a writer, as text or as JSON.
-ghost use Rattle.std.specs.Prelude.{◌≡◌, OnOk, IfOk, IfErr, IsOk, map, false};
+ghost use Rattle.std.specs.Prelude.{◌≡◌, OnOk, IfOk, IfErr, IsOk, map, false, Err};
 ghost use Rattle.std.specs.Io.KnownBytes.{Appends, Keeps};
 ghost use Rattle.serde_json.specs.View.{view};
 ghost use Rattle.serde_json.specs.Written.{has_float};
@@ -79,6 +79,7 @@ pub fn tell_answer<L: Listener>(
 ) -> Result<(), Fault>
     ensures heard { OnOk result (HearsAll L.hears listener.old (told_of names.now answer.now) listener.new) }
     ensures unheard { IfErr result IsUnheard }
+    ensures no_memory { answer.now ≡ Answer.NoMemory → result ≡ Err Fault.NoMemory }
 {
     match answer {
         Answer::Said(name, said) => listener.said(names, *name, *said),
@@ -89,6 +90,7 @@ pub fn tell_answer<L: Listener>(
             listener.row(names, Row::Waits(rows.len() as u64))
         }
         Answer::Blockers(name, found) => tell_blockers(listener, names, *name, found.as_slice()),
+        Answer::NoMemory => Err(Fault::NoMemory),
     }
 }
 

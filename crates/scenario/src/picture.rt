@@ -3,7 +3,7 @@
 ghost use Rattle.std.specs.Prelude.{◌≡◌, ◌<◌, length};
 
 use crate::style::{Drawing, Pen};
-use crate::text::name_of;
+use crate::text::{ObjectText, name_of};
 use lock_manager::{Blocker, InTheWay, Mode, SessionId, TableRow, Tag};
 use lock_script::Names;
 use modes_core::SESSIONS;
@@ -121,7 +121,8 @@ impl Picture {
         let name = name_of(names, SessionId::new(number).unwrap());
         match self.wait_of(number) {
             Some(Wait { tag, mode, .. }) => {
-                writeln!(text, "  s{number}[\"{name}<br/>{mode} on {tag}\"]")
+                let object = ObjectText { names, tag };
+                writeln!(text, "  s{number}[\"{name}<br/>{mode} on {object}\"]")
             }
             None => writeln!(text, "  s{number}[\"{name}\"]"),
         }
@@ -167,9 +168,10 @@ impl Picture {
         let name = name_of(names, SessionId::new(number).unwrap());
         match self.wait_of(number) {
             Some(Wait { tag, mode, .. }) => {
+                let object = ObjectText { names, tag };
                 writeln!(
                     text,
-                    "  s{number} [label=\"{name}\\n{mode} on {tag}\", color={color}];"
+                    "  s{number} [label=\"{name}\\n{mode} on {object}\", color={color}];"
                 )
             }
             None => writeln!(text, "  s{number} [label=\"{name}\", color={color}];"),

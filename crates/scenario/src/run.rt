@@ -1,7 +1,7 @@
 //! Scripts: a line is read, run and answered before the next one is read.
 ghost use Rattle.std.specs.Prelude.{◌≡◌, ◌≤◌, ◌<◌, [], true, length, Ok, IfOk, IfErr, OnOk};
 ghost use Rattle.lock_manager.specs.Crews.{SeatsAre};
-ghost use Rattle.lock_script.specs.Command.{Addresses, NamesCounter};
+ghost use Rattle.lock_script.specs.Command.{Addresses, NamesCounter, NamesFree};
 ghost use Rattle.lock_script.specs.Sessions.{IsThere, MayAct};
 ghost use Rattle.scenario.specs.Heard.{Hears, IsUnheard};
 ghost use Rattle.scenario.specs.Played.{Draws, IsPassHeard, IsPollHeard, Plays, Settles};
@@ -250,7 +250,8 @@ impl<T: PartTable, B: Board<T>, D: Desk<OwnSession<T, B>>, L: Listener> Scene<T,
         ensures manager { D.manager self.new.stage.desk ≡ D.manager self.old.stage.desk }
     {
         self.listener.begin_line(number, line)?;
-        match parse(line, &self.stage.sessions) {
+        let stage = &self.stage;
+        match parse(line, &stage.sessions, &stage.names.objects) {
             Ok(Some(command)) => self.run(rt, command),
             Ok(None) => Ok(()),
             Err(what) => Err(Fault::BadLine { line: number, what }),
@@ -262,6 +263,7 @@ impl<T: PartTable, B: Board<T>, D: Desk<OwnSession<T, B>>, L: Listener> Scene<T,
         requires seats { SeatsAre B.seat D.seat }
         requires addressed { Addresses self.old.stage.sessions command }
         requires counter { NamesCounter command }
+        requires free { NamesFree self.old.stage.names.objects command }
         ensures played { OnOk result (Hears L.hears self.old.listener self.new.listener (λ heard.
             Plays B.seat B.view B.stack D.database_of D.entries
             (record { sessions = self.old.stage.sessions; names = self.old.stage.names }) command heard

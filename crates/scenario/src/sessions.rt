@@ -1,10 +1,11 @@
 //! The desk of a script with its open sessions, which are called by their places. All is over any board: the desk
 //! opens and closes the sessions.
-ghost use Rattle.std.specs.Prelude.{◌≡◌, ◌⊎◌, ◌≤◌, ◌<◌, ◌+◌, [], All, length, is_some, if◌then◌else◌, IfOk};
+ghost use Rattle.std.specs.Prelude.{◌≡◌, ◌⊎◌, ◌≤◌, ◌<◌, ◌+◌, [], All, None, length, is_some, if◌then◌else◌, IfOk};
 ghost use Rattle.lock_manager.specs.Crews.{SeatsAre};
-ghost use Rattle.lock_script.specs.Command.{Addresses, NamesCounter};
+ghost use Rattle.lock_script.specs.Command.{Addresses, NamesCounter, NamesFree};
+ghost use Rattle.lock_script.specs.Objects.{name_given, tag_called};
 ghost use Rattle.scenario.specs.Answered.{AcquiresAt, CallsAt, ClosesAt, PollsAt, WaitsAt};
-ghost use Rattle.scenario.specs.Answers.{Answers, IsNumberAt, IsOtherOf, Opens, OpensNone};
+ghost use Rattle.scenario.specs.Answers.{Answers, IsNumberAt, IsOtherOf, NamesObject, Opens, OpensNone};
 ghost use Rattle.lock_manager.specs.Sessions.{SessionView};
 ghost use Rattle.lock_script.specs.Lending.{with_session};
 ghost use Rattle.scenario.specs.Calls.{IsDeedOf, ShowsCounter};
@@ -14,7 +15,9 @@ use crate::calls::{Call, begin, cancel, draw, make, poll_wait};
 use crate::picture::Picture;
 use crate::style::Pen;
 use lock_manager::{Desk, OwnSession, OwnWaiting, Owner, Refusal, SessionId, TableRow, Tag};
-use lock_script::{Caller, Command, Name, Named, Names, OpenSessions, Place, Target};
+use lock_script::{
+    Caller, Command, Name, Named, NamedObject, Names, ObjectName, OpenSessions, Place, Target,
+};
 use lock_table::PartTable;
 use shared_rule::Board;
 use std::alloc::{AllocError, Global};
@@ -25,6 +28,8 @@ use std::sync::Wait;
 pub enum Deed {
     /// A session of this name and database is opened.
     Open(Name, u32),
+    /// An object is given a name.
+    Name(ObjectName, Tag),
     /// A session is closed.
     Close(Caller),
     /// A session asks for a lock for an owner, and waits for it if need be.
@@ -41,6 +46,7 @@ pub fn deed_of(command: Command, other: SessionId) -> Deed
 {
     match command {
         Command::Session { name, database } => Deed::Open(name, database),
+        Command::Name { name, tag } => Deed::Name(name, tag),
         Command::Close(caller) => Deed::Close(caller),
         Command::Lock(target, owner) => Deed::Lock(target, owner),
         Command::Hash(tag) => Deed::Hash(tag),
@@ -70,13 +76,13 @@ pub fn deed_of(command: Command, other: SessionId) -> Deed
     }
 }
 
-/// A desk, the names of all sessions that were opened there, and the open ones. Each of these is the desk's
+/// A desk, the names of all sessions that were opened there and of objects, and the open ones. Each of these is the desk's
 /// manager's, and the desk counts them. It is taken apart at its end, once no session is open.
 pub struct Stage<T: PartTable, B: Board<T>, D: Desk<OwnSession<T, B>>> {
     pub desk: D,
     pub names: Names,
     pub sessions: OpenSessions<OwnSession<T, B>, OwnWaiting<T, B>>,
-    ghost named: { length names ≡ D.issued desk },
+    ghost named: { length names.sessions ≡ D.issued desk },
     ghost few: { D.issued desk ≤ 64 },
     ghost within: { D.live desk ≤ D.issued desk },
     ghost counted: { D.live desk ≡ length sessions.resting + length sessions.waiting },
@@ -100,7 +106,7 @@ impl<T: PartTable, B: Board<T>, D: Desk<OwnSession<T, B>>> Stage<T, B, D> {
         let sessions = OpenSessions::new(alloc)?;
         Ok(Stage {
             desk,
-            names: Names::new(),
+            names: Names::new(alloc),
             sessions,
         })
     }
@@ -110,6 +116,7 @@ impl<T: PartTable, B: Board<T>, D: Desk<OwnSession<T, B>>> Stage<T, B, D> {
         requires seats { SeatsAre B.seat D.seat }
         requires addressed { Addresses self.old.sessions command }
         requires counter { NamesCounter command }
+        requires free { NamesFree self.old.names.objects command }
         ensures answered { Answers B.seat B.view B.stack D.database_of D.entries
             (record { sessions = self.old.sessions; names = self.old.names })
             (record { sessions = self.new.sessions; names = self.new.names }) command result }
@@ -118,6 +125,7 @@ impl<T: PartTable, B: Board<T>, D: Desk<OwnSession<T, B>>> Stage<T, B, D> {
         let other = self.other_of(&command);
         match deed_of(command, other) {
             Deed::Open(name, database) => self.open(name, database),
+            Deed::Name(name, tag) => self.name_object(name, tag),
             Deed::Close(caller) => self.close(rt, caller),
             Deed::Lock(target, owner) => self.lock(rt, target, owner),
             Deed::Make(caller, call) => self.call(rt, caller, call),
@@ -151,11 +159,26 @@ impl<T: PartTable, B: Board<T>, D: Desk<OwnSession<T, B>>> Stage<T, B, D> {
         match self.desk.open(database) {
             Ok(opened) => {
                 let session = opened.id();
-                self.names.push(name);
+                self.names.sessions.push(name);
                 self.sessions.resting.put(name, opened);
                 Answer::Said(name, Said::Opened { session, database })
             }
             Err(refusal) => Answer::Said(name, Said::Refused(refusal)),
+        }
+    }
+
+    /// Gives an object a name.
+    fn name_object(&mut self, name: ObjectName, tag: Tag) -> Answer
+        requires free { tag_called self.old.names.objects name.bytes ≡ None }
+        requires unnamed { name_given self.old.names.objects tag ≡ None }
+        ensures named { NamesObject self.old.names.objects self.new.names.objects name tag result }
+        ensures names { self.new.names.sessions ≡ self.old.names.sessions }
+        ensures sessions { self.new.sessions ≡ self.old.sessions }
+        ensures desk { self.new.desk ≡ self.old.desk }
+    {
+        match self.names.objects.push(name, tag) {
+            Ok(()) => Answer::Row(Row::Named(NamedObject { name, tag })),
+            Err(_) => Answer::NoMemory,
         }
     }
 

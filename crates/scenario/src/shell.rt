@@ -7,7 +7,9 @@ use crate::hints::{Reader, help, push_correction};
 use crate::output::Listener;
 use crate::run::Scene;
 use lock_manager::{Desk, OwnSession};
-use lock_script::{Defect, Fault, LineReader, Name, OpenSessions, parse, split_words};
+use lock_script::{
+    Defect, Fault, LineReader, Name, NamedObject, ObjectNames, OpenSessions, parse, split_words,
+};
 use lock_table::PartTable;
 use shared_rule::Board;
 use std::alloc::{AllocError, Global};
@@ -46,7 +48,7 @@ impl Shell {
             Some((verb, [])) if ends_shell(*verb) => Ok(Typed::End),
             Some((verb, _)) if ends_shell(*verb) => {
                 // Whoever means to close one session would lose them all.
-                let text = told(self.alloc, line, Defect::WrongNumberOfWords, &[])?;
+                let text = told(self.alloc, line, Defect::WrongNumberOfWords, &[], &[])?;
                 Ok(Typed::Help(text))
             }
             Some((verb, _)) if *verb == "help" => {
@@ -184,7 +186,8 @@ impl<T: PartTable, B: Board<T>, D: Desk<OwnSession<T, B>>, L: Listener> Scene<T,
         requires seats { SeatsAre B.seat D.seat }
         ensures manager { D.manager self.new.stage.desk ≡ D.manager self.old.stage.desk }
     {
-        match parse(line, &self.stage.sessions) {
+        let stage = &self.stage;
+        match parse(line, &stage.sessions, &stage.names.objects) {
             Ok(Some(command)) => self.run(rt, command),
             Ok(None) => Ok(()),
             Err(what) => self.correct(line, what, shell),
@@ -196,28 +199,42 @@ impl<T: PartTable, B: Board<T>, D: Desk<OwnSession<T, B>>, L: Listener> Scene<T,
         ensures manager { D.manager self.new.stage.desk ≡ D.manager self.old.stage.desk }
     {
         let stage = &self.stage;
-        match correct_text(shell.alloc, line, what, &stage.sessions) {
+        match correct_text(
+            shell.alloc,
+            line,
+            what,
+            &stage.sessions,
+            &stage.names.objects,
+        ) {
             Ok(text) => self.listener.tell(text.as_str()),
             Err(_) => Err(Fault::NoMemory),
         }
     }
 }
 
-/// What is wrong with a line, where these sessions are open.
+/// What is wrong with a line, where these sessions are open and these objects have names.
 fn correct_text<S, W>(
     alloc: Global,
     line: &str,
     what: Defect,
     sessions: &OpenSessions<S, W>,
+    objects: &ObjectNames,
 ) -> Result<String, AllocError> {
     let names = names_of(alloc, sessions)?;
-    told(alloc, line, what, names.as_slice())
+    told(alloc, line, what, names.as_slice(), objects.as_slice())
 }
 
-/// What a shell tells of a bad line, where sessions of these names are open.
-fn told(alloc: Global, line: &str, what: Defect, names: &[Name]) -> Result<String, AllocError> {
+/// What a shell tells of a bad line, where sessions of these names are open and these objects have names.
+fn told(
+    alloc: Global,
+    line: &str,
+    what: Defect,
+    names: &[Name],
+    objects: &[NamedObject],
+) -> Result<String, AllocError> {
     let reader = Reader {
         names,
+        objects,
         is_in_shell: true,
     };
     let mut text = String::from_str(alloc, "bad line: ")?;

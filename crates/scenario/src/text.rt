@@ -4,7 +4,7 @@ ghost use Rattle.scenario.specs.Texts.{how_text as text_of_how, in_the_way_text 
 
 use crate::answers::{Row, Said};
 use lock_manager::{Acquired, How, InTheWay, Refusal, SessionId, SlotRow, TableRow, Tag, Unlocked};
-use lock_script::{Name, Names};
+use lock_script::{Name, NamedObject, Names};
 use std::fmt;
 
 /// What a conflicting session does with the mode.
@@ -54,7 +54,7 @@ pub fn refusal_text(refusal: Refusal) -> &'static str
 pub fn name_of(names: &Names, session: SessionId) -> Name
     ensures { result.bytes ≡ name_in names.now session }
 {
-    names.name(session).unwrap_or(Name::new())
+    names.sessions.name(session).unwrap_or(Name::new())
 }
 
 /// What a session is told in words alone, or none where that has more to it.
@@ -144,7 +144,23 @@ impl fmt::Display for RefusedText<'_> {
     }
 }
 
-/// A row, as text. Its sessions are known by these names.
+/// An object, as text: the name that the script gave it, or else its tag.
+#[derive(Clone, Copy, Drop)]
+pub struct ObjectText<'a> {
+    pub names: &'a Names,
+    pub tag: Tag,
+}
+
+impl fmt::Display for ObjectText<'_> {
+    fn fmt<W: fmt::Write>(&self, f: &mut fmt::Formatter<W>) -> fmt::Result {
+        match self.names.objects.name_of(self.tag) {
+            Some(name) => write!(f, "{name}"),
+            None => write!(f, "{}", self.tag),
+        }
+    }
+}
+
+/// A row, as text. Its sessions and objects are known by these names.
 #[derive(Clone, Copy, Drop)]
 pub struct RowText<'a> {
     pub names: &'a Names,
@@ -165,13 +181,15 @@ impl fmt::Display for RowText<'_> {
                     mode,
                     ..
                 } = row;
-                write!(f, "fast {name} {slot} {tag} {mode}")
+                let object = ObjectText { names, tag };
+                write!(f, "fast {name} {slot} {object} {mode}")
             }
             Row::Table(row) => {
                 let name = name_of(names, row.session);
                 let how = if row.granted { "granted" } else { "awaited" };
                 let TableRow { tag, mode, .. } = row;
-                write!(f, "table {name} {tag} {mode} {how}")
+                let object = ObjectText { names, tag };
+                write!(f, "table {name} {object} {mode} {how}")
             }
             Row::Rows(rows) => write!(f, "rows {rows}"),
             Row::Wait(row) => {
@@ -192,6 +210,7 @@ impl fmt::Display for RowText<'_> {
                 let hash = HashText { tag };
                 write!(f, "{hash}")
             }
+            Row::Named(NamedObject { name, tag }) => write!(f, "name {name} {tag}"),
         }
     }
 }

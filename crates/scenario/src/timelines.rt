@@ -10,7 +10,9 @@ use crate::output::Listener;
 use crate::picture::Picture;
 use crate::style::{Drawing, Pen, Style};
 use lock_manager::{Config, Mode, Owner, Tag};
-use lock_script::{Fault, Name, Names, parse_name, parse_owner, parse_tag, split_words};
+use lock_script::{
+    Fault, Name, Names, ObjectNames, parse_name, parse_object, parse_owner, split_words,
+};
 use lock_timeline::Timeline;
 use std::alloc::{AllocError, Global};
 use std::io::{Read, Write};
@@ -52,6 +54,7 @@ pub fn draw_heard_script<H: AllocGlobal + Wait, R: Read + Drop, W: Write + Drop>
     let draftsman = Draftsman {
         sketch: &mut sketch,
         outcome,
+        alloc,
     };
     run_in_turn(rt, reader, draftsman, config, options.keep)?;
     write_sketch(alloc, writer, &sketch, options.style)
@@ -101,8 +104,8 @@ enum Level {
 }
 
 impl Played {
-    /// What a line of these words says.
-    fn of(words: &[&str]) -> Option<Self> {
+    /// What a line of these words says, where these objects have names.
+    fn of(words: &[&str], objects: &ObjectNames) -> Option<Self> {
         let [verb, name, others @ ..] = words else {
             return None;
         };
@@ -113,20 +116,20 @@ impl Played {
             "subabort" => Level::IsDropped,
             _ => Level::Stays,
         };
-        let lock = lock_of(others);
+        let lock = lock_of(others, objects);
         Some(Played { name, lock, level })
     }
 }
 
 /// The lock of a line by the words behind its session: an object, a mode, and the word `session` or none.
-fn lock_of(words: &[&str]) -> Option<Asked> {
+fn lock_of(words: &[&str], objects: &ObjectNames) -> Option<Asked> {
     let (tag, mode, owner) = match words {
         [tag, mode] => (*tag, *mode, Owner::Transaction),
         [tag, mode, owner] => (*tag, *mode, parse_owner(*owner)?),
         _ => return None,
     };
     Some(Asked {
-        tag: parse_tag(tag)?,
+        tag: parse_object(tag, objects)?,
         mode: Mode::from_name(mode)?,
         owner,
     })
@@ -137,6 +140,7 @@ fn lock_of(words: &[&str]) -> Option<Asked> {
 struct Sketch {
     timeline: Timeline,
     line: u32,
+    text: String,
     played: Option<Played>,
 }
 
@@ -145,23 +149,27 @@ impl Sketch {
         Sketch {
             timeline: Timeline::new(alloc),
             line: 0,
+            text: String::new(alloc),
             played: None,
         }
     }
 
     /// A line of the script is played.
-    fn begin_line(&mut self, number: u32, text: &str) -> Result<(), AllocError> {
+    fn begin_line(&mut self, alloc: Global, number: u32, text: &str) -> Result<(), AllocError> {
         let words = split_words(text);
         self.line = number;
-        self.played = Played::of(words.as_slice());
+        self.text = String::from_str(alloc, text)?;
+        self.played = None;
         match words.as_slice().first() {
             Some(verb) if !verb.starts_with('#') => self.timeline.begin_line(number),
             _ => Ok(()),
         }
     }
 
-    /// The session of this name is told this.
-    fn hear(&mut self, name: &Name, said: Said) -> Result<(), AllocError> {
+    /// The session of this name is told this. The objects are known by `names`.
+    fn hear(&mut self, names: &Names, name: &Name, said: Said) -> Result<(), AllocError> {
+        let words = split_words(self.text.as_str());
+        self.played = Played::of(words.as_slice(), &names.objects);
         match said {
             Said::Opened { .. } => self.timeline.open(*name)?,
             Said::Acquired(_) => {
@@ -253,6 +261,7 @@ impl Sketch {
 struct Draftsman<'a> {
     sketch: &'a mut Sketch,
     outcome: &'a mut Outcome,
+    alloc: Global,
 }
 
 impl Listener for Draftsman<'_> {
@@ -265,23 +274,33 @@ impl Listener for Draftsman<'_> {
             .read(number, text)
             .map_err(|_| Fault::NoMemory)?;
         self.sketch
-            .begin_line(number, text)
+            .begin_line(self.alloc, number, text)
             .map_err(|_| Fault::NoMemory)
     }
 
-    fn said(&mut self, _names: &Names, name: Name, said: Said) -> Result<(), Fault> {
+    fn said(&mut self, names: &Names, name: Name, said: Said) -> Result<(), Fault> {
         self.outcome
             .hear(&name, &said)
             .map_err(|_| Fault::NoMemory)?;
-        self.sketch.hear(&name, said).map_err(|_| Fault::NoMemory)
+        self.sketch
+            .hear(names, &name, said)
+            .map_err(|_| Fault::NoMemory)
     }
 
     fn keep_line(&mut self, number: u32, text: &str) -> Result<(), Fault> {
         self.outcome.read(number, text).map_err(|_| Fault::NoMemory)
     }
 
-    fn row(&mut self, _names: &Names, _row: Row) -> Result<(), Fault> {
-        Ok(())
+    fn row(&mut self, _names: &Names, row: Row) -> Result<(), Fault> {
+        self.outcome.hear_row(&row).map_err(|_| Fault::NoMemory)?;
+        match row {
+            Row::Named(it) => self
+                .sketch
+                .timeline
+                .name_object(it.tag, it.name.as_str())
+                .map_err(|_| Fault::NoMemory),
+            _ => Ok(()),
+        }
     }
 
     fn pen(&self) -> Option<Pen> {

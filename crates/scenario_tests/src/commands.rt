@@ -25,7 +25,8 @@ fn is_name_of(kind: WordKind, name: &str) -> bool {
         WordKind::OpenName => name == "NAME" || name == "OTHER",
         WordKind::Number => name == "DB",
         WordKind::CounterIndex => name == "INDEX",
-        WordKind::TagWord => name == "TAG",
+        WordKind::FreeObjectName => name == "OBJECT",
+        WordKind::FreeTag | WordKind::TagWord => name == "TAG",
         WordKind::ModeName => name == "MODE",
         WordKind::OwnerWord => name == "[session]",
     }

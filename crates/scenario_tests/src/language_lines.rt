@@ -1,8 +1,9 @@
 //! The lines of scripts as docs/LANGUAGE.md lists them (`.ci/scenarios` writes them here).
 
 /// All of them.
-pub static LINES: [&str; 19] = [
+pub static LINES: [&str; 20] = [
     "session NAME DB",
+    "name OBJECT TAG",
     "try NAME TAG MODE OWNER",
     "fast NAME TAG MODE OWNER",
     "lock NAME TAG MODE OWNER",

@@ -20,6 +20,8 @@ mod language_lines;
 #[cfg(test)]
 mod mans;
 #[cfg(test)]
+mod named;
+#[cfg(test)]
 mod nested;
 #[cfg(test)]
 mod orders;

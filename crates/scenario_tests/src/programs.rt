@@ -138,8 +138,8 @@ Options:
   -V, --version  Print version
 
 Lines of a script begin with:
-  session, try, fast, lock, unlock, commit, abort, begin, subcommit, subabort,
-  owned, waiters, queue, blockers, cancel, list, count, hash, close
+  session, name, try, fast, lock, unlock, commit, abort, begin, subcommit,
+  subabort, owned, waiters, queue, blockers, cancel, list, count, hash, close
 
 Example:
   lock_scenario run --sessions 2 < scenarios/object_lock.scn
@@ -164,6 +164,7 @@ Options:
 
 Lines of a script, after lock_scenario run < FILE:
   session NAME DB                 open a session of a database
+  name OBJECT TAG                 give an object a name, which stands for its tag
   try NAME TAG MODE [session]     take a lock, if nothing is in the way
   fast NAME TAG MODE [session]    take a lock by a fast-path slot, or not at all
   lock NAME TAG MODE [session]    take a lock, and wait for it if need be
@@ -188,8 +189,10 @@ Lines of a script, after lock_scenario run < FILE:
 
 NAME is 1 to 16 of a to z, 0 to 9 and _. DB is a number to 4294967295, INDEX one
   to 1023.
+OBJECT is a letter or _, and up to 62 letters, digits, _, $ and . behind it.
 TAG is DB/REL for a relation, DB/CLASS/OBJ/SUB for another object, and
-  adv/DB/K1/K2/SUB for an advisory lock, of numbers to 4294967295, SUB to 65535.
+  adv/DB/K1/K2/SUB for an advisory lock, of numbers to 4294967295, SUB to 65535;
+  or the name of an object.
 MODE is AccessShareLock, RowShareLock, RowExclusiveLock,
   ShareUpdateExclusiveLock, ShareLock, ShareRowExclusiveLock, ExclusiveLock or
   AccessExclusiveLock.

@@ -3,7 +3,7 @@ use crate::inputs::INPUTS;
 use crate::pipes::Pipe;
 use crate::rows::{self, BadRow, Copies, Row};
 use crate::scenarios::{deadlocks, migrations_on_a_busy_table, owners, the_fast_path, the_queue};
-use crate::{advisory, groups, nested, queues, waiting};
+use crate::{advisory, groups, named, nested, queues, waiting};
 use lock_manager::{Config, MOST_GROUPS, MOST_LOCAL, MOST_SESSIONS};
 use lock_script::{Defect, Fault};
 use scenario::run_script;
@@ -225,6 +225,11 @@ fn queues_and_blockers_are_told(rt: HostRuntime) -> Result<(), Fail> {
 }
 
 #[test]
+fn names_objects(rt: HostRuntime) -> Result<(), Fail> {
+    expect_rows(&rt, EIGHT, &named::NAMES)
+}
+
+#[test]
 fn savepoints_release_what_they_took(rt: HostRuntime) -> Result<(), Fail> {
     expect_rows(&rt, EIGHT, &nested::NESTED)
 }
@@ -357,6 +362,7 @@ fn a_bad_line_ends_a_script(rt: HostRuntime) -> Result<(), Fail> {
     expect_bad_lines(&rt, (1, "", ""), &rows::BAD_LINES)?;
     expect_bad_lines(&rt, (1, "", ""), &advisory::NO_ADVISORY)?;
     expect_bad_lines(&rt, (1, "", ""), &queues::BAD_QUEUES)?;
+    expect_bad_lines(&rt, (1, "", ""), &named::BAD_NAMES)?;
     expect_bad_lines(&rt, closed, &rows::CLOSED_LINES)?;
     expect_bad_lines(&rt, waiting, &waiting::WAITING_LINES)
 }

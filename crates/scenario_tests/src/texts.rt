@@ -13,9 +13,9 @@ fn name(rt: &impl Abort, text: &str) -> Name {
 
 #[test]
 fn a_refusal_has_its_number_and_text(rt: HostRuntime) -> Result<(), Fail> {
-    let mut names = Names::new();
-    names.push(name(&rt, "a"));
-    names.push(name(&rt, "b"));
+    let mut names = Names::new(rt.alloc());
+    names.sessions.push(name(&rt, "a"));
+    names.sessions.push(name(&rt, "b"));
     let second = SessionId::new(1).expect(&rt, "a session number");
     for (refusal, text) in [
         (
@@ -66,8 +66,11 @@ fn a_refusal_has_its_number_and_text(rt: HostRuntime) -> Result<(), Fail> {
 }
 
 /// Prints what sessions are told, in each variant.
-fn print_said(rt: &impl Abort, output: &mut Output<&mut Vec<u8>>) -> Result<(), Fault> {
-    let names = Names::new();
+fn print_said<H: AllocGlobal + Abort>(
+    rt: &H,
+    output: &mut Output<&mut Vec<u8>>,
+) -> Result<(), Fault> {
+    let names = Names::new(rt.alloc());
     let b = name(rt, "b");
     for said in [
         Said::Acquired(Acquired::Granted),
@@ -96,8 +99,11 @@ fn print_said(rt: &impl Abort, output: &mut Output<&mut Vec<u8>>) -> Result<(), 
 }
 
 /// Prints rows that name no session by its number.
-fn print_rows(rt: &impl Abort, output: &mut Output<&mut Vec<u8>>) -> Result<(), Fault> {
-    let names = Names::new();
+fn print_rows<H: AllocGlobal + Abort>(
+    rt: &H,
+    output: &mut Output<&mut Vec<u8>>,
+) -> Result<(), Fault> {
+    let names = Names::new(rt.alloc());
     for row in [
         Row::NotWaiting(name(rt, "b")),
         Row::Rows(3),
@@ -134,8 +140,8 @@ fn an_answer_has_its_text(rt: HostRuntime) -> Result<(), Fail> {
 #[test]
 fn a_row_has_its_text(rt: HostRuntime) -> Result<(), Fail> {
     let alloc = rt.alloc();
-    let mut names = Names::new();
-    names.push(name(&rt, "a"));
+    let mut names = Names::new(alloc);
+    names.sessions.push(name(&rt, "a"));
     let session = SessionId::new(0).expect(&rt, "a session number");
     let mut listing = Listing {
         fast: Vec::new(alloc),

@@ -1,8 +1,11 @@
 //! Each command with its line, and each defect of a line, once.
 
 use super::sessions::{name, three};
-use lock_script::{Caller, Command, Defect, OpenSessions, Opened, Place, Target, parse};
+use lock_script::{
+    Caller, Command, Defect, ObjectName, ObjectNames, OpenSessions, Opened, Place, Target, parse,
+};
 use modes_core::{Mode, Owner, Tag};
+use std::alloc::{AllocError, Global};
 use std::process::Abort;
 use std::test::Fail;
 
@@ -37,6 +40,24 @@ const ADVISORY: Tag = Tag::Advisory {
     key2: 7,
     sub: 8,
 };
+
+/// This name of an object. With a text that is none, the test ends by `rt`.
+fn object_name(rt: &impl Abort, text: &str) -> ObjectName {
+    ObjectName::from(text).expect(rt, "an object's name")
+}
+
+/// The objects that have names, in this memory: `accounts`, the relation, and `_A.$9`, the advisory lock. The test ends by
+/// `rt` where one of them has its name before.
+fn two_objects(rt: &impl Abort, alloc: Global) -> Result<ObjectNames, AllocError> {
+    let mut objects = ObjectNames::new(alloc);
+    for (text, tag) in [("accounts", RELATION), ("_A.$9", ADVISORY)] {
+        let name = object_name(rt, text);
+        assert!(rt; objects.tag_called(name.as_str()).is_none());
+        assert!(rt; objects.name_of(tag).is_none());
+        objects.push(name, tag)?;
+    }
+    Ok(objects)
+}
 
 /// The commands that open a session, or take or give back a lock. With no name for a session, the test ends by `rt`.
 fn commands_on_locks(rt: &impl Abort) -> [(&'static str, Command); 7] {
@@ -76,7 +97,7 @@ fn commands_on_locks(rt: &impl Abort) -> [(&'static str, Command); 7] {
 
 /// The commands that neither open a session nor take or give back a lock. With no name for a session, the test ends
 /// by `rt`.
-fn other_commands(rt: &impl Abort) -> [(&'static str, Command); 10] {
+fn other_commands(rt: &impl Abort) -> [(&'static str, Command); 12] {
     let name = name(rt, "d");
     let place = Place::Waiting(0);
     [
@@ -95,35 +116,70 @@ fn other_commands(rt: &impl Abort) -> [(&'static str, Command); 10] {
         ("count b 1023", Command::Count(caller(rt), 1023)),
         ("hash 5/7", Command::Hash(RELATION)),
         ("hash adv/5/06/7/8", Command::Hash(ADVISORY)),
+        ("hash _A.$9", Command::Hash(ADVISORY)),
+        ("queue b accounts", Command::Queue(caller(rt), RELATION)),
         ("close b", Command::Close(caller(rt))),
     ]
 }
 
-/// Ends the test where a line of `rows`, parsed with `sessions` open, isn't answered as the row says.
-fn expect_commands(rt: &impl Abort, sessions: &OpenSessions<u32, u32>, rows: &[(&str, Command)]) {
+/// A name of an object of as many characters as it may have.
+const LONGEST: &str = "a23456789_123456789_123456789_123456789_123456789_123456789_123";
+
+/// Ends the test where a line of `rows`, parsed with `sessions` open and `objects` named, isn't answered as the row says.
+fn expect_commands(
+    rt: &impl Abort,
+    sessions: &OpenSessions<u32, u32>,
+    objects: &ObjectNames,
+    rows: &[(&str, Command)],
+) {
     for (line, command) in rows {
-        assert!(rt; parse(line, sessions) == Ok(Some(*command)), "{line}");
+        assert!(rt;
+            parse(line, sessions, objects) == Ok(Some(*command)),
+            "{line}"
+        );
     }
 }
 
-/// Ends the test where a line that asks for nothing is answered, with sessions called as in `sessions`.
-fn expect_silence(rt: &impl Abort, sessions: &OpenSessions<u32, u32>) {
+/// Ends the test where a line that asks for nothing is answered, with sessions called as in `sessions` and objects as in `objects`.
+fn expect_silence(rt: &impl Abort, sessions: &OpenSessions<u32, u32>, objects: &ObjectNames) {
     for line in ["", " \t", "#", "#session a 5"] {
-        assert!(rt; parse(line, sessions) == Ok(None), "{line}");
+        assert!(rt; parse(line, sessions, objects) == Ok(None), "{line}");
     }
+}
+
+/// Ends the test where a line that gives an object a name isn't answered so, or one whose name is too long isn't refused.
+fn expect_namings<H: AllocGlobal + Abort>(
+    rt: &H,
+    sessions: &OpenSessions<u32, u32>,
+    objects: &ObjectNames,
+) -> Result<(), AllocError> {
+    for text in ["a", "_", "Z.z$0_", "b", LONGEST] {
+        let name = object_name(rt, text);
+        let line = format!(in rt.alloc(); "name {text} 5/6/7/8")?;
+        let command = Command::Name { name, tag: OBJECT };
+        assert!(rt;
+            parse(line.as_str(), sessions, objects) == Ok(Some(command)),
+            "{text}"
+        );
+    }
+    let line = format!(in rt.alloc(); "name {LONGEST}4 5/6/7/8")?;
+    assert!(rt; parse(line.as_str(), sessions, objects) == Err(Defect::BadName));
+    Ok(())
 }
 
 #[test]
 fn a_line_is_a_command(rt: HostRuntime) -> Result<(), Fail> {
     let sessions = three(&rt, rt.alloc())?;
-    expect_commands(&rt, &sessions, commands_on_locks(&rt).as_slice());
-    expect_commands(&rt, &sessions, other_commands(&rt).as_slice());
-    expect_silence(&rt, &sessions);
+    let objects = two_objects(&rt, rt.alloc())?;
+    expect_commands(&rt, &sessions, &objects, commands_on_locks(&rt).as_slice());
+    expect_commands(&rt, &sessions, &objects, other_commands(&rt).as_slice());
+    expect_silence(&rt, &sessions, &objects);
+    expect_namings(&rt, &sessions, &objects)?;
     Ok(())
 }
 
 /// Lines, each with the first defect that it has.
-const DEFECTS: [(&str, Defect); 13] = [
+const DEFECTS: [(&str, Defect); 24] = [
     ("frob", Defect::UnknownCommand),
     (
         "try b 5/7 RowShareLock session 6",
@@ -140,18 +196,35 @@ const DEFECTS: [(&str, Defect); 13] = [
     ("lock b adv/5/6/7 Share owner", Defect::BadObject),
     ("lock b 5/7 Share owner", Defect::BadMode),
     ("lock b 5/7 ShareLock owner", Defect::BadOwner),
+    ("lock b account Share", Defect::BadObject),
+    ("lock b accounts Share", Defect::BadMode),
+    ("name accounts", Defect::WrongNumberOfWords),
+    ("name 9a 5", Defect::BadName),
+    ("name a-b 5", Defect::BadName),
+    ("name .a 5", Defect::BadName),
+    ("name accounts 5", Defect::NameExists),
+    ("name more 5", Defect::BadObject),
+    ("name more nobody", Defect::BadObject),
+    ("name more 05/7", Defect::ObjectNamed),
+    ("name more accounts", Defect::ObjectNamed),
 ];
 
-/// Ends the test where the defect of a line of `rows`, parsed with `sessions` open, isn't the one that the row says.
-fn expect_defects(rt: &impl Abort, sessions: &OpenSessions<u32, u32>, rows: &[(&str, Defect)]) {
+/// Ends the test where the defect of a line of `rows`, parsed with `sessions` open and `objects` named, isn't the one that the row says.
+fn expect_defects(
+    rt: &impl Abort,
+    sessions: &OpenSessions<u32, u32>,
+    objects: &ObjectNames,
+    rows: &[(&str, Defect)],
+) {
     for (line, defect) in rows {
-        assert!(rt; parse(line, sessions) == Err(*defect), "{line}");
+        assert!(rt; parse(line, sessions, objects) == Err(*defect), "{line}");
     }
 }
 
 #[test]
 fn a_line_is_refused_at_its_first_defect(rt: HostRuntime) -> Result<(), Fail> {
     let sessions = three(&rt, rt.alloc())?;
-    expect_defects(&rt, &sessions, DEFECTS.as_slice());
+    let objects = two_objects(&rt, rt.alloc())?;
+    expect_defects(&rt, &sessions, &objects, DEFECTS.as_slice());
     Ok(())
 }

@@ -5,7 +5,7 @@ use std::alloc::{AllocError, Global};
 use std::test::Fail;
 
 /// Each defect, and the text of the fault of line 7 that has it.
-const DEFECTS: [(Defect, &str); 13] = [
+const DEFECTS: [(Defect, &str); 15] = [
     (Defect::TooManyLines, "line 7: too many lines"),
     (Defect::LineTooLong, "line 7: line too long"),
     (Defect::NotAsciiText, "line 7: not ASCII text"),
@@ -18,6 +18,8 @@ const DEFECTS: [(Defect, &str); 13] = [
     (Defect::BadNumber, "line 7: bad number"),
     (Defect::BadObject, "line 7: bad object"),
     (Defect::BadMode, "line 7: bad mode"),
+    (Defect::NameExists, "line 7: name exists"),
+    (Defect::ObjectNamed, "line 7: object has a name"),
     (Defect::BadOwner, "line 7: bad owner"),
 ];
 

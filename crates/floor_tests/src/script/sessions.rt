@@ -2,7 +2,7 @@
 
 ghost use Rattle.std.specs.Prelude.{◌≡◌, length, IfOk};
 
-use lock_script::{Name, Named, Names, OpenSessions, Place};
+use lock_script::{Name, Named, OpenSessions, Place, SessionNames};
 use modes_core::SessionId;
 use std::alloc::{AllocError, Global};
 use std::process::Abort;
@@ -62,8 +62,8 @@ fn sessions_stand_by_their_names(rt: HostRuntime) -> Result<(), Fail> {
 }
 
 /// The names of two sessions, the first and the second that was opened. Where there is none, the test ends by `rt`.
-fn two(rt: &impl Abort) -> Names {
-    let mut names = Names::new();
+fn two(rt: &impl Abort) -> SessionNames {
+    let mut names = SessionNames::new();
     names.push(name(rt, "b"));
     names.push(name(rt, "a"));
     names

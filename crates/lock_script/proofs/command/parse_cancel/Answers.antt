@@ -6,7 +6,7 @@ use Rattle.lock_script.proofs.command.parse_cancel.Goals as goal
 pub returns-in_err-other-clause-refused : goal.returns-in_err-other-clause-refused
 returns-in_err-other-clause-refused g c =
     of_err _ c.from_residual-in_err-other.result c.in_err-other.field-0.0 c.from_residual-in_err-other.ensures.1
-    (second_wrong c.args.sessions.now CallerName OpenName c.args.words.now _ _ c.in_err-other.field-0.0 (λ _ _. tt) (omega arith)
+    (λ objects. second_wrong c.args.sessions.now objects CallerName OpenName c.args.words.now _ _ c.in_err-other.field-0.0 (λ _ _. tt) (omega arith)
     (caller-right c.args.sessions.now _ c.in_ok-by.by c.in_ok-by.ensures.named) c.in_err-other.ensures.refused)
 
 pub returns-clause-named : goal.returns-clause-named

@@ -8,5 +8,5 @@ pub returns-in_err-index-clause-refused : goal.returns-in_err-index-clause-refus
 returns-in_err-index-clause-refused g c =
     let none = no_value c.parse_strong_index.result c.in_err-index.field-0.0 BadNumber c.in_err-index.ensures.value in
     of_err _ c.from_residual-in_err-index.result c.in_err-index.field-0.0 c.from_residual-in_err-index.ensures.1
-    (second_wrong c.args.sessions.now CallerName CounterIndex c.args.words.now _ _ c.in_err-index.field-0.0 (λ _ _. tt) (omega arith)
+    (λ objects. second_wrong c.args.sessions.now objects CallerName CounterIndex c.args.words.now _ _ c.in_err-index.field-0.0 (λ _ _. tt) (omega arith)
     (caller-right c.args.sessions.now _ c.in_ok-caller.caller c.in_ok-caller.ensures.named) (none.0, sym c.parse_strong_index.ensures.value ∙ none.1))

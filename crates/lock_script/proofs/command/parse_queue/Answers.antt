@@ -6,7 +6,7 @@ use Rattle.lock_script.proofs.command.parse_queue.Goals as goal
 
 pub returns-in_err-object-clause-refused : goal.returns-in_err-object-clause-refused
 returns-in_err-object-clause-refused g c =
-    let none = no_value c.parse_tag.result c.in_err-object.field-0.0 BadObject c.in_err-object.ensures.value in
+    let none = no_value c.parse_object.result c.in_err-object.field-0.0 BadObject c.in_err-object.ensures.value in
     of_err _ c.from_residual-in_err-object.result c.in_err-object.field-0.0 c.from_residual-in_err-object.ensures.1
-    (second_wrong c.args.sessions.now CallerName TagWord c.args.words.now _ _ c.in_err-object.field-0.0 (λ _ _. tt) (omega arith)
-    (caller-right c.args.sessions.now _ c.in_ok-caller.caller c.in_ok-caller.ensures.named) (none.0, sym c.parse_tag.ensures ∙ none.1))
+    (second_wrong c.args.sessions.now c.args.objects.now CallerName TagWord c.args.words.now _ _ c.in_err-object.field-0.0 (λ _ _. tt) (omega arith)
+    (caller-right c.args.sessions.now _ c.in_ok-caller.caller c.in_ok-caller.ensures.named) (none.0, sym c.parse_object.ensures ∙ none.1))

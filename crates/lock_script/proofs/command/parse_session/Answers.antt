@@ -11,7 +11,7 @@ returns-then-is_some-clause-refused g c =
     let its = name-is c.parse_name.result c.in_ok-name.name _
     (some_value c.parse_name.result c.in_ok-name.name BadName c.in_ok-name.ensures.value) c.parse_name.ensures.variant c.parse_name.ensures.value in
     let found : is_some c.place_called.result ≡ true = cc in
-    first_taken c.args.sessions.now c.args.words.now _ c.in_ok-name.name.bytes c.place_called.result (omega arith) its.0 its.1 found c.place_called.ensures.called
+    λ objects. first_taken c.args.sessions.now objects c.args.words.now _ c.in_ok-name.name.bytes c.place_called.result (omega arith) its.0 its.1 found c.place_called.ensures.called
 
 pub returns-in_err-database-clause-refused : goal.returns-in_err-database-clause-refused
 returns-in_err-database-clause-refused g c =
@@ -21,6 +21,6 @@ returns-in_err-database-clause-refused g c =
     let found : is_some c.place_called.result ≡ false = cc in
     let unknown = free_in c.args.sessions.now c.in_ok-name.name.bytes c.place_called.result found c.place_called.ensures.free in
     of_err _ c.from_residual-in_err-database.result c.in_err-database.field-0.0 c.from_residual-in_err-database.ensures.1
-    (second_wrong c.args.sessions.now FreeName Number c.args.words.now _ _ c.in_err-database.field-0.0 (λ _ _. tt) (omega arith)
+    (λ objects. second_wrong c.args.sessions.now objects FreeName Number c.args.words.now _ _ c.in_err-database.field-0.0 (λ _ _. tt) (omega arith)
     (free-right c.args.sessions.now _ its.0 (subst (λ (word : List ℕ). IsUnknown c.args.sessions.now word) its.1 unknown))
     (none.0, sym c.parse_number.ensures ∙ none.1))

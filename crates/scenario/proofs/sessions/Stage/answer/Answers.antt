@@ -28,6 +28,15 @@ returns-in-Open-clause-answered g c = record {
   done = c.open.ensures.opened;
 }
 
+pub returns-in-Name-clause-answered : goal.returns-in-Name-clause-answered
+returns-in-Name-clause-answered g c = record {
+  number = c.other_of-other.result;
+  other = c.other_of-other.ensures.number;
+  deed = _;
+  which = subst (λ done. IsDeedOf c.args.command c.other_of-other.result done) c.in-Name.is c.deed_of.ensures;
+  done = (c.name_object.ensures.named, c.name_object.ensures.names, c.name_object.ensures.sessions);
+}
+
 pub returns-in-Close-clause-answered : goal.returns-in-Close-clause-answered
 returns-in-Close-clause-answered g c = record {
   number = c.other_of-other.result;

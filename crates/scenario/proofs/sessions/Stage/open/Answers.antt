@@ -29,6 +29,7 @@ returns-in-Ok-clause-opened g c = inl (record {
   joins = c.put.ensures;
   waiting = refl;
   names = c.push.ensures;
+  objects = refl;
 })
 
 pub returns-in-Err-clause-opened : goal.returns-in-Err-clause-opened
