@@ -1,7 +1,7 @@
 //! Lines that were read while their sessions wait, and are run once these go on.
-ghost use Rattle.std.specs.Prelude.{◌≡◌, ◌<◌, ◌+◌, ℕ, true, false, [], ◌∷◌, ◌++◌, length, slice_index_or, IfSome, IfNone, OnOk, OnErr};
-ghost use Rattle.lock_script.specs.declared.kept.KeptLine.{KeptLine};
-ghost use Rattle.lock_script.specs.Kept.{IsKeptOrder};
+ghost use Rattle.std.specs.Prelude.{◌≡◌, ◌≢◌, ◌<◌, ◌++◌, ℕ, List, true, false, [], ◌∷◌, length, slice_index_or, IfSome, IfNone, MatchOption, OnOk, OnErr};
+ghost use Rattle.lock_script.specs.declared.kept.KeptQueue.{KeptQueue};
+ghost use Rattle.lock_script.specs.Kept.{IsKeptOrder, line_of, lines_of};
 ghost use Rattle.lock_script.specs.Names.{IsFree};
 
 use crate::command::parse;
@@ -12,6 +12,7 @@ use crate::objects::ObjectNames;
 use crate::sessions::{ByName, OpenSessions};
 use crate::words::{parse_name, split_words};
 use std::alloc::{AllocError, Global};
+use std::collections::VecDeque;
 use std::marker::Model;
 
 /// A line that waits with its session.
@@ -19,24 +20,57 @@ use std::marker::Model;
 pub struct KeptLine {
     /// Which line of the script it is, counted from 1.
     pub number: u32,
-    /// The session that it addresses.
-    pub session: Name,
     pub text: String,
 }
 
-/// Lines that wait with their sessions, in the order in which they were read. Contracts see them as a list.
+/// The lines that wait with the session of this name, in their order.
+#[derive(Drop)]
+pub struct KeptQueue {
+    pub session: Name,
+    pub lines: VecDeque<KeptLine>,
+    /// Whether the session is open once they were run.
+    ends_open: bool,
+}
+
+impl KeptQueue {
+    /// Keeps a line behind the others. It is refused where there is no memory, and then it is not kept.
+    fn push(&mut self, line: KeptLine) -> Result<(), AllocError>
+        ensures kept { OnOk result (self.new.lines.items ≡ self.old.lines.items ++ line ∷ []) }
+        ensures refused { OnErr result (self.new.lines.items ≡ self.old.lines.items) }
+        ensures session { self.new.session ≡ self.old.session }
+    {
+        let ends_open = ends_open(line.text.as_str(), self.ends_open);
+        self.lines.push_back(line)?;
+        self.ends_open = ends_open;
+        Ok(())
+    }
+
+    /// Takes the first line out, if there is one.
+    fn pop(&mut self) -> Option<KeptLine>
+        ensures first { MatchOption result (self.new.lines.items ≡ self.old.lines.items)
+            (λ line. self.old.lines.items ≡ line ∷ self.new.lines.items) }
+        ensures session { self.new.session ≡ self.old.session }
+    {
+        self.lines.pop_front()
+    }
+}
+
+/// Lines that wait with their sessions. Contracts see them as a list of queues, of which a session's is the first one
+/// under its name (`lines_of`).
 #[derive(Drop)]
 pub struct KeptLines {
-    lines: Vec<KeptLine>,
+    alloc: Global,
+    /// There is one for each session that ever had lines here, of which there are as many as sessions at most.
+    queues: Vec<KeptQueue>,
 }
 
 impl Model for KeptLines {
     ghost use Rattle.std.specs.Prelude.{List};
-    ghost use Rattle.lock_script.specs.declared.kept.KeptLine.{KeptLine};
+    ghost use Rattle.lock_script.specs.declared.kept.KeptQueue.{KeptQueue};
 
-    ghost Value = { List KeptLine };
+    ghost Value = { List KeptQueue };
 
-    ghost view = { λ kept. kept.lines.items };
+    ghost view = { λ kept. kept.queues.items };
 }
 
 impl KeptLines {
@@ -45,52 +79,88 @@ impl KeptLines {
         ensures { result ≡ [] }
     {
         KeptLines {
-            lines: Vec::new(alloc),
+            alloc,
+            queues: Vec::new(alloc),
         }
     }
 
     /// How many there are.
-    pub fn len(&self) -> usize
-        ensures { result ≡ length self.now }
-    {
-        self.lines.len()
+    pub fn len(&self) -> usize {
+        let mut lines: usize = 0;
+        for queue in &self.queues {
+            lines = lines.saturating_add(queue.lines.len());
+        }
+        lines
     }
 
-    /// Keeps a line, behind the others. It is refused where there is no memory, and then none is kept.
-    pub fn keep(&mut self, line: KeptLine) -> Result<(), AllocError>
-        ensures kept { OnOk result (self.new ≡ self.old ++ line ∷ []) }
-        ensures refused { OnErr result (self.new ≡ self.old) }
+    /// Keeps a line of the session of this name, behind its others. It is refused where there is no memory, and then none is
+    /// kept.
+    pub fn keep(&mut self, session: Name, line: KeptLine) -> Result<(), AllocError>
+        ensures kept { OnOk result (IsKeptOrder (lines_of self.new) (lines_of self.old) (line_of session.bytes line)) }
+        ensures refused { OnErr result (IsKeptOrder (lines_of self.old) (λ _. []) (lines_of self.new)) }
     {
-        self.lines.push(line)?;
+        match place_of(self.queues.as_slice(), &session) {
+            Some(place) => self.queues[place].push(line),
+            None => self.keep_first(session, line),
+        }
+    }
+
+    /// Keeps the first line of a session.
+    fn keep_first(&mut self, session: Name, line: KeptLine) -> Result<(), AllocError>
+        requires { (k : ℕ) (d : KeptQueue) → k < length self.old →
+            (slice_index_or self.old k d).session.bytes ≢ session.bytes }
+        ensures kept { OnOk result (IsKeptOrder (lines_of self.new) (lines_of self.old) (line_of session.bytes line)) }
+        ensures refused { OnErr result (IsKeptOrder (lines_of self.old) (λ _. []) (lines_of self.new)) }
+    {
+        let mut queue = KeptQueue {
+            session,
+            lines: VecDeque::new(self.alloc),
+            ends_open: true,
+        };
+        queue.push(line)?;
+        self.queues.push(queue)?;
         Ok(())
     }
 
-    /// Takes the first line out whose session doesn't wait, if there is one. Of each session, it and the lines that are
-    /// left are those that were kept, in their order.
-    pub fn take_ready<S, W>(&mut self, sessions: &OpenSessions<S, W>) -> Option<KeptLine>
-        ensures order { IfSome result (λ line. IsKeptOrder self.old (line ∷ []) self.new) }
-        ensures fewer { IfSome result (λ line. length self.new + 1 ≡ length self.old) }
-        ensures rests { IfSome result (λ line. IsFree sessions.now.waiting line.session.bytes) }
-        ensures none { IfNone result (self.new ≡ self.old) }
+    /// Takes a line out whose session doesn't wait, if there is one: the first of such a session, and of these the one
+    /// that was read first. Of each session, it and the lines that are left are those that were kept, in their order.
+    pub fn take_ready<S, W>(&mut self, sessions: &OpenSessions<S, W>) -> Option<(Name, KeptLine)>
+        ensures order { IfSome result (λ it. IsKeptOrder (lines_of self.old) (line_of it.0.bytes it.1) (lines_of self.new)) }
+        ensures rests { IfSome result (λ it. IsFree sessions.now.waiting it.0.bytes) }
+        ensures none { IfNone result (IsKeptOrder (lines_of self.old) (λ _. []) (lines_of self.new)) }
     {
-        let place = self.first_ready(sessions)?;
-        Some(self.lines.remove(place))
+        let session = self.first_ready(sessions)?;
+        let line = self.pop(&session)?;
+        Some((session, line))
     }
 
-    /// Where the first line stands whose session doesn't wait.
-    fn first_ready<S, W>(&self, sessions: &OpenSessions<S, W>) -> Option<usize>
-        ensures within { IfSome result (λ place. place < length self.now) }
-        ensures rests { IfSome result (λ place. (d : KeptLine) →
-            IsFree sessions.now.waiting (slice_index_or self.now place d).session.bytes) }
-        ensures first { IfSome result (λ place. (k : ℕ) (d : KeptLine) → k < place →
-            ¬ IsFree sessions.now.waiting (slice_index_or self.now k d).session.bytes) }
+    /// Takes the first line of the session of this name out, if it has one.
+    fn pop(&mut self, session: &Name) -> Option<KeptLine>
+        ensures order { IfSome result (λ line. IsKeptOrder (lines_of self.old) (line_of session.now.bytes line) (lines_of self.new)) }
+        ensures none { IfNone result (IsKeptOrder (lines_of self.old) (λ _. []) (lines_of self.new)) }
     {
-        for (place, line) in self.lines.iter().enumerate() {
-            if !is_called(&sessions.waiting, &line.session) {
-                return Some(place);
+        match place_of(self.queues.as_slice(), session) {
+            Some(place) => self.queues[place].pop(),
+            None => None,
+        }
+    }
+
+    /// The session that doesn't wait whose first line was read before those of the others.
+    fn first_ready<S, W>(&self, sessions: &OpenSessions<S, W>) -> Option<Name>
+        ensures rests { IfSome result (λ name. IsFree sessions.now.waiting name.bytes) }
+    {
+        let mut found = None;
+        let mut first = u32::MAX;
+        for queue in &self.queues {
+            let Some(line) = queue.lines.front() else {
+                continue;
+            };
+            if line.number <= first && !is_called(&sessions.waiting, &queue.session) {
+                found = Some(queue.session);
+                first = line.number;
             }
         }
-        None
+        found
     }
 
     /// The session with which a line is to wait, if it addresses one that waits, or that has lines here.
@@ -105,9 +175,10 @@ impl KeptLines {
 
     /// Whether a session has lines here.
     fn has_lines_of(&self, session: &Name) -> bool {
-        self.lines
-            .iter()
-            .any(|line| line.session.as_str() == session.as_str())
+        match place_of(self.queues.as_slice(), session) {
+            Some(place) => !self.queues[place].lines.is_empty(),
+            None => false,
+        }
     }
 
     /// What is wrong with a line that is to be kept, by the sessions that are open once the lines before it were run.
@@ -121,11 +192,29 @@ impl KeptLines {
         let mut open = OpenSessions::new(alloc)?;
         put_all(&mut open, &sessions.resting);
         put_all(&mut open, &sessions.waiting);
-        for kept in &self.lines {
-            follow(&mut open, kept);
+        for queue in &self.queues {
+            follow(&mut open, queue);
         }
         Ok(parse(line, &open, objects).err())
     }
+}
+
+/// Where the lines of the session of this name stand, if it ever had any.
+fn place_of(queues: &[KeptQueue], session: &Name) -> Option<usize>
+    ensures within { IfSome result (λ place. place < length queues.now) }
+    ensures called { IfSome result (λ place. (d : KeptQueue) →
+        (slice_index_or queues.now place d).session.bytes ≡ session.now.bytes) }
+    ensures first { IfSome result (λ place. (k : ℕ) (d : KeptQueue) → k < place →
+        (slice_index_or queues.now k d).session.bytes ≢ session.now.bytes) }
+    ensures none { IfNone result ((k : ℕ) (d : KeptQueue) → k < length queues.now →
+        (slice_index_or queues.now k d).session.bytes ≢ session.now.bytes) }
+{
+    for (place, queue) in queues.iter().enumerate() {
+        if queue.session.as_str() == session.as_str() {
+            return Some(place);
+        }
+    }
+    None
 }
 
 /// Whether one of these goes by this name.
@@ -160,17 +249,22 @@ fn put(open: &mut OpenSessions<(), ()>, name: Name) {
     }
 }
 
-/// What a line that was kept leaves of the open sessions: one that it closes, or opens.
-fn follow(open: &mut OpenSessions<(), ()>, kept: &KeptLine) {
-    let words = split_words(kept.text.as_str());
-    let Some(verb) = words.as_slice().first() else {
+/// What the lines of a session that are kept leave of the open ones: it is closed, or still open.
+fn follow(open: &mut OpenSessions<(), ()>, queue: &KeptQueue) {
+    if queue.lines.is_empty() || queue.ends_open {
         return;
-    };
-    match (*verb, open.resting.place_called(&kept.session)) {
-        ("close", Some(place)) => {
-            let _ = open.resting.take(place);
-        }
-        ("session", None) => put(open, kept.session),
-        _ => {}
+    }
+    if let Some(place) = open.resting.place_called(&queue.session) {
+        let _ = open.resting.take(place);
+    }
+}
+
+/// Whether a session is open behind a line of its own, where it was so before.
+fn ends_open(line: &str, was_open: bool) -> bool {
+    let words = split_words(line);
+    match words.as_slice().first() {
+        Some(verb) if *verb == "close" => false,
+        Some(verb) if *verb == "session" => true,
+        _ => was_open,
     }
 }

@@ -17,7 +17,7 @@ pub use bytes::ByteSource;
 pub use command::{Command, Target, parse};
 pub use commands::{CommandRow, WordKind, command_row, command_rows};
 pub use faults::{Defect, Fault};
-pub use kept::{KeptLine, KeptLines};
+pub use kept::{KeptLine, KeptLines, KeptQueue};
 pub use lines::{Line, LineReader};
 pub use names::{Name, Names, SessionNames};
 pub use objects::{NamedObject, ObjectName, ObjectNames, parse_object, parse_object_name};

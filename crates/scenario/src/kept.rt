@@ -117,7 +117,10 @@ impl<T: PartTable, B: Board<T>, D: Desk<OwnSession<T, B>>, L: Listener> Scene<T,
         requires seats { SeatsAre B.seat D.seat }
         ensures manager { D.manager self.new.stage.desk ≡ D.manager self.old.stage.desk }
     {
-        'ready: while let Some(line) = kept.take_ready(&self.stage.sessions) {
+        'ready: for _ in 0..kept.len() {
+            let Some((_, line)) = kept.take_ready(&self.stage.sessions) else {
+                break;
+            };
             self.run_line(rt, line.number, line.text.as_str())?;
         }
         Ok(())
@@ -153,12 +156,8 @@ fn kept_or_fault<S, W>(
     let Ok(text) = String::from_str(alloc, line) else {
         return Err(Fault::NoMemory);
     };
-    let line = KeptLine {
-        number,
-        session,
-        text,
-    };
-    kept.keep(line).map_err(|_| Fault::NoMemory)
+    kept.keep(session, KeptLine { number, text })
+        .map_err(|_| Fault::NoMemory)
 }
 
 /// The names of these sessions.

@@ -1,8 +1,5 @@
-use Rattle.std.proofs.Common.{◌≡◌, length}
+use Rattle.std.proofs.Common.{◌≡◌}
 use Rattle.scenario.proofs.run.Scene.run_ready.Given as goal
 
 abbrev pub invariant-ready : goal.invariant-ready
 invariant-ready g l = g.D.Desk.manager l.self.stage.desk ≡ g.D.Desk.manager l.fn.self.stage.desk
-
-abbrev pub decreases-ready : goal.decreases-ready
-decreases-ready g l = length l.kept
