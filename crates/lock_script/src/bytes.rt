@@ -83,6 +83,18 @@ impl<R: Read> ByteSource<R> {
         self.start += 1;
         Ok(Some(byte))
     }
+
+    /// Whether a line of text of at most so many bytes is buffered, with its line feed.
+    pub fn has_line(&self, most: usize) -> bool {
+        let buffered = &self.buffer[self.start..self.end];
+        match buffered
+            .iter()
+            .position(|byte| !matches!(*byte, b'\t' | b' '..=b'~'))
+        {
+            Some(place) => place <= most && buffered[place] == b'\n',
+            None => false,
+        }
+    }
 }
 
 /// One read, repeated where a signal interrupts it, with each attempt counted.

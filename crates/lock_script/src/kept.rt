@@ -39,7 +39,9 @@ impl KeptQueue {
         ensures refused { OnErr result (self.new.lines.items ≡ self.old.lines.items) }
         ensures session { self.new.session ≡ self.old.session }
     {
-        let ends_open = ends_open(line.text.as_str(), self.ends_open);
+        // A session whose first line is kept waits, and so is open.
+        let was_open = self.ends_open || self.lines.is_empty();
+        let ends_open = ends_open(line.text.as_str(), was_open);
         self.lines.push_back(line)?;
         self.ends_open = ends_open;
         Ok(())

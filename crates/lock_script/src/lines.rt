@@ -95,6 +95,11 @@ impl<R: Read> LineReader<R> {
         self.number += 1;
         Ok(Some(line))
     }
+
+    /// Whether the next line is at hand: nothing has to be read for it, and it is a line that can be one of a script.
+    pub fn has_line(&self) -> bool {
+        self.number < MOST_LINES && self.source.has_line(MOST_BYTES)
+    }
 }
 
 /// A fault of the line after so many.

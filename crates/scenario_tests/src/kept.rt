@@ -9,7 +9,7 @@ const KEEP: &str = "lock_scenario run --keep";
 const OPENED: &str = "app: session 0 database 5\nddl: session 1 database 5\n";
 
 /// Scripts with what they print where lines are kept.
-static KEPT: [(&str, &str); 6] = [
+static KEPT: [(&str, &str); 7] = [
     // each session's statements in order
     (
         "session app 5\nsession ddl 5\nlock app 5/1 AccessShareLock\n\
@@ -38,6 +38,15 @@ static KEPT: [(&str, &str); 6] = [
         session b 6\ntry b 5/2 ShareLock\ncommit a\n",
         "a: session 0 database 5\nb: session 1 database 5\na: granted\nb: waits\na: committed\n\
         b: granted after waiting\nb: closed\nb: session 2 database 6\nb: granted\n",
+    ),
+    // one that is closed, opened and waits again
+    (
+        "session a 5\nsession b 5\nlock a 5/1 ExclusiveLock\nlock b 5/1 ExclusiveLock\nclose b\n\
+        commit a\nlock a 5/1 ExclusiveLock\nsession b 5\nlock b 5/1 ExclusiveLock\n\
+        try b 5/2 ShareLock\ncommit b\ncommit a\n",
+        "a: session 0 database 5\nb: session 1 database 5\na: granted\nb: waits\na: committed\n\
+        b: granted after waiting\nb: closed\na: granted\nb: session 2 database 5\nb: waits\n\
+        a: committed\nb: granted after waiting\nb: granted\nb: committed\n",
     ),
     // a cancel is no line of the session that it asks
     (

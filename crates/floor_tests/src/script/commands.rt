@@ -46,8 +46,8 @@ fn object_name(rt: &impl Abort, text: &str) -> ObjectName {
     ObjectName::from(text).expect(rt, "an object's name")
 }
 
-/// The objects that have names, in this memory: `accounts`, the relation, and `_A.$9`, the advisory lock. The test ends by
-/// `rt` where one of them has its name before.
+/// The objects that have names, in this memory: `accounts`, the relation, and `_A.$9`, the advisory lock. The test
+/// ends by `rt` where one of them has its name before.
 fn two_objects(rt: &impl Abort, alloc: Global) -> Result<ObjectNames, AllocError> {
     let mut objects = ObjectNames::new(alloc);
     for (text, tag) in [("accounts", RELATION), ("_A.$9", ADVISORY)] {
@@ -125,7 +125,8 @@ fn other_commands(rt: &impl Abort) -> [(&'static str, Command); 12] {
 /// A name of an object of as many characters as it may have.
 const LONGEST: &str = "a23456789_123456789_123456789_123456789_123456789_123456789_123";
 
-/// Ends the test where a line of `rows`, parsed with `sessions` open and `objects` named, isn't answered as the row says.
+/// Ends the test where a line of `rows`, parsed with `sessions` open and `objects` named, isn't answered as the row
+/// says.
 fn expect_commands(
     rt: &impl Abort,
     sessions: &OpenSessions<u32, u32>,
@@ -140,14 +141,16 @@ fn expect_commands(
     }
 }
 
-/// Ends the test where a line that asks for nothing is answered, with sessions called as in `sessions` and objects as in `objects`.
+/// Ends the test where a line that asks for nothing is answered, with sessions called as in `sessions` and objects as
+/// in `objects`.
 fn expect_silence(rt: &impl Abort, sessions: &OpenSessions<u32, u32>, objects: &ObjectNames) {
     for line in ["", " \t", "#", "#session a 5"] {
         assert!(rt; parse(line, sessions, objects) == Ok(None), "{line}");
     }
 }
 
-/// Ends the test where a line that gives an object a name isn't answered so, or one whose name is too long isn't refused.
+/// Ends the test where a line that gives an object a name isn't answered so, or one whose name is too long isn't
+/// refused.
 fn expect_namings<H: AllocGlobal + Abort>(
     rt: &H,
     sessions: &OpenSessions<u32, u32>,
@@ -209,7 +212,8 @@ const DEFECTS: [(&str, Defect); 24] = [
     ("name more accounts", Defect::ObjectNamed),
 ];
 
-/// Ends the test where the defect of a line of `rows`, parsed with `sessions` open and `objects` named, isn't the one that the row says.
+/// Ends the test where the defect of a line of `rows`, parsed with `sessions` open and `objects` named, isn't the one
+/// that the row says.
 fn expect_defects(
     rt: &impl Abort,
     sessions: &OpenSessions<u32, u32>,
