@@ -102,7 +102,7 @@ impl<T: PartTable, B: Board<T>> SessionPool<T, B> {
     }
 
     /// Takes `session` in, all of whose holds are released, in the order of making (`ProcKill` in proc.c). Nobody has its life any more.
-    /// It comes back, with nothing held, where as many as 64 are there already, which can't be of one manager's sessions.
+    /// The session comes back, with nothing held, where as many as 64 are there already, which can't be of one manager's sessions.
     pub fn take_in<R: Wait>(
         &mut self,
         rt: &R,

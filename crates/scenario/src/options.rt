@@ -26,7 +26,7 @@ pub struct FailOn {
 }
 
 impl FailOn {
-    /// Those of these names.
+    /// What a run fails for where `names` are given, each of which is one of `FAILURES`.
     pub fn named(names: &[&str]) -> Self {
         FailOn {
             waits: names.contains(&FAILURES[0]),

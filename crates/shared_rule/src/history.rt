@@ -10,7 +10,7 @@ use std::collections::LinkedList;
 /// A step that tells of no content, as its session's history has it. A type of its own: it doesn't depend on who
 /// keeps contents.
 pub enum WordMark {
-    /// It took the lock of a session's fast-path slots, which show these numbers with this database.
+    /// The session took the lock of a session's fast-path slots, which show these numbers with this database.
     TookFast {
         /// The session whose slots they are.
         owner: u8,
@@ -19,14 +19,14 @@ pub enum WordMark {
         /// The words of its slots.
         words: [u64; 0],
     },
-    /// It put that lock, whose word showed this before.
+    /// The session put the lock of a session's fast-path slots, whose word showed this before.
     PutFast {
         /// The session whose slots they are.
         owner: u8,
         /// What the lock's word showed.
         found: u64,
     },
-    /// It shares the lock of a session's fast-path slots, which show these numbers with this database.
+    /// The session shares the lock of a session's fast-path slots, which show these numbers with this database.
     SharedFast {
         /// The session whose slots they are.
         owner: u8,
@@ -35,14 +35,14 @@ pub enum WordMark {
         /// The words of its slots.
         words: [u64; 0],
     },
-    /// It gave that back, and the lock's word showed this before.
+    /// The session gave back what it shared of the lock of a session's slots, whose word showed this before.
     UnsharedFast {
         /// The session whose slots they are.
         owner: u8,
         /// What the lock's word showed.
         found: u64,
     },
-    /// It put the lock of a session's slots, and its strong lock, which it has counted, is past the session. The lock's
+    /// The session put the lock of a session's slots, and its strong lock, which it has counted, is past the session. The lock's
     /// word showed this before.
     Passed {
         /// The session whose slots the lock guards.
@@ -54,42 +54,42 @@ pub enum WordMark {
         /// What the lock's word showed.
         found: u64,
     },
-    /// It counted a strong lock.
+    /// The session counted a strong lock.
     Counted {
         /// Its object.
         tag: Tag,
         /// Its mode.
         mode: Mode,
     },
-    /// It counts the strong lock no more.
+    /// The session counts the strong lock no more.
     Uncounted {
         /// Its object.
         tag: Tag,
         /// Its mode.
         mode: Mode,
     },
-    /// It loaded its own wait word, which showed this.
+    /// The session loaded its own wait word, which showed this.
     LoadedWait {
         /// What was shown.
         shown: u64,
     },
-    /// It asked a session to cancel, whose wait word showed this before.
+    /// The session asked a session to cancel, whose wait word showed this before.
     Asked {
         /// The session that was asked.
         other: u8,
         /// What its wait word showed.
         before: u64,
     },
-    /// It cleared its own wait word.
+    /// The session cleared its own wait word.
     ClearedWait,
-    /// It loaded a session's database, which was this.
+    /// The session loaded a session's database, which was this.
     LoadedDatabase {
         /// The session whose slots they are.
         owner: u8,
         /// What was shown.
         shown: u64,
     },
-    /// It loaded a slot of a session, which showed this.
+    /// The session loaded a slot of a session, which showed this.
     LoadedSlot {
         /// The session whose slots they are.
         owner: u8,
@@ -98,19 +98,19 @@ pub enum WordMark {
         /// What was shown.
         shown: u64,
     },
-    /// It loaded the word of the lock of its own slots, which showed this.
+    /// The session loaded the word of the lock of its own slots, which showed this.
     LoadedFast {
         /// What was shown.
         shown: u64,
     },
-    /// It loaded a strong lock counter, which showed this.
+    /// The session loaded a strong lock counter, which showed this.
     LoadedStrong {
         /// The index of the counter.
         index: u16,
         /// What was shown.
         shown: u64,
     },
-    /// It set a mode in a slot of its own.
+    /// The session set a mode in a slot of its own.
     SetSlot {
         /// The place of the slot.
         place: u8,
@@ -119,7 +119,7 @@ pub enum WordMark {
         /// The mode.
         mode: Mode,
     },
-    /// It cleared a mode in a slot of its own.
+    /// The session cleared a mode in a slot of its own.
     ClearedSlot {
         /// The place of the slot.
         place: u8,
@@ -128,7 +128,7 @@ pub enum WordMark {
         /// The mode.
         mode: Mode,
     },
-    /// It moved a mode from a session's slot to the content in hand of the object's partition.
+    /// The session moved a mode from a session's slot to the content in hand of the object's partition.
     TransferredSlot {
         /// The session whose slots they are.
         owner: u8,
@@ -139,58 +139,58 @@ pub enum WordMark {
         /// The mode.
         mode: Mode,
     },
-    /// It stored its own database.
+    /// The session stored its own database.
     StoredDatabase {
         /// The database.
         database: u32,
     },
-    /// It locked the wait list of the lightweight lock with this number, in which these stand.
+    /// The session locked the wait list of the lightweight lock with this number, in which these stand.
     LockedList {
         /// The number of the lock.
         lock: u8,
         /// Who stands in the list.
         waiters: [LwWaiter; 0],
     },
-    /// It put the list home and unlocked it.
+    /// The session put the list home and unlocked it.
     UnlockedList,
-    /// It stands in the list in hand, last, to take the lock in this mode.
+    /// The session stands in the list in hand, last, to take the lock in this mode.
     JoinedList {
         /// How it wants to take the lock.
         mode: LwMode,
     },
-    /// It left the list in hand.
+    /// The session left the list in hand.
     LeftList,
-    /// It took a session off the list in hand, and is to tell it.
+    /// The session took a session off the list in hand, and is to tell it.
     TookOff {
         /// The session that was taken off.
         other: u8,
     },
-    /// It told a session that it took off.
+    /// The session told a session that it took off.
     Told {
         /// The session that was told.
         other: u8,
     },
-    /// It loaded its own sleep word, which showed this.
+    /// The session loaded its own sleep word, which showed this.
     LoadedSleep {
         /// What was shown.
         shown: u64,
     },
-    /// It set release-ok in the word of the lock with this number.
+    /// The session set release-ok in the word of the lock with this number.
     SetReleaseOk {
         /// The number of the lock.
         lock: u8,
     },
-    /// It set has-waiters there.
+    /// The session set has-waiters there.
     SetHasWaiters {
         /// The number of the lock.
         lock: u8,
     },
-    /// It saw that another session has the wait list of this lock locked: no step, but a look at the lock's word.
+    /// The session saw that another session has the wait list of this lock locked: no step, but a look at the lock's word.
     SawListLocked {
         /// The number of the lock.
         lock: u8,
     },
-    /// It saw that another session holds this lock, in the way of its own attempt: no step, but a look at the lock's word.
+    /// The session saw that another session holds this lock, in the way of its own attempt: no step, but a look at the lock's word.
     SawHeld {
         /// The number of the lock.
         lock: u8,
@@ -199,14 +199,14 @@ pub enum WordMark {
 
 /// One atomic step of a session, as its history has it.
 pub enum Mark<T> {
-    /// It took the partition in hand, with this content.
+    /// The session took the partition in hand, with this content.
     TookPart {
         /// The number of the partition.
         part: u8,
         /// Its content.
         taken: T,
     },
-    /// It put the partition home with this content, after this move that it made as it put it. The word of its lock
+    /// The session put the partition home with this content, after this move that it made as it put it. The word of its lock
     /// showed this before.
     PutPart {
         /// The number of the partition.
@@ -227,7 +227,7 @@ pub enum Mark<T> {
         /// The content in hand.
         now: T,
     },
-    /// It marked the wait of a session granted. Its move, by which the content in hand is this, granted the waits of
+    /// The session marked the wait of a session granted. Its move, by which the content in hand is this, granted the waits of
     /// these sessions.
     MarkedGranted {
         /// The number of the partition.
@@ -241,7 +241,7 @@ pub enum Mark<T> {
         /// The content in hand.
         now: T,
     },
-    /// It cleared its own wait word and left the queue, by which the content in hand is this, and the waits of these
+    /// The session cleared its own wait word and left the queue, by which the content in hand is this, and the waits of these
     /// sessions are granted.
     LeftQueue {
         /// The sessions whose waits were granted.
