@@ -1,10 +1,12 @@
-use Rattle.std.specs.Prelude.{ℕ, List, [], ◌∷◌, Option, Some, None, codes}
+use Rattle.std.specs.Prelude.{ℕ, List, [], ◌∷◌, ◌++◌, Option, Some, None, codes}
 use Rattle.arrayvec.specs.declared.array_string.ArrayString.{ArrayString}
 use Rattle.lock_script.specs.declared.names.Names.{Names}
-use Rattle.serde_json.specs.Data.{Data, number, unsigned, string, object, Members, no_members, put}
+use Rattle.lock_script.specs.Objects.{name_given}
+use Rattle.serde_json.specs.Data.{Data, boolean, number, unsigned, string, object, Members, no_members, put}
 use Rattle.modes_core.specs.Mode.{name_of}
 use Rattle.modes_core.specs.Refusal.{refusal_number}
 use Rattle.modes_core.specs.Tag.{hash_of, partition_of, index_of}
+use Rattle.modes_core.specs.TagText.{tag_text}
 use Rattle.modes_core.specs.declared.refusals.Refusal.{Refusal}
 use Rattle.modes_core.specs.declared.refusals.Refusal.TheVariants.{Conflict, SimpleDeadlock}
 use Rattle.wait_queue.specs.declared.queues.Blocker.{Blocker}
@@ -78,10 +80,21 @@ in_the_way_data line names name it =
     ((codes "row", string (codes "blocker")) ∷ (codes "session", string name.bytes) ∷ (codes "waits_for", string (name_in names it.session))
     ∷ (codes "mode", string (name_of it.mode)) ∷ (codes "how", string (in_the_way_text it.how)) ∷ [])
 
--- a row, but for one with the text of an object, or with the modes held at joining a queue, of which nothing is said
+-- the name of an object, where the script gave it one
+abbrev pub name_fields : Option (ArrayString 63) → List (List ℕ × Data)
+name_fields None = []
+name_fields (Some name) = (codes "name", string name.bytes) ∷ []
+
+-- a row, but for a wait in a queue, with the modes held at joining it, of which nothing is said
 abbrev pub row_data : ℕ → Names → Row → Option Data
-row_data line names (row.Slot it) = None
-row_data line names (row.Table it) = None
+row_data line names (row.Slot it) =
+    Some (line_object line
+    ((codes "row", string (codes "fast")) ∷ (codes "session", string (name_in names it.session)) ∷ (codes "slot", count it.slot)
+    ∷ (codes "tag", string (tag_text it.tag)) ∷ name_fields (name_given names.objects it.tag) ++ (codes "mode", string (name_of it.mode)) ∷ []))
+row_data line names (row.Table it) =
+    Some (line_object line
+    ((codes "row", string (codes "table")) ∷ (codes "session", string (name_in names it.session)) ∷ (codes "tag", string (tag_text it.tag))
+    ∷ name_fields (name_given names.objects it.tag) ++ (codes "mode", string (name_of it.mode)) ∷ (codes "granted", boolean it.granted) ∷ []))
 row_data line names (row.Rows rows) = Some (line_object line ((codes "rows", count rows) ∷ []))
 row_data line names (row.Wait it) = None
 row_data line names (row.Waits waits) = Some (line_object line ((codes "waits", count waits) ∷ []))
@@ -90,4 +103,4 @@ row_data line names (row.NotWaiting name) = Some (told_data line name (codes "is
 row_data line names (row.Counter index shown) = Some (line_object line ((codes "strong", count index) ∷ (codes "value", count shown) ∷ []))
 row_data line names (row.Hash tag) =
     Some (line_object line ((codes "hash", count (hash_of tag)) ∷ (codes "partition", count (partition_of tag)) ∷ (codes "strong", count (index_of tag)) ∷ []))
-row_data line names (row.Named it) = None
+row_data line names (row.Named it) = Some (line_object line ((codes "name", string it.name.bytes) ∷ (codes "tag", string (tag_text it.tag)) ∷ []))

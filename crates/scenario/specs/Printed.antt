@@ -23,13 +23,13 @@ abbrev pub data_line : Data → List ℕ
 data_line shown = compact_text shown ++ 10 ∷ []
 
 -- The text of what is heard, in this form, with the lines of the script or without, where this line is answered. Of a
--- picture, and of a row with the text of an object, nothing is said.
+-- picture nothing is said, and in JSON of a few rows.
 abbrev pub text_heard : Form → Bool → ℕ → Heard → Option (List ℕ)
 text_heard Text is_echoing line (Line number text) = Some (if is_echoing then text_line (codes "> " ++ text) else [])
 text_heard (Json alloc) is_echoing line (Line number text) = Some (if is_echoing then data_line (line_data number text) else [])
 text_heard Text is_echoing line (Told names name said) = Some (text_line (name.bytes ++ codes ": " ++ said_text names said))
 text_heard (Json alloc) is_echoing line (Told names name said) = Some (data_line (said_data line names name said))
-text_heard Text is_echoing line (Listed names row) = option_map text_line (row_text names row)
+text_heard Text is_echoing line (Listed names row) = Some (text_line (row_text names row))
 text_heard (Json alloc) is_echoing line (Listed names row) = option_map data_line (row_data line names row)
 text_heard form is_echoing line Drawn = None
 text_heard form is_echoing line (Helped text) = Some text

@@ -1,7 +1,8 @@
-use Rattle.std.specs.Prelude.{ℕ, List, [], ◌++◌, true, false, codes, slice_get, Option, Some, None}
+use Rattle.std.specs.Prelude.{ℕ, Bool, List, [], ◌++◌, true, false, codes, slice_get, Option, Some, None}
 use Rattle.std.specs.Fmt.{decimal}
 use Rattle.arrayvec.specs.declared.array_string.ArrayString.{ArrayString}
 use Rattle.lock_script.specs.declared.names.Names.{Names}
+use Rattle.lock_script.specs.Objects.{name_given}
 use Rattle.modes_core.specs.declared.refusals.How.{How}
 use Rattle.modes_core.specs.declared.refusals.How.TheVariants as how
 use Rattle.modes_core.specs.declared.refusals.Refusal.{Refusal}
@@ -14,6 +15,7 @@ use Rattle.wait_queue.specs.declared.queues.InTheWay.{InTheWay}
 use Rattle.wait_queue.specs.declared.queues.InTheWay.TheVariants as way
 use Rattle.modes_core.specs.declared.tags.Tag.{Tag}
 use Rattle.modes_core.specs.Tag.{hash_of, partition_of, index_of}
+use Rattle.modes_core.specs.TagText.{tag_text}
 use Rattle.scenario.specs.declared.answers.Row.{Row}
 use Rattle.scenario.specs.declared.answers.Row.TheVariants as row
 use Rattle.scenario.specs.declared.answers.Said.{Said}
@@ -99,16 +101,33 @@ abbrev pub hash_text : Tag → List ℕ
 hash_text tag =
     codes "hash " ++ decimal (hash_of tag) ++ codes " partition " ++ decimal (partition_of tag) ++ codes " strong " ++ decimal (index_of tag)
 
--- a row, but for one with the text of an object, of which nothing is said
-abbrev pub row_text : Names → Row → Option (List ℕ)
-row_text names (row.Slot it) = None
-row_text names (row.Table it) = None
-row_text names (row.Rows rows) = Some (codes "rows " ++ decimal rows)
-row_text names (row.Wait it) = Some (codes "queue " ++ name_in names it.session ++ codes " " ++ name_of it.mode)
-row_text names (row.Waits waits) = Some (codes "waits " ++ decimal waits)
+-- whether the session of a row has the lock
+abbrev pub standing_text : Bool → List ℕ
+standing_text true = codes "granted"
+standing_text false = codes "awaited"
+
+-- a name, or else this text
+abbrev pub named_or : Option (ArrayString 63) → List ℕ → List ℕ
+named_or None text = text
+named_or (Some name) text = name.bytes
+
+-- an object: the name that the script gave it, or else its tag
+abbrev pub object_text : Names → Tag → List ℕ
+object_text names tag = named_or (name_given names.objects tag) (tag_text tag)
+
+-- a row
+abbrev pub row_text : Names → Row → List ℕ
+row_text names (row.Slot it) =
+    codes "fast " ++ name_in names it.session ++ codes " " ++ decimal it.slot ++ codes " " ++ object_text names it.tag ++ codes " " ++ name_of it.mode
+row_text names (row.Table it) =
+    codes "table " ++ name_in names it.session ++ codes " " ++ object_text names it.tag ++ codes " " ++ name_of it.mode ++ codes " "
+    ++ standing_text it.granted
+row_text names (row.Rows rows) = codes "rows " ++ decimal rows
+row_text names (row.Wait it) = codes "queue " ++ name_in names it.session ++ codes " " ++ name_of it.mode
+row_text names (row.Waits waits) = codes "waits " ++ decimal waits
 row_text names (row.InTheWay name it) =
-    Some (name.bytes ++ codes " waits for " ++ name_in names it.session ++ codes " " ++ name_of it.mode ++ codes " " ++ in_the_way_text it.how)
-row_text names (row.NotWaiting name) = Some (name.bytes ++ codes " isn't waiting")
-row_text names (row.Counter index shown) = Some (codes "strong " ++ decimal index ++ codes " " ++ decimal shown)
-row_text names (row.Hash tag) = Some (hash_text tag)
-row_text names (row.Named it) = None
+    name.bytes ++ codes " waits for " ++ name_in names it.session ++ codes " " ++ name_of it.mode ++ codes " " ++ in_the_way_text it.how
+row_text names (row.NotWaiting name) = name.bytes ++ codes " isn't waiting"
+row_text names (row.Counter index shown) = codes "strong " ++ decimal index ++ codes " " ++ decimal shown
+row_text names (row.Hash tag) = hash_text tag
+row_text names (row.Named it) = codes "name " ++ it.name.bytes ++ codes " " ++ tag_text it.tag

@@ -126,18 +126,22 @@ pub fn row(alloc: Global, line: u32, names: &Names, row: Row) -> Object
             "line": line, "hash": tag.hash(), "partition": tag.partition(),
             "strong": tag.strong_index()
         }),
-        Row::Named(named) => name_row(alloc, line, &named),
+        Row::Named(named) => name_row(alloc, line, names, named),
     }
 }
 
 /// An object was given a name.
-fn name_row(alloc: Global, line: u32, named: &NamedObject) -> Object {
+fn name_row(alloc: Global, line: u32, names: &Names, named: NamedObject) -> Object
+    ensures { IfSome (row_data line names.now (Row.Named named)) (λ shown. IfOk result (λ object. view object ≡ shown)) }
+{
     let tag = format!(in alloc; "{}", named.tag)?;
     json!(in alloc; {"line": line, "name": named.name.as_str(), "tag": tag})
 }
 
 /// A lock in a slot. The object's name, if it has one, stands behind its tag.
-fn slot_row(alloc: Global, line: u32, names: &Names, row: SlotRow) -> Object {
+fn slot_row(alloc: Global, line: u32, names: &Names, row: SlotRow) -> Object
+    ensures { IfSome (row_data line names.now (Row.Slot row)) (λ shown. IfOk result (λ object. view object ≡ shown)) }
+{
     let name = name_of(names, row.session);
     let tag = format!(in alloc; "{}", row.tag)?;
     match names.objects.name_of(row.tag) {
@@ -153,7 +157,9 @@ fn slot_row(alloc: Global, line: u32, names: &Names, row: SlotRow) -> Object {
 }
 
 /// A lock in the table. The object's name, if it has one, stands behind its tag.
-fn table_row(alloc: Global, line: u32, names: &Names, row: TableRow) -> Object {
+fn table_row(alloc: Global, line: u32, names: &Names, row: TableRow) -> Object
+    ensures { IfSome (row_data line names.now (Row.Table row)) (λ shown. IfOk result (λ object. view object ≡ shown)) }
+{
     let name = name_of(names, row.session);
     let tag = format!(in alloc; "{}", row.tag)?;
     match names.objects.name_of(row.tag) {

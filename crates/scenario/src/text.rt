@@ -1,6 +1,6 @@
 //! The answers of a script as text.
 ghost use Rattle.std.specs.Prelude.{◌≡◌, Some};
-ghost use Rattle.scenario.specs.Texts.{how_text as text_of_how, in_the_way_text as text_in_the_way, name_in, plain_text as text_of_plain, refusal_text as text_of_refusal, refused_text, row_text, said_text, hash_text};
+ghost use Rattle.scenario.specs.Texts.{how_text as text_of_how, in_the_way_text as text_in_the_way, name_in, object_text, plain_text as text_of_plain, refusal_text as text_of_refusal, refused_text, row_text, said_text, standing_text as text_of_standing, hash_text};
 
 use crate::answers::{Row, Said};
 use lock_manager::{Acquired, How, InTheWay, Refusal, SessionId, SlotRow, TableRow, Tag, Unlocked};
@@ -25,6 +25,13 @@ pub fn in_the_way_text(how: InTheWay) -> &'static str
         InTheWay::Holds => "held",
         InTheWay::StandsBefore => "awaited",
     }
+}
+
+/// Whether the session of a row has the lock, or awaits it.
+fn standing_text(granted: bool) -> &'static str
+    ensures { result.now ≡ text_of_standing granted }
+{
+    if granted { "granted" } else { "awaited" }
 }
 
 /// The text of a refusal, before what it names.
@@ -152,6 +159,8 @@ pub struct ObjectText<'a> {
 }
 
 impl fmt::Display for ObjectText<'_> {
+    ghost output = { λ it. Some (object_text it.names.now it.tag) };
+
     fn fmt<W: fmt::Write>(&self, f: &mut fmt::Formatter<W>) -> fmt::Result {
         match self.names.objects.name_of(self.tag) {
             Some(name) => write!(f, "{name}"),
@@ -168,7 +177,7 @@ pub struct RowText<'a> {
 }
 
 impl fmt::Display for RowText<'_> {
-    ghost output = { λ it. row_text it.names.now it.row };
+    ghost output = { λ it. Some (row_text it.names.now it.row) };
 
     fn fmt<W: fmt::Write>(&self, f: &mut fmt::Formatter<W>) -> fmt::Result {
         let names = self.names;
@@ -186,7 +195,7 @@ impl fmt::Display for RowText<'_> {
             }
             Row::Table(row) => {
                 let name = name_of(names, row.session);
-                let how = if row.granted { "granted" } else { "awaited" };
+                let how = standing_text(row.granted);
                 let TableRow { tag, mode, .. } = row;
                 let object = ObjectText { names, tag };
                 write!(f, "table {name} {object} {mode} {how}")
