@@ -1,6 +1,8 @@
 -- The lowest number of a list of sessions, found one by one.
-use Rattle.std.proofs.Common.{◌≡◌, ℕ, ◌+◌, ◌<◌, ◌≤◌, List, Some, unwrap_or, refl, sym, ap, ◌∙◌, inl, inr, arith}
-use Rattle.std.specs.List.{slice_get}
+use Rattle.std.proofs.Common.{◌≡◌, ℕ, ◌+◌, ◌<◌, ◌≤◌, List, Some, length, unwrap_or, refl, sym, ap, ◌∙◌, inl, inr, arith}
+use Rattle.std.specs.List.{slice_get, remove}
+use Rattle.std.proofs.lemmas.List.Edits.{length-remove}
+use Rattle.std.proofs.lemmas.Option.{slice_get_within}
 use Rattle.std.proofs.lemmas.Bool.{cases_eq}
 use Rattle.shared_rule.specs.Boards.{Seated}
 use Rattle.lock_manager.specs.Sessions.{SessionView}
@@ -54,3 +56,12 @@ module _ {B : Type 0} (seat : B → Seated) where
             let least = before x session other is_x (omega (arith, less, differs)) its in
             omega (arith, least, first, lower)
       ]
+
+-- With one of them lent there is one fewer.
+pub one-fewer :
+    {A : Type 0} (free left : List A) (place : ℕ) (lent : A) → slice_get free place ≡ Some lent → left ≡ remove free place
+    → length left + 1 ≡ length free
+one-fewer free left place lent there is =
+    let fewer = length-remove free place (slice_get_within free place lent there) in
+    let same = ap length is in
+    omega (arith, fewer, same)

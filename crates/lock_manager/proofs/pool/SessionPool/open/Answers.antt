@@ -1,11 +1,9 @@
-use Rattle.std.proofs.Common.{◌≡◌, suc, take, drop, length, arith, sym, ap, subst}
-use Rattle.std.specs.List.{remove}
-use Rattle.std.proofs.lemmas.List.Edits.{length-remove}
-use Rattle.std.proofs.lemmas.Option.{slice_get_within}
+use Rattle.std.proofs.Common.{◌≡◌, suc, take, drop, arith, sym, ap, subst}
 use Rattle.std.proofs.lemmas.List.Elements.{All-append, All-drop, All-take}
 use Rattle.lock_manager.specs.Crews.{AreOf}
 use Rattle.lock_manager.specs.Sessions.{SessionView}
 use Rattle.lock_manager.specs.Pools.{PoolView}
+use Rattle.lock_manager.proofs.Lemmas.Pools.{one-fewer}
 use Rattle.lock_manager.proofs.pool.SessionPool.open.Goals as goal
 
 pub returns-in-Some-clause-free : goal.returns-in-Some-clause-free
@@ -21,17 +19,13 @@ returns-in-Some-clause-free g c =
 pub returns-in-Some-clause-live : goal.returns-in-Some-clause-live
 returns-in-Some-clause-live g c =
     let lent = c.in-Some.ensures.lent in
-    let free = c.args.self.now.free in
-    let fewer = length-remove free lent.place (slice_get_within free lent.place lent.lent lent.there) in
-    let left : length c.lend.new.self.free ≡ length (remove free lent.place) =
-    ap (λ (pool : PoolView g.row.B.Denot). length pool.free) lent.pool in
-    omega (arith, fewer, left)
+    let fewer = one-fewer c.args.self.now.free c.lend.new.self.free lent.place lent.lent lent.there
+    (ap (λ (pool : PoolView g.row.B.Denot). pool.free) lent.pool) in
+    omega (arith, fewer)
 
 pub returns-in-Some-clause-fewer_free : goal.returns-in-Some-clause-fewer_free
 returns-in-Some-clause-fewer_free g c =
     let lent = c.in-Some.ensures.lent in
-    let free = c.args.self.now.free in
-    let fewer = length-remove free lent.place (slice_get_within free lent.place lent.lent lent.there) in
-    let left : length c.lend.new.self.free ≡ length (remove free lent.place) =
-    ap (λ (pool : PoolView g.row.B.Denot). length pool.free) lent.pool in
-    omega (arith, fewer, left)
+    let fewer = one-fewer c.args.self.now.free c.lend.new.self.free lent.place lent.lent lent.there
+    (ap (λ (pool : PoolView g.row.B.Denot). pool.free) lent.pool) in
+    omega (arith, fewer)
