@@ -29,7 +29,7 @@ pub struct SessionLife {
 
 /// Lends the sessions of one manager to connections that come and go, any number of them in turn, and as many at a time as the
 /// manager has (`freeProcs` of `ProcGlobal` in proc.c, of which `InitProcess` takes one and to which `ProcKill` gives it back). A
-/// session that nobody has holds nothing. Contracts see those, and each number's life.
+/// session is taken back with nothing held. Contracts see those that nobody has, and each number's life.
 pub struct SessionPool<T: PartTable, B: Board<T>> {
     free: Vec<OwnSession<T, B>>,
     lives: [u64; 64],

@@ -144,7 +144,7 @@ pub enum Step {
         /// The mode.
         mode: Mode,
     },
-    /// Store its own database, once, with no slot in use (`InitPostgres` in postinit.c).
+    /// Store its own database, with no slot in use (`InitPostgres` in postinit.c).
     StoreDatabase {
         /// The database.
         database: u32,
