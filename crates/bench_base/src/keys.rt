@@ -14,17 +14,6 @@ const COMMITTED: u32 = 10;
 /// How many relations are locked by slots where a session has eight groups of these.
 const ALL_SLOTS: u32 = 128;
 
-static MODES: [Mode; 8] = [
-    Mode::AccessShare,
-    Mode::RowShare,
-    Mode::RowExclusive,
-    Mode::ShareUpdateExclusive,
-    Mode::Share,
-    Mode::ShareRowExclusive,
-    Mode::Exclusive,
-    Mode::AccessExclusive,
-];
-
 /// What keys are of.
 #[derive(Clone, Copy)]
 pub enum Kind {
@@ -47,6 +36,19 @@ pub struct Size {
     pub held: u32,
     pub crowd: u32,
     pub few: u32,
+}
+
+impl Size {
+    /// For `sessions` sessions with one group of slots each, where a few relations are `few`, and nothing is held.
+    pub fn of(sessions: u32, few: u32) -> Self {
+        Size {
+            sessions,
+            groups: 1,
+            held: 0,
+            crowd: 0,
+            few,
+        }
+    }
 }
 
 /// The keys that a row goes through.
@@ -136,7 +138,7 @@ fn key(kind: Kind, database: u32, number: u32) -> Key {
         ),
         Kind::Modes => (
             Tag::relation(database, 16384u32.wrapping_add(number / 8)),
-            MODES[number as usize % 8],
+            Mode::ALL[number as usize % 8],
         ),
     }
 }

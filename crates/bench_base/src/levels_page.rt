@@ -73,11 +73,8 @@ fn print_size<R: CpuClock + AllocGlobal + Print>(
     check: bool,
 ) -> Result<()> {
     let size = Size {
-        sessions: 1,
-        groups: 1,
         held,
-        crowd: 0,
-        few: 0,
+        ..Size::of(1, 0)
     };
     let keys = KeyList::Held.keys(rt.alloc(), database, size)?;
     let mut table = table_with(rt.alloc(), keys.as_slice(), Owner::Transaction)?;

@@ -35,96 +35,37 @@ const MAP_LOOK_UP: &str = "hash map: look-up";
 
 const MAP_PAIR: &str = "hash map: insert and removal";
 
-static ROWS: [Row<Work>; 11] = [
-    Row {
-        name: ONE_CALL,
-        work: Work::OneEmptyCall,
-        list: KeyList::Held,
-        steps: STEPS,
-        empty: None,
-        beside: None,
-    },
-    Row {
-        name: TWO_CALLS,
-        work: Work::TwoEmptyCalls,
-        list: KeyList::Held,
-        steps: STEPS,
-        empty: None,
-        beside: None,
-    },
-    Row {
-        name: HELD_PAIR,
-        work: Work::Pair,
-        list: KeyList::Held,
-        steps: STEPS,
-        empty: Some(TWO_CALLS),
-        beside: None,
-    },
-    Row {
-        name: NEW_PAIR,
-        work: Work::Pair,
-        list: KeyList::New,
-        steps: STEPS,
-        empty: Some(TWO_CALLS),
-        beside: None,
-    },
-    Row {
-        name: "new, released in the order of making",
-        work: Work::InOrder,
-        list: KeyList::New,
-        steps: STEPS,
-        empty: Some(TWO_CALLS),
-        beside: None,
-    },
-    Row {
-        name: "new, released in the opposite order",
-        work: Work::InOppositeOrder,
-        list: KeyList::New,
-        steps: STEPS,
-        empty: Some(TWO_CALLS),
-        beside: None,
-    },
-    Row {
-        name: "new pair of an object",
-        work: Work::Pair,
-        list: KeyList::Objects,
-        steps: STEPS,
-        empty: Some(TWO_CALLS),
-        beside: None,
-    },
-    Row {
-        name: "new pair, eight modes of a relation",
-        work: Work::Pair,
-        list: KeyList::Modes,
-        steps: STEPS,
-        empty: Some(TWO_CALLS),
-        beside: None,
-    },
-    Row {
-        name: "refused release",
-        work: Work::Refused,
-        list: KeyList::New,
-        steps: STEPS,
-        empty: Some(ONE_CALL),
-        beside: None,
-    },
-    Row {
-        name: MAP_LOOK_UP,
-        work: Work::MapLookUp,
-        list: KeyList::Held,
-        steps: STEPS,
-        empty: Some(ONE_CALL),
-        beside: None,
-    },
-    Row {
-        name: MAP_PAIR,
-        work: Work::MapPair,
-        list: KeyList::New,
-        steps: STEPS,
-        empty: Some(TWO_CALLS),
-        beside: None,
-    },
-];
+/// The rows of the table.
+fn rows() -> [Row<Work>; 11] {
+    [
+        Row::new(ONE_CALL, Work::OneEmptyCall, KeyList::Held),
+        Row::new(TWO_CALLS, Work::TwoEmptyCalls, KeyList::Held),
+        Row::new(HELD_PAIR, Work::Pair, KeyList::Held).above(TWO_CALLS),
+        Row::new(NEW_PAIR, Work::Pair, KeyList::New).above(TWO_CALLS),
+        Row::new(
+            "new, released in the order of making",
+            Work::InOrder,
+            KeyList::New,
+        )
+        .above(TWO_CALLS),
+        Row::new(
+            "new, released in the opposite order",
+            Work::InOppositeOrder,
+            KeyList::New,
+        )
+        .above(TWO_CALLS),
+        Row::new("new pair of an object", Work::Pair, KeyList::Objects).above(TWO_CALLS),
+        Row::new(
+            "new pair, eight modes of a relation",
+            Work::Pair,
+            KeyList::Modes,
+        )
+        .above(TWO_CALLS),
+        Row::new("refused release", Work::Refused, KeyList::New).above(ONE_CALL),
+        Row::new(MAP_LOOK_UP, Work::MapLookUp, KeyList::Held).above(ONE_CALL),
+        Row::new(MAP_PAIR, Work::MapPair, KeyList::New).above(TWO_CALLS),
+    ]
+}
 
 /// Prints the table of times, at `database` for `owner`, or with `check` what fewer of the same steps leave.
 pub fn print<R: CpuClock + AllocGlobal + Print>(
@@ -159,14 +100,12 @@ fn print_size<R: CpuClock + AllocGlobal + Print>(
     check: bool,
 ) -> Result<()> {
     let size = Size {
-        sessions: 1,
-        groups: 1,
         held,
-        crowd: 0,
-        few: 0,
+        ..Size::of(1, 0)
     };
     let mut bed = Bed::new(rt.alloc(), database, owner, size)?;
-    let mut lines = lines(rt.alloc(), ROWS.as_slice(), database, size, check)?;
+    let rows = rows();
+    let mut lines = lines(rt.alloc(), rows.as_slice(), database, size, check)?;
     if check {
         return check_rows(rt, &mut bed, lines.as_slice());
     }

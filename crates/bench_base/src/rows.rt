@@ -1,4 +1,4 @@
-//! Rows of tables of times: with which keys each is timed, which row is taken off it, and beside which it is put.
+//! Rows of tables of times: with which keys each is timed, which row is taken off it, and with which it is compared.
 use crate::keys::{Key, KeyList, Size};
 use crate::rounds::{Spread, Times, print_ratio, print_time};
 use std::alloc::{AllocError, Global};
@@ -24,6 +24,42 @@ pub struct Row<W> {
     pub empty: Option<&'static str>,
     /// The name of the row that it is compared with.
     pub beside: Option<&'static str>,
+}
+
+impl<W> Row<W> {
+    /// The row `name`, which does `work` with each key of `list`. Nothing is taken off, and it is compared with no
+    /// other.
+    pub fn new(name: &'static str, work: W, list: KeyList) -> Self {
+        Row {
+            name,
+            work,
+            list,
+            steps: STEPS,
+            empty: None,
+            beside: None,
+        }
+    }
+
+    /// The row with the time of the row `empty` taken off.
+    pub fn above(self, empty: &'static str) -> Self {
+        Row {
+            empty: Some(empty),
+            ..self
+        }
+    }
+
+    /// The row compared with the row `other`.
+    pub fn beside(self, other: &'static str) -> Self {
+        Row {
+            beside: Some(other),
+            ..self
+        }
+    }
+
+    /// The row with `steps` steps a round, at least.
+    pub fn with_steps(self, steps: u32) -> Self {
+        Row { steps, ..self }
+    }
 }
 
 /// A row with its keys and its times.
@@ -134,7 +170,7 @@ pub fn print_times<W, R: Print>(rt: &R, width: usize, lines: &[Line<W>]) -> io::
     Ok(())
 }
 
-/// Prints how much each of `lines` takes of the one beside which it is put.
+/// Prints the ratio of each of `lines` to the one that it is compared with.
 pub fn print_ratios<W, R: Print>(rt: &R, lines: &[Line<W>]) -> io::Result<()> {
     for line in lines {
         if let Some(whole) = line.beside {

@@ -6,7 +6,9 @@ ghost use Rattle.lw_word.specs.LockState.{word_of};
 
 use crate::fixtures::session;
 use lw_word::LwMode::{Exclusive, Shared};
-use lw_word::{LwMode, LwWaiter, LwWord, SlotWord, WaitList};
+use lw_word::{
+    LwMode, LwWaiter, LwWord, SlotWord, WaitList, has_locked_list, must_wake_after, shared, taken,
+};
 use modes_core::{Mode, SessionId};
 use std::process::Abort;
 
@@ -17,42 +19,36 @@ fn word(rt: &impl Abort, number: u64) -> LwWord
     LwWord::from_number(number).expect(rt, "a lightweight word")
 }
 
-/// A number, and what its word says: how many share it, whether it is held exclusively, whether its list is locked, the
-/// flags release-ok and has-waiters, and whether the session that made it by a release must wake.
-type Bits = (u64, u64, bool, [bool; 3], bool);
+/// A number, and what its word says: how many share it, whether it is held exclusively, whether its list is locked, and
+/// the flags release-ok and has-waiters.
+type Bits = (u64, u64, bool, [bool; 3]);
 
 const BITS: [Bits; 14] = [
-    (0, 0, false, [false, false, false], false),
-    (2, 2, false, [false, false, false], false),
-    (3, 3, false, [false, false, false], false),
-    (0x0100_0000, 0, true, [false, false, false], false),
-    (0x1000_0000, 0, false, [true, false, false], false),
-    (0x2000_0000, 0, false, [false, true, false], false),
-    (0x4000_0000, 0, false, [false, false, true], false),
-    (0x4100_0000, 0, true, [false, false, true], false),
-    (0x6000_0000, 0, false, [false, true, true], true),
-    (0x6000_0001, 1, false, [false, true, true], false),
-    (0x60FF_FFFE, 0xFF_FFFE, false, [false, true, true], false),
-    (0x6100_0000, 0, true, [false, true, true], false),
-    (0x7000_0000, 0, false, [true, true, true], true),
-    (0x71FF_FFFF, 0xFF_FFFF, true, [true, true, true], false),
+    (0, 0, false, [false, false, false]),
+    (2, 2, false, [false, false, false]),
+    (3, 3, false, [false, false, false]),
+    (0x0100_0000, 0, true, [false, false, false]),
+    (0x1000_0000, 0, false, [true, false, false]),
+    (0x2000_0000, 0, false, [false, true, false]),
+    (0x4000_0000, 0, false, [false, false, true]),
+    (0x4100_0000, 0, true, [false, false, true]),
+    (0x6000_0000, 0, false, [false, true, true]),
+    (0x6000_0001, 1, false, [false, true, true]),
+    (0x60FF_FFFE, 0xFF_FFFE, false, [false, true, true]),
+    (0x6100_0000, 0, true, [false, true, true]),
+    (0x7000_0000, 0, false, [true, true, true]),
+    (0x71FF_FFFF, 0xFF_FFFF, true, [true, true, true]),
 ];
 
 /// What the word whose number is `number` says.
 fn bits(number: u64) -> Option<Bits> {
     let word = LwWord::from_number(number)?;
     let flags = [
-        word.is_list_locked(),
+        !has_locked_list(number),
         word.is_release_ok(),
         word.has_waiters(),
     ];
-    Some((
-        word.number(),
-        word.shared(),
-        word.is_exclusive(),
-        flags,
-        word.must_wake(),
-    ))
+    Some((word.number(), word.shared(), word.is_exclusive(), flags))
 }
 
 #[test]
@@ -86,15 +82,19 @@ const RELEASES: [(u64, LwMode, u64); 3] = [
     (0x4100_0000, Exclusive, 0x4000_0000),
 ];
 
-/// The word that comes of an attempt in `mode` at the word `number`, and whether the lock is free for it.
-fn attempted(rt: &impl Abort, number: u64, mode: LwMode) -> (Option<u64>, bool) {
+/// The number that comes of an attempt in `mode` at the word `number`, by the word and by the number alone.
+fn attempted(rt: &impl Abort, number: u64, mode: LwMode) -> (Option<u64>, Option<u64>) {
     let word = word(rt, number);
     assert!(rt; word.shared() < 0xFF_FFFF);
     let after = match word.attempt(mode) {
         Some(after) => Some(after.number()),
         None => None,
     };
-    (after, word.is_free_for(mode))
+    let alone = match mode {
+        Exclusive => taken(number),
+        Shared => shared(number),
+    };
+    (after, alone)
 }
 
 /// The word that comes of a release in `mode` of the word `number`.
@@ -115,8 +115,10 @@ fn released(rt: &impl Abort, number: u64, mode: LwMode) -> u64 {
 #[test]
 fn a_free_word_is_taken_and_a_taken_one_is_not(rt: HostRuntime) {
     for (number, mode, after) in ATTEMPTS {
-        let wanted = (after, after.is_some());
-        assert!(rt; attempted(&rt, number, mode) == wanted, "at {number}");
+        assert!(rt;
+            attempted(&rt, number, mode) == (after, after),
+            "at {number}"
+        );
     }
 }
 
@@ -124,6 +126,27 @@ fn a_free_word_is_taken_and_a_taken_one_is_not(rt: HostRuntime) {
 fn a_held_word_is_given_up(rt: HostRuntime) {
     for (number, mode, after) in RELEASES {
         assert!(rt; released(&rt, number, mode) == after, "at {number}");
+    }
+}
+
+/// What a release found, how the lock was held, and whether the session must wake.
+const FOUND: [(u64, LwMode, bool); 10] = [
+    (0x6100_0000, Exclusive, true),
+    (0x7100_0000, Exclusive, true),
+    (0x4100_0000, Exclusive, false),
+    (0x2100_0000, Exclusive, false),
+    (0x6100_0001, Exclusive, false),
+    (0x6000_0001, Shared, true),
+    (0x6000_0002, Shared, false),
+    (0x4000_0001, Shared, false),
+    (0x2000_0001, Shared, false),
+    (0x6100_0001, Shared, false),
+];
+
+#[test]
+fn a_release_wakes_where_nobody_holds_and_both_flags_are_set(rt: HostRuntime) {
+    for (found, mode, wakes) in FOUND {
+        assert!(rt; must_wake_after(found, mode) == wakes, "at {found}");
     }
 }
 

@@ -4,25 +4,21 @@
 ghost use Rattle.std.specs.Prelude.{◌≡◌, length};
 ghost use Rattle.lock_manager.specs.Crews.{KeepManagers, KeepsSeat};
 
-use bench_base::{cpu_nanos, wall_nanos};
+mod rounds;
+
 use lock_manager::{Board, OwnSession, Part};
 use modes_core::{Mode, Owner, Tag};
-use std::sync::atomic::{AtomicU64, Ordering};
+pub use rounds::Taken;
+use rounds::{Round, now, used};
 use std::sync::{Mutex, Wait};
-use std::thread::{Threads, for_each_mut, sleep};
-use std::time::{Clock, CpuClock, Duration};
+use std::thread::{Threads, for_each_mut};
+use std::time::{Clock, CpuClock};
 
 /// How many threads there are at most.
 pub const MOST_THREADS: u32 = 64;
 
 /// How many holds a listing finds.
 const LISTED: u32 = 250;
-
-/// How often a thread looks at most whether all others have come, or have ended, with `PAUSE` microseconds between.
-const LOOKS: u32 = 100_000;
-
-/// How many microseconds a thread sleeps between two looks.
-const PAUSE: u64 = 100;
 
 /// How often the clock is read at most while a lock is held.
 const READINGS: u32 = 1_000_000;
@@ -32,9 +28,10 @@ const READINGS: u32 = 1_000_000;
 pub enum Case {
     /// Takes one object of all in ExclusiveLock, works, and releases it.
     OneObject,
-    /// Takes an object of its own in ExclusiveLock, all of one partition, works, and releases it.
+    /// Takes an object of its own in ExclusiveLock, works, and releases it. All these objects are of one partition.
     OnePartition,
-    /// Lists all holds, with every partition locked at once. The first thread has them until all have ended.
+    /// Lists all holds, for which it locks every partition at once. The first thread has what is found, until all have
+    /// ended.
     Listing,
     /// Takes a standard mutex, works, and releases it. It needs no session.
     Mutex,
@@ -71,7 +68,8 @@ impl Job {
         u64::from(self.threads).saturating_mul(u64::from(self.laps))
     }
 
-    /// The object that the thread numbered `thread` takes. Numbers sixteen apart belong to one partition.
+    /// The object that the thread with the number `thread` takes. Numbers that are sixteen apart belong to one
+    /// partition.
     fn object(self, thread: usize) -> Tag {
         let own = match self.case {
             Case::OnePartition => u32::try_from(thread).unwrap_or(0).wrapping_mul(16),
@@ -79,126 +77,6 @@ impl Job {
         };
         Tag::object(self.database, 1259, 16384u32.wrapping_add(own), 0)
     }
-}
-
-/// What threads took: when the first of them began and the last one ended, the longest wait of a request, and the
-/// processor time of all, in nanoseconds; and how many requests were granted.
-#[derive(Clone, Copy)]
-pub struct Taken {
-    from: u64,
-    to: u64,
-    pub longest: u64,
-    pub processor: u64,
-    pub granted: u64,
-}
-
-impl Taken {
-    /// What no thread took.
-    fn none() -> Self {
-        Taken {
-            from: u64::MAX,
-            to: 0,
-            longest: 0,
-            processor: 0,
-            granted: 0,
-        }
-    }
-
-    /// The time by the clock on the wall.
-    pub fn wall(self) -> u64 {
-        self.to.saturating_sub(self.from)
-    }
-
-    /// What was taken with one request more, which waited `waited` nanoseconds, granted if `is_granted`.
-    fn after(self, waited: u64, is_granted: bool) -> Self {
-        Taken {
-            longest: self.longest.max(waited),
-            granted: self.granted.saturating_add(u64::from(is_granted)),
-            ..self
-        }
-    }
-
-    /// What this thread and those of `other` took together.
-    fn beside(self, other: Taken) -> Self {
-        Taken {
-            from: self.from.min(other.from),
-            to: self.to.max(other.to),
-            longest: self.longest.max(other.longest),
-            processor: self.processor.saturating_add(other.processor),
-            granted: self.granted.saturating_add(other.granted),
-        }
-    }
-}
-
-/// What the threads of a round share.
-#[derive(Drop)]
-struct Round {
-    job: Job,
-    /// How many of them have come, and how many have ended.
-    came: AtomicU64,
-    ended: AtomicU64,
-    /// What those took that have ended.
-    taken: Mutex<Taken>,
-}
-
-impl Round {
-    /// A round of `job`, to which no thread has come.
-    fn new(job: Job) -> Self {
-        Round {
-            job,
-            came: AtomicU64::new(0),
-            ended: AtomicU64::new(0),
-            taken: Mutex::new(Taken::none()),
-        }
-    }
-
-    /// What its threads took.
-    fn into_taken(self) -> Taken {
-        self.taken.into_inner()
-    }
-
-    /// Waits by `rt` until all threads have come, so that none works alone.
-    fn begin<R: Clock>(&self, rt: &R) {
-        self.wait_for_all(rt, &self.came);
-    }
-
-    /// Waits by `rt` until all threads have ended, so that others can list what this one holds.
-    fn leave<R: Clock>(&self, rt: &R) {
-        self.wait_for_all(rt, &self.ended);
-    }
-
-    /// Adds one to `counted`, and waits until all threads are, or long enough for one that couldn't be started.
-    fn wait_for_all<R: Clock>(&self, rt: &R, counted: &AtomicU64) {
-        counted.fetch_add(1, Ordering::SeqCst);
-        for _ in 0..LOOKS {
-            if counted.load(Ordering::SeqCst) >= u64::from(self.job.threads) {
-                return;
-            }
-            sleep(rt, Duration::from_micros(PAUSE));
-        }
-    }
-
-    /// Notes `steps` of a thread that began at `from`, when it had used `used_before` nanoseconds of its processor.
-    fn end<R: Wait + Clock + CpuClock>(&self, rt: &R, from: u64, used_before: u64, steps: Taken) {
-        let own = Taken {
-            from,
-            to: now(rt),
-            processor: used(rt).saturating_sub(used_before),
-            ..steps
-        };
-        let mut all = self.taken.lock(rt);
-        *all = all.beside(own);
-    }
-}
-
-/// The time by the clock of `rt` on the wall; 0 where it can't be read.
-fn now(rt: &impl Clock) -> u64 {
-    wall_nanos(rt).unwrap_or(0)
-}
-
-/// The processor time of this thread by `rt`; 0 where it can't be read.
-fn used(rt: &impl CpuClock) -> u64 {
-    cpu_nanos(rt).unwrap_or(0)
 }
 
 /// Works for `nanos` nanoseconds.
@@ -211,8 +89,8 @@ fn work(rt: &impl Clock, nanos: u64) {
     }
 }
 
-/// Takes `tag` by `session`, works as `job` says, and releases it. Answers how long it waited, and whether it was
-/// granted.
+/// Takes the object `tag` by `session`, works as long as `job` says, and releases it. Answers how long the request
+/// waited, and whether it was granted.
 fn hold<B: Board<Part>, R: Wait + Clock>(
     rt: &R,
     session: &mut OwnSession<Part, B>,
@@ -231,7 +109,7 @@ fn hold<B: Board<Part>, R: Wait + Clock>(
     (waited, is_granted)
 }
 
-/// Lists all holds by `session`. Answers how long that took, and whether all of the first thread were found.
+/// Lists all holds by `session`. Answers how long that took, and whether all that the first thread has were found.
 fn list<B: Board<Part>, R: Wait + Clock>(rt: &R, session: &mut OwnSession<Part, B>) -> (u64, bool)
     ensures seat { KeepsSeat B.seat session.old session.new }
 {
@@ -258,7 +136,7 @@ fn step<B: Board<Part>, R: Wait + Clock>(
     }
 }
 
-/// Takes by `session` the objects that listings of `job` find, if `thread` is the first one.
+/// Takes by `session` the objects that the listings of `job` find, if `thread` is 0, the first one.
 fn hold_listed<B: Board<Part>, R: Wait>(
     rt: &R,
     session: &mut OwnSession<Part, B>,

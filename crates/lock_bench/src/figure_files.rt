@@ -3,6 +3,7 @@
 use crate::arguments::Wanted;
 use anyhow::{Result, anyhow};
 use bench_base::{Figures, csv, svg};
+use std::alloc::AllocError;
 use std::fs::{File, Files, OpenOptions};
 use std::io::Write;
 
@@ -33,31 +34,21 @@ pub fn write_files<R: AllocGlobal + Files>(
     wanted: &Wanted<'_>,
     figures: &[Figures],
 ) -> Result<()> {
-    let values = write_values(rt, wanted.csv, figures);
-    let picture = write_picture(rt, wanted.svg, figures);
+    let alloc = rt.alloc();
+    let values = write_made(rt, wanted.csv, csv(alloc, figures));
+    let picture = write_made(rt, wanted.svg, svg(alloc, figures));
     values.and(picture)
 }
 
-/// Writes `figures` as values with commas between them to the file `name`, if there is one.
-fn write_values<R: AllocGlobal + Files>(
+/// Writes the text that was `made` to the file `name`, if there is one. The error says that the file can't be written, or
+/// that there was no memory for the text.
+fn write_made<R: Files>(
     rt: &R,
     name: Option<&str>,
-    figures: &[Figures],
+    made: Result<String, AllocError>,
 ) -> Result<()> {
     match name {
-        Some(name) => write_file(rt, name, csv(rt.alloc(), figures)?.as_str()),
-        None => Ok(()),
-    }
-}
-
-/// Writes `figures` as a picture to the file `name`, if there is one.
-fn write_picture<R: AllocGlobal + Files>(
-    rt: &R,
-    name: Option<&str>,
-    figures: &[Figures],
-) -> Result<()> {
-    match name {
-        Some(name) => write_file(rt, name, svg(rt.alloc(), figures)?.as_str()),
+        Some(name) => write_file(rt, name, made?.as_str()),
         None => Ok(()),
     }
 }

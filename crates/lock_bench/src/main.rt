@@ -135,15 +135,10 @@ fn print_on_one_thread<R: Wait + CpuClock + AllocGlobal + Print + Eprint>(
     asked: Asked,
     progress: Progress,
 ) -> anyhow::Result<()> {
-    let Asked {
-        database,
-        owner,
-        check,
-    } = asked;
     if wanted.has(Page::Local) {
         progress.note(rt, "the local table");
-        local_page::print(rt, database, owner, check)?;
-        levels_page::print(rt, database, check)?;
+        local_page::print(rt, asked.database, asked.owner, asked.check)?;
+        levels_page::print(rt, asked.database, asked.check)?;
     }
     if wanted.has(Page::Manager) {
         progress.note(rt, "the lock manager on one thread");
@@ -163,18 +158,13 @@ fn print_in_threads<R: Threads + Wait + Clock + CpuClock + AllocGlobal + Print +
     asked: Asked,
     progress: Progress,
 ) -> anyhow::Result<()> {
-    let Asked {
-        database,
-        owner,
-        check,
-    } = asked;
     if wanted.has(Page::Threads) {
         progress.note(rt, "the lock manager in threads");
-        threads_page::print(rt, database, owner, check)?;
+        threads_page::print(rt, asked.database, asked.owner, asked.check)?;
     }
     if wanted.has(Page::Handover) {
         progress.note(rt, "a lock handed over");
-        handover_page::print(rt, database, owner, check)?;
+        handover_page::print(rt, asked.database, asked.owner, asked.check)?;
     }
     if wanted.has(Page::Contended) {
         progress.note(rt, "many threads on one lock");

@@ -7,7 +7,7 @@ use crate::session_bed::Work;
 use crate::session_page::{Asked, print_heading, run_lines};
 use anyhow::{Result, bail};
 use bench_base::{
-    Figures, KeyList, Line, Row, STEPS, Size, WIDTH, lines, print_table, print_times, time_of,
+    Figures, KeyList, Line, Row, Size, WIDTH, lines, print_table, print_times, time_of,
 };
 use std::sync::Wait;
 use std::time::CpuClock;
@@ -40,151 +40,126 @@ struct Workload {
     crowd: u32,
 }
 
-static WORKLOADS: [Workload; 9] = [
-    Workload {
-        word: "weak",
-        name: "weak relation lock, by a slot",
-        work: Work::Pair,
-        list: KeyList::Weak,
-        empty: Work::TwoEmptyCalls,
-        floor: Work::PairFloor,
-        map: Work::MapPair,
-        map_list: KeyList::Weak,
-        sessions: 8,
-        crowd: 0,
-    },
-    Workload {
-        word: "ten",
-        name: "ten relations and a commit, for each",
-        work: Work::TakeAndCommit,
-        list: KeyList::Ten,
-        empty: Work::OneEmptyCall,
-        floor: Work::PairFloor,
-        map: Work::MapPair,
-        map_list: KeyList::Ten,
-        sessions: 8,
-        crowd: 0,
-    },
-    Workload {
-        word: "strong",
-        name: "strong relation lock",
-        work: Work::Pair,
-        list: KeyList::Strong,
-        empty: Work::TwoEmptyCalls,
-        floor: Work::StrongFloor,
-        map: Work::MapPair,
-        map_list: KeyList::Strong,
-        sessions: 64,
-        crowd: 0,
-    },
-    Workload {
-        word: "object",
-        name: "object lock, beside 10",
-        work: Work::Pair,
-        list: KeyList::InPartition,
-        empty: Work::TwoEmptyCalls,
-        floor: Work::TableFloor,
-        map: Work::MapPair,
-        map_list: KeyList::InPartition,
-        sessions: 8,
-        crowd: 10,
-    },
-    Workload {
-        word: "object-crowded",
-        name: "object lock, beside 10,000",
-        work: Work::Pair,
-        list: KeyList::InPartition,
-        empty: Work::TwoEmptyCalls,
-        floor: Work::TableFloor,
-        map: Work::MapPair,
-        map_list: KeyList::InPartition,
-        sessions: 8,
-        crowd: 10_000,
-    },
-    // It makes no atomic step.
-    Workload {
-        word: "held",
-        name: "held already",
-        work: Work::HeldPair,
-        list: KeyList::Few,
-        empty: Work::TwoEmptyCalls,
-        floor: Work::TwoEmptyCalls,
-        map: Work::MapPair,
-        map_list: KeyList::Few,
-        sessions: 8,
-        crowd: 0,
-    },
-    Workload {
-        word: "refused-relation",
-        name: "refused attempt, relation",
-        work: Work::RefusedRelation,
-        list: KeyList::Few,
-        empty: Work::OneEmptyCall,
-        floor: Work::RefusedRelationFloor,
-        map: Work::MapLookUp,
-        map_list: KeyList::Few,
-        sessions: 8,
-        crowd: 0,
-    },
-    Workload {
-        word: "refused-object",
-        name: "refused attempt, object, beside 10",
-        work: Work::Refused,
-        list: KeyList::RefusedInCrowd,
-        empty: Work::OneEmptyCall,
-        floor: Work::RefusedObjectFloor,
-        map: Work::MapLookUp,
-        map_list: KeyList::FewOfCrowd,
-        sessions: 8,
-        crowd: 10,
-    },
-    Workload {
-        word: "refused-object-crowded",
-        name: "refused attempt, object, beside 10,000",
-        work: Work::Refused,
-        list: KeyList::RefusedInCrowd,
-        empty: Work::OneEmptyCall,
-        floor: Work::RefusedObjectFloor,
-        map: Work::MapLookUp,
-        map_list: KeyList::FewOfCrowd,
-        sessions: 8,
-        crowd: 10_000,
-    },
-];
+/// The workloads of the page.
+fn workloads() -> [Workload; 9] {
+    [
+        Workload::pair(
+            "weak",
+            "weak relation lock, by a slot",
+            KeyList::Weak,
+            Work::PairFloor,
+        ),
+        Workload {
+            work: Work::TakeAndCommit,
+            empty: Work::OneEmptyCall,
+            ..Workload::pair(
+                "ten",
+                "ten relations and a commit, for each",
+                KeyList::Ten,
+                Work::PairFloor,
+            )
+        },
+        Workload {
+            sessions: 64,
+            ..Workload::pair(
+                "strong",
+                "strong relation lock",
+                KeyList::Strong,
+                Work::StrongFloor,
+            )
+        },
+        Workload::object("object", "object lock, beside 10", 10),
+        Workload::object("object-crowded", "object lock, beside 10,000", 10_000),
+        // A held mode makes no atomic step.
+        Workload {
+            work: Work::HeldPair,
+            ..Workload::pair("held", "held already", KeyList::Few, Work::TwoEmptyCalls)
+        },
+        Workload {
+            work: Work::RefusedRelation,
+            list: KeyList::Few,
+            floor: Work::RefusedRelationFloor,
+            map_list: KeyList::Few,
+            ..Workload::refused("refused-relation", "refused attempt, relation", 0)
+        },
+        Workload::refused("refused-object", "refused attempt, object, beside 10", 10),
+        Workload::refused(
+            "refused-object-crowded",
+            "refused attempt, object, beside 10,000",
+            10_000,
+        ),
+    ]
+}
 
 /// A strong lock where there can be few sessions: it is made alone, and no page has it.
-static STRONG_OF_FEW: Workload = Workload {
-    word: "strong-of-8",
-    name: "strong relation lock, of 8 sessions",
-    work: Work::Pair,
-    list: KeyList::Strong,
-    empty: Work::TwoEmptyCalls,
-    floor: Work::StrongFloor,
-    map: Work::MapPair,
-    map_list: KeyList::Strong,
-    sessions: 8,
-    crowd: 0,
-};
+fn strong_of_few() -> Workload {
+    Workload::pair(
+        "strong-of-8",
+        "strong relation lock, of 8 sessions",
+        KeyList::Strong,
+        Work::StrongFloor,
+    )
+}
 
 impl Workload {
+    /// The workload `name`, asked for by `word`: a lock of each key of `list` with its release, among 8 sessions,
+    /// beside the atomic steps of `floor`.
+    fn pair(word: &'static str, name: &'static str, list: KeyList, floor: Work) -> Self {
+        Workload {
+            word,
+            name,
+            work: Work::Pair,
+            list,
+            empty: Work::TwoEmptyCalls,
+            floor,
+            map: Work::MapPair,
+            map_list: list,
+            sessions: 8,
+            crowd: 0,
+        }
+    }
+
+    /// The workload `name`, asked for by `word`: a lock of an object with its release, where the other session has
+    /// `crowd` of its partition.
+    fn object(word: &'static str, name: &'static str, crowd: u32) -> Self {
+        Workload {
+            crowd,
+            ..Workload::pair(word, name, KeyList::InPartition, Work::TableFloor)
+        }
+    }
+
+    /// The workload `name`, asked for by `word`: a refused attempt on an object, where the other session has `crowd`
+    /// of its partition.
+    fn refused(word: &'static str, name: &'static str, crowd: u32) -> Self {
+        Workload {
+            word,
+            name,
+            work: Work::Refused,
+            list: KeyList::RefusedInCrowd,
+            empty: Work::OneEmptyCall,
+            floor: Work::RefusedObjectFloor,
+            map: Work::MapLookUp,
+            map_list: KeyList::FewOfCrowd,
+            sessions: 8,
+            crowd,
+        }
+    }
+
     /// What its manager is made for.
     fn size(&self) -> Size {
         Size {
-            sessions: self.sessions,
-            groups: 1,
-            held: 0,
             crowd: self.crowd,
-            few: FEW,
+            ..Size::of(self.sessions, FEW)
         }
     }
 
     /// The rows that are timed for it.
     fn rows(&self) -> [Row<Work>; 4] {
         [
-            row(EMPTY, self.empty, self.list, None),
-            row(self.name, self.work, self.list, Some(EMPTY)),
-            row(FLOOR, self.floor, self.list, Some(EMPTY)),
-            row(MAP, self.map, self.map_list, Some(EMPTY)),
+            Row::new(EMPTY, self.empty, self.list),
+            Row::new(self.name, self.work, self.list).above(EMPTY),
+            Row::new(FLOOR, self.floor, self.list).above(EMPTY),
+            Row::new(MAP, self.map, self.map_list).above(EMPTY),
         ]
     }
 
@@ -210,22 +185,10 @@ impl Workload {
     }
 }
 
-/// A row `name` that does `work` with each key of `list`, from which the row `empty` is taken off. It is compared with
-/// no other.
-fn row(name: &'static str, work: Work, list: KeyList, empty: Option<&'static str>) -> Row<Work> {
-    Row {
-        name,
-        work,
-        list,
-        steps: STEPS,
-        empty,
-        beside: None,
-    }
-}
-
 /// Refuses `counts` where a workload has none in that file, so that nothing is timed in vain.
 pub fn see_counts(counts: Option<&Counts<'_>>) -> Result<()> {
-    for workload in &WORKLOADS {
+    let workloads = workloads();
+    for workload in &workloads {
         workload.instructions(counts)?;
     }
     Ok(())
@@ -257,7 +220,8 @@ fn print_workloads<R: Wait + CpuClock + AllocGlobal + Print + Eprint>(
     counts: Option<&Counts<'_>>,
 ) -> Result<Vec<Figures>> {
     let mut all = Vec::new(rt.alloc());
-    for workload in &WORKLOADS {
+    let workloads = workloads();
+    for workload in &workloads {
         progress.note(rt, workload.name);
         if let Some(figures) = print_workload(rt, workload, asked, counts)? {
             all.push(figures)?;
@@ -295,13 +259,15 @@ fn print_workload<R: Wait + CpuClock + AllocGlobal + Print>(
 }
 
 /// The workload that `word` names.
-fn workload_of(word: &str) -> Option<&'static Workload> {
-    for workload in &WORKLOADS {
+fn workload_of(word: &str) -> Option<Workload> {
+    let workloads = workloads();
+    for workload in &workloads {
         if workload.word == word {
-            return Some(workload);
+            return Some(*workload);
         }
     }
-    (STRONG_OF_FEW.word == word).then_some(&STRONG_OF_FEW)
+    let last = strong_of_few();
+    (last.word == word).then_some(last)
 }
 
 /// Makes `steps` steps of the workload that `word` names, at the database and for the owner that `asked` has, with a
@@ -317,8 +283,7 @@ pub fn make_alone<R: Wait + CpuClock + AllocGlobal + Print>(
         bail!("no workload has the word {word}");
     };
     let size = workload.size();
-    let mut only = row(workload.name, workload.work, workload.list, None);
-    only.steps = steps;
+    let only = Row::new(workload.name, workload.work, workload.list).with_steps(steps);
     let mut lines = lines(rt.alloc(), [only].as_slice(), asked.database, size, false)?;
     let untimed = Asked {
         check: true,

@@ -8,8 +8,8 @@ use std::sync::Wait;
 /// By session numbers.
 const NUMBERS: usize = MOST_SESSIONS as usize;
 
-/// Asks one session of a circle of waits to cancel, if there is such a circle. Without memory for the waits nobody is
-/// asked.
+/// Asks, in the name of `session`, one session of a circle of waits to cancel, if there is such a circle. Without memory for the
+/// waits nobody is asked.
 pub fn break_circle<B: Board<Part>, R: Wait>(rt: &R, session: &mut OwnSession<Part, B>)
     ensures seat { KeepsSeat B.seat session.old session.new }
 {

@@ -5,7 +5,7 @@ ghost use Rattle.lock_manager.specs.Crews.{KeepsSeat, SeatsAre};
 
 use crate::bank::{ACCOUNTS, DATABASE};
 use lock_manager::{
-    Blocker, Board, Config, Desk, InTheWay, MOST_SESSIONS, Manager, ManagerDesk, Mode, OwnSession,
+    Blocker, Board, Config, Desk, MOST_SESSIONS, Manager, ManagerDesk, Mode, OwnSession,
     OwnWaiting, Owner, Part, QueueRow, Started, TableRow,
 };
 use std::alloc::Global;
@@ -62,8 +62,8 @@ fn log_waits<B: Board<Part>, R: Wait + Print>(
     Ok(())
 }
 
-/// Logs the wait of `row`: those in its way, and the queue that it stands in. Nobody is in its way where it has
-/// ended since the listing.
+/// Logs by `monitor` the wait of `row`: those in its way, and the queue that it is in. Nobody is in its way where it
+/// has ended since the listing.
 fn log_wait<B: Board<Part>, R: Wait + Print>(
     rt: &R,
     monitor: &mut OwnSession<Part, B>,
@@ -89,11 +89,10 @@ fn print_wait<R: Print>(
     print!(rt; "{} waits for {} on {}:", row.session, row.mode, row.tag)?;
     for (place, blocker) in blockers.iter().enumerate() {
         let before = if place == 0 { " " } else { ", " };
-        let does = match blocker.how {
-            InTheWay::Holds => "holds",
-            InTheWay::StandsBefore => "awaits",
-        };
-        print!(rt; "{before}{} {does} {}", blocker.session, blocker.mode)?;
+        print!(rt;
+            "{before}{} {} {}",
+            blocker.session, blocker.how, blocker.mode
+        )?;
     }
     for (place, waiter) in queue.iter().enumerate() {
         let before = if place == 0 { "; queue " } else { ", " };
@@ -102,10 +101,10 @@ fn print_wait<R: Print>(
     println!(rt;)
 }
 
-/// Those who come behind the reader, in their order: an ALTER, a read and a write.
+/// The modes that are asked for after the reader has its own, in their order: an ALTER, a read and a write.
 static COMING: [Mode; 3] = [Mode::AccessExclusive, Mode::AccessShare, Mode::RowExclusive];
 
-/// Has sessions wait behind one that reads, and a monitor log them.
+/// Has sessions wait for one that reads, and a monitor log them.
 pub fn show<R: Threads + Wait + Clock + Print + Sync>(rt: &R, alloc: Global) -> anyhow::Result<()> {
     let config = Config {
         sessions: 5,
@@ -114,15 +113,24 @@ pub fn show<R: Threads + Wait + Clock + Print + Sync>(rt: &R, alloc: Global) -> 
     };
     let (manager, opener) = Manager::new(alloc, config)?;
     let mut desk = ManagerDesk::new(&manager, opener);
-    let logged = read_and_watch(rt, &mut desk);
+    let logged = at_the_desk(rt, &mut desk);
     let opener = desk.into_opener();
-    if opener.live() == 0 {
-        manager.finish(opener);
-    }
+    manager.finish(opener);
     logged
 }
 
-/// Has a session of `desk` read the accounts, and another one watch those who come behind it.
+/// Has sessions of `desk` wait for one that reads, and a monitor log them. The board of the shared table is named here.
+fn at_the_desk<R: Threads + Wait + Clock + Print + Sync>(
+    rt: &R,
+    desk: &mut ManagerDesk<'_>,
+) -> anyhow::Result<()>
+    ensures manager { desk.new.manager.now ≡ desk.old.manager.now }
+    ensures live { desk.new.opener.live ≡ desk.old.opener.live }
+{
+    read_and_watch(rt, desk)
+}
+
+/// Has a session of `desk` read the accounts, and another one watch those that come after it.
 fn read_and_watch<
     B: Board<Part> + Send,
     D: Desk<OwnSession<Part, B>>,
@@ -130,6 +138,7 @@ fn read_and_watch<
 >(rt: &R, desk: &mut D) -> anyhow::Result<()>
     requires seats { SeatsAre B.seat D.seat }
     ensures manager { D.manager desk.new ≡ D.manager desk.old }
+    ensures live { D.live desk.new ≡ D.live desk.old }
 {
     let mut reader = desk.open(DATABASE)?;
     let read = reader.try_lock(rt, ACCOUNTS, Mode::AccessShare, Owner::Transaction);
@@ -147,6 +156,7 @@ fn watch<
 >(rt: &R, desk: &mut D) -> anyhow::Result<()>
     requires seats { SeatsAre B.seat D.seat }
     ensures manager { D.manager desk.new ≡ D.manager desk.old }
+    ensures live { D.live desk.new ≡ D.live desk.old }
 {
     let mut monitor = desk.open(DATABASE)?;
     let logged = come(rt, desk, &mut monitor, COMING.as_slice());
@@ -154,7 +164,7 @@ fn watch<
     logged
 }
 
-/// Has a session come for each of `modes`, ask for the accounts and wait, one behind the other. Once all wait,
+/// Has a session of `desk` for each of `modes` ask for the accounts, one after the other, and wait. Once all wait,
 /// `monitor` looks.
 fn come<
     B: Board<Part> + Send,
@@ -163,6 +173,7 @@ fn come<
 >(rt: &R, desk: &mut D, monitor: &mut OwnSession<Part, B>, modes: &[Mode]) -> anyhow::Result<()>
     requires seats { SeatsAre B.seat D.seat }
     ensures manager { D.manager desk.new ≡ D.manager desk.old }
+    ensures live { D.live desk.new ≡ D.live desk.old }
     ensures seat { KeepsSeat B.seat monitor.old monitor.new }
 {
     let Some((mode, others)) = modes.split_first() else {

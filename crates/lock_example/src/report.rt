@@ -1,22 +1,27 @@
-//! What is told of a day of the bank.
+//! What is printed of a day of the bank.
 
 use crate::day::live_through;
-use lock_manager::{Refusal, SessionId};
+use crate::rush::CONNECTIONS;
+use lock_manager::{Refusal, SessionId, SessionLife};
 use std::alloc::Global;
 use std::io;
 use std::sync::Wait;
 use std::thread::Threads;
 use std::time::Clock;
 
-/// What the accounts had, and what the connection met that was one too many.
+/// What the accounts had, and what the connections met.
 #[derive(Drop)]
 pub struct Report {
     /// What the accounts had in all at first, and at the end.
     pub opened_with: u64,
     pub sum: u64,
-    /// What the connection was told that came when all sessions were out, and which session it had at last.
+    /// How the connection was refused that came when all sessions were out, and which session it had at last.
     pub turned_away: Option<Refusal>,
     pub handed_on: SessionId,
+    /// Whose session the last of those connections had that came one after another.
+    pub served: SessionLife,
+    /// How many threads worked as the bank shut down, and have stopped since.
+    pub stopped: u64,
     /// How many sessions were open when the bank closed.
     pub live: u32,
 }
@@ -40,6 +45,14 @@ fn print_report<R: Print>(rt: &R, report: &Report) -> io::Result<()> {
     println!(rt;
         "one ends, and connection 65 has session {}",
         report.handed_on
+    )?;
+    println!(rt;
+        "connection {CONNECTIONS} of those that come and go has session {}, which {} had before",
+        report.served.number, report.served.life
+    )?;
+    println!(rt;
+        "bank: shut down in the middle of its work, which {} stop",
+        report.stopped
     )?;
     println!(rt; "bank: closed, with {} sessions open", report.live)
 }

@@ -12,11 +12,6 @@ use std::sync::Wait;
 use std::thread;
 use std::time::{Clock, Duration};
 
-/// How many transfers a teller makes, and how many alterations the migration.
-const TRANSFERS: u32 = 200;
-
-const ALTERATIONS: u32 = 10;
-
 /// How often a transaction is tried that was refused a lock.
 const ATTEMPTS: u32 = 1_000;
 
@@ -47,23 +42,33 @@ impl Transfer {
     }
 }
 
-/// Makes one transfer after another with `session`.
+/// Makes as many transfers with `session` as `transfers` says, one after another, unless the bank shuts down before.
 pub fn serve<B: Board<Part>, R: Wait>(
     rt: &R,
     bank: &Bank,
     watch: &Watch,
     session: &mut OwnSession<Part, B>,
+    transfers: u32,
 )
     ensures seat { KeepsSeat B.seat session.old session.new }
 {
     let first = u32::from(session.id().number()) * 5;
-    'rounds: for round in 0..TRANSFERS {
-        transfer_at_last(rt, bank, watch, session, Transfer::of(first + round));
+    'rounds: for round in 0..transfers {
+        if watch.is_closed() {
+            break;
+        }
+        transfer_at_last(
+            rt,
+            bank,
+            watch,
+            session,
+            Transfer::of(first.wrapping_add(round)),
+        );
     }
     watch.leave();
 }
 
-/// Makes `transfer`, which is tried again where it was refused a lock.
+/// Makes `transfer`, which is tried again where it was refused a lock, unless the bank shuts down.
 fn transfer_at_last<B: Board<Part>, R: Wait>(
     rt: &R,
     bank: &Bank,
@@ -74,7 +79,7 @@ fn transfer_at_last<B: Board<Part>, R: Wait>(
     ensures seat { KeepsSeat B.seat session.old session.new }
 {
     'attempts: for _ in 0..ATTEMPTS {
-        if has_transferred(rt, bank, watch, session, transfer) {
+        if has_transferred(rt, bank, watch, session, transfer) || watch.is_closed() {
             return;
         }
         thread::yield_now();
@@ -146,19 +151,22 @@ fn end<B: Board<Part>, R: Wait>(rt: &R, session: &mut OwnSession<Part, B>, is_go
     }
 }
 
-/// Alters the table a few times with `session`. Others that want to read or write meanwhile wait behind it, so it
-/// doesn't insist: where the table isn't had in time it lets them go on, and tries again.
+/// Alters the table with `session` as often as `alterations` says, unless the bank shuts down before. Others that
+/// want to read or write meanwhile wait until it is done, so it doesn't insist: where it doesn't get the table in
+/// time, it lets them go on, and tries again.
 pub fn migrate<B: Board<Part>, R: Wait + Clock>(
     rt: &R,
     bank: &Bank,
+    watch: &Watch,
     session: OwnSession<Part, B>,
+    alterations: u32,
 ) -> OwnSession<Part, B>
     ensures seat { KeepsSeat B.seat session result }
 {
     let mut session = session;
-    let mut left = ALTERATIONS;
-    'attempts: for _ in 0..ATTEMPTS {
-        if left == 0 {
+    let mut left = alterations;
+    'attempts: for _ in rt.forever() {
+        if left == 0 || watch.is_closed() {
             break;
         }
         let (altered, is_done) = try_to_alter(rt, bank, session);
@@ -167,6 +175,7 @@ pub fn migrate<B: Board<Part>, R: Wait + Clock>(
             left -= 1;
         }
     }
+    watch.leave();
     session
 }
 

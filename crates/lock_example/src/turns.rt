@@ -22,7 +22,7 @@ const BRANCHES: Tag = Tag::Relation {
 /// What a request is answered.
 type Answer = Result<Acquired, Refusal>;
 
-/// What the two threads were answered, turn by turn, and what stood in the manager at its end.
+/// What the two threads were answered, turn by turn, and what the manager still had at its end.
 struct Story {
     read: Answer,
     index: Answer,
@@ -77,7 +77,7 @@ fn tell<R: Threads + Wait + Sync>(rt: &R, alloc: Global) -> Result<Story, Refusa
     };
 
     // A turn runs in two threads, each of which borrows a session, and is over once both are joined. None of the
-    // requests of the first two turns stands in the way of the other, so the answers are the same in each run.
+    // requests of the first two turns is in the way of the other, so the answers are the same in each run.
     let (read, index) = join_mut(
         rt,
         &mut || ask(rt, &mut worker, ACCOUNTS, Mode::AccessShare),

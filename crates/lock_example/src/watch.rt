@@ -4,9 +4,10 @@ ghost use Rattle.std.specs.Prelude.{◌<◌};
 ghost use Rattle.lock_manager.specs.Crews.{KeepsSeat};
 
 use crate::deadlocks::break_circle;
+use crate::shut_down::shut_down;
 use lock_manager::{Board, MOST_SESSIONS, OwnSession, Part, SessionId};
 use std::sync::Wait;
-use std::sync::atomic::{AtomicU64, Ordering};
+use std::sync::atomic::{AtomicBool, AtomicU64, Ordering};
 use std::thread;
 use std::time::{Clock, Duration};
 
@@ -17,22 +18,33 @@ const PAUSE: u64 = 2;
 /// By session numbers.
 const NUMBERS: usize = MOST_SESSIONS as usize;
 
-/// What the threads show the watchdog.
+/// What the threads of a day show the watchdog.
 #[derive(Drop)]
 pub struct Watch {
-    /// For each session how many waits it has begun and ended: an odd number stands for one that it is in.
+    /// For each session how many waits it has begun and ended: where the number is odd, it is in one.
     waits: [AtomicU64; NUMBERS],
     /// How many threads work yet.
     working: AtomicU64,
+    /// Whether the bank shuts down.
+    closed: AtomicBool,
+    /// How many threads have stopped working since.
+    stopped: AtomicU64,
 }
 
 impl Watch {
-    /// A watch in which nobody waits, and `working` threads work.
-    pub fn of(working: u64) -> Watch {
+    /// A watch in which nobody waits or works.
+    pub fn new() -> Watch {
         Watch {
             waits: std::array::from_fn(|_| AtomicU64::new(0)),
-            working: AtomicU64::new(working),
+            working: AtomicU64::new(0),
+            closed: AtomicBool::new(false),
+            stopped: AtomicU64::new(0),
         }
+    }
+
+    /// So many threads, `working`, begin to work.
+    pub fn begin(&self, working: u64) {
+        self.working.store(working, Ordering::SeqCst);
     }
 
     /// Notes that `session` begins a wait, or ends it.
@@ -40,14 +52,32 @@ impl Watch {
         self.waits[usize::from(session.number())].fetch_add(1, Ordering::SeqCst);
     }
 
-    /// A thread has done its work.
+    /// A thread has done its work, or the bank shuts down.
     pub fn leave(&self) {
+        if self.is_closed() {
+            self.stopped.fetch_add(1, Ordering::SeqCst);
+        }
         self.working.fetch_sub(1, Ordering::SeqCst);
     }
 
     /// Whether all have.
-    fn is_over(&self) -> bool {
+    pub fn is_over(&self) -> bool {
         self.working.load(Ordering::SeqCst) == 0
+    }
+
+    /// Says that the bank shuts down: nobody is to begin another transaction.
+    pub fn close(&self) {
+        self.closed.store(true, Ordering::SeqCst);
+    }
+
+    /// Whether the bank shuts down.
+    pub fn is_closed(&self) -> bool {
+        self.closed.load(Ordering::SeqCst)
+    }
+
+    /// How many threads have stopped working since.
+    pub fn stopped(&self) -> u64 {
+        self.stopped.load(Ordering::SeqCst)
     }
 
     /// Whether the session numbered `place` was in the wait in which it is at the last look too, by `seen`, which
@@ -62,22 +92,29 @@ impl Watch {
     }
 }
 
-/// Looks again and again at who waits, with `session`, until no thread of `watch` works any more: who waits in a circle,
-/// and who too long.
+/// Looks again and again at who waits, with `session`, until no thread of `watch` works any more: who waits in a
+/// circle, and who too long. After as many looks as `closes_after` says, if it says so, it shuts the bank down.
 pub fn keep_watch<B: Board<Part>, R: Wait + Clock>(
     rt: &R,
     watch: &Watch,
+    closes_after: Option<u32>,
     session: &mut OwnSession<Part, B>,
 )
     ensures seat { KeepsSeat B.seat session.old session.new }
 {
     let mut seen = [0; NUMBERS];
+    let mut looks = 0u32;
     'looks: for _ in rt.forever() {
         if watch.is_over() {
             return;
         }
+        if closes_after == Some(looks) {
+            shut_down(rt, watch, session);
+            return;
+        }
         break_circle(rt, session);
         look(watch, session, &mut seen);
+        looks = looks.saturating_add(1);
         thread::sleep(rt, Duration::from_millis(PAUSE));
     }
 }

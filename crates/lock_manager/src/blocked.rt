@@ -83,7 +83,7 @@ fn blocked_from<T: PartTable, B: Board<T>, R: Wait>(
     others
 }
 
-/// All waits at one moment, each with those in its way.
+/// All waits at one moment, as the session on `board` sees them, whose `own` this is: each with those in its way.
 fn list_blocked<T: PartTable, B: Board<T>, R: Wait>(
     rt: &R,
     board: &mut B,

@@ -38,8 +38,8 @@ impl Default for Config {
 }
 
 impl Config {
-    /// Whether all numbers are in their ranges.
-    pub(crate) fn is_in_range(self) -> bool
+    /// Whether all numbers are in their ranges, so that `Manager::new` doesn't refuse with `BadConfig`.
+    pub fn is_in_range(self) -> bool
         ensures { result ≡ is_in_range self }
     {
         self.sessions >= 1

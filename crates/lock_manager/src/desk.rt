@@ -8,6 +8,7 @@ ghost use Rattle.lock_manager.specs.Audits.{Audits, entries_owned, strong_owned}
 ghost use Rattle.shared_rule.specs.Boards.{parts_in_hand};
 ghost use Rattle.shared_rule.specs.declared.history.History.{History};
 ghost use Rattle.shared_rule.specs.History.{first_account};
+ghost use Rattle.shared_rule.specs.Owed.{first_owed};
 ghost use Rattle.shared_rule.specs.Quiet.{first_quiet, quiet_told};
 ghost use Rattle.lock_manager.specs.Desks.{opener_at, session_at, shown};
 ghost use Rattle.lock_manager.specs.Keeper.{PartView, content_of};
@@ -191,7 +192,7 @@ impl<'a> Desk<Session<'a>> for ManagerDesk<'a> {
     ghost account = { λ session. first_account content_of session.board.place.me.0.sessions };
 
     ghost stack = { λ session.
-        record { parts = parts_in_hand session.board.place.me.1; owed = session.board.owed.sessions } };
+        record { parts = parts_in_hand session.board.place.me.1; owed = first_owed session.board.place.me.0.sessions } };
 
     ghost quiet = { λ session. first_quiet session.board.place.me.0.sessions };
 

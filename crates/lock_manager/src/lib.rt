@@ -7,6 +7,7 @@ mod blocked;
 mod config;
 mod crews;
 mod desk;
+mod held;
 mod keeper;
 pub mod laws;
 mod listing;
@@ -36,7 +37,7 @@ pub use pool::{SessionLife, SessionPool};
 pub use queues::QueueRow;
 pub use sessions::Session;
 pub use shared_rule::Audit;
-pub use wait_queue::{Blocker, InTheWay};
+pub use wait_queue::Blocker;
 pub use waiting::Asked;
 pub use waiting_sessions::{Cancelled, Locked, Polled, Started, Waited, Waiting};
 

@@ -4,9 +4,10 @@ ghost use Rattle.std.specs.Prelude.{◌≡◌, ◌≤◌, ℕ, [], None, IsOkUnl
 ghost use Rattle.shared_rule.specs.Lawful.{IsAboveHand};
 ghost use Rattle.fast_path.specs.Quiet.{QuietOfListing};
 ghost use Rattle.lock_manager.specs.Rest.{IsAtRest};
+ghost use Rattle.lock_manager.specs.Sessions.{IsSame};
 ghost use Rattle.lock_manager.specs.Listings.{Lists, ListsTable, ListsFrom};
 
-use crate::sessions::Own;
+use crate::sessions::{Own, OwnSession};
 use fast_path::slot_rows;
 use lock_table::{Move, NoMemory, PartTable, SlotRow, TableRow, sort_rows};
 use modes_core::{PARTITIONS, Refusal};
@@ -106,4 +107,23 @@ fn list_from<T: PartTable, B: Board<T>, R: Wait>(
     }
     board.put_part(part, &Move::Keep, content);
     listed
+}
+
+impl<T: PartTable, B: Board<T>> OwnSession<T, B> {
+    /// All that is held and awaited (`GetLockStatusData` in lock.c): first what the slots show, session by session,
+    /// then the lock table at one moment, at which the session has all partitions in hand. A hold that is moved
+    /// from a slot to the table meanwhile may be in both; one that stands all the while is in one of them. Only the
+    /// lists of the answer take memory; where that is missing it is refused.
+    pub fn list<R: Wait>(&mut self, rt: &R) -> Result<Listing, Refusal>
+        ensures listed { Lists (B.seat self.old.board).groups (B.seat self.old.board).limit
+            (B.seat self.old.board).number (B.view self.old.board) result (B.view self.new.board) }
+        ensures quiet { QuietOfListing (B.seat self.old.board).limit result
+            (B.quiet self.old.board) (B.quiet self.new.board) }
+        ensures no_memory { IsOkUnless result Refusal.NoMemory }
+        ensures owned { self.new.owned ≡ self.old.owned }
+        ensures uses { self.new.uses ≡ self.old.uses }
+        ensures same { IsSame B.seat B.view B.stack self.old self.new }
+    {
+        list(rt, &mut self.board, &self.own)
+    }
 }

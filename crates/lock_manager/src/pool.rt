@@ -200,6 +200,8 @@ impl<T: PartTable, B: Board<T>> SessionPool<T, B> {
         ensures taken { length self.old.free < 64 →
             TakesIn B.seat B.view B.stack B.quiet session self.old self.new × (desk.new ≡ desk.old) }
         ensures one_more { length self.old.free < 64 → length self.new.free ≡ length self.old.free + 1 }
+        ensures live { length self.old.free < D.live desk.old →
+            D.live desk.new + length self.old.free + 1 ≡ D.live desk.old + length self.new.free }
         ensures free { AreOf B.seat (D.manager desk.old) self.new.free }
         ensures manager { D.manager desk.new ≡ D.manager desk.old }
     {

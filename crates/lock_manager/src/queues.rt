@@ -3,11 +3,12 @@
 ghost use Rattle.std.specs.Prelude.{◌≡◌, ◌≤◌, IfOk, IsOkUnless};
 ghost use Rattle.lock_manager.specs.Rest.{IsAtRest};
 ghost use Rattle.lock_manager.specs.Sessions.{IsSame};
+ghost use Rattle.lock_manager.specs.Waiting.{IsWaiting};
 ghost use Rattle.lock_manager.specs.Queues.{LooksAt, IsQueue, AreBlockers};
 
 use crate::sessions::{Own, OwnSession};
 use lock_table::{Move, PartTable, Waiter};
-use modes_core::{Refusal, SessionId, Tag};
+use modes_core::{Mode, Refusal, SessionId, Tag};
 use shared_rule::Board;
 use std::sync::Wait;
 use wait_queue::{Blocker, blockers_of, queue_of};
@@ -66,6 +67,64 @@ fn blockers<T: PartTable, B: Board<T>, R: Wait>(
     board.put_part(part, &Move::Keep, content);
     match found {
         Ok(found) => Ok(found),
+        Err(_) => Err(Refusal::NoMemory),
+    }
+}
+
+/// Those in the way of the session's own wait for `mode` on `tag` at one moment.
+pub fn blockers_of_own<T: PartTable, B: Board<T>, R: Wait>(
+    rt: &R,
+    board: &mut B,
+    own: &Own,
+    tag: Tag,
+    mode: Mode,
+) -> Result<Vec<Blocker>, Refusal>
+    requires waiting { IsWaiting (B.seat board.old).groups (B.seat board.old).limit own.now.database own.now.uses
+        (B.view board.old) (B.stack board.old) own.now.locals.entries tag mode }
+    ensures looked { LooksAt (λ taken. IfOk result (λ found.
+        AreBlockers tag (B.seat board.old).number found.items taken))
+        (B.view board.old).trace tag (B.view board.new).trace }
+    ensures quiet { B.quiet board.new ≡ B.quiet board.old }
+    ensures no_memory { IsOkUnless result Refusal.NoMemory }
+    ensures waiting { IsWaiting (B.seat board.old).groups (B.seat board.old).limit own.now.database own.now.uses
+        (B.view board.new) (B.stack board.new) own.now.locals.entries tag mode }
+    ensures seat { B.seat board.new ≡ B.seat board.old }
+{
+    let part = tag.partition();
+    let number = board.number();
+    let content = board.take_part(rt, part);
+    let found = blockers_of(own.alloc, &content, &tag, number);
+    board.put_part(part, &Move::Keep, content);
+    match found {
+        Ok(found) => Ok(found),
+        Err(_) => Err(Refusal::NoMemory),
+    }
+}
+
+/// The waits on `tag` at one moment, in the order of its queue, as a session has them that waits there itself for `mode`.
+pub fn queue_of_own<T: PartTable, B: Board<T>, R: Wait>(
+    rt: &R,
+    board: &mut B,
+    own: &Own,
+    tag: Tag,
+    mode: Mode,
+) -> Result<Vec<QueueRow>, Refusal>
+    requires waiting { IsWaiting (B.seat board.old).groups (B.seat board.old).limit own.now.database own.now.uses
+        (B.view board.old) (B.stack board.old) own.now.locals.entries tag mode }
+    ensures looked { LooksAt (λ taken. IfOk result (λ rows. IsQueue tag rows.items taken))
+        (B.view board.old).trace tag (B.view board.new).trace }
+    ensures quiet { B.quiet board.new ≡ B.quiet board.old }
+    ensures no_memory { IsOkUnless result Refusal.NoMemory }
+    ensures waiting { IsWaiting (B.seat board.old).groups (B.seat board.old).limit own.now.database own.now.uses
+        (B.view board.new) (B.stack board.new) own.now.locals.entries tag mode }
+    ensures seat { B.seat board.new ≡ B.seat board.old }
+{
+    let part = tag.partition();
+    let content = board.take_part(rt, part);
+    let standing = queue_of(own.alloc, &content, &tag);
+    board.put_part(part, &Move::Keep, content);
+    match standing {
+        Ok(rows) => Ok(rows),
         Err(_) => Err(Refusal::NoMemory),
     }
 }

@@ -1,10 +1,10 @@
 //! Sessions: the calls that a server's thread makes.
 
-ghost use Rattle.std.specs.Prelude.{ℕ, ◌≡◌, ◌≢◌, ◌<◌, ◌≤◌, ◌-◌, ◌↔◌, List, [], ◌∷◌, ◌++◌, true, false};
+ghost use Rattle.std.specs.Prelude.{ℕ, ◌≡◌, ◌≢◌, ◌<◌, ◌≤◌, ◌↔◌, List, [], ◌∷◌, ◌++◌, true, false};
 ghost use Rattle.std.specs.Prelude.{IsErrOf, IsOkUnless, IfOk, IfErr, OnOk, OnErr};
 ghost use Rattle.modes_core.specs.ModeSet.{set_has};
 ghost use Rattle.modes_core.specs.Tag.{is_eligible_for};
-ghost use Rattle.local_locks.specs.Owned.{max_level, level_of, of_transaction, own_count_of, level_count_of, without_innermost, outer_after, has_entry, total_of, with_one_more, with_one_less, ended_by, left_by, IsWellOwned};
+ghost use Rattle.local_locks.specs.Owned.{own_count_of, has_entry, total_of, with_one_more, with_one_less, ended_by, left_by, IsWellOwned};
 ghost use Rattle.lock_world.specs.declared.events.Word.TheVariants.{Strong};
 ghost use Rattle.lock_world.specs.AccountSteps.{account_storing};
 ghost use Rattle.lock_world.specs.World.{Loaded};
@@ -16,18 +16,18 @@ ghost use Rattle.lock_manager.specs.Keeper.{PartView};
 ghost use Rattle.shared_rule.specs.History.{blank_account};
 ghost use Rattle.shared_rule.specs.Boards.{nothing_due};
 ghost use Rattle.fast_path.specs.Slots.{count_in};
-ghost use Rattle.fast_path.specs.Quiet.{QuietOfListing};
 ghost use Rattle.lock_manager.specs.Sessions.{IsSame, IsUnchanged, DontConflict};
 ghost use Rattle.lock_manager.specs.Quiet.{QuietOfAcquire, QuietOfAcquireBySlot, QuietOfReleases, quiet_releasing};
-ghost use Rattle.lock_manager.specs.Listings.{Lists};
 ghost use Rattle.lock_manager.specs.Managers.{HasClosed};
 ghost use Rattle.wait_queue.specs.Decide.{IsAfterRoom};
 ghost use Rattle.lock_manager.specs.Requests.{HadRoom};
 ghost use Rattle.lock_manager.specs.Acquires.{AnswersByOwned, HasEntryRoom, IsOwnAnswer, IsOwnAnswerBySlot, IsRefusedForMemory, Acquires, AcquiresBySlot};
 ghost use Rattle.lock_manager.specs.Releases.{Releases, ReleasesAll};
 
+mod levels;
+
+use crate::held::modes_held;
 use crate::keeper::Part;
-use crate::listing::{Listing, list};
 use crate::manager::Opener;
 use crate::releases::{end_all, release_hold};
 use crate::requests::{Begun, acquire, acquire_by_slot};
@@ -164,15 +164,7 @@ impl<T: PartTable, B: Board<T>> OwnSession<T, B> {
     pub fn held(&self, tag: Tag) -> ModeSet
         ensures { set_has result ≡ has_entry self.now.owned.entries tag }
     {
-        let mut held = ModeSet::empty();
-        for number in 1..9 {
-            if let Some(mode) = Mode::from_number(number) {
-                if self.own.locals.total(tag, mode) != 0 {
-                    held = held.with(mode);
-                }
-            }
-        }
-        held
+        modes_held(&self.own.locals, tag)
     }
 
     /// How often `owner` has `tag` in `mode` and can give it back (`LOCALLOCKOWNER` in lock.h): the session, or the
@@ -335,105 +327,6 @@ impl<T: PartTable, B: Board<T>> OwnSession<T, B> {
         ensures same { IsSame B.seat B.view B.stack self.old self.new }
     {
         end_all(rt, &mut self.board, &mut self.own, End::Abort);
-    }
-
-    /// Begins a level of the transaction within the innermost one, and answers the new level (a savepoint:
-    /// `PushTransaction` in xact.c, with a resource owner of its own in resowner.c). What is acquired for the
-    /// transaction from then on is that level's, until it ends. A transaction begins at level 1, and has at most
-    /// 16. It makes no step, and takes no memory.
-    pub fn begin_nested(&mut self) -> Result<u8, Refusal>
-        ensures too_deep { IsErrOf result Refusal.TooDeep ↔ (level_of self.old.owned ≡ max_level) }
-        ensures no_other { IsOkUnless result Refusal.TooDeep }
-        ensures level { IfOk result (λ level. level ≡ level_of self.new.owned) }
-        ensures begun { OnOk result
-            (self.new.owned.outer ≡ self.old.owned.outer ++ of_transaction self.old.owned.entries ∷ []) }
-        ensures entries { self.new.owned.entries ≡ self.old.owned.entries }
-        ensures refused { OnErr result (self.new.owned ≡ self.old.owned) }
-        ensures untouched { self.new.board ≡ self.old.board }
-        ensures uses { self.new.uses ≡ self.old.uses }
-        ensures same { IsSame B.seat B.view B.stack self.old self.new }
-    {
-        self.own.locals.begin_nested()
-    }
-
-    /// Ends the innermost level, which succeeded, and answers the new level: what it has is that of the level that
-    /// it was begun in (`LockReassignCurrentOwner` in lock.c). Refused at level 1; nothing has changed then. It
-    /// makes no step, and takes no memory.
-    pub fn commit_nested(&mut self) -> Result<u8, Refusal>
-        ensures no_nested { IsErrOf result Refusal.NoNested ↔ (level_of self.old.owned ≡ 1) }
-        ensures no_other { IsOkUnless result Refusal.NoNested }
-        ensures level { IfOk result (λ level. level ≡ level_of self.new.owned) }
-        ensures handed_up { OnOk result (self.new.owned.outer ≡ outer_after End.Inner self.old.owned.outer) }
-        ensures entries { self.new.owned.entries ≡ self.old.owned.entries }
-        ensures refused { OnErr result (self.new.owned ≡ self.old.owned) }
-        ensures untouched { self.new.board ≡ self.old.board }
-        ensures uses { self.new.uses ≡ self.old.uses }
-        ensures same { IsSame B.seat B.view B.stack self.old self.new }
-    {
-        self.own.locals.hand_up()
-    }
-
-    /// Ends the innermost level, which failed, and answers the new level: what it has goes, and what the levels
-    /// outside it and the session have stays (`LockReleaseCurrentOwner` in lock.c). Holds that nobody else has are
-    /// released, in the order of making, whatever their lock method. Refused at level 1; nothing has changed then.
-    pub fn abort_nested<R: Wait>(&mut self, rt: &R) -> Result<u8, Refusal>
-        ensures no_nested { IsErrOf result Refusal.NoNested ↔ (level_of self.old.owned ≡ 1) }
-        ensures no_other { IsOkUnless result Refusal.NoNested }
-        ensures level { IfOk result (λ level. level ≡ level_of self.new.owned) }
-        ensures entries { OnOk result
-            (self.new.owned.entries ≡ left_by End.Inner (without_innermost self.old.owned)) }
-        ensures released { OnOk result (ReleasesAll (B.seat self.old.board).groups (B.seat self.old.board).number
-            (B.view self.old.board) self.old.uses (ended_by End.Inner (without_innermost self.old.owned)) (B.view self.new.board) self.new.uses) }
-        ensures quiet { OnOk result (QuietOfReleases (B.seat self.old.board).groups (B.seat self.old.board).number (B.view self.old.board)
-            self.old.uses (ended_by End.Inner (without_innermost self.old.owned)) (B.view self.new.board) self.new.uses
-            (B.quiet self.old.board) (B.quiet self.new.board)) }
-        ensures levels { OnOk result (self.new.owned.outer ≡ outer_after End.Inner self.old.owned.outer) }
-        ensures refused { OnErr result (self.new.owned ≡ self.old.owned) }
-        ensures untouched { OnErr result (self.new.board ≡ self.old.board) }
-        ensures none_ended { ended_by End.Inner (without_innermost self.old.owned) ≡ [] →
-            self.new.board ≡ self.old.board }
-        ensures same_uses { OnErr result (self.new.uses ≡ self.old.uses) }
-        ensures same { IsSame B.seat B.view B.stack self.old self.new }
-    {
-        if self.own.locals.level() == 1 {
-            return Err(Refusal::NoNested);
-        }
-        end_all(rt, &mut self.board, &mut self.own, End::Inner);
-        Ok(self.own.locals.level())
-    }
-
-    /// The level of the transaction: 1, and one more for each that was begun within it
-    /// (`GetCurrentTransactionNestLevel` in xact.c).
-    pub fn level(&self) -> u8
-        ensures { result ≡ level_of self.now.owned }
-    {
-        self.own.locals.level()
-    }
-
-    /// How often `level` of the transaction has `tag` in `mode`.
-    pub fn level_count(&self, tag: Tag, mode: Mode, level: u8) -> u16
-        requires from { 1 ≤ level }
-        requires to { level ≤ level_of self.now.owned }
-        ensures { result ≡ level_count_of self.now.owned tag mode level }
-    {
-        self.own.locals.level_count(tag, mode, level)
-    }
-
-    /// All that is held and awaited (`GetLockStatusData` in lock.c): first what the slots show, session by session,
-    /// then the lock table at one moment, at which the session has all partitions in hand. A hold that is moved
-    /// from a slot to the table meanwhile may be in both; one that stands all the while is in one of them. Only the
-    /// lists of the answer take memory; where that is missing it is refused.
-    pub fn list<R: Wait>(&mut self, rt: &R) -> Result<Listing, Refusal>
-        ensures listed { Lists (B.seat self.old.board).groups (B.seat self.old.board).limit
-            (B.seat self.old.board).number (B.view self.old.board) result (B.view self.new.board) }
-        ensures quiet { QuietOfListing (B.seat self.old.board).limit result
-            (B.quiet self.old.board) (B.quiet self.new.board) }
-        ensures no_memory { IsOkUnless result Refusal.NoMemory }
-        ensures owned { self.new.owned ≡ self.old.owned }
-        ensures uses { self.new.uses ≡ self.old.uses }
-        ensures same { IsSame B.seat B.view B.stack self.old self.new }
-    {
-        list(rt, &mut self.board, &self.own)
     }
 
     /// What the strong lock counter at `index` shows, by one load: how many strong locks are counted there

@@ -10,7 +10,7 @@ use lock_table::PartTable;
 use modes_core::SessionId;
 use shared_rule::Board;
 
-/// Asks each session that there can be to cancel its wait, and wakes it where it waits. The answer is how many waited.
+/// Asks by `board` each session that there can be to cancel its wait, and wakes it where it waits. The answer is how many waited.
 fn ask_all_to_cancel<T: PartTable, B: Board<T>>(board: &mut B) -> u32
     requires few { (B.seat board.old).limit ≤ 64 }
     requires none_owed { (B.stack board.old).owed ≡ [] }

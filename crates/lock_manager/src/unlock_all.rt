@@ -1,6 +1,6 @@
 //! All advisory locks of a session are given back, over any board.
 
-ghost use Rattle.std.specs.Prelude.{◌≡◌, [], None, Some, find, IfNone, IfSome};
+ghost use Rattle.std.specs.Prelude.{◌≡◌, ◌≤◌, [], None, Some, find, length, IfNone, IfSome};
 ghost use Rattle.local_locks.specs.declared.records.Entry as records;
 ghost use Rattle.local_locks.specs.Owned.{IsWellOwned};
 ghost use Rattle.lock_manager.specs.Rest.{IsAtRest};
@@ -42,9 +42,10 @@ fn first_advisory(locals: &LocalTable) -> Option<(Tag, Mode)>
     None
 }
 
-/// Gives back all advisory locks that the session owns, each as often as it has it, in the order of making
-/// (`LockReleaseSession` in lock.c). Where no count is left of one its hold is released.
-fn unlock_all<T: PartTable, B: Board<T>, R: Wait>(rt: &R, board: &mut B, own: &mut Own)
+/// Gives back, by `board`, all advisory locks that the session owns by its `own`, each as often as it has it, in the order of making
+/// (`LockReleaseSession` in lock.c). Where no count is left of one its hold is released; the answer is how many were.
+fn unlock_all<T: PartTable, B: Board<T>, R: Wait>(rt: &R, board: &mut B, own: &mut Own) -> u32
+    requires few_entries { own.old.locals.max_local ≤ 65536 }
     requires rest { IsAtRest (B.seat board.old).groups (B.seat board.old).limit own.old.database own.old.uses
         (B.view board.old) (B.stack board.old) own.old.locals.entries }
     requires well_owned { IsWellOwned own.old.locals }
@@ -55,27 +56,33 @@ fn unlock_all<T: PartTable, B: Board<T>, R: Wait>(rt: &R, board: &mut B, own: &m
     ensures quiet { QuietOfReleases (B.seat board.old).groups (B.seat board.old).number (B.view board.old) own.old.uses
         (unlocked_by_all own.old.locals.entries) (B.view board.new) own.new.uses
         (B.quiet board.old) (B.quiet board.new) }
+    ensures released { result ≡ length (unlocked_by_all own.old.locals.entries) }
     ensures none_unlocked { unlocked_by_all own.old.locals.entries ≡ [] → board.new ≡ board.old }
     ensures entries { own.new.locals.entries ≡ left_by_unlock_all own.old.locals.entries }
     ensures levels { own.new.locals.outer ≡ own.old.locals.outer }
     ensures kept { KeepsOwn (B.seat board.old) own.old (B.seat board.new) own.new }
 {
+    let mut released = 0u32;
     'locks: while let Some((tag, mode)) = first_advisory(&own.locals) {
         match own.locals.drop_held(&tag, mode, Owner::Session) {
             Ok(Unlocked::Released) => {
                 release_hold(rt, board, own.database, &mut own.uses, &tag, mode);
+                released += 1;
             }
             Ok(Unlocked::StillHeld) => {}
             Err(_) => unreachable!(),
         }
     }
+    released
 }
 
 impl<T: PartTable, B: Board<T>> OwnSession<T, B> {
     /// Gives back all advisory locks that the session owns, each as often as it has it (`pg_advisory_unlock_all` in
     /// lockfuncs.c, by `LockReleaseSession` in lock.c). What its transaction has of them stays, and so does every
-    /// other lock. Holds are released in the order of making.
-    pub fn unlock_all<R: Wait>(&mut self, rt: &R)
+    /// other lock. Holds are released in the order of making, and the answer is how many: the modes on objects that the
+    /// session has no longer.
+    pub fn unlock_all<R: Wait>(&mut self, rt: &R) -> u32
+        ensures count { result ≡ length (unlocked_by_all self.old.owned.entries) }
         ensures entries { self.new.owned.entries ≡ left_by_unlock_all self.old.owned.entries }
         ensures none_unlocked { unlocked_by_all self.old.owned.entries ≡ [] → self.new.board ≡ self.old.board }
         ensures released { ReleasesAll (B.seat self.old.board).groups (B.seat self.old.board).number
@@ -87,6 +94,6 @@ impl<T: PartTable, B: Board<T>> OwnSession<T, B> {
         ensures levels { self.new.owned.outer ≡ self.old.owned.outer }
         ensures same { IsSame B.seat B.view B.stack self.old self.new }
     {
-        unlock_all(rt, &mut self.board, &mut self.own);
+        unlock_all(rt, &mut self.board, &mut self.own)
     }
 }

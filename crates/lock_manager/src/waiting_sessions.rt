@@ -16,6 +16,8 @@ ghost use Rattle.lock_manager.specs.WaitingSessions.{was_granted, session_cancel
 ghost use Rattle.lock_manager.specs.WaitingSessions.{answer_waited, session_waited};
 ghost use Rattle.lock_manager.specs.WaitingSessions.{answer_locked, session_locked, Locks, HasBegun, WaitsOn, HasEnded};
 
+mod looks;
+
 use crate::keeper::Part;
 use crate::requests::{Begun, acquire};
 use crate::sessions::{Own, OwnSession};
@@ -280,34 +282,6 @@ impl<T: PartTable, B: Board<T>> OwnSession<T, B> {
 }
 
 impl<T: PartTable, B: Board<T>> OwnWaiting<T, B> {
-    /// The session's number.
-    pub fn id(&self) -> SessionId
-        ensures { result ≡ (B.seat self.now.board).number }
-    {
-        self.board.number()
-    }
-
-    /// The object that it waits for.
-    pub fn tag(&self) -> Tag
-        ensures { result ≡ self.now.tag }
-    {
-        self.tag
-    }
-
-    /// The mode that it waits for.
-    pub fn mode(&self) -> Mode
-        ensures { result ≡ self.now.mode }
-    {
-        self.mode
-    }
-
-    /// For whom it will have the mode: its transaction or the session.
-    pub fn owner(&self) -> Owner
-        ensures { result ≡ self.now.owner }
-    {
-        self.owner
-    }
-
     /// Looks at the wait once (`ProcSleep` in proc.c where it reads `waitStatus`): it was granted, and has ended, or it
     /// goes on, and another session may have asked to cancel it.
     pub fn poll(self) -> Polled<OwnSession<T, B>, Self>

@@ -1,13 +1,12 @@
-//! `lock_scenario`: runs scripts against the lock manager.
+//! `lock_scenario`: runs scripts against the lock manager, and says what SQL statements lock.
 #![tactic(auto)]
 
-use scenario::{Errors, Source, run_program};
+use scenario_program::{Errors, Source, run_program};
 use std::io::IsTerminal;
 use std::process::ExitCode;
 use std::{env, io};
 
-/// Runs the script on standard input. The status is 0, 3 for a bad line of the script, 2 for refused
-/// words, and 1 for any other fault.
+/// Does with standard input what the words of the command line ask for. The status is that of `run_program`.
 fn main(rt: HostRuntime) -> ExitCode {
     let reader = rt.stdin();
     let input = Source {

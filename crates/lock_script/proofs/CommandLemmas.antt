@@ -10,7 +10,7 @@ use Rattle.lock_script.specs.Meaning.{IsCommandOf, NamesActor, NamesBlocked, Nam
 use Rattle.lock_script.specs.Objects.{name_given, tag_called}
 use Rattle.lock_script.specs.Words.{number_in, strong_index}
 use Rattle.lock_script.specs.declared.command.Command.{Command}
-use Rattle.lock_script.specs.declared.command.Command.TheVariants.{Session, Try, Fast, Lock, Unlock, Commit, Abort, Begin, SubCommit, SubAbort, Owned, Waiters, Queue, Blockers, Cancel, Count, Hash, Close}
+use Rattle.lock_script.specs.declared.command.Command.TheVariants.{Session, Try, Fast, Lock, Unlock, UnlockAll, Commit, Abort, Begin, SubCommit, SubAbort, Owned, Waiters, Queue, Blockers, Cancel, Count, Hash, Close}
 use Rattle.lock_script.specs.declared.command.Command.TheVariants as command
 use Rattle.lock_script.specs.declared.command.Target.{Target}
 use Rattle.lock_script.specs.declared.objects.NamedObject.{NamedObject}
@@ -97,6 +97,7 @@ module _ {S W : Type 0} where
   command-Addresses sessions objects verb words (Fast target owner) h = owned-may_act sessions objects words target owner h.1
   command-Addresses sessions objects verb words (Lock target owner) h = owned-may_act sessions objects words target owner h.1
   command-Addresses sessions objects verb words (Unlock target owner) h = owned-may_act sessions objects words target owner h.1
+  command-Addresses sessions objects verb words (UnlockAll caller) h = actor-may_act sessions words caller h.1
   command-Addresses sessions objects verb words (Commit caller) h = actor-may_act sessions words caller h.1
   command-Addresses sessions objects verb words (Abort caller) h = actor-may_act sessions words caller h.1
   command-Addresses sessions objects verb words (Begin caller) h = actor-may_act sessions words caller h.1
@@ -121,6 +122,7 @@ module _ {S W : Type 0} where
   command-NamesCounter sessions objects verb words (Fast target owner) h = tt
   command-NamesCounter sessions objects verb words (Lock target owner) h = tt
   command-NamesCounter sessions objects verb words (Unlock target owner) h = tt
+  command-NamesCounter sessions objects verb words (UnlockAll caller) h = tt
   command-NamesCounter sessions objects verb words (Commit caller) h = tt
   command-NamesCounter sessions objects verb words (Abort caller) h = tt
   command-NamesCounter sessions objects verb words (Begin caller) h = tt
@@ -143,6 +145,7 @@ module _ {S W : Type 0} where
   command-NamesFree sessions objects verb words (Fast target owner) h = tt
   command-NamesFree sessions objects verb words (Lock target owner) h = tt
   command-NamesFree sessions objects verb words (Unlock target owner) h = tt
+  command-NamesFree sessions objects verb words (UnlockAll caller) h = tt
   command-NamesFree sessions objects verb words (Commit caller) h = tt
   command-NamesFree sessions objects verb words (Abort caller) h = tt
   command-NamesFree sessions objects verb words (Begin caller) h = tt

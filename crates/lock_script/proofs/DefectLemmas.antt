@@ -26,7 +26,7 @@ use Rattle.lock_script.specs.declared.sessions.Place.{Place}
 use Rattle.lock_script.specs.declared.sessions.Place.TheVariants.{Resting, Waiting}
 use Rattle.lock_script.specs.declared.command.Target.{Target}
 use Rattle.lock_script.specs.declared.command.Command.{Command}
-use Rattle.lock_script.specs.declared.command.Command.TheVariants.{Session, Try, Fast, Lock, Unlock, Commit, Abort, Begin, SubCommit, SubAbort, Owned, Waiters, Queue, Blockers, Cancel, Count, Hash, Close}
+use Rattle.lock_script.specs.declared.command.Command.TheVariants.{Session, Try, Fast, Lock, Unlock, UnlockAll, Commit, Abort, Begin, SubCommit, SubAbort, Owned, Waiters, Queue, Blockers, Cancel, Count, Hash, Close}
 use Rattle.lock_script.specs.declared.command.Command.TheVariants as command
 use Rattle.lock_script.specs.declared.faults.Defect.{Defect}
 use Rattle.lock_script.specs.declared.faults.Defect.TheVariants.{BadName, SessionExists, NameExists, NoSuchSession, SessionWaits, BadObject, ObjectNamed}
@@ -301,6 +301,7 @@ module _ {S W : Type 0} (sessions : OpenSessions S W) (objects : List NamedObjec
   command-not_refused verb words defect r (Fast target owner) h = not_refused verb (codes "fast") words _ defect h.0 refl (fits-owned words target owner h.1) r
   command-not_refused verb words defect r (Lock target owner) h = not_refused verb (codes "lock") words _ defect h.0 refl (fits-owned words target owner h.1) r
   command-not_refused verb words defect r (Unlock target owner) h = not_refused verb (codes "unlock") words _ defect h.0 refl (fits-owned words target owner h.1) r
+  command-not_refused verb words defect r (UnlockAll caller) h = not_refused verb (codes "unlock_all") words _ defect h.0 refl (fits-actor words caller h.1) r
   command-not_refused verb words defect r (Commit caller) h = not_refused verb (codes "commit") words _ defect h.0 refl (fits-actor words caller h.1) r
   command-not_refused verb words defect r (Abort caller) h = not_refused verb (codes "abort") words _ defect h.0 refl (fits-actor words caller h.1) r
   command-not_refused verb words defect r (Begin caller) h = not_refused verb (codes "begin") words _ defect h.0 refl (fits-actor words caller h.1) r

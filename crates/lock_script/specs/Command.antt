@@ -8,7 +8,7 @@ use Rattle.lock_script.specs.declared.sessions.OpenSessions.{OpenSessions}
 use Rattle.lock_script.specs.declared.sessions.Caller.{Caller}
 use Rattle.lock_script.specs.declared.sessions.Opened.{Opened}
 use Rattle.lock_script.specs.declared.command.Command.{Command}
-use Rattle.lock_script.specs.declared.command.Command.TheVariants.{Session, Try, Fast, Lock, Unlock, Commit, Abort, Begin, SubCommit, SubAbort, Owned, Waiters, Queue, Blockers, Cancel, Count, Hash, Close}
+use Rattle.lock_script.specs.declared.command.Command.TheVariants.{Session, Try, Fast, Lock, Unlock, UnlockAll, Commit, Abort, Begin, SubCommit, SubAbort, Owned, Waiters, Queue, Blockers, Cancel, Count, Hash, Close}
 use Rattle.lock_script.specs.declared.command.Command.TheVariants as command
 
 -- The strong lock counter that a command names is one of the 1,024.
@@ -30,6 +30,7 @@ module _ {S W : Type 0} where
   Addresses sessions (Fast target owner) = MayAct sessions target.caller.place
   Addresses sessions (Lock target owner) = MayAct sessions target.caller.place
   Addresses sessions (Unlock target owner) = MayAct sessions target.caller.place
+  Addresses sessions (UnlockAll caller) = MayAct sessions caller.place
   Addresses sessions (Commit caller) = MayAct sessions caller.place
   Addresses sessions (Abort caller) = MayAct sessions caller.place
   Addresses sessions (Begin caller) = MayAct sessions caller.place

@@ -45,6 +45,7 @@ lock_commands =
     ∷ (codes "fast", lock_words)
     ∷ (codes "lock", lock_words)
     ∷ (codes "unlock", lock_words)
+    ∷ (codes "unlock_all", CallerName ∷ [])
     ∷ (codes "cancel", CallerName ∷ OpenName ∷ [])
     ∷ []
 

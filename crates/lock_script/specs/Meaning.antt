@@ -14,7 +14,7 @@ use Rattle.lock_script.specs.declared.sessions.Caller.{Caller}
 use Rattle.lock_script.specs.declared.sessions.Opened.{Opened}
 use Rattle.lock_script.specs.declared.command.Target.{Target}
 use Rattle.lock_script.specs.declared.command.Command.{Command}
-use Rattle.lock_script.specs.declared.command.Command.TheVariants.{Session, Try, Fast, Lock, Unlock, Commit, Abort, Begin, SubCommit, SubAbort, Owned, Waiters, Queue, Blockers, Cancel, Count, Hash, Close}
+use Rattle.lock_script.specs.declared.command.Command.TheVariants.{Session, Try, Fast, Lock, Unlock, UnlockAll, Commit, Abort, Begin, SubCommit, SubAbort, Owned, Waiters, Queue, Blockers, Cancel, Count, Hash, Close}
 use Rattle.lock_script.specs.declared.command.Command.TheVariants as command
 
 -- What the words of a line mean.
@@ -95,6 +95,7 @@ module _ {S W : Type 0} where
   IsCommandOf sessions objects verb words (Fast target owner) = (verb ≡ codes "fast") × NamesOwned sessions objects words target owner
   IsCommandOf sessions objects verb words (Lock target owner) = (verb ≡ codes "lock") × NamesOwned sessions objects words target owner
   IsCommandOf sessions objects verb words (Unlock target owner) = (verb ≡ codes "unlock") × NamesOwned sessions objects words target owner
+  IsCommandOf sessions objects verb words (UnlockAll caller) = (verb ≡ codes "unlock_all") × NamesActor sessions words caller
   IsCommandOf sessions objects verb words (Commit caller) = (verb ≡ codes "commit") × NamesActor sessions words caller
   IsCommandOf sessions objects verb words (Abort caller) = (verb ≡ codes "abort") × NamesActor sessions words caller
   IsCommandOf sessions objects verb words (Begin caller) = (verb ≡ codes "begin") × NamesActor sessions words caller

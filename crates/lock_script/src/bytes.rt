@@ -44,7 +44,7 @@ impl<R: Read> Model for ByteSource<R> {
 }
 
 impl<R: Read> ByteSource<R> {
-    /// The bytes of this reader.
+    /// The bytes of `reader`, of which none is read yet.
     pub fn new(reader: R) -> Self
         ensures left { result.left ≡ R.remaining reader }
         ensures none_made { result.reads ≡ 0 }
@@ -84,7 +84,7 @@ impl<R: Read> ByteSource<R> {
         Ok(Some(byte))
     }
 
-    /// Whether a line of text of at most so many bytes is buffered, with its line feed.
+    /// Whether a line of text of at most `most` bytes is buffered, with its line feed.
     pub fn has_line(&self, most: usize) -> bool {
         let buffered = &self.buffer[self.start..self.end];
         match buffered
@@ -97,7 +97,7 @@ impl<R: Read> ByteSource<R> {
     }
 }
 
-/// One read, repeated where a signal interrupts it, with each attempt counted.
+/// Reads from `reader` into `buffer` once, again where a signal interrupts it, and counts each attempt in `reads`.
 fn read_some<R: Read>(reader: &mut R, buffer: &mut [u8], reads: &mut u32) -> Result<usize, Fault>
     requires { reads.old ≤ most_reads }
     ensures counted { OnOk result (reads.old < reads.new) }

@@ -1,18 +1,19 @@
 //! The commands of the script language, and the parse of their words.
-ghost use Rattle.std.specs.Prelude.{◌≡◌, [], ◌∷◌, ◌++◌, map, take, true, Some, None, IfOk, IfErr, IfSome, MatchOption};
+ghost use Rattle.std.specs.Prelude.{◌≡◌, [], ◌∷◌, ◌++◌, map, take, Some, None, IfOk, IfErr, IfSome, MatchOption};
 ghost use Rattle.modes_core.specs.Mode.{name_of};
 ghost use Rattle.lock_script.specs.Command.{Addresses, NamesCounter, NamesFree, NamesOpen, NamesCaller};
-ghost use Rattle.lock_script.specs.Defects.{IsBarred, IsDefectOf, IsFirstWrong, IsMisfit, IsMisfitAnyway, IsNoNaming, IsNoTag, IsRefused, IsTakenName, IsTakenTag, IsUnnamed, MeansNothing, commands, lock_commands, lock_words, look_commands, words_behind};
-ghost use Rattle.lock_script.specs.declared.commands.WordKind.TheVariants.{CallerName, CounterIndex, FreeName, ModeName, Number, OpenName, TagWord};
-ghost use Rattle.lock_script.specs.Meaning.{IsCommandOf, IsSilent, Means, NamesActor, NamesBlocked, NamesBoth, NamesCount, NamesLone, NamesNew, NamesObject, NamesOwned, NamesQueue, NamesTag};
-ghost use Rattle.lock_script.specs.Objects.{is_object_name, name_given, tag_called, tag_in};
+ghost use Rattle.lock_script.specs.Defects.{IsBarred, IsDefectOf, IsFirstWrong, IsMisfit, IsMisfitAnyway, IsNoTag, IsRefused, IsUnnamed, MeansNothing, commands, lock_commands, lock_words, look_commands, words_behind};
+ghost use Rattle.lock_script.specs.declared.commands.WordKind.TheVariants.{CallerName, CounterIndex, ModeName, OpenName, TagWord};
+ghost use Rattle.lock_script.specs.Meaning.{IsCommandOf, IsSilent, Means, NamesActor, NamesBlocked, NamesBoth, NamesCount, NamesLone, NamesOwned, NamesQueue, NamesTag};
+ghost use Rattle.lock_script.specs.Objects.{tag_in};
 ghost use Rattle.lock_script.specs.Words.{words_of};
 
 use crate::faults::Defect;
 use crate::names::Name;
-use crate::objects::{ObjectName, ObjectNames, parse_object, parse_object_name};
+use crate::naming::{parse_naming, parse_session};
+use crate::objects::{ObjectName, ObjectNames, parse_object};
 use crate::sessions::{Caller, OpenSessions, Opened, Place};
-use crate::words::{parse_name, parse_number, parse_owner, parse_strong_index, split_words};
+use crate::words::{parse_name, parse_owner, parse_strong_index, split_words};
 use modes_core::{Mode, Owner, Tag};
 
 /// Which lock a line is about, and whose.
@@ -38,6 +39,8 @@ pub enum Command {
     Lock(Target, Owner),
     /// `unlock NAME TAG MODE OWNER`
     Unlock(Target, Owner),
+    /// `unlock_all NAME`
+    UnlockAll(Caller),
     /// `commit NAME`
     Commit(Caller),
     /// `abort NAME`
@@ -68,8 +71,8 @@ pub enum Command {
     Close(Caller),
 }
 
-/// What the line asks for, or `None` of a line with no word and of a comment. The first six words say it, since no
-/// command has as many.
+/// What `line` asks for, by the names of `sessions` and `objects`, or `None` of a line with no word and of a comment.
+/// Its first six words say it, since no command has as many.
 pub fn parse<S, W>(
     line: &str,
     sessions: &OpenSessions<S, W>,
@@ -94,8 +97,8 @@ pub fn parse<S, W>(
     Ok(Some(command))
 }
 
-/// The command of this first word and the words behind it. Here are those that name an object, open or close a
-/// session, and begin or end a transaction's levels.
+/// The command of the first word `verb` and of `words`, which come after it. Here are those that name an object, open
+/// or close a session, and begin or end a level of a transaction.
 fn parse_command<S, W>(
     verb: &str,
     words: &[&str],
@@ -125,7 +128,7 @@ fn parse_command<S, W>(
     }
 }
 
-/// The same of the commands that ask for a lock, let one go or end a wait for one.
+/// The command of `verb` and `words` where it asks for a lock, gives one back, or ends a wait for one.
 fn parse_lock_command<S, W>(
     verb: &str,
     words: &[&str],
@@ -153,6 +156,7 @@ fn parse_lock_command<S, W>(
             let (target, owner) = parse_owned_target(words, sessions, objects)?;
             Ok(Command::Unlock(target, owner))
         }
+        "unlock_all" => Ok(Command::UnlockAll(parse_lone_caller(words, sessions)?)),
         "cancel" => {
             let (by, other) = parse_cancel(words, sessions)?;
             Ok(Command::Cancel(by, other))
@@ -161,7 +165,7 @@ fn parse_lock_command<S, W>(
     }
 }
 
-/// The same of the commands that only look.
+/// The command of `verb` and `words` where it only looks.
 fn parse_look_command<S, W>(
     verb: &str,
     words: &[&str],
@@ -193,65 +197,8 @@ fn parse_look_command<S, W>(
     }
 }
 
-/// The words behind `session`: a name that no open session has, and a number.
-fn parse_session<S, W>(words: &[&str], sessions: &OpenSessions<S, W>) -> Result<(Name, u32), Defect>
-    ensures named { IfOk result (λ parsed.
-        NamesNew sessions.now (map (λ word. word.now) words.now) parsed.0 parsed.1) }
-    ensures refused { IfErr result (IsMisfitAnyway sessions.now (FreeName ∷ Number ∷ [])
-        (map (λ word. word.now) words.now)) }
-{
-    let [name, database] = words else {
-        return Err(Defect::WrongNumberOfWords);
-    };
-    let name = parse_name(name).ok_or(Defect::BadName)?;
-    if sessions.place_called(&name).is_some() {
-        return Err(Defect::SessionExists);
-    }
-    let database = parse_number(database).ok_or(Defect::BadNumber)?;
-    Ok((name, database))
-}
-
-/// The words behind `name`: a name that no object has, and an object that has none.
-fn parse_naming(words: &[&str], objects: &ObjectNames) -> Result<(ObjectName, Tag), Defect>
-    ensures named { IfOk result (λ parsed.
-        NamesObject objects.now (map (λ word. word.now) words.now) parsed.0 parsed.1) }
-    ensures refused { IfErr result (IsNoNaming objects.now (map (λ word. word.now) words.now)) }
-{
-    let [name, object] = words else {
-        return Err(Defect::WrongNumberOfWords);
-    };
-    let name = parse_free_name(name, objects)?;
-    let tag = parse_unnamed(object, objects)?;
-    Ok((name, tag))
-}
-
-/// A name that no object has.
-fn parse_free_name(word: &str, objects: &ObjectNames) -> Result<ObjectName, Defect>
-    ensures name { IfOk result (λ name. (name.bytes ≡ word.now) × (is_object_name word.now ≡ true)) }
-    ensures free { IfOk result (λ name. tag_called objects.now word.now ≡ None) }
-    ensures refused { IfErr result (IsTakenName objects.now word.now) }
-{
-    let name = parse_object_name(word).ok_or(Defect::BadName)?;
-    match objects.tag_called(word) {
-        None => Ok(name),
-        Some(_) => Err(Defect::NameExists),
-    }
-}
-
-/// An object that has no name.
-fn parse_unnamed(word: &str, objects: &ObjectNames) -> Result<Tag, Defect>
-    ensures tag { IfOk result (λ tag. tag_in objects.now word.now ≡ Some tag) }
-    ensures unnamed { IfOk result (λ tag. name_given objects.now tag ≡ None) }
-    ensures refused { IfErr result (IsTakenTag objects.now word.now) }
-{
-    let tag = parse_object(word, objects).ok_or(Defect::BadObject)?;
-    match objects.name_of(tag) {
-        None => Ok(tag),
-        Some(_) => Err(Defect::ObjectNamed),
-    }
-}
-
-/// The words behind `try`, `fast`, `lock` and `unlock`. Where there is no fourth one the owner is the transaction.
+/// Reads the `words` of `try`, `fast`, `lock` and `unlock`, by `sessions` and `objects`. Where there is no fourth one
+/// the owner is the transaction.
 fn parse_owned_target<S, W>(
     words: &[&str],
     sessions: &OpenSessions<S, W>,
@@ -275,7 +222,7 @@ fn parse_owned_target<S, W>(
     }
 }
 
-/// The words behind `owned` and `waiters`.
+/// Reads the `words` of `owned` and `waiters`, by `sessions` and `objects`.
 fn parse_lone_target<S, W>(
     words: &[&str],
     sessions: &OpenSessions<S, W>,
@@ -291,7 +238,7 @@ fn parse_lone_target<S, W>(
     parse_target(name, tag, mode, sessions, objects)
 }
 
-/// Which lock three words are about, and whose.
+/// Which lock the words `name`, `tag` and `mode` are about, and whose, by `sessions` and `objects`.
 fn parse_target<S, W>(
     name: &str,
     tag: &str,
@@ -311,7 +258,7 @@ fn parse_target<S, W>(
     Ok(Target { caller, tag, mode })
 }
 
-/// The word behind a command that takes a session's name alone.
+/// Reads the `words` of a command that takes only the name of a session of `sessions`.
 fn parse_lone_caller<S, W>(words: &[&str], sessions: &OpenSessions<S, W>) -> Result<Caller, Defect>
     ensures named { IfOk result (NamesActor sessions.now (map (λ word. word.now) words.now)) }
     ensures refused { IfErr result (IsMisfitAnyway sessions.now (CallerName ∷ []) (map (λ word. word.now) words.now)) }
@@ -322,7 +269,7 @@ fn parse_lone_caller<S, W>(words: &[&str], sessions: &OpenSessions<S, W>) -> Res
     parse_caller(name, sessions)
 }
 
-/// The word behind `hash`.
+/// Reads the `words` of a `hash` line: one of `objects`, or an object by its numbers.
 fn parse_hash(words: &[&str], objects: &ObjectNames) -> Result<Tag, Defect>
     ensures named { IfOk result (NamesTag objects.now (map (λ word. word.now) words.now)) }
     ensures refused { IfErr result (IsNoTag objects.now (map (λ word. word.now) words.now)) }
@@ -333,7 +280,7 @@ fn parse_hash(words: &[&str], objects: &ObjectNames) -> Result<Tag, Defect>
     parse_object(tag, objects).ok_or(Defect::BadObject)
 }
 
-/// The words behind `queue`: who looks, and at the queue of which object.
+/// Reads the `words` of a `queue` line: which of `sessions` looks, and at the wait queue of which object, by `objects`.
 fn parse_queue<S, W>(
     words: &[&str],
     sessions: &OpenSessions<S, W>,
@@ -352,7 +299,8 @@ fn parse_queue<S, W>(
     Ok((caller, object))
 }
 
-/// The words behind `blockers`: who looks, in whose way others stand, and on which object.
+/// Reads the `words` of a `blockers` line: which of `sessions` looks, in whose way others are, and on which object, by
+/// `objects`.
 fn parse_blockers<S, W>(
     words: &[&str],
     sessions: &OpenSessions<S, W>,
@@ -372,7 +320,7 @@ fn parse_blockers<S, W>(
     Ok((by, other, object))
 }
 
-/// The words behind `count`: who looks, and at which strong lock counter.
+/// Reads the `words` of a `count` line: which of `sessions` looks, and at which strong lock counter.
 fn parse_count<S, W>(words: &[&str], sessions: &OpenSessions<S, W>) -> Result<(Caller, u16), Defect>
     ensures named { IfOk result (λ parsed.
         NamesCount sessions.now (map (λ word. word.now) words.now) parsed.0 parsed.1) }
@@ -387,7 +335,7 @@ fn parse_count<S, W>(words: &[&str], sessions: &OpenSessions<S, W>) -> Result<(C
     Ok((caller, index))
 }
 
-/// The words behind `cancel`: who asks, and the session that is asked, which may wait.
+/// Reads the `words` of a `cancel` line: which of `sessions` asks, and which one is asked. The second may wait.
 fn parse_cancel<S, W>(
     words: &[&str],
     sessions: &OpenSessions<S, W>,
@@ -405,7 +353,7 @@ fn parse_cancel<S, W>(
     Ok((by, other))
 }
 
-/// The session that a word names. It may not wait.
+/// The session of `sessions` that goes by the word `name`. A session that waits is refused.
 fn parse_caller<S, W>(name: &str, sessions: &OpenSessions<S, W>) -> Result<Caller, Defect>
     ensures named { IfOk result (NamesCaller sessions.now name.now) }
     ensures refused { IfErr result (IsBarred sessions.now name.now) }
@@ -417,7 +365,7 @@ fn parse_caller<S, W>(name: &str, sessions: &OpenSessions<S, W>) -> Result<Calle
     }
 }
 
-/// The session that a word names, whether it waits or not.
+/// The session of `sessions` that goes by the word `name`, whether it waits or not.
 fn parse_opened<S, W>(name: &str, sessions: &OpenSessions<S, W>) -> Result<Opened, Defect>
     ensures named { IfOk result (NamesOpen sessions.now name.now) }
     ensures refused { IfErr result (IsUnnamed sessions.now name.now) }

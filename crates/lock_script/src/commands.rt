@@ -49,7 +49,7 @@ pub struct CommandRow {
 }
 
 /// All commands, in the order of the help.
-static COMMANDS: [CommandRow; 20] = [
+static COMMANDS: [CommandRow; 21] = [
     CommandRow {
         verb: "session",
         kinds: &[WordKind::FreeName, WordKind::Number],
@@ -120,6 +120,15 @@ static COMMANDS: [CommandRow; 20] = [
         ],
         form: "NAME TAG MODE [session]",
         help: "give one count of a lock back",
+        help_below: "",
+        looks: false,
+        may_wait: false,
+    },
+    CommandRow {
+        verb: "unlock_all",
+        kinds: &[WordKind::CallerName],
+        form: "NAME",
+        help: "give back all advisory locks of the session",
         help_below: "",
         looks: false,
         may_wait: false,
@@ -263,7 +272,7 @@ pub fn command_rows() -> &'static [CommandRow]
     COMMANDS.as_slice()
 }
 
-/// The command whose lines begin with this word, if there is one.
+/// The row of the command whose lines begin with `verb`, if there is one.
 pub fn command_row(verb: &str) -> Option<&'static CommandRow>
     ensures { IfSome result (λ row. row.now.verb.now ≡ verb.now) }
 {
@@ -276,7 +285,7 @@ pub fn command_row(verb: &str) -> Option<&'static CommandRow>
 }
 
 impl CommandRow {
-    /// Where the first word of this kind stands behind the verb, counted from 1, if the command has one.
+    /// Where the first word of `kind` comes after the verb, counted from 1, if the command has one.
     pub fn place_of(&self, kind: WordKind) -> Option<usize> {
         let place = self.kinds.iter().position(|other| *other == kind)?;
         Some(place + 1)

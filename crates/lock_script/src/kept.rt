@@ -33,7 +33,7 @@ pub struct KeptQueue {
 }
 
 impl KeptQueue {
-    /// Keeps a line behind the others. It is refused where there is no memory, and then it is not kept.
+    /// Keeps `line` after the others. Where there is no memory it is refused, and is not kept.
     fn push(&mut self, line: KeptLine) -> Result<(), AllocError>
         ensures kept { OnOk result (self.new.lines.items ≡ self.old.lines.items ++ line ∷ []) }
         ensures refused { OnErr result (self.new.lines.items ≡ self.old.lines.items) }
@@ -95,8 +95,8 @@ impl KeptLines {
         lines
     }
 
-    /// Keeps a line of the session of this name, behind its others. It is refused where there is no memory, and then none is
-    /// kept.
+    /// Keeps `line` of the session of the name `session`, after its others. Where there is no memory it is refused, and
+    /// nothing is kept.
     pub fn keep(&mut self, session: Name, line: KeptLine) -> Result<(), AllocError>
         ensures kept { OnOk result (IsKeptOrder (lines_of self.new) (lines_of self.old) (line_of session.bytes line)) }
         ensures refused { OnErr result (IsKeptOrder (lines_of self.old) (λ _. []) (lines_of self.new)) }
@@ -107,7 +107,7 @@ impl KeptLines {
         }
     }
 
-    /// Keeps the first line of a session.
+    /// Keeps `line` as the first one of the session `session`.
     fn keep_first(&mut self, session: Name, line: KeptLine) -> Result<(), AllocError>
         requires { (k : ℕ) (d : KeptQueue) → k < length self.old →
             (slice_index_or self.old k d).session.bytes ≢ session.bytes }
@@ -124,8 +124,9 @@ impl KeptLines {
         Ok(())
     }
 
-    /// Takes a line out whose session doesn't wait, if there is one: the first of such a session, and of these the one
-    /// that was read first. Of each session, it and the lines that are left are those that were kept, in their order.
+    /// Takes out a line of a session that doesn't wait by `sessions`, if there is one: the first line of such a
+    /// session, and among these the one that was read first. Of each session, the line and those that are left are what
+    /// was kept, in their order.
     pub fn take_ready<S, W>(&mut self, sessions: &OpenSessions<S, W>) -> Option<(Name, KeptLine)>
         ensures order { IfSome result (λ it. IsKeptOrder (lines_of self.old) (line_of it.0.bytes it.1) (lines_of self.new)) }
         ensures rests { IfSome result (λ it. IsFree sessions.now.waiting it.0.bytes) }
@@ -136,7 +137,7 @@ impl KeptLines {
         Some((session, line))
     }
 
-    /// Takes the first line of the session of this name out, if it has one.
+    /// Takes out the first line of the session of the name `session`, if it has one.
     fn pop(&mut self, session: &Name) -> Option<KeptLine>
         ensures order { IfSome result (λ line. IsKeptOrder (lines_of self.old) (line_of session.now.bytes line) (lines_of self.new)) }
         ensures none { IfNone result (IsKeptOrder (lines_of self.old) (λ _. []) (lines_of self.new)) }
@@ -147,7 +148,7 @@ impl KeptLines {
         }
     }
 
-    /// The session that doesn't wait whose first line was read before those of the others.
+    /// The session that doesn't wait by `sessions` and whose first line was read before those of the others.
     fn first_ready<S, W>(&self, sessions: &OpenSessions<S, W>) -> Option<Name>
         ensures rests { IfSome result (λ name. IsFree sessions.now.waiting name.bytes) }
     {
@@ -165,7 +166,8 @@ impl KeptLines {
         found
     }
 
-    /// The session with which a line is to wait, if it addresses one that waits, or that has lines here.
+    /// The session with which `line` is to wait: the one that it addresses, where that waits by `sessions` or has lines
+    /// here.
     pub fn session_before<S, W>(&self, line: &str, sessions: &OpenSessions<S, W>) -> Option<Name> {
         let name = addressed(line)?;
         if is_called(&sessions.waiting, &name) || self.has_lines_of(&name) {
@@ -175,7 +177,7 @@ impl KeptLines {
         }
     }
 
-    /// Whether a session has lines here.
+    /// Whether `session` has lines here.
     fn has_lines_of(&self, session: &Name) -> bool {
         match place_of(self.queues.as_slice(), session) {
             Some(place) => !self.queues[place].lines.is_empty(),
@@ -183,7 +185,8 @@ impl KeptLines {
         }
     }
 
-    /// What is wrong with a line that is to be kept, by the sessions that are open once the lines before it were run.
+    /// What is wrong with `line`, which is to be kept, by the names of `objects` and by those of `sessions` that are
+    /// open once the lines before it were run.
     pub fn defect<S, W>(
         &self,
         alloc: Global,
@@ -201,7 +204,7 @@ impl KeptLines {
     }
 }
 
-/// Where the lines of the session of this name stand, if it ever had any.
+/// Where `queues` has the lines of the session of the name `session`, if it ever had any.
 fn place_of(queues: &[KeptQueue], session: &Name) -> Option<usize>
     ensures within { IfSome result (λ place. place < length queues.now) }
     ensures called { IfSome result (λ place. (d : KeptQueue) →
@@ -219,7 +222,7 @@ fn place_of(queues: &[KeptQueue], session: &Name) -> Option<usize>
     None
 }
 
-/// Whether one of these goes by this name.
+/// Whether one of `sessions` goes by `name`.
 fn is_called<S>(sessions: &ByName<S>, name: &Name) -> bool
     ensures free { result ≡ false → IsFree sessions.now name.now.bytes }
     ensures called { result ≡ true → ¬ IsFree sessions.now name.now.bytes }
@@ -227,7 +230,7 @@ fn is_called<S>(sessions: &ByName<S>, name: &Name) -> bool
     sessions.place_called(name).is_some()
 }
 
-/// The session that a line addresses, if it addresses one.
+/// The session that `line` addresses, if it addresses one.
 fn addressed(line: &str) -> Option<Name> {
     let words = split_words(line);
     let row = command_row(*words.as_slice().first()?)?;
@@ -237,21 +240,21 @@ fn addressed(line: &str) -> Option<Name> {
     }
 }
 
-/// Puts the names of sessions in, where there is room.
+/// Puts the names of `sessions` into `open`, as far as there is room.
 fn put_all<S>(open: &mut OpenSessions<(), ()>, sessions: &ByName<S>) {
     for place in 0..sessions.len() {
         put(open, sessions.at(place).name);
     }
 }
 
-/// Puts a name in, where there is room.
+/// Puts `name` into `open`, where there is room.
 fn put(open: &mut OpenSessions<(), ()>, name: Name) {
     if open.resting.len() < MOST_SESSIONS {
         open.resting.put(name, ());
     }
 }
 
-/// What the lines of a session that are kept leave of the open ones: it is closed, or still open.
+/// Leaves in `open` what the lines of `queue` leave of it: their session is closed, or is open still.
 fn follow(open: &mut OpenSessions<(), ()>, queue: &KeptQueue) {
     if queue.lines.is_empty() || queue.ends_open {
         return;
@@ -261,7 +264,7 @@ fn follow(open: &mut OpenSessions<(), ()>, queue: &KeptQueue) {
     }
 }
 
-/// Whether a session is open behind a line of its own, where it was so before.
+/// Whether a session is open after `line`, which addresses it, where `was_open` says whether it was so before.
 fn ends_open(line: &str, was_open: bool) -> bool {
     let words = split_words(line);
     match words.as_slice().first() {

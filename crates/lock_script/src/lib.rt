@@ -9,6 +9,7 @@ mod faults;
 mod kept;
 mod lines;
 mod names;
+mod naming;
 mod objects;
 mod sessions;
 mod words;

@@ -59,7 +59,7 @@ pub struct LineReader<R: Read> {
 }
 
 impl<R: Read> LineReader<R> {
-    /// The lines of this reader.
+    /// The lines of `reader`, of which none is read yet.
     pub fn new(reader: R) -> Self
         ensures unread { result.source.left ≡ R.remaining reader }
         ensures none_read { result.number ≡ 0 }
@@ -102,7 +102,7 @@ impl<R: Read> LineReader<R> {
     }
 }
 
-/// A fault of the line after so many.
+/// The fault `what` of the line that comes after `before` lines.
 fn bad_line(before: u32, what: Defect) -> Fault
     requires { before ≤ 1000000 }
     ensures { result ≡ Fault.BadLine (before + 1) what }
@@ -113,7 +113,7 @@ fn bad_line(before: u32, what: Defect) -> Fault
     }
 }
 
-/// The line that begins with this byte, without its line feed, or `None` where it is too long.
+/// The line of `source` that begins with the byte `first`, without its line feed, or `None` where it is too long.
 fn gather<R: Read>(
     source: &mut ByteSource<R>,
     first: u8,
@@ -142,8 +142,8 @@ fn gather<R: Read>(
     }
 }
 
-/// The text of a line's bytes, where all of it is tabs and printable ASCII characters. A carriage return
-/// at the line's end is dropped before.
+/// The text of a line of `bytes`, where all of them are tabs and printable ASCII characters. A carriage return at its
+/// end is dropped before.
 fn text(mut bytes: ArrayVec<u8, MOST_BYTES>) -> Option<Line>
     ensures { MatchOption result (list_all is_text_byte (text_of bytes.items) ≡ false)
         (λ line. (line ≡ text_of bytes.items) × (list_all is_text_byte (text_of bytes.items) ≡ true)) }
@@ -156,7 +156,7 @@ fn text(mut bytes: ArrayVec<u8, MOST_BYTES>) -> Option<Line>
     }
 }
 
-/// Drops a carriage return at the line's end.
+/// Drops a carriage return at the end of `bytes`.
 fn drop_carriage_return(bytes: &mut ArrayVec<u8, MOST_BYTES>)
     ensures { bytes.new.items ≡ text_of bytes.old.items }
 {
@@ -165,7 +165,7 @@ fn drop_carriage_return(bytes: &mut ArrayVec<u8, MOST_BYTES>)
     }
 }
 
-/// Whether all bytes are tabs and printable ASCII characters.
+/// Whether all of `bytes` are tabs and printable ASCII characters.
 fn is_text(bytes: &[u8]) -> bool
     ensures { result ≡ list_all is_text_byte bytes.now }
 {

@@ -38,7 +38,7 @@ impl SessionNames {
         }
     }
 
-    /// The name under which this session was opened, if it was.
+    /// The name under which `session` was opened, if it was.
     pub fn name(&self, session: SessionId) -> Option<Name>
         ensures { result ≡ slice_get self.now session }
     {
@@ -48,7 +48,7 @@ impl SessionNames {
             .copied()
     }
 
-    /// Keeps the name of the session that was opened last. A closed session's name stays.
+    /// Keeps `name` as that of the session that was opened last. The name of a closed session stays.
     pub fn push(&mut self, name: Name)
         requires { length self.old < 64 }
         ensures { self.new ≡ self.old ++ name ∷ [] }

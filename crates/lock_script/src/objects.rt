@@ -55,7 +55,7 @@ impl ObjectNames {
         self.objects.as_slice()
     }
 
-    /// The object that goes by this name, if one does. It has no other name.
+    /// The object that goes by `name`, if one does. No other name of it is here.
     pub fn tag_called(&self, name: &str) -> Option<Tag>
         ensures called { result ≡ tag_called self.now name.now }
     {
@@ -65,7 +65,7 @@ impl ObjectNames {
             .map(|one| one.tag)
     }
 
-    /// The name by which an object goes, if it has one. Read back, the name is that object.
+    /// The name by which the object `tag` goes, if it has one. Read back, the name is that object.
     pub fn name_of(&self, tag: Tag) -> Option<ObjectName>
         ensures given { result ≡ name_given self.now tag }
         ensures reads_back { IfSome result (λ name. tag_called self.now name.bytes ≡ Some tag) }
@@ -73,7 +73,7 @@ impl ObjectNames {
         self.find_name(tag)
     }
 
-    /// The name of the first of them that is this object.
+    /// The first name here that is the object `tag`.
     fn find_name(&self, tag: Tag) -> Option<ObjectName>
         ensures given { result ≡ name_given self.now tag }
         ensures apart { AreApart self.now }
@@ -84,7 +84,7 @@ impl ObjectNames {
             .map(|one| one.name)
     }
 
-    /// Gives an object a name. It is refused where there is no memory, and then nothing is named.
+    /// Gives the object `tag` the name `name`. Where there is no memory this is refused, and nothing is named.
     pub fn push(&mut self, name: ObjectName, tag: Tag) -> Result<(), AllocError>
         requires free { tag_called self.old name.bytes ≡ None }
         requires unnamed { name_given self.old tag ≡ None }
@@ -96,7 +96,7 @@ impl ObjectNames {
     }
 }
 
-/// A name for an object.
+/// Reads `word` as a name for an object.
 pub fn parse_object_name(word: &str) -> Option<ObjectName>
     ensures variant { is_some result ≡ is_object_name word.now }
     ensures value { IfSome result (λ name. name.bytes ≡ word.now) }
@@ -107,7 +107,7 @@ pub fn parse_object_name(word: &str) -> Option<ObjectName>
     ObjectName::from(word).ok()
 }
 
-/// Whether each character may stand in an object's name where it does.
+/// Whether each character of `word` may be in an object's name at its place.
 fn has_name_bytes(word: &str) -> bool
     ensures { result ≡ has_name_bytes word.now }
 {
@@ -117,28 +117,28 @@ fn has_name_bytes(word: &str) -> bool
     }
 }
 
-/// Whether each of these characters may stand in an object's name, behind the first one.
+/// Whether each of `bytes` may be in an object's name after its first character.
 fn are_name_bytes(bytes: &[u8]) -> bool
     ensures { result ≡ list_all is_object_byte bytes.now }
 {
     bytes.iter().all(|byte| is_name_byte(*byte))
 }
 
-/// Whether an object's name may begin with this character: a letter or an underscore.
+/// Whether an object's name may begin with `byte`: a letter or an underscore.
 fn begins_name(byte: u8) -> bool
     ensures { result ≡ begins_name byte }
 {
     byte.is_ascii_alphabetic() || byte == b'_'
 }
 
-/// Whether this character may stand in an object's name, behind the first one.
+/// Whether `byte` may be in an object's name after its first character.
 fn is_name_byte(byte: u8) -> bool
     ensures { result ≡ is_object_byte byte }
 {
     begins_name(byte) || byte.is_ascii_digit() || byte == b'$' || byte == b'.'
 }
 
-/// The object that a word stands for: one that it writes by its numbers, as a tag, or one that goes by it.
+/// The object that `word` means: one that it writes by its numbers, as a tag, or one of `objects` that goes by it.
 pub fn parse_object(word: &str, objects: &ObjectNames) -> Option<Tag>
     ensures { result ≡ tag_in objects.now word.now }
 {

@@ -53,7 +53,7 @@ impl<S> ByName<S> {
         self.sessions.len()
     }
 
-    /// Where the session of this name stands, if it is one of these.
+    /// The place of the session of the name `name`, if it is one of these.
     pub fn place_called(&self, name: &Name) -> Option<usize>
         ensures called { IfSome result (IsCalled self.now name.now.bytes) }
         ensures free { IfNone result (IsFree self.now name.now.bytes) }
@@ -66,7 +66,7 @@ impl<S> ByName<S> {
         None
     }
 
-    /// The one at this place.
+    /// The session at `place`, with its name.
     pub fn at(&self, place: usize) -> &Named<S>
         requires { place < length self.now }
         ensures { HoldsAt (λ one. result.now ≡ one) self.now place }
@@ -74,7 +74,7 @@ impl<S> ByName<S> {
         &self.sessions[place]
     }
 
-    /// The session at this place, to make a call. Its name and the others stay as they are.
+    /// The session at `place`, to make a call. Its name and the others stay as they are.
     pub fn session_mut(&mut self, place: usize) -> &mut S
         requires { place < length self.old }
         ensures* writes_back { sem 𝓛 (LendsSession S.row self.entry place result) }
@@ -83,7 +83,7 @@ impl<S> ByName<S> {
         &mut self.sessions[place].session
     }
 
-    /// Puts a session in at its place in the order of the names.
+    /// Puts `session` in at the place of `name` in the order of the names.
     pub fn put(&mut self, name: Name, session: S)
         requires { length self.old < 64 }
         ensures { PutsIn self.old (record { name = name; session = session }) self.new }
@@ -92,7 +92,7 @@ impl<S> ByName<S> {
         self.put_at(place, name, session);
     }
 
-    /// Puts a session in at this place, where its name keeps the order, as at the place that it was taken from.
+    /// Puts `session` in at `place`, where `name` keeps the order, as at the place that it was taken from.
     pub fn put_at(&mut self, place: usize, name: Name, session: S)
         requires room { length self.old < 64 }
         requires within { place ≤ length self.old }
@@ -106,7 +106,7 @@ impl<S> ByName<S> {
         }
     }
 
-    /// How many have a name that does not come after this one.
+    /// How many sessions have a name that does not come after `name`.
     fn place_of(&self, name: &Name) -> usize
         ensures within { result ≤ length self.now }
         ensures in_order { IsByName self.now }
@@ -123,7 +123,7 @@ impl<S> ByName<S> {
         self.sessions.len()
     }
 
-    /// Takes the one at this place out.
+    /// Takes out the session at `place`, with its name.
     pub fn take(&mut self, place: usize) -> Named<S>
         requires { place < length self.old }
         ensures taken { HoldsAt (λ one. result ≡ one) self.old place }
@@ -212,7 +212,7 @@ impl<S, W> OpenSessions<S, W> {
         waiting.finish();
     }
 
-    /// Where the open session of this name stands, if there is one.
+    /// The place of the open session of the name `name`, if there is one.
     pub fn place_called(&self, name: &Name) -> Option<Place>
         ensures called { IfSome result (IsAt self.now name.now.bytes) }
         ensures free { IfNone result (IsUnknown self.now name.now.bytes) }

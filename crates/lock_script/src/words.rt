@@ -8,7 +8,7 @@ use crate::names::Name;
 use arrayvec::ArrayVec;
 use modes_core::{Owner, STRONG_COUNTERS, Tag};
 
-/// The first six words of a line: what spaces and tabs part. No command has as many.
+/// The first six words of `line`: what is between spaces and tabs. No command has as many.
 pub fn split_words(line: &str) -> ArrayVec<&str, 6>
     ensures { map (λ word. word.now) result.items ≡ take 6 (words_of line.now) }
 {
@@ -22,7 +22,7 @@ pub fn split_words(line: &str) -> ArrayVec<&str, 6>
     words
 }
 
-/// Adds what stands between two blanks, where it is a word and there is room.
+/// Adds `part`, which is between two blanks, to `words`, where it is a word and there is room.
 fn keep_word<'a>(words: &mut ArrayVec<&'a str, 6>, part: &'a str)
     ensures { map (λ word. word.now) words.new.items
         ≡ take 6 (map (λ word. word.now) words.old.items ++ filter is_word (part.now ∷ [])) }
@@ -36,7 +36,7 @@ fn keep_word<'a>(words: &mut ArrayVec<&'a str, 6>, part: &'a str)
     words.push(part);
 }
 
-/// What stands before and after the first blank.
+/// What comes before and after the first blank of `text`.
 fn cut_at_blank(text: &str) -> Option<(&str, &str)>
     ensures parts { MatchOption result (slice_split is_blank text.now ≡ text.now ∷ [])
         (λ parts. slice_split is_blank text.now ≡ parts.0.now ∷ slice_split is_blank parts.1.now) }
@@ -49,7 +49,7 @@ fn cut_at_blank(text: &str) -> Option<(&str, &str)>
     }
 }
 
-/// Where the first blank is.
+/// Where the first blank of `text` is.
 fn first_blank(text: &str) -> Option<usize>
     ensures { result ≡ position is_blank text.now }
 {
@@ -58,7 +58,7 @@ fn first_blank(text: &str) -> Option<usize>
         .position(|byte| matches!(*byte, b' ' | b'\t'))
 }
 
-/// A name: 1 to 16 characters of `a` to `z`, `0` to `9` and `_`.
+/// Reads `word` as a name: 1 to 16 characters of `a` to `z`, `0` to `9` and `_`.
 pub fn parse_name(word: &str) -> Option<Name>
     ensures variant { is_some result ≡ is_name word.now }
     ensures value { IfSome result (λ name. name.bytes ≡ word.now) }
@@ -69,7 +69,7 @@ pub fn parse_name(word: &str) -> Option<Name>
     Name::from(word).ok()
 }
 
-/// Whether each character may stand in a name.
+/// Whether each character of `word` may be in a name.
 fn has_name_bytes(word: &str) -> bool
     ensures { result ≡ list_all is_name_byte word.now }
 {
@@ -78,7 +78,7 @@ fn has_name_bytes(word: &str) -> bool
         || *byte == b'_')
 }
 
-/// A number: 1 to 10 decimal digits, at most 4294967295.
+/// Reads `word` as a number: 1 to 10 decimal digits, at most 4294967295.
 pub fn parse_number(word: &str) -> Option<u32>
     ensures { result ≡ number_in word.now }
 {
@@ -91,7 +91,7 @@ pub fn parse_number(word: &str) -> Option<u32>
     }
 }
 
-/// The index of a strong lock counter: a number below 1,024.
+/// Reads `word` as the index of a strong lock counter: a number below 1,024.
 pub fn parse_strong_index(word: &str) -> Option<u16>
     ensures value { result ≡ strong_index_in word.now }
     ensures exists { IfSome result (λ index. index < 1024) }
@@ -102,15 +102,15 @@ pub fn parse_strong_index(word: &str) -> Option<u16>
     }
 }
 
-/// Whether each character is a decimal digit.
+/// Whether each character of `word` is a decimal digit.
 fn has_digits(word: &str) -> bool
     ensures { result ≡ list_all is_ascii_digit word.now }
 {
     word.as_bytes().iter().all(|byte| byte.is_ascii_digit())
 }
 
-/// A tag: `DB/REL` is a relation, `DB/CLASS/OBJ/SUB` an object and `adv/DB/K1/K2/SUB` what an advisory lock is on.
-/// SUB is at most 65535.
+/// Reads `word` as a tag: `DB/REL` is a relation, `DB/CLASS/OBJ/SUB` an object and `adv/DB/K1/K2/SUB` what an advisory
+/// lock is on. SUB is at most 65535.
 pub fn parse_tag(word: &str) -> Option<Tag>
     ensures { result ≡ tag_of word.now }
 {
@@ -124,7 +124,7 @@ pub fn parse_tag(word: &str) -> Option<Tag>
     }
 }
 
-/// What an advisory lock is on, by its four numbers.
+/// Reads `numbers`, four with slashes between them, as what an advisory lock is on.
 fn parse_advisory(numbers: &str) -> Option<Tag>
     ensures { result ≡ advisory_of_numbers (map number_in (slice_split is_slash numbers.now)) }
 {
@@ -148,7 +148,7 @@ fn parse_advisory(numbers: &str) -> Option<Tag>
     )
 }
 
-/// A relation or another object, by its database and the numbers behind it.
+/// Reads `rest`, which comes after the number `database`, as a relation or another object of that database.
 fn parse_catalogued(database: &str, rest: &str) -> Option<Tag>
     ensures { result ≡ tag_of_numbers (number_in database.now ∷ map number_in (slice_split is_slash rest.now)) }
 {
@@ -169,7 +169,7 @@ fn parse_catalogued(database: &str, rest: &str) -> Option<Tag>
     )
 }
 
-/// An owner other than the transaction: the word `session`.
+/// Reads `word` as an owner other than the transaction: it is `session`.
 pub fn parse_owner(word: &str) -> Option<Owner>
     ensures { result ≡ owner_of word.now }
 {
@@ -180,7 +180,7 @@ pub fn parse_owner(word: &str) -> Option<Owner>
     }
 }
 
-/// What stands before and after the first slash.
+/// What comes before and after the first slash of `word`.
 fn cut_at_slash(word: &str) -> Option<(&str, &str)>
     ensures { MatchOption result (slice_split is_slash word.now ≡ word.now ∷ [])
         (λ parts. slice_split is_slash word.now ≡ parts.0.now ∷ slice_split is_slash parts.1.now) }
@@ -188,7 +188,7 @@ fn cut_at_slash(word: &str) -> Option<(&str, &str)>
     word.split_once('/')
 }
 
-/// The relation that two numbers are.
+/// The relation `relation` of the database `database`.
 fn relation_tag(database: Option<u32>, relation: Option<u32>) -> Option<Tag>
     ensures { result ≡ tag_of_numbers (database ∷ relation ∷ []) }
 {
@@ -198,7 +198,7 @@ fn relation_tag(database: Option<u32>, relation: Option<u32>) -> Option<Tag>
     }
 }
 
-/// The advisory lock that four numbers are.
+/// The advisory lock of `database` on the keys `key1`, `key2` and `sub`.
 fn advisory_tag(
     database: Option<u32>,
     key1: Option<u32>,
@@ -215,7 +215,7 @@ fn advisory_tag(
     }
 }
 
-/// The object that four numbers are.
+/// The object `object` of the catalog `class` of `database`, with its part `sub_object`.
 fn object_tag(
     database: Option<u32>,
     class: Option<u32>,

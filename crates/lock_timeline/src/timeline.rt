@@ -219,6 +219,18 @@ impl Timeline {
         self.end_transaction(lane);
     }
 
+    /// Notes that the session `name` gave all advisory locks back that it owned itself.
+    pub fn unlock_all(&mut self, name: &Name) {
+        let Some(lane) = self.lane_of(name) else {
+            return;
+        };
+        let bars = &self.bars;
+        self.claims.retain(|claim| {
+            claim.lane != lane || claim.level != 0 || !is_advisory(bars.as_slice(), claim.bar)
+        });
+        self.end_unclaimed();
+    }
+
     /// Notes that the session `name` was closed.
     pub fn close(&mut self, name: &Name) {
         let Some(lane) = self.lane_of(name) else {

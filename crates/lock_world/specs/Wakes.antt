@@ -11,7 +11,7 @@ use Rattle.lock_world.specs.WaitLists.{lock_word}
 use Rattle.lock_world.specs.Happens.{Happens}
 use Rattle.lw_word.specs.WaitList.{stands_in}
 use Rattle.lock_world.specs.Wakes.Waking.{HasLock, NoneOr, Owes, IsAsleep}
-use Rattle.lock_world.specs.Wakes.Calling.{Calls, EachIsCalled, IsParked, calling, wait_calls_after, sleep_calls_after, no_calls}
+use Rattle.lock_world.specs.Wakes.Calling.{Calls, IsParked, ShowsUntold, calling, wait_calls_after, sleep_calls_after, no_calls}
 use Rattle.lock_world.specs.Wakes.Owing.{Duties, waking, no_duties, duties_after, after_attempt, after_looking, HasNothingToDo, Asks, AsksInOrder}
 
 -- No sleeper is forgotten, no call is lost, and no circle of sleepers comes: of every run whose steps keep to what their sessions
@@ -58,7 +58,7 @@ KeepsInOrder w b turn v = Keeps w b turn v × IsInOrder w turn
 abbrev pub beside_after : World → Beside → Turn → Beside
 beside_after w b (happened event) = record {
   duties = duties_after w b.duties event.session event.step;
-  waits = wait_calls_after b.waits event.session event.step;
+  waits = wait_calls_after w b.waits event.session event.step;
   sleeps = sleep_calls_after b.sleeps event.session event.step;
 }
 beside_after w b (saw_list_locked session lock) = record b { duties = after_looking b.duties session }
@@ -98,10 +98,10 @@ IsLookedAfter w b session lock =
 
 -- A session that is parked on what its word does not show any more is owed a call, by a session that makes steps and is not parked
 -- itself.
-abbrev pub NoCallIsLost : World → (ℕ → ℕ) → Calls → Type 0
-NoCallIsLost w word c =
-    (session shown : ℕ) → IsParked c session shown → word session ≢ shown
-    → (other : ℕ) × (c.owed other session ≡ true) × MakesSteps w.numbers other × ((its : ℕ) → IsParked c other its → ⊥)
+abbrev pub NoCallIsLost : World → (ℕ → Type 0) → (ℕ → ℕ) → Calls → Type 0
+NoCallIsLost w ParksOn word c =
+    (session shown : ℕ) → IsParked ParksOn c session shown → word session ≢ shown
+    → (other : ℕ) × (c.owed other session ≡ true) × MakesSteps w.numbers other × ((its : ℕ) → IsParked ParksOn c other its → ⊥)
 
 -- A run that keeps to all of this, in which a session falls asleep for a lightweight lock, and one that goes on from there until the
 -- session has it. So what is asked of a run can be met.
@@ -115,7 +115,7 @@ pub record SleepAndWakeup : Type 0 where
   pub beside : Beside
   pub falls_asleep : RunKeepsInOrder limit groups to_sleep asleep beside
   pub sleeps : IsAsleep (waking asleep beside.duties) session lock
-  pub parked : IsParked beside.sleeps session 1
+  pub parked : IsParked ShowsUntold beside.sleeps session 1
   pub to_wake : List Turn
   pub awake : World
   pub beside_awake : Beside

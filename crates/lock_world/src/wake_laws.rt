@@ -10,7 +10,7 @@ ghost use Rattle.lock_world.specs.WaitWord.{wait_state};
 ghost use Rattle.lock_world.specs.World.{World, MakesSteps};
 ghost use Rattle.lock_world.specs.SafeWorld.{SafeWorld};
 ghost use Rattle.lock_world.specs.Wakes.Waking.{NobodyIsForgotten, IsAsleep, OrderIsKept, NotAllSleep};
-ghost use Rattle.lock_world.specs.Wakes.Calling.{IsParked};
+ghost use Rattle.lock_world.specs.Wakes.Calling.{IsParked, ShowsWaiting, ShowsUntold};
 ghost use Rattle.lock_world.specs.Wakes.Owing.{waking};
 ghost use Rattle.lock_world.specs.Wakes.Reasons.{HasReason};
 ghost use Rattle.lock_world.specs.Wakes.{Beside, Turn, Keeps, beside_after, RunKeeps, RunKeepsInOrder};
@@ -33,13 +33,14 @@ pub fn no_sleeper_is_forgotten()
         RunKeeps limit groups turns v d → OnlyLiveOwe v d }
 {}
 
-/// No call is lost, of wait words and of sleep words alike, in a run that keeps to what is owed. A session that is
+/// No call is lost, of wait words and of sleep words alike, in a run that keeps to what is owed. A session parks on its
+/// wait word where that shows that it waits, and on its sleep word where that doesn't show that it was told. One that is
 /// parked on what its word no more shows is owed a call, by a session that makes steps and is not parked so itself.
 pub fn no_call_is_lost()
     ensures waits { (limit groups : ℕ) (turns : List Turn) (v : World) (d : Beside) → RunKeeps limit groups turns v d →
-        NoCallIsLost v v.words.wait d.waits }
+        NoCallIsLost v ShowsWaiting v.words.wait d.waits }
     ensures sleeps { (limit groups : ℕ) (turns : List Turn) (v : World) (d : Beside) → RunKeeps limit groups turns v d →
-        NoCallIsLost v v.words.sleep d.sleeps }
+        NoCallIsLost v ShowsUntold v.words.sleep d.sleeps }
 {}
 
 /// No circle of sleepers comes, in a run that takes lightweight locks in their order as well. Nobody is in the list
@@ -61,7 +62,7 @@ pub fn every_waiter_has_a_reason()
         w.sessions.awaited session ≡ Some wait → w.contents.hand (partition_of wait.tag) ≡ None →
         HasReason (w.contents.now (partition_of wait.tag)) session wait ⊎ (wait_state (w.words.wait session) ≡ 2) }
     ensures called { (limit groups : ℕ) (turns : List Turn) (v : World) (d : Beside) → RunKeeps limit groups turns v d →
-        (session shown : ℕ) → IsParked d.waits session shown → wait_state shown ≡ 1 →
+        (session shown : ℕ) → IsParked ShowsWaiting d.waits session shown →
         wait_state (v.words.wait session) ≡ 2 →
         (other : ℕ) × (d.waits.owed other session ≡ true) × MakesSteps v.numbers other }
 {}

@@ -1,14 +1,12 @@
-use Rattle.std.proofs.Common.{◌≡◌, ℕ, ◌+◌, ◌-◌, ◌/◌, ◌%◌, ◌^◌, ◌<◌, ◌≤◌, Bool, true, false, IsTrue, not, nat_eq, bit_and, bit_or, arith, refl, sym, ap, ◌∙◌}
-use Rattle.std.proofs.lemmas.Nat.{and_mask}
-use Rattle.std.proofs.Math.Bool.{not-not}
-use Rattle.std.proofs.lemmas.Bool.{eqb-true, eqb-false, eq-eqb, false_from_ne_true, false≢true}
+use Rattle.std.proofs.Common.{◌≡◌, ℕ, ◌+◌, ◌-◌, ◌/◌, ◌%◌, ◌^◌, ◌<◌, ◌≤◌, Bool, true, false, nat_eq, bit_or, arith, refl, sym, ap, ◌∙◌}
+use Rattle.std.proofs.lemmas.Bool.{eqb-true, eqb-false, eq-eqb, false_from_ne_true}
 use Rattle.std.specs.Prelude.{◌↔◌}
 use Rattle.lw_word.specs.declared.words.LwMode.{LwMode}
 use Rattle.lw_word.specs.declared.words.LwMode.TheVariants.{Exclusive, Shared}
 use Rattle.lw_word.specs.LightweightWord.{IsLightweightWord, IsHeldByNobody, IsHeldExclusively, IsFreeToShare, shared_count, taken_word, put_word, shared_word, unshared_word, list_locked_word, release_ok_word, has_waiters_word, list_unlocked_word, flag_bits, FlagsStay, HoldersStay, bit}
 use Rattle.lw_word.specs.LockState.{LockState, word_of, state_of, amount_of, IsFreeFor, HasRoomFor, IsHeldIn, taken_in, put_in}
 use Rattle.lw_word.specs.Packing.{word_of-state_of}
-use Rattle.lw_word.proofs.Bits.{test-bit, bit_test, or-below, or-set}
+use Rattle.lw_word.proofs.Bits.{test-bit, or-below, or-set}
 use Rattle.lw_word.proofs.WordLemmas.{nobody-from, nobody-not_exclusive, nobody-shared, free_to_share-not_exclusive, IsLightweightWord-flags, taken_word-exclusive, taken_word-shared, taken_word-flags, put_word-free_to_share, put_word-shared, put_word-flags, shared_word-shared, shared_word-exclusive, shared_word-flags, unshared_word-shared, unshared_word-exclusive, unshared_word-flags, flags-list_locked, flags-release_ok, flags-has_waiters, holders-shared, holders-exclusive}
 use Rattle.lw_word.proofs.FlagLemmas.{list_locked_word-locked, list_locked_word-holders, list_locked_word-release_ok, list_locked_word-has_waiters, release_ok_word-release_ok, release_ok_word-holders, release_ok_word-list_locked, release_ok_word-has_waiters, has_waiters_word-has_waiters, has_waiters_word-holders, has_waiters_word-list_locked, has_waiters_word-release_ok, list_unlocked_word-list_locked, list_unlocked_word-holders, list_unlocked_word-release_ok, list_unlocked_word-not_release_ok, list_unlocked_word-has_waiters, list_unlocked_word-no_waiters}
 
@@ -61,27 +59,12 @@ IsFreeFor-shared word = (
 pub bit_is_set : (bit_value : ℕ) → (nat_eq bit_value 1 ≡ true) ↔ (bit_value ≡ 1)
 bit_is_set bit_value = (eqb-true bit_value 1, eq-eqb bit_value 1)
 
--- The tests of the code.
-
-not-true : (b : Bool) → not b ≡ true → b ≡ false
-not-true true is = absurd (false≢true is)
-not-true false is = refl
-
-exclusive_test : (word : ℕ) → nat_eq (bit_and word (2 ^ 24)) 0 ≡ not (nat_eq (word / 2 ^ 24 % 2) 1)
-exclusive_test word = sym (not-not (nat_eq (bit_and word (2 ^ 24)) 0)) ∙ ap not (bit_test word 24)
-
--- that the exclusive bit is not set
-pub free_to_share_test : (word : ℕ) → IsTrue (nat_eq (bit_and word (2 ^ 24)) 0) ↔ IsFreeFor Shared (state_of word)
-free_to_share_test word = (λ passed. not-true (nat_eq (word / 2 ^ 24 % 2) 1) (sym (exclusive_test word) ∙ passed), λ free. exclusive_test word ∙ ap not free)
-
--- that no bit of the holders is
-pub nobody_test : (word : ℕ) → IsTrue (nat_eq (bit_and word (2 ^ 25 - 1)) 0) ↔ IsFreeFor Exclusive (state_of word)
-nobody_test word = (
-  λ passed. let none = eqb-true (bit_and word (2 ^ 25 - 1)) 0 passed in (IsFreeFor-exclusive word).1 (sym low ∙ none),
-  λ free. eq-eqb (bit_and word (2 ^ 25 - 1)) 0 (low ∙ (IsFreeFor-exclusive word).0 free),
-) where
-  low : bit_and word (2 ^ 25 - 1) ≡ word % 2 ^ 25
-  low = and_mask word 25
+-- Nobody has the list locked where its bit is not set.
+pub list_free : (word : ℕ) → (word / 2 ^ 28 % 2 ≡ 0) ↔ ((state_of word).list_locked ≡ false)
+list_free word = (
+  λ free. false_from_ne_true (nat_eq (word / 2 ^ 28 % 2) 1) (λ one. let is = eqb-true (word / 2 ^ 28 % 2) 1 one in omega (arith, is, free)),
+  λ free. let none = eqb-false (word / 2 ^ 28 % 2) 1 free in omega (arith, none),
+)
 
 -- Taking it, and giving it up.
 

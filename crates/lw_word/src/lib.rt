@@ -3,11 +3,13 @@
 #![tactic(auto)]
 
 pub mod laws;
+mod numbers;
 mod slot_words;
 mod wait_lists;
 mod wait_words;
 mod words;
 
+pub use numbers::{has_locked_list, must_wake_after, shared, taken};
 pub use slot_words::SlotWord;
 pub use wait_lists::{LwWaiter, TakenOff, WaitList, Wakeup};
 pub use wait_words::{is_asked, wait_state};

@@ -1,8 +1,9 @@
-ghost use Rattle.std.specs.Prelude.{◌≡◌, ◌<◌, ◌^◌, ◌+◌, ◌-◌, ◌↔◌, ◌==◌, true, false, bit_or, IsTrue, IsSome, IfSome};
+ghost use Rattle.std.specs.Prelude.{◌≡◌, ◌<◌, ◌^◌, ◌+◌, ◌-◌, ◌↔◌, true, false, IsSome, IfSome};
 ghost use Rattle.std.specs.Option.{SomeIff};
 ghost use Rattle.lw_word.specs.LightweightWord.{IsLightweightWord, free_word, flag_bits, kept_bits, list_locked_word, flagged_and_unlocked_word, release_ok_word, has_waiters_word};
-ghost use Rattle.lw_word.specs.LockState.{opening_state, word_of, is_shared, amount_of, IsFreeFor, HasRoomFor, IsHeldIn, taken_in, put_in, must_wake};
+ghost use Rattle.lw_word.specs.LockState.{opening_state, word_of, is_shared, amount_of, IsFreeFor, HasRoomFor, IsHeldIn, taken_in, put_in};
 
+use crate::numbers::{has_locked_list, shared, taken};
 use std::marker::Model;
 
 /// How a lightweight lock is taken (`LWLockMode` in lwlock.h): by one session, or by many at a time. The
@@ -78,8 +79,6 @@ impl LwWord {
 
     const EXCLUSIVE: u64 = 1 << 24;
 
-    const HOLDERS: u64 = (1 << 25) - 1;
-
     /// The word of a lock that nobody has taken yet (`LWLockInitialize`).
     pub fn opening() -> Self
         ensures says { result ≡ opening_state }
@@ -111,17 +110,6 @@ impl LwWord {
         self.number
     }
 
-    /// Whether the lock can be taken in `mode` now: exclusively where nobody holds it, shared where nobody holds it
-    /// exclusively.
-    pub fn is_free_for(self, mode: LwMode) -> bool
-        ensures { IsTrue result ↔ IsFreeFor mode self }
-    {
-        match mode {
-            LwMode::Exclusive => self.number & Self::HOLDERS == 0,
-            LwMode::Shared => self.number & Self::EXCLUSIVE == 0,
-        }
-    }
-
     /// The word after the lock was taken in `mode`, or `None` where it can't be taken so now (`LWLockAttemptLock` in
     /// lwlock.c).
     pub fn attempt(self, mode: LwMode) -> Option<Self>
@@ -129,12 +117,13 @@ impl LwWord {
         ensures answer { SomeIff result (IsFreeFor mode self) (taken_in mode self) }
         ensures number { IfSome result (λ after. word_of after ≡ word_of self + amount_of mode) }
     {
-        if self.is_free_for(mode) {
-            Some(LwWord {
-                number: self.number + mode.amount(),
-            })
-        } else {
-            None
+        let after = match mode {
+            LwMode::Exclusive => taken(self.number),
+            LwMode::Shared => shared(self.number),
+        };
+        match after {
+            Some(number) => Some(LwWord { number }),
+            None => None,
         }
     }
 
@@ -149,16 +138,6 @@ impl LwWord {
         }
     }
 
-    /// Whether the session that made this word by a release has to wake waiters: nobody holds the lock, somebody may
-    /// wait, and release-ok is set (`check_waiters` in `LWLockReleaseInternal` of lwlock.c). A release of the shared
-    /// table has the number that it found, and asks `must_wake_after` of shared_rule's wakeups.rt, which is proved to
-    /// answer as this does.
-    pub fn must_wake(self) -> bool
-        ensures { result ≡ must_wake self }
-    {
-        self.number & Self::HOLDERS == 0 && self.has_waiters() && self.is_release_ok()
-    }
-
     /// How many hold the lock shared.
     pub fn shared(self) -> u64
         ensures { result ≡ self.shared }
@@ -171,13 +150,6 @@ impl LwWord {
         ensures { result ≡ self.exclusive }
     {
         self.number & Self::EXCLUSIVE != 0
-    }
-
-    /// Whether some session has the wait list to itself.
-    pub fn is_list_locked(self) -> bool
-        ensures { result ≡ self.list_locked }
-    {
-        self.number & Self::LIST_LOCKED != 0
     }
 
     /// Whether a release may wake waiters.
@@ -199,12 +171,12 @@ impl LwWord {
         ensures answer { SomeIff result (self.list_locked ≡ false) (record self { list_locked = true }) }
         ensures number { IfSome result (λ after. word_of after ≡ list_locked_word (word_of self)) }
     {
-        if self.is_list_locked() {
-            None
-        } else {
+        if has_locked_list(self.number) {
             Some(LwWord {
                 number: self.number | Self::LIST_LOCKED,
             })
+        } else {
+            None
         }
     }
 

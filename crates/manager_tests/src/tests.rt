@@ -8,6 +8,7 @@ mod answers;
 mod asked;
 mod audits;
 mod busy;
+mod busy_lives;
 mod conflicts;
 mod counted;
 mod crowds;
@@ -28,6 +29,7 @@ mod turn_lists;
 mod turns;
 mod unsteady;
 mod waits;
+mod waits_of_two;
 mod wakes;
 mod watched;
 mod watches;
@@ -58,13 +60,13 @@ enum Story<'a> {
     GoesOn,
     /// Three are lent to audits, where memory may run out once.
     Audits,
-    /// So many have as many local entries as they may.
+    /// As many sessions as `Limits` says have all local entries that they may have.
     Holds(Limits),
-    /// So many ask for the same objects, each in a thread of its own.
+    /// This number of sessions ask for the same objects, each in a thread of its own.
     Asks(u32, Plan),
-    /// They sleep in one queue for this mode, each in a thread of its own.
+    /// All sessions but one sleep in one queue for this mode, each in a thread of its own.
     Queue(Mode),
-    /// One waits for what another gives back while a third one asks it to cancel, so many times.
+    /// One waits for what another gives back while a third one asks it to cancel, in this number of rounds.
     Asked(u32),
     /// One lists while three lock and unlock, each in a thread of its own.
     Watch,
@@ -74,14 +76,17 @@ enum Story<'a> {
     LetGoByCancel,
     /// One sleeps in a queue until it is asked to cancel.
     WokenAsAsked,
-    /// So many connections come and go, one after another.
+    /// This number of connections come and go, one after another.
     Lives(u32),
+    /// This number of connections come and go while one session lists and another one takes strong modes, each in a
+    /// thread of its own.
+    BusyLives(u32),
 }
 
 /// Tells `story`, with sessions from `desk`.
 fn tell<
     B: Board<Part> + Send,
-    D: Desk<OwnSession<Part, B>>,
+    D: Desk<OwnSession<Part, B>> + Send,
     R: Abort + Clock + Threads + Wait + Sync + Print,
 >(rt: &R, alloc: Global, desk: &mut D, story: Story<'_>)
     requires seats { SeatsAre B.seat D.seat }
@@ -106,6 +111,7 @@ fn tell<
         Story::LetGoByCancel => wakes::let_go_by_a_cancel(rt, alloc, desk),
         Story::WokenAsAsked => wakes::woken_as_asked(rt, alloc, desk),
         Story::Lives(lives) => lives::come_and_go(rt, alloc, desk, lives),
+        Story::BusyLives(lives) => busy_lives::come_and_go_beside(rt, alloc, desk, lives),
     }
 }
 
@@ -147,7 +153,7 @@ fn run<R: Abort + Clock + Threads + Wait + Sync + Print>(
     Ok(())
 }
 
-/// Ends the test unless `stood` says that nothing stood at the end.
+/// Ends the test unless `stood` says that nothing was held at the end.
 fn expect_nothing<R: Abort>(rt: &R, stood: Final) {
     let nothing = Final {
         fast: 0,
@@ -176,13 +182,16 @@ static CONFIGURATIONS: [(u32, u32, u32, bool); 14] = [
     (64, 65_536, 8, true),
 ];
 
-/// Ends the test unless a manager of `config` was refused, by `refusal`, exactly where a number is out of its range.
+/// Ends the test unless a manager of `config` was refused, by `refusal`, exactly where a number is out of its range,
+/// and `config` says so itself.
 fn expect_made<R: Abort>(rt: &R, refusal: Option<Refusal>, config: Config, is_in_range: bool) {
     let expected = if is_in_range {
         None
     } else {
         Some(Refusal::BadConfig)
     };
+    let says_so = config.is_in_range() == is_in_range;
+    assert!(rt; says_so);
     let Config {
         sessions,
         max_local,
@@ -311,6 +320,7 @@ fn many_sessions_do_as_the_stories_say(rt: HostRuntime) -> Result<(), Fail> {
         (3, Story::LetGoByCancel),
         (2, Story::WokenAsAsked),
         (1, Story::Lives(10_000)),
+        (busy_lives::SESSIONS, Story::BusyLives(10_000)),
     ] {
         let config = Config {
             sessions,

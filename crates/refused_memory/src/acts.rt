@@ -6,7 +6,7 @@ ghost use Rattle.lock_manager.specs.Crews.{SeatsAre};
 use crate::looks::Look;
 use crate::tales::Tale;
 use crate::told::Told;
-use crate::{audits, looks, steady, telling};
+use crate::{audits, lives, looks, steady, telling};
 use lock_manager::{Board, Desk, OwnSession, PartTable};
 use std::alloc::Global;
 use std::sync::Wait;
@@ -22,6 +22,8 @@ pub enum Act<'a> {
     Looks(Look),
     /// Two sessions go on for long, with every growth refused after their first round.
     GoesOn,
+    /// Connections come and go for long, with every growth refused after the first one.
+    ComesAndGoes,
 }
 
 /// Does `act` at `desk`, which has nothing yet, with the growth numbered `growth` refused.
@@ -41,5 +43,6 @@ pub fn perform<T: PartTable, B: Board<T>, D: Desk<OwnSession<T, B>>, R: Wait>(
         Act::Audits => audits::tell(rt, alloc, desk, growth),
         Act::Looks(look) => looks::tell(rt, alloc, desk, look, growth),
         Act::GoesOn => steady::tell(rt, alloc, desk),
+        Act::ComesAndGoes => lives::tell(rt, alloc, desk),
     }
 }

@@ -8,6 +8,7 @@ mod allocator;
 mod audits;
 mod calls;
 mod events;
+mod lives;
 mod looks;
 mod managers;
 mod parts;
@@ -94,6 +95,13 @@ fn main(rt: HostRuntime) -> anyhow::Result<()> {
     println!(rt;
         "sessions that go on: nothing grew in {} further rounds",
         steady::ROUNDS
+    )?;
+    if managers::perform(&rt, rt.alloc(), Act::ComesAndGoes, 0) != Told::Answered {
+        bail!("connections that come and go: it went otherwise");
+    }
+    println!(rt;
+        "connections that come and go: nothing grew with {} further ones",
+        lives::LIVES
     )?;
     Ok(())
 }

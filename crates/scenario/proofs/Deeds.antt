@@ -29,6 +29,7 @@ module _ {S W : Type 0} where
   may_do sessions (command.Try target owner) number done is at counter = subst (MayDo sessions) (sym is) (at, tt)
   may_do sessions (command.Fast target owner) number done is at counter = subst (MayDo sessions) (sym is) (at, tt)
   may_do sessions (command.Unlock target owner) number done is at counter = subst (MayDo sessions) (sym is) (at, tt)
+  may_do sessions (command.UnlockAll caller) number done is at counter = subst (MayDo sessions) (sym is) (at, tt)
   may_do sessions (command.Commit caller) number done is at counter = subst (MayDo sessions) (sym is) (at, tt)
   may_do sessions (command.Abort caller) number done is at counter = subst (MayDo sessions) (sym is) (at, tt)
   may_do sessions (command.Begin caller) number done is at counter = subst (MayDo sessions) (sym is) (at, tt)

@@ -12,7 +12,7 @@ use Rattle.lock_script.specs.declared.command.Command.{Command}
 use Rattle.scenario.specs.declared.answers.Answer.{Answer}
 use Rattle.scenario.specs.Answers.{Answers, Cast}
 use Rattle.scenario.specs.Heard.{Heard, HearsAll, Hears, Done, Told, told_of}
-use Rattle.scenario.specs.Played.{Draws, IsPassHeard, IsPollHeard, Passes, Plays, Rounds, Settles}
+use Rattle.scenario.specs.Played.{Follows, IsPassHeard, IsPollHeard, Passes, Plays, Rounds, Settles}
 use Rattle.scenario.specs.Polled.{PollsEach}
 use Rattle.scenario.specs.Waits.{GoesOn, LooksOn}
 use Rattle.scenario.proofs.Hearing.{hears-append, hears-more}
@@ -132,25 +132,25 @@ module _ {B L : Type 0} (seat : B → Seated) (view : B → Account) (stack : B 
 
 module _
     {B : Type 0} (seat : B → Seated) (view : B → Account) (stack : B → Stack) (database_of : SessionView B → ℕ) (entries : SessionView B → List Entry) where
-  -- The answer, what is drawn, the news of those who go on, and the end of the line.
+  -- The answer, what follows it, the news of those who go on, and the end of the line.
   pub plays-whole :
-      {L : Type 0} (hears : L → Heard → L → Type 0) (old after drawn new : Cast B) (command : Command) (answer : Answer) (l0 l1 l2 l3 l4 : L) →
+      {L : Type 0} (hears : L → Heard → L → Type 0) (old after seen new : Cast B) (command : Command) (answer : Answer) (l0 l1 l2 l3 l4 : L) →
       Answers seat view stack database_of entries old after command answer → HearsAll hears l0 (told_of after.names answer) l1 →
-      Hears hears l1 l2 (λ picture. Draws after picture drawn) → Hears hears l2 l3 (λ news. Settles seat view stack drawn news new) → hears l3 Done l4 →
+      Hears hears l1 l2 (λ more. Follows seat view stack answer after more seen) → Hears hears l2 l3 (λ news. Settles seat view stack seen news new) → hears l3 Done l4 →
       Hears hears l0 l4 (λ heard. Plays seat view stack database_of entries old command heard new)
-  plays-whole hears old after drawn new command answer l0 l1 l2 l3 l4 answers told (picture, draws, h1) (news, settles, h2) done = (
-    told_of after.names answer ++ picture ++ news ++ Done ∷ [],
+  plays-whole hears old after seen new command answer l0 l1 l2 l3 l4 answers told (more, follows, h1) (news, settles, h2) done = (
+    told_of after.names answer ++ more ++ news ++ Done ∷ [],
     record {
       answer = answer;
       after = after;
       answers = answers;
-      picture = picture;
-      drawn = drawn;
-      draws = draws;
+      more = more;
+      seen = seen;
+      follows = follows;
       news = news;
       settles = settles;
       all = refl;
     },
-    hears-more hears l0 l3 l4 (told_of after.names answer ++ picture ++ news) Done
-        (hears-append hears l0 l2 l3 (told_of after.names answer ++ picture) news (hears-append hears l0 l1 l2 (told_of after.names answer) picture told h1) h2) done,
+    hears-more hears l0 l3 l4 (told_of after.names answer ++ more ++ news) Done
+        (hears-append hears l0 l2 l3 (told_of after.names answer ++ more) news (hears-append hears l0 l1 l2 (told_of after.names answer) more told h1) h2) done,
   )

@@ -3,6 +3,7 @@ use Rattle.std.specs.List.{HoldsAt}
 use Rattle.modes_core.specs.declared.sessions.Owner.{Owner}
 use Rattle.lock_world.specs.Account.{Account}
 use Rattle.shared_rule.specs.Boards.{Seated, Stack}
+use Rattle.lock_manager.specs.declared.blocked.Blocked.{Blocked}
 use Rattle.lock_manager.specs.Sessions.{SessionView}
 use Rattle.lock_manager.specs.WaitingSessions.{WaitingView}
 use Rattle.lock_script.specs.declared.command.Target.{Target}
@@ -17,7 +18,7 @@ use Rattle.scenario.specs.declared.answers.Said.{Said}
 use Rattle.scenario.specs.declared.answers.Said.TheVariants as said
 use Rattle.scenario.specs.declared.calls.Call.{Call}
 use Rattle.scenario.specs.Made.{IsMade}
-use Rattle.scenario.specs.Waits.{GoesOn, IsBegun, IsQueued, LooksOn}
+use Rattle.scenario.specs.Waits.{GoesOn, IsBegun, IsQueued, LooksOn, TellsBlocked}
 
 -- What a command leaves of the sessions of a script, and what it is answered.
 
@@ -62,6 +63,13 @@ module _ {B : Type 0} (seat : B → Seated) (view : B → Account) (stack : B �
     pub called : HoldsAt (λ one. name ≡ one.name) old.waiting place
     pub rests : PutsIn old.resting (record { name = name; session = after }) new.resting
     pub waiting : new.waiting ≡ remove old.waiting place
+
+  -- The session that waits at its place says who is in its way. All else is as it was.
+  pub record TellsBlockedAt (place : ℕ) (told : Blocked) : Type 0 where
+    pub after : WaitingView B
+    pub tells : HoldsAt (λ one. TellsBlocked seat view stack one.session after told) old.waiting place
+    pub there : new.waiting ≡ with_session old.waiting place after
+    pub resting : new.resting ≡ old.resting
 
   -- It looks, and waits on at its place.
   pub record WaitsOnAt (place : ℕ) : Type 0 where

@@ -2,7 +2,7 @@ use Rattle.std.specs.Prelude.{◌≡◌, ℕ, ◌<◌, ⊤}
 use Rattle.lock_script.specs.declared.command.Command.{Command}
 use Rattle.lock_script.specs.declared.command.Command.TheVariants as command
 use Rattle.scenario.specs.declared.calls.Call.{Call}
-use Rattle.scenario.specs.declared.calls.Call.TheVariants.{Try, Fast, Unlock, Commit, Abort, Begin, SubCommit, SubAbort, Owned, Waiters, Queue, Blockers, Cancel, List, Count}
+use Rattle.scenario.specs.declared.calls.Call.TheVariants.{Try, Fast, Unlock, UnlockAll, Commit, Abort, Begin, SubCommit, SubAbort, Owned, Waiters, Queue, Blockers, Cancel, List, Count}
 use Rattle.scenario.specs.declared.sessions.Deed.{Deed}
 use Rattle.scenario.specs.declared.sessions.Deed.TheVariants as deed
 
@@ -23,6 +23,7 @@ IsDeedOf (command.Hash tag) number it = it ≡ deed.Hash tag
 IsDeedOf (command.Try target owner) number it = it ≡ deed.Make target.caller (Try target.tag target.mode owner)
 IsDeedOf (command.Fast target owner) number it = it ≡ deed.Make target.caller (Fast target.tag target.mode owner)
 IsDeedOf (command.Unlock target owner) number it = it ≡ deed.Make target.caller (Unlock target.tag target.mode owner)
+IsDeedOf (command.UnlockAll caller) number it = it ≡ deed.Make caller UnlockAll
 IsDeedOf (command.Commit caller) number it = it ≡ deed.Make caller Commit
 IsDeedOf (command.Abort caller) number it = it ≡ deed.Make caller Abort
 IsDeedOf (command.Begin caller) number it = it ≡ deed.Make caller Begin

@@ -1,5 +1,6 @@
 use Rattle.std.specs.Prelude.{◌≡◌, ℕ, ◌+◌, ◌-◌, ◌^◌, min, List, [], ◌∷◌, ◌++◌, map, vec_len, ⊤}
 use Rattle.arrayvec.specs.declared.array_string.ArrayString.{ArrayString}
+use Rattle.lock_manager.specs.declared.blocked.Blocked.{Blocked}
 use Rattle.lock_script.specs.declared.faults.Fault.{Fault}
 use Rattle.lock_script.specs.declared.faults.Fault.TheVariants.{BadLine, ReadFailed, WriteFailed, NoMemory, GateHeld}
 use Rattle.lock_script.specs.declared.names.Names.{Names}
@@ -18,6 +19,8 @@ pub data Heard : Type 0 where
   Told : Names → ArrayString 16 → Said → Heard
   -- a row of an answer
   Listed : Names → Row → Heard
+  -- who is in the way of a session that has begun to wait, as it says itself
+  Behind : Names → Blocked → Heard
   -- a picture of who waits for whom
   Drawn : Heard
   -- a text for somebody at a shell

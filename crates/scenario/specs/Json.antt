@@ -10,7 +10,7 @@ use Rattle.modes_core.specs.TagText.{tag_text}
 use Rattle.modes_core.specs.declared.refusals.Refusal.{Refusal}
 use Rattle.modes_core.specs.declared.refusals.Refusal.TheVariants.{Conflict, SimpleDeadlock}
 use Rattle.wait_queue.specs.declared.queues.Blocker.{Blocker}
-use Rattle.scenario.specs.Texts.{how_text, in_the_way_text, name_in, plain_text, refusal_text}
+use Rattle.scenario.specs.Texts.{how_text, name_in, plain_text, refusal_text}
 use Rattle.scenario.specs.declared.answers.Row.{Row}
 use Rattle.scenario.specs.declared.answers.Row.TheVariants as row
 use Rattle.scenario.specs.declared.answers.Said.{Said}
@@ -61,10 +61,15 @@ refused_data line names name refusal =
 abbrev pub not_owned_data : ℕ → ArrayString 16 → List ℕ → Data
 not_owned_data line name mode = told_data line name (codes "not owned") ((codes "mode", string mode) ∷ [])
 
+-- all its advisory locks were released, so many holds
+abbrev pub unlocked_all_data : ℕ → ArrayString 16 → ℕ → Data
+unlocked_all_data line name released = told_data line name (codes "released all") ((codes "released", count released) ∷ [])
+
 abbrev pub said_data : ℕ → Names → ArrayString 16 → Said → Data
 said_data line names name (said.Opened session database) =
     told_data line name (codes "opened") ((codes "number", count session) ∷ (codes "database", count database) ∷ [])
 said_data line names name (said.Asked other) = told_data line name (codes "asked") ((codes "other", string other.bytes) ∷ [])
+said_data line names name (said.UnlockedAll released) = unlocked_all_data line name released
 said_data line names name (said.Level level) = told_data line name (codes "at a level") ((codes "level", count level) ∷ [])
 said_data line names name (said.Owned of_transaction of_session) =
     told_data line name (codes "owned")
@@ -78,7 +83,7 @@ abbrev pub in_the_way_data : ℕ → Names → ArrayString 16 → Blocker → Da
 in_the_way_data line names name it =
     line_object line
     ((codes "row", string (codes "blocker")) ∷ (codes "session", string name.bytes) ∷ (codes "waits_for", string (name_in names it.session))
-    ∷ (codes "mode", string (name_of it.mode)) ∷ (codes "how", string (in_the_way_text it.how)) ∷ [])
+    ∷ (codes "mode", string (name_of it.mode)) ∷ (codes "how", string (how_text it.how)) ∷ [])
 
 -- the name of an object, where the script gave it one
 abbrev pub name_fields : Option (ArrayString 63) → List (List ℕ × Data)

@@ -6,10 +6,11 @@ pub mod Made
 pub mod Waits
 pub mod Answered
 pub mod Answers
-pub mod Tasks
+pub mod Sizes
 pub mod Heard
 pub mod Polled
 pub mod Played
 pub mod Scripts
 pub mod Printed
 pub mod Written
+pub mod Summaries

@@ -1,4 +1,4 @@
-use Rattle.std.specs.Prelude.{◌≡◌, ◌↔◌, ◌≢◌, ℕ, ◌<◌, ◌++◌, [], ◌∷◌, true, false, Bool, Result, Ok, IfOk, OnOk, OnErr, IsErrOf}
+use Rattle.std.specs.Prelude.{◌≡◌, ◌↔◌, ◌≢◌, ℕ, ◌<◌, ◌++◌, [], ◌∷◌, length, true, false, Bool, Result, Ok, IfOk, OnOk, OnErr, IsErrOf}
 use Rattle.std.specs.Global.{Vec}
 use Rattle.arrayvec.specs.declared.array_string.ArrayString.{ArrayString}
 use Rattle.modes_core.specs.declared.modes.Mode.{Mode}
@@ -20,6 +20,7 @@ use Rattle.lock_world.specs.World.{Loaded}
 use Rattle.lock_world.specs.declared.events.Word.TheVariants.{Strong}
 use Rattle.shared_rule.specs.Boards.{Seated, Stack}
 use Rattle.lock_manager.specs.Acquires.{AnswersByOwned, Acquires, AcquiresBySlot}
+use Rattle.lock_manager.specs.Advisory.{unlocked_by_all, left_by_unlock_all}
 use Rattle.lock_table.specs.declared.waits.Waiter.{Waiter}
 use Rattle.wait_queue.specs.declared.queues.Blocker.{Blocker}
 use Rattle.lock_manager.specs.declared.listing.Listing.{Listing}
@@ -34,7 +35,7 @@ use Rattle.scenario.specs.declared.answers.Row.TheVariants as row
 use Rattle.scenario.specs.declared.answers.Answer.{Answer}
 use Rattle.scenario.specs.declared.answers.Answer.TheVariants as answer
 use Rattle.scenario.specs.declared.calls.Call.{Call}
-use Rattle.scenario.specs.declared.calls.Call.TheVariants.{Try, Fast, Unlock, Commit, Abort, Begin, SubCommit, SubAbort, Owned, Waiters, Queue, Blockers, Cancel, List, Count}
+use Rattle.scenario.specs.declared.calls.Call.TheVariants.{Try, Fast, Unlock, UnlockAll, Commit, Abort, Begin, SubCommit, SubAbort, Owned, Waiters, Queue, Blockers, Cancel, List, Count}
 use Rattle.scenario.specs.Told.{acquire_told, blockers_told, cancel_told, level_told, list_told, queue_told, unlock_told, waiters_told}
 
 -- What a session's call comes to in a script: the library's own clauses, of the session before and after, and of what it was answered.
@@ -68,6 +69,16 @@ module _ {B : Type 0} (seat : B → Seated) (view : B → Account) (stack : B �
     pub untouched : result ≢ Ok Released → new.board ≡ old.board
     pub entries : OnOk result (new.owned.entries ≡ with_one_less old.owned.entries tag mode owner)
     pub same_entries : OnErr result (new.owned.entries ≡ old.owned.entries)
+    pub same : IsSame seat view stack old new
+
+  -- All advisory locks that the session owns itself go, so many of them for good.
+  pub record UnlocksAll (released : ℕ) : Type 0 where
+    pub count : released ≡ length (unlocked_by_all old.owned.entries)
+    pub entries : new.owned.entries ≡ left_by_unlock_all old.owned.entries
+    pub steps :
+        ReleasesAll (seat old.board).groups (seat old.board).number (view old.board) old.uses
+        (unlocked_by_all old.owned.entries) (view new.board) new.uses
+    pub levels : new.owned.outer ≡ old.owned.outer
     pub same : IsSame seat view stack old new
 
   -- A transaction ends this way.
@@ -136,6 +147,7 @@ module _ {B : Type 0} (seat : B → Seated) (view : B → Account) (stack : B �
       (result : Result Acquired Refusal) × (it ≡ acquire_told name result) × TriesSlot tag mode owner result
   IsMade name (Unlock tag mode owner) it =
       (result : Result Unlocked Refusal) × (it ≡ unlock_told name mode result) × Unlocks tag mode owner result
+  IsMade name UnlockAll it = (released : ℕ) × (it ≡ answer.Said name (said.UnlockedAll released)) × UnlocksAll released
   IsMade name Commit it = (it ≡ answer.Said name said.Committed) × Ends end.Commit
   IsMade name Abort it = (it ≡ answer.Said name said.Aborted) × Ends end.Abort
   IsMade name Begin it = (result : Result ℕ Refusal) × (it ≡ level_told name result) × BeginsLevel result

@@ -4,15 +4,18 @@ use Rattle.lock_world.specs.Account.{Account}
 use Rattle.modes_core.specs.declared.refusals.Refusal.{Refusal}
 use Rattle.shared_rule.specs.Boards.{Seated, Stack}
 use Rattle.arrayvec.specs.declared.array_string.ArrayString.{ArrayString}
+use Rattle.lock_manager.specs.declared.blocked.Blocked.{Blocked}
 use Rattle.lock_manager.specs.Sessions.{SessionView}
 use Rattle.lock_script.specs.declared.command.Command.{Command}
 use Rattle.lock_script.specs.Lending.{with_session}
+use Rattle.lock_script.specs.Names.{IsCalled}
 use Rattle.scenario.specs.declared.answers.Answer.{Answer}
 use Rattle.scenario.specs.declared.answers.Said.{Said}
 use Rattle.scenario.specs.declared.answers.Said.TheVariants as said
-use Rattle.scenario.specs.Answered.{GoesOnAt, WaitsOnAt}
+use Rattle.scenario.specs.declared.answers.Answer.TheVariants as answer_
+use Rattle.scenario.specs.Answered.{GoesOnAt, TellsBlockedAt, WaitsOnAt}
 use Rattle.scenario.specs.Answers.{Answers, Cast}
-use Rattle.scenario.specs.Heard.{Heard, HearsAll, Told, Drawn, Done, told_of}
+use Rattle.scenario.specs.Heard.{Heard, HearsAll, Told, Behind, Drawn, Done, told_of}
 use Rattle.scenario.specs.Polled.{PollsEach}
 use Rattle.scenario.specs.Waits.{GoesOn, LooksOn}
 
@@ -20,14 +23,27 @@ use Rattle.scenario.specs.Waits.{GoesOn, LooksOn}
 
 -- A picture is drawn behind a listing, where one is wanted. Who waits for whom is looked up by the session that listed,
 -- and may be refused.
-abbrev pub Draws : {B : Type 0} → Cast B → List Heard → Cast B → Type 0
-Draws {B} old heard new =
+abbrev pub DrawsPicture : {B : Type 0} → Cast B → List Heard → Cast B → Type 0
+DrawsPicture {B} old heard new =
     ((heard ≡ []) × (new ≡ old))
     ⊎ ((place : ℕ) × (after : SessionView B) × (new.sessions.resting ≡ with_session old.sessions.resting place after)
     × (new.sessions.waiting ≡ old.sessions.waiting) × (new.names ≡ old.names)
     × ((heard ≡ Drawn ∷ []) ⊎ ((name : ArrayString 16) × (refusal : Refusal) × (heard ≡ Told new.names name (said.Refused refusal) ∷ []))))
 
 module _ {B : Type 0} (seat : B → Seated) (view : B → Account) (stack : B → Stack) where
+  -- A session that has begun to wait says who is in its way, where somebody wants to hear that.
+  abbrev pub TellsWait : ArrayString 16 → Cast B → List Heard → Cast B → Type 0
+  TellsWait name old heard new =
+      ((heard ≡ []) × (new ≡ old))
+      ⊎ ((place : ℕ) × (told : Blocked) × IsCalled old.sessions.waiting name.bytes place
+      × TellsBlockedAt seat view stack old.sessions new.sessions place told × (new.names ≡ old.names) × (heard ≡ Behind new.names told ∷ []))
+
+  -- What follows an answer: a picture, or who is in the way of the session that waits.
+  abbrev pub Follows : Answer → Cast B → List Heard → Cast B → Type 0
+  Follows answer old heard new =
+      DrawsPicture old heard new
+      ⊎ ((name : ArrayString 16) × (answer ≡ answer_.Said name said.Waits) × TellsWait name old heard new)
+
   -- A pass: each session that waits is polled once, in the byte order of their names, in which they stand.
   pub record Passes (old : Cast B) (heard : List Heard) (new : Cast B) : Type 0 where
     pub polled :
@@ -55,12 +71,12 @@ module _
     pub answer : Answer
     pub after : Cast B
     pub answers : Answers seat view stack database_of entries old after command answer
-    pub picture : List Heard
-    pub drawn : Cast B
-    pub draws : Draws after picture drawn
+    pub more : List Heard
+    pub seen : Cast B
+    pub follows : Follows seat view stack answer after more seen
     pub news : List Heard
-    pub settles : Settles seat view stack drawn news new
-    pub all : heard ≡ told_of after.names answer ++ picture ++ news ++ Done ∷ []
+    pub settles : Settles seat view stack seen news new
+    pub all : heard ≡ told_of after.names answer ++ more ++ news ++ Done ∷ []
 
 module _ {B L : Type 0} (seat : B → Seated) (view : B → Account) (stack : B → Stack) (hears : L → Heard → L → Type 0) where
   -- The session that waits at its place is polled, by whether it goes on; then that is heard.

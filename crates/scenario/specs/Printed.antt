@@ -2,7 +2,7 @@ use Rattle.std.specs.Prelude.{◌≡◌, ℕ, List, [], ◌∷◌, ◌++◌, Boo
 use Rattle.std.specs.Io.KnownBytes.{Appends}
 use Rattle.serde_json.specs.Data.{Data}
 use Rattle.serde_json.specs.Written.{compact_text}
-use Rattle.scenario.specs.Heard.{Heard, Line, Told, Listed, Drawn, Helped, Done}
+use Rattle.scenario.specs.Heard.{Heard, Line, Told, Listed, Behind, Drawn, Helped, Done}
 use Rattle.scenario.specs.Json.{line_data, row_data, said_data}
 use Rattle.scenario.specs.Texts.{row_text, said_text}
 use Rattle.scenario.specs.declared.output.Output.{Output}
@@ -31,6 +31,7 @@ text_heard Text is_echoing line (Told names name said) = Some (text_line (name.b
 text_heard (Json alloc) is_echoing line (Told names name said) = Some (data_line (said_data line names name said))
 text_heard Text is_echoing line (Listed names row) = Some (text_line (row_text names row))
 text_heard (Json alloc) is_echoing line (Listed names row) = option_map data_line (row_data line names row)
+text_heard form is_echoing line (Behind names told) = Some []
 text_heard form is_echoing line Drawn = None
 text_heard form is_echoing line (Helped text) = Some text
 text_heard form is_echoing line Done = Some []

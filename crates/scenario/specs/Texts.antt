@@ -11,8 +11,6 @@ use Rattle.modes_core.specs.Mode.{name_of}
 use Rattle.modes_core.specs.Refusal.{refusal_number}
 use Rattle.local_locks.specs.declared.answers.Acquired.TheVariants as acquired
 use Rattle.local_locks.specs.declared.answers.Unlocked.TheVariants as unlocked
-use Rattle.wait_queue.specs.declared.queues.InTheWay.{InTheWay}
-use Rattle.wait_queue.specs.declared.queues.InTheWay.TheVariants as way
 use Rattle.modes_core.specs.declared.tags.Tag.{Tag}
 use Rattle.modes_core.specs.Tag.{hash_of, partition_of, index_of}
 use Rattle.modes_core.specs.TagText.{tag_text}
@@ -35,10 +33,6 @@ name_in names number = bytes_of (slice_get names.sessions number)
 abbrev pub how_text : How → List ℕ
 how_text how.Held = codes "held"
 how_text how.Awaited = codes "awaited"
-
-abbrev pub in_the_way_text : InTheWay → List ℕ
-in_the_way_text way.Holds = codes "held"
-in_the_way_text way.StandsBefore = codes "awaited"
 
 -- why a call was refused
 abbrev pub refusal_text : Refusal → List ℕ
@@ -89,6 +83,7 @@ plain_text _ = []
 abbrev pub said_text : Names → Said → List ℕ
 said_text names (said.Opened session database) = codes "session " ++ decimal session ++ codes " database " ++ decimal database
 said_text names (said.Asked other) = codes "asked " ++ other.bytes
+said_text names (said.UnlockedAll released) = codes "released " ++ decimal released
 said_text names (said.Level level) = codes "level " ++ decimal level
 said_text names (said.Owned of_transaction of_session) =
     codes "transaction " ++ decimal of_transaction ++ codes " session " ++ decimal of_session
@@ -126,7 +121,7 @@ row_text names (row.Rows rows) = codes "rows " ++ decimal rows
 row_text names (row.Wait it) = codes "queue " ++ name_in names it.session ++ codes " " ++ name_of it.mode
 row_text names (row.Waits waits) = codes "waits " ++ decimal waits
 row_text names (row.InTheWay name it) =
-    name.bytes ++ codes " waits for " ++ name_in names it.session ++ codes " " ++ name_of it.mode ++ codes " " ++ in_the_way_text it.how
+    name.bytes ++ codes " waits for " ++ name_in names it.session ++ codes " " ++ name_of it.mode ++ codes " " ++ how_text it.how
 row_text names (row.NotWaiting name) = name.bytes ++ codes " isn't waiting"
 row_text names (row.Counter index shown) = codes "strong " ++ decimal index ++ codes " " ++ decimal shown
 row_text names (row.Hash tag) = hash_text tag

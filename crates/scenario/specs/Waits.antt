@@ -14,6 +14,8 @@ use Rattle.lock_manager.specs.Acquires.{AnswersByOwned, Begins, entries_begun}
 use Rattle.lock_manager.specs.declared.waiting.Looked.TheVariants as looked
 use Rattle.lock_manager.specs.Sessions.{SessionView, IsSame}
 use Rattle.lock_manager.specs.Waiting.{Polls, Cancels}
+use Rattle.lock_manager.specs.declared.blocked.Blocked.{Blocked}
+use Rattle.lock_manager.specs.Queues.{AreBlockers, LooksAt}
 use Rattle.lock_manager.specs.WaitingSessions.{WaitingView, HasBegun, HasEnded, WaitsOn}
 use Rattle.scenario.specs.declared.answers.Said.{Said}
 use Rattle.scenario.specs.declared.answers.Said.TheVariants as said
@@ -53,6 +55,16 @@ module _ {B : Type 0} (seat : B → Seated) (view : B → Account) (stack : B �
   -- A session that waits looks once, and waits on.
   pub record LooksOn (new : WaitingView B) : Type 0 where
     pub polled : Polls (seat old.board).number (view old.board).trace looked.Still (view new.board).trace
+    pub same : WaitsOn seat view stack old new
+
+  -- It says who is in its way, and waits on.
+  pub record TellsBlocked (new : WaitingView B) (told : Blocked) : Type 0 where
+    pub session : told.session ≡ (seat old.board).number
+    pub tag : told.tag ≡ old.tag
+    pub mode : told.mode ≡ old.mode
+    pub looked :
+        LooksAt (λ taken. AreBlockers old.tag (seat old.board).number told.blockers.items taken) (view old.board).trace old.tag
+        (view new.board).trace
     pub same : WaitsOn seat view stack old new
 
   -- It looks, and was granted.

@@ -31,6 +31,8 @@ pub enum Said {
     Waiters(bool),
     /// The session gave one count of a lock back.
     Unlocked(Unlocked),
+    /// The session gave its advisory locks back: so many modes on objects, which it has no longer.
+    UnlockedAll(u32),
     /// Its transaction ended with success.
     Committed,
     /// Its transaction ended with failure.
@@ -92,7 +94,7 @@ pub enum Answer {
     NoMemory,
 }
 
-/// What a session is told of an acquire that doesn't wait.
+/// What the session `name` is told of the answer `answer` to an acquire that doesn't wait.
 pub fn of_acquire(name: Name, answer: Result<Acquired, Refusal>) -> Answer
     ensures { result ≡ acquire_told name answer }
 {
@@ -102,7 +104,7 @@ pub fn of_acquire(name: Name, answer: Result<Acquired, Refusal>) -> Answer
     }
 }
 
-/// What a session is told of a release of this mode.
+/// What the session `name` is told of the answer `answer` to a release of `mode`.
 pub fn of_unlock(name: Name, mode: Mode, answer: Result<Unlocked, Refusal>) -> Answer
     ensures { result ≡ unlock_told name mode answer }
 {
@@ -112,7 +114,7 @@ pub fn of_unlock(name: Name, mode: Mode, answer: Result<Unlocked, Refusal>) -> A
     }
 }
 
-/// What a session is told of whether somebody waits for this mode, which it has.
+/// What the session `name` is told of the answer `answer` to whether somebody waits for `mode`, which it has.
 pub fn of_waiters(name: Name, mode: Mode, answer: Result<bool, Refusal>) -> Answer
     ensures { result ≡ waiters_told name mode answer }
 {
@@ -122,7 +124,7 @@ pub fn of_waiters(name: Name, mode: Mode, answer: Result<bool, Refusal>) -> Answ
     }
 }
 
-/// What a session is told of the level that its transaction is at now.
+/// What the session `name` is told of the level that its transaction is at now, by `answer`.
 pub fn of_level(name: Name, answer: Result<u8, Refusal>) -> Answer
     ensures { result ≡ level_told name answer }
 {
@@ -132,7 +134,7 @@ pub fn of_level(name: Name, answer: Result<u8, Refusal>) -> Answer
     }
 }
 
-/// What a session is told that asked the other one to stop waiting.
+/// What the session `name` is told that asked `other` to stop waiting, where `asked` says whether that one waited.
 pub fn of_cancel(name: Name, other: Name, asked: Asked) -> Answer
     ensures { result ≡ cancel_told name other asked }
 {
@@ -142,7 +144,7 @@ pub fn of_cancel(name: Name, other: Name, asked: Asked) -> Answer
     }
 }
 
-/// What is told of a listing that the session of this name asked for.
+/// What is told of the listing `answer`, for which the session `name` asked.
 pub fn of_list(name: Name, answer: Result<Listing, Refusal>) -> Answer
     ensures { result ≡ list_told name answer }
 {
@@ -152,7 +154,7 @@ pub fn of_list(name: Name, answer: Result<Listing, Refusal>) -> Answer
     }
 }
 
-/// What is told of a queue that the session of this name asked for.
+/// What is told of the wait queue `answer`, for which the session `name` asked.
 pub fn of_queue(name: Name, answer: Result<Vec<QueueRow>, Refusal>) -> Answer
     ensures { result ≡ queue_told name answer }
 {
@@ -162,7 +164,7 @@ pub fn of_queue(name: Name, answer: Result<Vec<QueueRow>, Refusal>) -> Answer
     }
 }
 
-/// What is told of those in the way of the other session, where the session of this name asked for them.
+/// What is told of `answer`, those in the way of `other`, for which the session `name` asked.
 pub fn of_blockers(name: Name, other: Name, answer: Result<Vec<Blocker>, Refusal>) -> Answer
     ensures { result ≡ blockers_told name other answer }
 {

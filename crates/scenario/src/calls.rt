@@ -1,8 +1,7 @@
 //! The calls that a line has its session make, over any board, and what it is answered. Each keeps whose session it is.
-ghost use Rattle.std.specs.Prelude.{◌≡◌, ℕ, ◌<◌, IfOk, IfErr};
+ghost use Rattle.std.specs.Prelude.{◌≡◌, ℕ, ◌<◌};
 ghost use Rattle.scenario.specs.Calls.{ShowsCounter};
 ghost use Rattle.scenario.specs.Made.{IsMade, Looks, SeesCount};
-ghost use Rattle.scenario.specs.Waits.{GivesUp, GoesOn, IsBegun, IsQueued, LooksOn};
 
 use crate::answers::{
     Answer, Row, Said, of_acquire, of_blockers, of_cancel, of_level, of_list, of_queue, of_unlock,
@@ -10,10 +9,7 @@ use crate::answers::{
 };
 use crate::picture::Picture;
 use crate::style::Pen;
-use lock_manager::{
-    Acquired, Cancelled, Mode, OwnSession, OwnWaiting, Owner, Polled, Refusal, SessionId, Started,
-    TableRow, Tag,
-};
+use lock_manager::{Mode, OwnSession, Owner, Refusal, SessionId, TableRow, Tag};
 use lock_script::Name;
 use lock_table::PartTable;
 use shared_rule::Board;
@@ -28,6 +24,8 @@ pub enum Call {
     Fast(Tag, Mode, Owner),
     /// To give one count of an owner back.
     Unlock(Tag, Mode, Owner),
+    /// To give all advisory locks back that it owns itself.
+    UnlockAll,
     /// To end its transaction with success.
     Commit,
     /// To end its transaction with failure.
@@ -54,7 +52,7 @@ pub enum Call {
     Count(u16),
 }
 
-/// Has a session make a call, and answers it by this name.
+/// Has `session` make the call `call`, and answers it by `name`.
 pub fn make<T: PartTable, B: Board<T>, H: Wait>(
     rt: &H,
     session: &mut OwnSession<T, B>,
@@ -69,6 +67,7 @@ pub fn make<T: PartTable, B: Board<T>, H: Wait>(
         Call::Try(tag, mode, owner) => try_lock(rt, session, name, tag, mode, owner),
         Call::Fast(tag, mode, owner) => try_fast(session, name, tag, mode, owner),
         Call::Unlock(tag, mode, owner) => unlock(rt, session, name, tag, mode, owner),
+        Call::UnlockAll => unlock_all(rt, session, name),
         Call::Commit => commit(rt, session, name),
         Call::Abort => abort(rt, session, name),
         Call::Begin => begin_nested(session, name),
@@ -84,7 +83,7 @@ pub fn make<T: PartTable, B: Board<T>, H: Wait>(
     }
 }
 
-/// Takes a mode on an object for an owner, or refuses at once.
+/// Has `session` take `mode` on `tag` for `owner`, or refuses at once. The answer is told to `name`.
 fn try_lock<T: PartTable, B: Board<T>, H: Wait>(
     rt: &H,
     session: &mut OwnSession<T, B>,
@@ -99,7 +98,8 @@ fn try_lock<T: PartTable, B: Board<T>, H: Wait>(
     of_acquire(name, session.try_lock(rt, tag, mode, owner))
 }
 
-/// Takes a mode on an object for an owner in one of the session's slots, or refuses at once.
+/// Has `session` take `mode` on `tag` for `owner` in one of its slots, or refuses at once. The answer is told to
+/// `name`.
 fn try_fast<T: PartTable, B: Board<T>>(
     session: &mut OwnSession<T, B>,
     name: Name,
@@ -113,7 +113,7 @@ fn try_fast<T: PartTable, B: Board<T>>(
     of_acquire(name, session.try_fast(tag, mode, owner))
 }
 
-/// Gives one count of an owner back.
+/// Has `session` give one count of `owner` back of `mode` on `tag`. The answer is told to `name`.
 fn unlock<T: PartTable, B: Board<T>, H: Wait>(
     rt: &H,
     session: &mut OwnSession<T, B>,
@@ -128,7 +128,20 @@ fn unlock<T: PartTable, B: Board<T>, H: Wait>(
     of_unlock(name, mode, session.unlock(rt, tag, mode, owner))
 }
 
-/// Ends a transaction that succeeded.
+/// Has `session` give all advisory locks back that it owns itself. The answer is told to `name`.
+fn unlock_all<T: PartTable, B: Board<T>, H: Wait>(
+    rt: &H,
+    session: &mut OwnSession<T, B>,
+    name: Name,
+) -> Answer
+    ensures made { IsMade B.seat B.view B.stack session.old session.new name Call.UnlockAll result }
+    ensures seat { B.seat session.new.board ≡ B.seat session.old.board }
+{
+    let released = session.unlock_all(rt);
+    Answer::Said(name, Said::UnlockedAll(released))
+}
+
+/// Ends the transaction of `session`, which succeeded. The answer is told to `name`.
 fn commit<T: PartTable, B: Board<T>, H: Wait>(
     rt: &H,
     session: &mut OwnSession<T, B>,
@@ -141,7 +154,7 @@ fn commit<T: PartTable, B: Board<T>, H: Wait>(
     Answer::Said(name, Said::Committed)
 }
 
-/// Ends a transaction that failed.
+/// Ends the transaction of `session`, which failed. The answer is told to `name`.
 fn abort<T: PartTable, B: Board<T>, H: Wait>(
     rt: &H,
     session: &mut OwnSession<T, B>,
@@ -154,7 +167,7 @@ fn abort<T: PartTable, B: Board<T>, H: Wait>(
     Answer::Said(name, Said::Aborted)
 }
 
-/// Begins a level of the transaction.
+/// Begins a level of the transaction of `session`. The answer is told to `name`.
 fn begin_nested<T: PartTable, B: Board<T>>(session: &mut OwnSession<T, B>, name: Name) -> Answer
     ensures made { IsMade B.seat B.view B.stack session.old session.new name Call.Begin result }
     ensures seat { B.seat session.new.board ≡ B.seat session.old.board }
@@ -162,7 +175,7 @@ fn begin_nested<T: PartTable, B: Board<T>>(session: &mut OwnSession<T, B>, name:
     of_level(name, session.begin_nested())
 }
 
-/// Ends the innermost level with success.
+/// Ends the innermost level of `session` with success. The answer is told to `name`.
 fn commit_nested<T: PartTable, B: Board<T>>(session: &mut OwnSession<T, B>, name: Name) -> Answer
     ensures made { IsMade B.seat B.view B.stack session.old session.new name Call.SubCommit result }
     ensures seat { B.seat session.new.board ≡ B.seat session.old.board }
@@ -170,7 +183,7 @@ fn commit_nested<T: PartTable, B: Board<T>>(session: &mut OwnSession<T, B>, name
     of_level(name, session.commit_nested())
 }
 
-/// Ends the innermost level with failure.
+/// Ends the innermost level of `session` with failure. The answer is told to `name`.
 fn abort_nested<T: PartTable, B: Board<T>, H: Wait>(
     rt: &H,
     session: &mut OwnSession<T, B>,
@@ -182,7 +195,8 @@ fn abort_nested<T: PartTable, B: Board<T>, H: Wait>(
     of_level(name, session.abort_nested(rt))
 }
 
-/// How often each owner has the object in the mode, of a transaction the innermost level.
+/// How often each owner of `session` has `tag` in `mode`, of a transaction the innermost level. The answer is told to
+/// `name`.
 fn owned<T: PartTable, B: Board<T>>(
     session: &mut OwnSession<T, B>,
     name: Name,
@@ -201,7 +215,8 @@ fn owned<T: PartTable, B: Board<T>>(
     Answer::Said(name, said)
 }
 
-/// Whether somebody awaits the object in a mode that conflicts with this one, which the session has.
+/// Whether somebody awaits `tag` in a mode that conflicts with `mode`, which `session` has. The answer is told to
+/// `name`.
 fn waiters<T: PartTable, B: Board<T>, H: Wait>(
     rt: &H,
     session: &mut OwnSession<T, B>,
@@ -215,7 +230,7 @@ fn waiters<T: PartTable, B: Board<T>, H: Wait>(
     of_waiters(name, mode, session.has_waiters(rt, tag, mode))
 }
 
-/// The waits on an object, in the order of its queue.
+/// The waits on `tag`, in the order of its wait queue, as `session` sees them. The answer is told to `name`.
 fn queue<T: PartTable, B: Board<T>, H: Wait>(
     rt: &H,
     session: &mut OwnSession<T, B>,
@@ -228,7 +243,8 @@ fn queue<T: PartTable, B: Board<T>, H: Wait>(
     of_queue(name, session.queue(rt, tag))
 }
 
-/// Those who stand in the way of another session's wait on an object.
+/// Those in the way of the wait on `tag` of the session `other`, whose number is `number`, as `session` sees them. The
+/// answer is told to `name`.
 fn blockers<T: PartTable, B: Board<T>, H: Wait>(
     rt: &H,
     session: &mut OwnSession<T, B>,
@@ -243,7 +259,7 @@ fn blockers<T: PartTable, B: Board<T>, H: Wait>(
     of_blockers(name, other, session.blockers(rt, tag, number))
 }
 
-/// Asks another session to cancel its wait.
+/// Has `session` ask the session `other`, whose number is `number`, to cancel its wait. The answer is told to `name`.
 fn ask_cancel<T: PartTable, B: Board<T>>(
     session: &mut OwnSession<T, B>,
     name: Name,
@@ -256,7 +272,7 @@ fn ask_cancel<T: PartTable, B: Board<T>>(
     of_cancel(name, other, session.ask_cancel(number))
 }
 
-/// All that is held and awaited.
+/// All that is held and awaited, as `session` sees it. The answer is told to `name`.
 fn list<T: PartTable, B: Board<T>, H: Wait>(
     rt: &H,
     session: &mut OwnSession<T, B>,
@@ -268,7 +284,7 @@ fn list<T: PartTable, B: Board<T>, H: Wait>(
     of_list(name, session.list(rt))
 }
 
-/// What the strong lock counter with this index shows.
+/// What the strong lock counter `index` shows to `session`. The answer is told to `name`.
 fn count<T: PartTable, B: Board<T>>(session: &mut OwnSession<T, B>, index: u16) -> Answer
     requires exists { index < 1024 }
     ensures made { (shown : ℕ) × (result ≡ Answer.Row (Row.Counter index shown))
@@ -279,8 +295,8 @@ fn count<T: PartTable, B: Board<T>>(session: &mut OwnSession<T, B>, index: u16) 
     Answer::Row(Row::Counter { index, shown })
 }
 
-/// The picture of who waits for whom, by the rows of the table in a listing, as a session finds those in each one's
-/// way.
+/// Draws with `pen` who waits for whom, by the `rows` of the table in a listing, as `session` finds those in each one's
+/// way, and the queue of each object that is awaited.
 pub fn draw<T: PartTable, B: Board<T>, H: Wait>(
     rt: &H,
     session: &mut OwnSession<T, B>,
@@ -298,62 +314,13 @@ pub fn draw<T: PartTable, B: Board<T>, H: Wait>(
         if picture.add(row, found.as_slice()).is_err() {
             return Err(Refusal::NoMemory);
         }
+        if picture.has_queue(row.tag) {
+            continue;
+        }
+        let queue = session.queue(rt, row.tag)?;
+        if picture.add_queue(row.tag, queue.as_slice()).is_err() {
+            return Err(Refusal::NoMemory);
+        }
     }
     Ok(picture)
-}
-
-/// A request that may wait: the session with what it is told, or what it is while it waits.
-pub fn begin<T: PartTable, B: Board<T>, H: Wait>(
-    rt: &H,
-    session: OwnSession<T, B>,
-    tag: Tag,
-    mode: Mode,
-    owner: Owner,
-) -> Result<(OwnSession<T, B>, Said), OwnWaiting<T, B>>
-    ensures begun { IfOk result (λ it. IsBegun B.seat B.view B.stack session tag mode owner it.1 it.0) }
-    ensures queued { IfErr result (IsQueued B.seat B.view B.stack session tag mode owner) }
-    ensures rests { IfOk result (λ it. B.seat it.0.board ≡ B.seat session.board) }
-    ensures waits { IfErr result (λ waiting. B.seat waiting.board ≡ B.seat session.board) }
-{
-    match session.start(rt, tag, mode, owner) {
-        Started::Granted(session) => Ok((session, Said::Acquired(Acquired::Granted))),
-        Started::AlreadyHeld(session) => Ok((session, Said::Acquired(Acquired::AlreadyHeld))),
-        Started::Queued(waiting) => Err(waiting),
-        Started::Refused(session, refusal) => Ok((session, Said::Refused(refusal))),
-    }
-}
-
-/// Polls a wait, and carries a cancel out that was asked: the session that waits no more with what it is told, or the
-/// wait that goes on.
-pub fn poll_wait<T: PartTable, B: Board<T>, H: Wait>(
-    rt: &H,
-    waiting: OwnWaiting<T, B>,
-) -> Result<(OwnSession<T, B>, Said), OwnWaiting<T, B>>
-    ensures goes_on { IfOk result (λ seen. GoesOn B.seat B.view B.stack waiting seen.1 seen.0) }
-    ensures looks_on { IfErr result (LooksOn B.seat B.view B.stack waiting) }
-    ensures rests { IfOk result (λ seen. B.seat seen.0.board ≡ B.seat waiting.board) }
-    ensures waits { IfErr result (λ still. B.seat still.board ≡ B.seat waiting.board) }
-{
-    match waiting.poll() {
-        Polled::Still(waiting) => Err(waiting),
-        Polled::Granted(session) => Ok((session, Said::GrantedAfterWaiting)),
-        Polled::CancelAsked(waiting) => match cancel(rt, waiting) {
-            (session, true) => Ok((session, Said::GrantedAfterWaiting)),
-            (session, false) => Ok((session, Said::Cancelled)),
-        },
-    }
-}
-
-/// The session of a wait that is given up, and whether it was granted before that.
-pub fn cancel<T: PartTable, B: Board<T>, H: Wait>(
-    rt: &H,
-    waiting: OwnWaiting<T, B>,
-) -> (OwnSession<T, B>, bool)
-    ensures gave_up { GivesUp B.seat B.view B.stack waiting result.1 result.0 }
-    ensures seat { B.seat result.0.board ≡ B.seat waiting.board }
-{
-    match waiting.cancel(rt) {
-        Cancelled::Removed(session) => (session, false),
-        Cancelled::WasGranted(session) => (session, true),
-    }
 }

@@ -3,10 +3,12 @@
 
 ghost use Rattle.std.specs.Prelude.{◌≡◌, IfOk, IfSome, []};
 ghost use Rattle.serde_json.specs.View.{view};
-ghost use Rattle.scenario.specs.Json.{in_the_way_data, line_data, not_owned_data, picture_data, refused_data, refused_with, row_data, said_data, told_data};
+ghost use Rattle.scenario.specs.Json.{in_the_way_data, line_data, not_owned_data, picture_data, refused_data, refused_with, row_data, said_data, told_data, unlocked_all_data};
 
 use crate::answers::{Row, Said};
-use crate::text::{how_text, in_the_way_text, name_of, plain_text, refusal_text};
+use crate::style::Drawing;
+use crate::summary::{WaitEnd, WaitRow};
+use crate::text::{how_text, name_of, plain_text, refusal_text};
 use lock_manager::{Blocker, Mode, QueueRow, Refusal, SlotRow, TableRow};
 use lock_script::{Name, NamedObject, Names};
 use serde_json::{Value, json};
@@ -15,21 +17,35 @@ use std::alloc::{AllocError, Global};
 /// An object of JSON, if there was the memory for it.
 pub type Object = Result<Value, AllocError>;
 
-/// A line of the script.
+/// The object of the line `line` of the script, whose text is `text`.
 pub fn echo(alloc: Global, line: u32, text: &str) -> Object
     ensures { IfOk result (λ object. view object ≡ line_data line text.now) }
 {
     json!(in alloc; {"line": line, "echo": text})
 }
 
-/// A picture of who waits for whom.
+/// The object of the picture `text` of who waits for whom after the line `line`, in the language `drawing`.
 pub fn picture(alloc: Global, line: u32, drawing: &str, text: &str) -> Object
     ensures { IfOk result (λ object. view object ≡ picture_data line drawing.now text.now) }
 {
     json!(in alloc; {"line": line, "graph": drawing, "text": text})
 }
 
-/// What the session of this name is told.
+/// The line of JSON of the picture `text` of a whole script that ended with the line `line`, in the language `drawing`, with memory by
+/// `alloc`. The error is being out of it.
+pub fn picture_line(
+    alloc: Global,
+    line: u32,
+    drawing: Drawing,
+    text: &str,
+) -> Result<String, AllocError> {
+    let object = picture(alloc, line, drawing.name(), text)?;
+    let mut line = object.to_string(alloc)?;
+    line.push('\n')?;
+    Ok(line)
+}
+
+/// The object of what the session `name` is told at the line `line`, where `names` are those of all sessions and objects.
 pub fn said(alloc: Global, line: u32, names: &Names, name: &Name, said: Said) -> Object
     ensures { IfOk result (λ object. view object ≡ said_data line names.now name.now said) }
 {
@@ -41,6 +57,7 @@ pub fn said(alloc: Global, line: u32, names: &Names, name: &Name, said: Said) ->
         Said::Asked(other) => json!(in alloc; {
             "line": line, "session": name.as_str(), "answer": "asked", "other": other.as_str()
         }),
+        Said::UnlockedAll(released) => unlocked_all(alloc, line, name, released),
         Said::Level(level) => json!(in alloc; {
             "line": line, "session": name.as_str(), "answer": "at a level", "level": level
         }),
@@ -57,7 +74,16 @@ pub fn said(alloc: Global, line: u32, names: &Names, name: &Name, said: Said) ->
     }
 }
 
-/// The session doesn't own the lock, in the mode of this name, that it gives back.
+/// The object of a release of all advisory locks at the line `line`, by which the session `name` lost `released` holds.
+fn unlocked_all(alloc: Global, line: u32, name: &Name, released: u32) -> Object
+    ensures { IfOk result (λ object. view object ≡ unlocked_all_data line name.now released) }
+{
+    json!(in alloc; {
+        "line": line, "session": name.as_str(), "answer": "released all", "released": released
+    })
+}
+
+/// The object of a release at the line `line`, where the session `name` doesn't own the lock in `mode`.
 fn not_owned(alloc: Global, line: u32, name: &Name, mode: &str) -> Object
     ensures { IfOk result (λ object. view object ≡ not_owned_data line name.now mode.now) }
 {
@@ -66,14 +92,15 @@ fn not_owned(alloc: Global, line: u32, name: &Name, mode: &str) -> Object
     })
 }
 
-/// An answer to a session in words alone.
+/// The object of an answer in words alone, `text`, to the session `name` at the line `line`.
 fn answer(alloc: Global, line: u32, name: &Name, text: &str) -> Object
     ensures { IfOk result (λ object. view object ≡ told_data line name.now text.now []) }
 {
     json!(in alloc; {"line": line, "session": name.as_str(), "answer": text})
 }
 
-/// A call was refused.
+/// The object of a call of the session `name` that was refused at the line `line` by `refusal`, where `names` are those
+/// of all sessions and objects.
 fn refused(alloc: Global, line: u32, names: &Names, name: &Name, refusal: Refusal) -> Object
     ensures { IfOk result (λ object. view object ≡ refused_data line names.now name.now refusal) }
 {
@@ -97,7 +124,8 @@ fn refused(alloc: Global, line: u32, names: &Names, name: &Name, refusal: Refusa
     }
 }
 
-/// A call was refused for a reason that names nobody.
+/// The object of a call of the session `name` that was refused at the line `line` for a reason that names nobody: its
+/// `number` and `text`.
 fn refused_alone(alloc: Global, line: u32, name: &Name, number: u8, text: &str) -> Object
     ensures { IfOk result (λ object. view object ≡ refused_with line name.now number text.now []) }
 {
@@ -107,7 +135,7 @@ fn refused_alone(alloc: Global, line: u32, name: &Name, number: u8, text: &str) 
     })
 }
 
-/// A row.
+/// The object of the row `row` at the line `line`, where `names` are those of all sessions and objects.
 pub fn row(alloc: Global, line: u32, names: &Names, row: Row) -> Object
     ensures { IfSome (row_data line names.now row) (λ shown. IfOk result (λ object. view object ≡ shown)) }
 {
@@ -130,7 +158,8 @@ pub fn row(alloc: Global, line: u32, names: &Names, row: Row) -> Object
     }
 }
 
-/// An object was given a name.
+/// The object of the line `line`, by which an object was given a name, as `named` says, where `names` are those of all
+/// sessions and objects.
 fn name_row(alloc: Global, line: u32, names: &Names, named: NamedObject) -> Object
     ensures { IfSome (row_data line names.now (Row.Named named)) (λ shown. IfOk result (λ object. view object ≡ shown)) }
 {
@@ -138,7 +167,8 @@ fn name_row(alloc: Global, line: u32, names: &Names, named: NamedObject) -> Obje
     json!(in alloc; {"line": line, "name": named.name.as_str(), "tag": tag})
 }
 
-/// A lock in a slot. The object's name, if it has one, stands behind its tag.
+/// The object of a lock in a slot, `row`, at the line `line`, where `names` are those of all sessions and objects. The object's
+/// name, if it has one, comes after its tag.
 fn slot_row(alloc: Global, line: u32, names: &Names, row: SlotRow) -> Object
     ensures { IfSome (row_data line names.now (Row.Slot row)) (λ shown. IfOk result (λ object. view object ≡ shown)) }
 {
@@ -156,7 +186,8 @@ fn slot_row(alloc: Global, line: u32, names: &Names, row: SlotRow) -> Object
     }
 }
 
-/// A lock in the table. The object's name, if it has one, stands behind its tag.
+/// The object of a lock in the table, `row`, at the line `line`, where `names` are those of all sessions and objects. The object's
+/// name, if it has one, comes after its tag.
 fn table_row(alloc: Global, line: u32, names: &Names, row: TableRow) -> Object
     ensures { IfSome (row_data line names.now (Row.Table row)) (λ shown. IfOk result (λ object. view object ≡ shown)) }
 {
@@ -174,7 +205,8 @@ fn table_row(alloc: Global, line: u32, names: &Names, row: TableRow) -> Object
     }
 }
 
-/// A wait in a queue, with the modes that its session held when it joined.
+/// The object of a wait in a queue, `row`, at the line `line`, with the modes that its session held when it joined,
+/// where `names` are those of all sessions and objects.
 fn queue_row(alloc: Global, line: u32, names: &Names, row: &QueueRow) -> Object {
     let name = name_of(names, row.session);
     let mut held = Vec::new(alloc);
@@ -189,18 +221,49 @@ fn queue_row(alloc: Global, line: u32, names: &Names, row: &QueueRow) -> Object 
     })
 }
 
-/// One that is in the way of a session that waits.
+/// The object of `blocker`, one that is in the way of the session `name`, at the line `line`, where `names` are those
+/// of all sessions and objects.
 fn in_the_way(alloc: Global, line: u32, names: &Names, name: Name, blocker: Blocker) -> Object
     ensures { IfOk result (λ object. view object ≡ in_the_way_data line names.now name blocker) }
 {
     let who = name_of(names, blocker.session);
     json!(in alloc; {
         "line": line, "row": "blocker", "session": name.as_str(), "waits_for": who.as_str(),
-        "mode": blocker.mode.name(), "how": in_the_way_text(blocker.how)
+        "mode": blocker.mode.name(), "how": how_text(blocker.how)
     })
 }
 
-/// Who waits at the end of a script, and how many lines of theirs were not reached.
+/// The object of the row `wait` of a summary, whose own object is known by `names`.
+pub fn waited(alloc: Global, names: &Names, wait: &WaitRow) -> Object {
+    let mut behind = Vec::new(alloc);
+    for obstacle in &wait.behind {
+        behind.push(json!(in alloc; {
+            "session": obstacle.session.as_str(), "mode": obstacle.mode.name(),
+            "how": how_text(obstacle.how)
+        })?)?;
+    }
+    let behind = Value::Array(behind);
+    let tag = format!(in alloc; "{}", wait.tag)?;
+    let (to, ended) = match wait.ended {
+        Some(WaitEnd { line, granted }) => {
+            let ended = if granted { "granted" } else { "cancelled" };
+            (json!(in alloc; line)?, Value::try_from_str(alloc, ended)?)
+        }
+        None => (Value::Null, Value::Null),
+    };
+    match names.objects.name_of(wait.tag) {
+        Some(object) => json!(in alloc; {
+            "waited": wait.session.as_str(), "from": wait.from, "to": to, "ended": ended,
+            "tag": tag, "name": object.as_str(), "mode": wait.mode.name(), "behind": behind
+        }),
+        None => json!(in alloc; {
+            "waited": wait.session.as_str(), "from": wait.from, "to": to, "ended": ended,
+            "tag": tag, "mode": wait.mode.name(), "behind": behind
+        }),
+    }
+}
+
+/// The object of the end of a script: the sessions `waiting`, and the number `lines` of theirs that were not reached.
 pub fn left(alloc: Global, waiting: &[Name], lines: u64) -> Object {
     let mut names = Vec::new(alloc);
     for name in waiting {

@@ -1,21 +1,25 @@
 //! Runs in which a line whose session waits is kept until that goes on.
 ghost use Rattle.std.specs.Prelude.{◌≡◌, []};
 ghost use Rattle.lock_manager.specs.Crews.{SeatsAre};
-ghost use Rattle.scenario.specs.Tasks.{IsForManager};
+ghost use Rattle.scenario.specs.Sizes.{IsForManager};
 
-use crate::output::Listener;
-use crate::run::{Scene, run_before, run_kept_before};
+use crate::listener::Listener;
+use crate::opening::read_opening;
+use crate::run::Scene;
+use crate::runs::{Keeping, run_before, run_keeping_before};
+use crate::sql_runs::Spoken;
 use lock_manager::{Config, Desk, OwnSession};
-use lock_script::{
-    ByName, Fault, KeptLine, KeptLines, LineReader, Name, ObjectNames, OpenSessions,
-};
+use lock_script::{ByName, Defect, Fault, KeptLine, KeptLines, LineReader, Name};
 use lock_table::PartTable;
 use shared_rule::Board;
 use std::alloc::{AllocError, Global};
-use std::io::Read;
+use std::io::{Cursor, Read};
 use std::sync::Wait;
 
-/// Runs a script before a listener: as `run_kept_before` does where `keep` says so, and else as `run_before` does.
+/// Runs the script that `reader` gives against a lock manager of its own, of the size `config`, and tells `listener` what each line is answered.
+/// Where `keep`, a line whose session waits is kept, and run once that goes on, after the lines of the session that were kept before it. A script
+/// whose first command is `schema` speaks SQL, and what the statements of its `do` lines lock is kept so in any case. Where lines are kept,
+/// `listener` is told at the end who is left waiting, and how many lines were not reached. The run ends with the input or the first fault.
 pub fn run_in_turn<H: AllocGlobal + Wait, R: Read + Drop, L: Listener + Drop>(
     rt: &H,
     reader: R,
@@ -25,20 +29,37 @@ pub fn run_in_turn<H: AllocGlobal + Wait, R: Read + Drop, L: Listener + Drop>(
 ) -> Result<(), Fault>
     requires { IsForManager config }
 {
-    if keep {
-        run_kept_before(rt, reader, listener, config)
-    } else {
-        run_before(rt, reader, listener, config)
+    let mut reader = reader;
+    let alloc = rt.alloc();
+    let opening = read_opening(alloc, &mut reader)?;
+    let reader = Cursor::new(opening.front).chain(reader);
+    if !opening.speaks && !keep {
+        return run_before(rt, reader, listener, config);
     }
+    let keeping = Keeping {
+        alloc,
+        speaks: opening.speaks,
+        keeps: keep,
+    };
+    run_keeping_before(rt, reader, listener, config, keeping)
+}
+
+/// A line of a script.
+#[derive(Clone, Copy)]
+pub(crate) struct ReadLine<'a> {
+    pub number: u32,
+    pub text: &'a str,
+    /// Whether the next line is at hand.
+    pub more: bool,
 }
 
 impl<T: PartTable, B: Board<T>, D: Desk<OwnSession<T, B>>, L: Listener> Scene<T, B, D, L> {
-    /// Plays a script whose lines are kept, and then closes the sessions that are open.
+    /// Plays the script that `reader` gives, whose lines are kept as `keeping` says, and then closes the sessions that are open.
     pub(crate) fn play_keeping<H: Wait, R: Read + Drop>(
         &mut self,
         rt: &H,
         reader: R,
-        alloc: Global,
+        keeping: Keeping,
     ) -> Result<(), Fault>
         requires seats { SeatsAre B.seat D.seat }
         ensures manager { D.manager self.new.stage.desk ≡ D.manager self.old.stage.desk }
@@ -46,74 +67,92 @@ impl<T: PartTable, B: Board<T>, D: Desk<OwnSession<T, B>>, L: Listener> Scene<T,
         ensures none_open { self.new.stage.sessions.resting ≡ [] }
         ensures none_live { D.live self.new.stage.desk ≡ 0 }
     {
-        let ended = self.run_keeping(rt, reader, alloc);
+        let ended = self.run_keeping(rt, reader, keeping);
         self.stage.close_all(rt);
         ended
     }
 
-    /// Runs the lines of the reader, to its end or to the first fault. A line whose session waits, or has lines that were
-    /// kept, is kept behind these. Whenever a line was run, the kept ones are run whose sessions don't wait, the first of
+    /// Runs the lines of `reader`, to its end or to the first fault. A line that is kept by `keeping` while its session waits, or has lines that
+    /// were kept, is kept after these. Whenever a line was run, the kept ones are run whose sessions don't wait, the first of
     /// them first. Those that are left at the end are told.
     fn run_keeping<H: Wait, R: Read + Drop>(
         &mut self,
         rt: &H,
         reader: R,
-        alloc: Global,
+        keeping: Keeping,
     ) -> Result<(), Fault>
         requires seats { SeatsAre B.seat D.seat }
         ensures manager { D.manager self.new.stage.desk ≡ D.manager self.old.stage.desk }
     {
         let mut lines = LineReader::new(reader);
-        let mut kept = KeptLines::new(alloc);
+        let mut kept = KeptLines::new(keeping.alloc);
+        let mut script = Spoken::new(keeping);
         'lines: for _ in 0..u64::MAX {
             let Some(line) = lines.next_line()? else {
                 break;
             };
-            self.take_in(rt, alloc, &mut kept, lines.number, line.as_str())?;
+            let read = ReadLine {
+                number: lines.number,
+                text: line.as_str(),
+                more: lines.has_line(),
+            };
+            match script.hear(read) {
+                Ok(heard) => self.run_heard(rt, keeping, &mut kept, read, &heard)?,
+                Err(unplayed) => return Err(self.refuse(read.number, unplayed)),
+            }
         }
-        self.tell_left(alloc, &kept)
+        if let Err(unplayed) = script.finish() {
+            return Err(self.refuse(lines.number, unplayed));
+        }
+        self.tell_end(rt, true)?;
+        self.tell_left(keeping.alloc, &kept)
     }
 
-    /// Keeps a line, or runs it and then the kept ones that can be run.
-    fn take_in<H: Wait>(
+    /// Keeps `line` behind those of `kept`, or runs it and then the kept ones that can be run.
+    pub(crate) fn take_in<H: Wait>(
         &mut self,
         rt: &H,
         alloc: Global,
         kept: &mut KeptLines,
-        number: u32,
-        line: &str,
+        line: ReadLine<'_>,
     ) -> Result<(), Fault>
         requires seats { SeatsAre B.seat D.seat }
         ensures manager { D.manager self.new.stage.desk ≡ D.manager self.old.stage.desk }
     {
-        match kept.session_before(line, &self.stage.sessions) {
-            Some(session) => self.keep(alloc, kept, number, session, line),
+        match kept.session_before(line.text, &self.stage.sessions) {
+            Some(session) => self.keep(alloc, kept, session, line),
             None => {
-                self.run_line(rt, number, line)?;
-                self.run_ready(rt, kept)
+                self.run_line(rt, line.number, line.text, line.more)?;
+                self.run_ready(rt, kept, line.more)
             }
         }
     }
 
-    /// Keeps a line until its session goes on. One that is bad is told now.
+    /// Keeps `line` behind those of `kept` until `session` goes on. One that is bad is told now.
     fn keep(
         &mut self,
         alloc: Global,
         kept: &mut KeptLines,
-        number: u32,
         session: Name,
-        line: &str,
+        line: ReadLine<'_>,
     ) -> Result<(), Fault>
         ensures manager { D.manager self.new.stage.desk ≡ D.manager self.old.stage.desk }
     {
-        self.listener.keep_line(number, line)?;
         let stage = &self.stage;
-        let (sessions, objects) = (&stage.sessions, &stage.names.objects);
-        kept_or_fault(alloc, kept, number, session, line, sessions, objects)
+        let defect = kept.defect(alloc, line.text, &stage.sessions, &stage.names.objects);
+        let more = line.more && matches!(&defect, Ok(None));
+        self.listener.keep_line(line.number, line.text, more)?;
+        kept_or_fault(alloc, kept, session, line, defect)
     }
 
-    /// Runs the kept lines whose sessions don't wait, the first of them first, until each one's that is left waits.
-    fn run_ready<H: Wait>(&mut self, rt: &H, kept: &mut KeptLines) -> Result<(), Fault>
+    /// Runs the lines of `kept` whose sessions don't wait, the first of them first, until each one's that is left waits. Where
+    /// `more`, the line behind the one that was read last is at hand.
+    pub(crate) fn run_ready<H: Wait>(
+        &mut self,
+        rt: &H,
+        kept: &mut KeptLines,
+        more: bool,
+    ) -> Result<(), Fault>
         requires seats { SeatsAre B.seat D.seat }
         ensures manager { D.manager self.new.stage.desk ≡ D.manager self.old.stage.desk }
     {
@@ -121,13 +160,13 @@ impl<T: PartTable, B: Board<T>, D: Desk<OwnSession<T, B>>, L: Listener> Scene<T,
             let Some((_, line)) = kept.take_ready(&self.stage.sessions) else {
                 break;
             };
-            self.run_line(rt, line.number, line.text.as_str())?;
+            self.run_line(rt, line.number, line.text.as_str(), more)?;
         }
         Ok(())
     }
 
-    /// Tells who waits at the end, and how many lines were not reached.
-    fn tell_left(&mut self, alloc: Global, kept: &KeptLines) -> Result<(), Fault>
+    /// Tells who waits at the end, and how many lines of `kept` were not reached.
+    pub(crate) fn tell_left(&mut self, alloc: Global, kept: &KeptLines) -> Result<(), Fault>
         ensures manager { D.manager self.new.stage.desk ≡ D.manager self.old.stage.desk }
     {
         let stage = &self.stage;
@@ -138,29 +177,28 @@ impl<T: PartTable, B: Board<T>, D: Desk<OwnSession<T, B>>, L: Listener> Scene<T,
     }
 }
 
-/// Keeps a line, or says what is wrong with it.
-fn kept_or_fault<S, W>(
+/// Keeps `line` of `session` behind those of `kept`, or says that it has this `defect`.
+fn kept_or_fault(
     alloc: Global,
     kept: &mut KeptLines,
-    number: u32,
     session: Name,
-    line: &str,
-    sessions: &OpenSessions<S, W>,
-    objects: &ObjectNames,
+    line: ReadLine<'_>,
+    defect: Result<Option<Defect>, AllocError>,
 ) -> Result<(), Fault> {
-    match kept.defect(alloc, line, sessions, objects) {
+    let number = line.number;
+    match defect {
         Ok(None) => {}
         Ok(Some(what)) => return Err(Fault::BadLine { line: number, what }),
         Err(_) => return Err(Fault::NoMemory),
     }
-    let Ok(text) = String::from_str(alloc, line) else {
+    let Ok(text) = String::from_str(alloc, line.text) else {
         return Err(Fault::NoMemory);
     };
     kept.keep(session, KeptLine { number, text })
         .map_err(|_| Fault::NoMemory)
 }
 
-/// The names of these sessions.
+/// The names of `sessions`.
 fn names_in<S>(alloc: Global, sessions: &ByName<S>) -> Result<Vec<Name>, AllocError> {
     let mut names = Vec::new(alloc);
     for place in 0..sessions.len() {

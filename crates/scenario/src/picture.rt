@@ -4,7 +4,7 @@ ghost use Rattle.std.specs.Prelude.{◌≡◌, ◌<◌, length};
 
 use crate::style::{Drawing, Pen};
 use crate::text::{ObjectText, name_of};
-use lock_manager::{Blocker, InTheWay, Mode, SessionId, TableRow, Tag};
+use lock_manager::{Blocked, Blocker, How, Mode, ModeSet, QueueRow, SessionId, TableRow, Tag};
 use lock_script::Names;
 use modes_core::SESSIONS;
 use std::alloc::AllocError;
@@ -24,7 +24,22 @@ struct Arrow {
     from: SessionId,
     to: SessionId,
     mode: Mode,
-    how: InTheWay,
+    how: How,
+}
+
+/// What a session holds of an object that a session awaits.
+#[derive(Clone, Copy, Debug)]
+struct Hold {
+    session: SessionId,
+    tag: Tag,
+    modes: ModeSet,
+}
+
+/// The queue of an object, and who waits in it, from the first one on.
+#[derive(Debug, Drop)]
+struct Queue {
+    tag: Tag,
+    waiters: Vec<SessionId>,
 }
 
 /// Who waits for what, and for whom.
@@ -33,15 +48,19 @@ pub struct Picture {
     pen: Pen,
     waits: Vec<Wait>,
     arrows: Vec<Arrow>,
+    holds: Vec<Hold>,
+    queues: Vec<Queue>,
 }
 
 impl Picture {
-    /// A picture with nobody on it.
+    /// A picture with nobody on it, which `pen` draws.
     pub fn new(pen: Pen) -> Self {
         Picture {
             pen,
             waits: Vec::new(pen.alloc),
             arrows: Vec::new(pen.alloc),
+            holds: Vec::new(pen.alloc),
+            queues: Vec::new(pen.alloc),
         }
     }
 
@@ -55,14 +74,29 @@ impl Picture {
         self.waits.is_empty()
     }
 
-    /// Adds a session that waits, by its row of a listing, with those that are in its way.
+    /// Adds the session that waits by `row` of a listing, with those that are in its way, `found`.
     pub fn add(&mut self, row: &TableRow, found: &[Blocker]) -> Result<(), AllocError> {
-        let TableRow {
-            session,
-            tag,
-            mode,
-            ..
-        } = *row;
+        self.add_wait(row.session, row.tag, row.mode, found)
+    }
+
+    /// Adds a session that waits, by what it said itself of its wait, `blocked`.
+    pub fn add_blocked(&mut self, blocked: &Blocked) -> Result<(), AllocError> {
+        self.add_wait(
+            blocked.session,
+            blocked.tag,
+            blocked.mode,
+            blocked.blockers.as_slice(),
+        )
+    }
+
+    /// Adds `session`, which waits for `mode` on `tag`, with those `found` in its way.
+    fn add_wait(
+        &mut self,
+        session: SessionId,
+        tag: Tag,
+        mode: Mode,
+        found: &[Blocker],
+    ) -> Result<(), AllocError> {
         self.waits.push(Wait { session, tag, mode })?;
         for blocker in found {
             self.arrows.push(Arrow {
@@ -75,8 +109,52 @@ impl Picture {
         Ok(())
     }
 
-    /// Its text: a node for each session by its number, with what it awaits, an arrow for each that is in another's
-    /// way, and a mark for each that waits in a circle.
+    /// Whether the queue of `tag` was added.
+    pub fn has_queue(&self, tag: Tag) -> bool {
+        self.queues.iter().any(|queue| queue.tag == tag)
+    }
+
+    /// Adds the queue of `tag`, whose rows are `rows` from its first waiter on.
+    pub fn add_queue(&mut self, tag: Tag, rows: &[QueueRow]) -> Result<(), AllocError> {
+        let mut waiters = Vec::new(self.pen.alloc);
+        for row in rows {
+            waiters.push(row.session)?;
+        }
+        self.queues.push(Queue { tag, waiters })?;
+        Ok(())
+    }
+
+    /// Adds that `session` holds `modes` of `tag`, if these are any.
+    pub fn add_hold(
+        &mut self,
+        session: SessionId,
+        tag: Tag,
+        modes: ModeSet,
+    ) -> Result<(), AllocError> {
+        if modes == ModeSet::empty() {
+            return Ok(());
+        }
+        self.holds.push(Hold {
+            session,
+            tag,
+            modes,
+        })?;
+        Ok(())
+    }
+
+    /// How many queues were added.
+    pub fn queues(&self) -> usize {
+        self.queues.len()
+    }
+
+    /// Whose queue was added at `place`, if so many were added.
+    pub fn queue_at(&self, place: usize) -> Option<Tag> {
+        Some(self.queues.get(place)?.tag)
+    }
+
+    /// The picture's text, where `names` are those of all sessions: a node for each session by its number, with what it
+    /// holds of the objects that are awaited, and what it awaits at which place; an arrow for each that is in another's way,
+    /// and a mark for each that waits in a circle.
     pub fn text(&self, names: &Names) -> Result<String, AllocError> {
         let mut text = String::new(self.pen.alloc);
         match self.pen.drawing {
@@ -96,8 +174,8 @@ impl Picture {
         for arrow in &self.arrows {
             let (from, to, mode) = (arrow.from, arrow.to, arrow.mode);
             let line = match arrow.how {
-                InTheWay::Holds => "-->",
-                InTheWay::StandsBefore => "-.->",
+                How::Held => "-->",
+                How::Awaited => "-.->",
             };
             writeln!(text, "  s{from} {line}|{mode}| s{to}")?;
         }
@@ -118,19 +196,66 @@ impl Picture {
     ) -> Result<(), AllocError>
         requires { number < 64 }
     {
-        let name = name_of(names, SessionId::new(number).unwrap());
-        match self.wait_of(number) {
-            Some(Wait { tag, mode, .. }) => {
-                let object = ObjectText { names, tag };
-                writeln!(text, "  s{number}[\"{name}<br/>{mode} on {object}\"]")
+        write!(text, "  s{number}[\"")?;
+        self.write_label(names, number, "<br/>", text)?;
+        writeln!(text, "\"]")
+    }
+
+    /// Writes what the node of the session `number` says to `text`, with `line_break` between two lines: its name, what it holds of each
+    /// object that is awaited, and what it awaits.
+    fn write_label(
+        &self,
+        names: &Names,
+        number: u8,
+        line_break: &str,
+        text: &mut String,
+    ) -> Result<(), AllocError>
+        requires { number < 64 }
+    {
+        write!(text, "{}", name_of(names, SessionId::new(number).unwrap()))?;
+        for hold in &self.holds {
+            if hold.session.number() == number {
+                let object = ObjectText {
+                    names,
+                    tag: hold.tag,
+                };
+                write!(text, "{line_break}holds ")?;
+                write_modes(hold.modes, text)?;
+                write!(text, " on {object}")?;
             }
-            None => writeln!(text, "  s{number}[\"{name}\"]"),
         }
+        if let Some(wait) = self.wait_of(number) {
+            let Wait { tag, mode, .. } = wait;
+            let object = ObjectText { names, tag };
+            write!(text, "{line_break}awaits {mode} on {object}")?;
+            self.write_place(wait, line_break, text)?;
+        }
+        Ok(())
+    }
+
+    /// Writes to `text`, after a `line_break`, at which place of its object's queue the session of `wait` waits.
+    fn write_place(
+        &self,
+        wait: Wait,
+        line_break: &str,
+        text: &mut String,
+    ) -> Result<(), AllocError> {
+        for queue in &self.queues {
+            if queue.tag == wait.tag {
+                let waiters = queue.waiters.as_slice();
+                if let Some(before) = waiters.iter().position(|one| *one == wait.session) {
+                    let (place, all) = (before.saturating_add(1), waiters.len());
+                    return write!(text, "{line_break}{place} of {all} in the queue");
+                }
+            }
+        }
+        Ok(())
     }
 
     fn write_dot(&self, names: &Names, text: &mut String) -> Result<(), AllocError> {
         writeln!(text, "digraph locks {{")?;
         writeln!(text, "  rankdir=LR;")?;
+        writeln!(text, "  node [shape=box];")?;
         let circles = self.circles();
         for number in 0..SESSIONS {
             if self.shows(number) {
@@ -145,8 +270,8 @@ impl Picture {
         for arrow in &self.arrows {
             let (from, to, mode) = (arrow.from, arrow.to, arrow.mode);
             let style = match arrow.how {
-                InTheWay::Holds => "solid",
-                InTheWay::StandsBefore => "dashed",
+                How::Held => "solid",
+                How::Awaited => "dashed",
             };
             writeln!(
                 text,
@@ -165,20 +290,12 @@ impl Picture {
     ) -> Result<(), AllocError>
         requires { number < 64 }
     {
-        let name = name_of(names, SessionId::new(number).unwrap());
-        match self.wait_of(number) {
-            Some(Wait { tag, mode, .. }) => {
-                let object = ObjectText { names, tag };
-                writeln!(
-                    text,
-                    "  s{number} [label=\"{name}\\n{mode} on {object}\", color={color}];"
-                )
-            }
-            None => writeln!(text, "  s{number} [label=\"{name}\", color={color}];"),
-        }
+        write!(text, "  s{number} [label=\"")?;
+        self.write_label(names, number, "\\n", text)?;
+        writeln!(text, "\", color={color}];")
     }
 
-    /// What the session of this number awaits, if it waits.
+    /// What the session `number` awaits, if it waits.
     fn wait_of(&self, number: u8) -> Option<Wait> {
         for wait in &self.waits {
             if wait.session.number() == number {
@@ -188,7 +305,7 @@ impl Picture {
         None
     }
 
-    /// Whether the session of this number is on the picture.
+    /// Whether the session `number` is on the picture.
     fn shows(&self, number: u8) -> bool {
         if self.wait_of(number).is_some() {
             return true;
@@ -220,4 +337,19 @@ impl Picture {
         }
         circles
     }
+}
+
+/// Writes the names of `modes` to `text`, from the lowest number on, with a comma between two of them.
+fn write_modes(modes: ModeSet, text: &mut String) -> Result<(), AllocError> {
+    let mut is_first = true;
+    for mode in Mode::ALL {
+        if modes.has(mode) {
+            if !is_first {
+                text.push_str(", ")?;
+            }
+            is_first = false;
+            write!(text, "{mode}")?;
+        }
+    }
+    Ok(())
 }

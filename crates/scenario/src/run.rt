@@ -1,168 +1,23 @@
 //! Scripts: a line is read, run and answered before the next one is read.
-ghost use Rattle.std.specs.Prelude.{◌≡◌, ◌≤◌, ◌<◌, [], true, length, Ok, IfOk, IfErr, OnOk};
+ghost use Rattle.std.specs.Prelude.{◌≡◌, ◌≤◌, ◌<◌, [], true, length, Ok, IfOk, IfErr, IfSome, OnOk};
 ghost use Rattle.lock_manager.specs.Crews.{SeatsAre};
 ghost use Rattle.lock_script.specs.Command.{Addresses, NamesCounter, NamesFree};
 ghost use Rattle.lock_script.specs.Sessions.{IsThere, MayAct};
 ghost use Rattle.scenario.specs.Heard.{Hears, IsUnheard};
-ghost use Rattle.scenario.specs.Played.{Draws, IsPassHeard, IsPollHeard, Plays, Settles};
+ghost use Rattle.scenario.specs.Played.{DrawsPicture, Follows, IsPassHeard, IsPollHeard, Plays, Settles, TellsWait};
 ghost use Rattle.scenario.specs.Scripts.{IsBadLine, IsScriptHeard, PlaysLine};
-ghost use Rattle.scenario.specs.Tasks.{IsForManager};
 
 use crate::answers::{Answer, Said};
-use crate::output::{Listener, Output, tell_answer};
+use crate::listener::{Listener, tell_answer};
+use crate::runs::Manner;
 use crate::sessions::Stage;
-use crate::shell::Shell;
-use crate::style::Style;
-use lock_manager::{Config, Desk, Manager, ManagerDesk, OwnSession, TableRow};
-use lock_script::{Caller, Command, Fault, LineReader, parse};
+use lock_manager::{Desk, OwnSession, TableRow};
+use lock_script::{Caller, Command, Fault, LineReader, Name, parse};
 use lock_table::PartTable;
 use shared_rule::Board;
 use std::alloc::{AllocError, Global};
-use std::io::{Read, Write};
+use std::io::Read;
 use std::sync::Wait;
-
-/// Runs the script that the reader gives against a lock manager of its own, and writes what each line
-/// prints before the next line is read. It ends with the input, or with the first fault, and then the
-/// sessions that are open are closed in silence.
-pub fn run_script<H: AllocGlobal + Wait, R: Read + Drop, W: Write + Drop>(
-    rt: &H,
-    reader: R,
-    writer: W,
-    config: Config,
-) -> Result<(), Fault>
-    requires { IsForManager config }
-{
-    run_styled_script(rt, reader, writer, config, Style::PLAIN)
-}
-
-/// The same, with what the script does shown in this style.
-pub fn run_styled_script<H: AllocGlobal + Wait, R: Read + Drop, W: Write + Drop>(
-    rt: &H,
-    reader: R,
-    writer: W,
-    config: Config,
-    style: Style,
-) -> Result<(), Fault>
-    requires { IsForManager config }
-{
-    let output = Output::styled(rt.alloc(), writer, style);
-    act_out(rt, reader, output, config, Manner::Script)
-}
-
-/// Runs the lines that the reader gives as a shell does: a bad line is told, with the nearest good word, and the
-/// shell goes on. It ends with the line `end`, the input, or another fault, and then the sessions that are open are
-/// closed in silence.
-pub fn run_shell<H: AllocGlobal + Wait, R: Read + Drop, W: Write + Drop>(
-    rt: &H,
-    reader: R,
-    writer: W,
-    config: Config,
-    is_terminal: bool,
-) -> Result<(), Fault>
-    requires { IsForManager config }
-{
-    let shell = Shell {
-        alloc: rt.alloc(),
-        is_terminal,
-    };
-    let output = Output::new(writer);
-    act_out(rt, reader, output, config, Manner::Shell(shell))
-}
-
-/// Runs the script that the reader gives against a lock manager of its own, and tells the listener what each line is
-/// answered before the next one is read. It ends as a run that prints does.
-pub fn run_before<H: AllocGlobal + Wait, R: Read + Drop, L: Listener + Drop>(
-    rt: &H,
-    reader: R,
-    listener: L,
-    config: Config,
-) -> Result<(), Fault>
-    requires { IsForManager config }
-{
-    act_out(rt, reader, listener, config, Manner::Script)
-}
-
-/// Runs a script as `run_before` does, but that a line whose session waits is kept, and run once that goes on. Each
-/// session's lines are run in their order. The listener is told who is left waiting, and how many lines were not reached.
-pub fn run_kept_before<H: AllocGlobal + Wait, R: Read + Drop, L: Listener + Drop>(
-    rt: &H,
-    reader: R,
-    listener: L,
-    config: Config,
-) -> Result<(), Fault>
-    requires { IsForManager config }
-{
-    act_out(rt, reader, listener, config, Manner::Keeping(rt.alloc()))
-}
-
-/// How lines are run.
-#[derive(Clone, Copy)]
-enum Manner {
-    /// One after the other, to the first fault.
-    Script,
-    /// One after the other, but that those whose sessions wait are kept, in this memory.
-    Keeping(Global),
-    /// As they are typed.
-    Shell(Shell),
-}
-
-/// Runs a script, or a shell, against a lock manager of its own.
-fn act_out<H: AllocGlobal + Wait, R: Read + Drop, L: Listener + Drop>(
-    rt: &H,
-    reader: R,
-    listener: L,
-    config: Config,
-    manner: Manner,
-) -> Result<(), Fault>
-    requires { IsForManager config }
-{
-    let alloc = rt.alloc();
-    let Ok((manager, opener)) = Manager::new(alloc, config) else {
-        return Err(Fault::NoMemory);
-    };
-    let desk = ManagerDesk::new(&manager, opener);
-    let Ok((desk, ended)) = play(rt, alloc, desk, reader, listener, manner) else {
-        return Err(Fault::NoMemory);
-    };
-    let opener = desk.into_opener();
-    manager.finish(opener);
-    ended
-}
-
-/// Runs a script with the sessions that the desk opens, of which none is open after it. It is not begun where there
-/// is no memory for the list of them.
-fn play<
-    T: PartTable,
-    B: Board<T>,
-    D: Desk<OwnSession<T, B>> + Drop,
-    H: Wait,
-    R: Read + Drop,
-    L: Listener + Drop,
->(
-    rt: &H,
-    alloc: Global,
-    desk: D,
-    reader: R,
-    listener: L,
-    manner: Manner,
-) -> Result<(D, Result<(), Fault>), AllocError>
-    requires seats { SeatsAre B.seat D.seat }
-    requires none_issued { D.issued desk ≡ 0 }
-    requires none_live { D.live desk ≡ 0 }
-    ensures manager { IfOk result (λ played. D.manager played.0 ≡ D.manager desk) }
-    ensures none_live { IfOk result (λ played. D.live played.0 ≡ 0) }
-{
-    let mut scene = Scene::new(alloc, desk, listener)?;
-    let ended = scene.act_out(rt, reader, manner);
-    let Scene { stage, listener: _ } = scene;
-    let Stage {
-        desk,
-        names: _,
-        sessions,
-    } = stage;
-    sessions.finish();
-    Ok((desk, ended))
-}
 
 /// What the lines of a script act on: a desk with its sessions, and who hears the answers.
 pub struct Scene<T: PartTable, B: Board<T>, D: Desk<OwnSession<T, B>>, L: Listener> {
@@ -171,8 +26,8 @@ pub struct Scene<T: PartTable, B: Board<T>, D: Desk<OwnSession<T, B>>, L: Listen
 }
 
 impl<T: PartTable, B: Board<T>, D: Desk<OwnSession<T, B>>, L: Listener> Scene<T, B, D, L> {
-    /// A scene at a desk at which no session was opened yet. The desk is let go where there is no memory for the
-    /// list of sessions.
+    /// A scene at `desk`, at which no session was opened yet, before `listener`. Both are let go where there is no memory
+    /// for the list of sessions.
     pub fn new(alloc: Global, desk: D, listener: L) -> Result<Self, AllocError>
     where
         D: Drop,
@@ -187,8 +42,8 @@ impl<T: PartTable, B: Board<T>, D: Desk<OwnSession<T, B>>, L: Listener> Scene<T,
         Ok(Scene { stage, listener })
     }
 
-    /// Plays a script: runs its lines one by one, to their end or to the first fault, and then closes the sessions
-    /// that are open.
+    /// Plays the script that `reader` gives: runs its lines one by one, to their end or to the first fault, and then
+    /// closes the sessions that are open.
     pub fn play<H: Wait, R: Read + Drop>(&mut self, rt: &H, reader: R) -> Result<(), Fault>
         requires seats { SeatsAre B.seat D.seat }
         ensures played { IsScriptHeard B.seat B.view B.stack D.database_of D.entries L.hears (R.remaining reader)
@@ -203,8 +58,8 @@ impl<T: PartTable, B: Board<T>, D: Desk<OwnSession<T, B>>, L: Listener> Scene<T,
         ended
     }
 
-    /// Plays a script, or has a shell, and then closes the sessions that are open.
-    fn act_out<H: Wait, R: Read + Drop>(
+    /// Runs the lines of `reader` in this `manner`, and then closes the sessions that are open.
+    pub(crate) fn act_out<H: Wait, R: Read + Drop>(
         &mut self,
         rt: &H,
         reader: R,
@@ -217,13 +72,44 @@ impl<T: PartTable, B: Board<T>, D: Desk<OwnSession<T, B>>, L: Listener> Scene<T,
         ensures none_live { D.live self.new.stage.desk ≡ 0 }
     {
         match manner {
-            Manner::Script => self.play(rt, reader),
-            Manner::Keeping(alloc) => self.play_keeping(rt, reader, alloc),
-            Manner::Shell(shell) => self.have_shell(rt, reader, shell),
+            Manner::Script => self.play_out(rt, reader),
+            Manner::Keeping(keeping) => self.play_keeping(rt, reader, keeping),
         }
     }
 
-    /// Runs the lines of the reader, to its end or to the first fault.
+    /// Plays the script that `reader` gives as `play` does, and tells that it has ended before the sessions are closed.
+    fn play_out<H: Wait, R: Read + Drop>(&mut self, rt: &H, reader: R) -> Result<(), Fault>
+        requires seats { SeatsAre B.seat D.seat }
+        ensures manager { D.manager self.new.stage.desk ≡ D.manager self.old.stage.desk }
+        ensures none_waits { self.new.stage.sessions.waiting ≡ [] }
+        ensures none_open { self.new.stage.sessions.resting ≡ [] }
+        ensures none_live { D.live self.new.stage.desk ≡ 0 }
+    {
+        let ended = match self.run_lines(rt, reader) {
+            Ok(()) => self.tell_end(rt, false),
+            Err(fault) => Err(fault),
+        };
+        self.stage.close_all(rt);
+        ended
+    }
+
+    /// Draws who waits for whom, where the listener wants that of the end of a script, and tells it that this has come. Where
+    /// `tells_left`, who is left waiting is told next.
+    pub(crate) fn tell_end<H: Wait>(&mut self, rt: &H, tells_left: bool) -> Result<(), Fault>
+        ensures manager { D.manager self.new.stage.desk ≡ D.manager self.old.stage.desk }
+    {
+        if let Some(pen) = self.listener.last_pen() {
+            let Ok(picture) = self.stage.last_picture(rt, pen) else {
+                return Err(Fault::NoMemory);
+            };
+            let stage = &self.stage;
+            self.listener.picture(&stage.names, &picture)?;
+        }
+        let stage = &self.stage;
+        self.listener.ended(&stage.names, tells_left)
+    }
+
+    /// Runs the lines of `reader`, to its end or to the first fault.
     fn run_lines<H: Wait, R: Read + Drop>(&mut self, rt: &H, reader: R) -> Result<(), Fault>
         requires seats { SeatsAre B.seat D.seat }
         ensures played { IsScriptHeard B.seat B.view B.stack D.database_of D.entries L.hears (R.remaining reader)
@@ -232,13 +118,21 @@ impl<T: PartTable, B: Board<T>, D: Desk<OwnSession<T, B>>, L: Listener> Scene<T,
     {
         let mut lines = LineReader::new(reader);
         'lines: while let Some(line) = lines.next_line()? {
-            self.run_line(rt, lines.number, line.as_str())?;
+            let more = lines.has_line();
+            self.run_line(rt, lines.number, line.as_str(), more)?;
         }
         Ok(())
     }
 
-    /// Tells the listener the line with this number, and runs its command if it has one.
-    pub(crate) fn run_line<H: Wait>(&mut self, rt: &H, number: u32, line: &str) -> Result<(), Fault>
+    /// Tells the listener `line`, which has this `number`, and runs its command if it has one. Where `more`, the next line
+    /// is at hand.
+    pub(crate) fn run_line<H: Wait>(
+        &mut self,
+        rt: &H,
+        number: u32,
+        line: &str,
+        more: bool,
+    ) -> Result<(), Fault>
         requires seats { SeatsAre B.seat D.seat }
         ensures played { OnOk result (Hears L.hears self.old.listener self.new.listener (λ heard.
             PlaysLine B.seat B.view B.stack D.database_of D.entries number
@@ -249,17 +143,19 @@ impl<T: PartTable, B: Board<T>, D: Desk<OwnSession<T, B>>, L: Listener> Scene<T,
             (record { sessions = self.new.stage.sessions; names = self.new.stage.names }) self.new.listener) }
         ensures manager { D.manager self.new.stage.desk ≡ D.manager self.old.stage.desk }
     {
-        self.listener.begin_line(number, line)?;
         let stage = &self.stage;
-        match parse(line, &stage.sessions, &stage.names.objects) {
+        let parsed = parse(line, &stage.sessions, &stage.names.objects);
+        self.listener
+            .begin_line(number, line, more && parsed.is_ok())?;
+        match parsed {
             Ok(Some(command)) => self.run(rt, command),
             Ok(None) => Ok(()),
             Err(what) => Err(Fault::BadLine { line: number, what }),
         }
     }
 
-    /// Runs a command and then polls those who wait, and passes on what both are answered.
-    pub(crate) fn run<H: Wait>(&mut self, rt: &H, command: Command) -> Result<(), Fault>
+    /// Runs `command` and then polls those who wait, and passes on what both are answered.
+    pub fn run<H: Wait>(&mut self, rt: &H, command: Command) -> Result<(), Fault>
         requires seats { SeatsAre B.seat D.seat }
         requires addressed { Addresses self.old.stage.sessions command }
         requires counter { NamesCounter command }
@@ -275,24 +171,29 @@ impl<T: PartTable, B: Board<T>, D: Desk<OwnSession<T, B>>, L: Listener> Scene<T,
         let answer = self.stage.answer(rt, command);
         let stage = &self.stage;
         tell_answer(&mut self.listener, &stage.names, &answer)?;
-        self.draw_listing(rt, lister, &answer)?;
+        self.follow_up(rt, lister, &answer)?;
         self.poll_all(rt)?;
         self.listener.end_line()
     }
 
-    /// Draws who waits for whom behind an answer that is a listing.
-    fn draw_listing<H: Wait>(
+    /// Draws who waits for whom behind an `answer` that `lister` has listed, and tells who is in the way behind one
+    /// that a session waits, where these are wanted.
+    fn follow_up<H: Wait>(
         &mut self,
         rt: &H,
         lister: Option<Caller>,
         answer: &Answer,
     ) -> Result<(), Fault>
-        ensures drawn { OnOk result (Hears L.hears self.old.listener self.new.listener (λ picture. Draws
-            (record { sessions = self.old.stage.sessions; names = self.old.stage.names }) picture
+        ensures followed { OnOk result (Hears L.hears self.old.listener self.new.listener (λ more.
+            Follows B.seat B.view B.stack answer.now
+            (record { sessions = self.old.stage.sessions; names = self.old.stage.names }) more
             (record { sessions = self.new.stage.sessions; names = self.new.stage.names }))) }
         ensures unheard { IfErr result IsUnheard }
         ensures manager { D.manager self.new.stage.desk ≡ D.manager self.old.stage.desk }
     {
+        if let Some(name) = waiter_of(answer) {
+            return self.tell_wait(rt, name);
+        }
         match (lister, answer) {
             (Some(caller), Answer::Listing(listing)) => {
                 self.draw(rt, caller, listing.table.as_slice())
@@ -301,9 +202,33 @@ impl<T: PartTable, B: Board<T>, D: Desk<OwnSession<T, B>>, L: Listener> Scene<T,
         }
     }
 
-    /// Draws who waits for whom, by the rows of a listing, if that is wanted.
+    /// Tells who is in the way of the session `name`, which has begun to wait, as it says itself, if that is wanted.
+    fn tell_wait<H: Wait>(&mut self, rt: &H, name: Name) -> Result<(), Fault>
+        ensures told { OnOk result (Hears L.hears self.old.listener self.new.listener (λ more.
+            TellsWait B.seat B.view B.stack name
+            (record { sessions = self.old.stage.sessions; names = self.old.stage.names }) more
+            (record { sessions = self.new.stage.sessions; names = self.new.stage.names }))) }
+        ensures unheard { IfErr result IsUnheard }
+        ensures manager { D.manager self.new.stage.desk ≡ D.manager self.old.stage.desk }
+    {
+        if !self.listener.wants_waits() {
+            return Ok(());
+        }
+        let Some(place) = self.stage.sessions.waiting.place_called(&name) else {
+            return Ok(());
+        };
+        match self.stage.blocked(rt, place) {
+            Ok(blocked) => {
+                let stage = &self.stage;
+                self.listener.blocked(&stage.names, &blocked)
+            }
+            Err(_) => Err(Fault::NoMemory),
+        }
+    }
+
+    /// Draws who waits for whom, by the `rows` of a listing that `caller` asked for, if that is wanted.
     fn draw<H: Wait>(&mut self, rt: &H, caller: Caller, rows: &[TableRow]) -> Result<(), Fault>
-        ensures drawn { OnOk result (Hears L.hears self.old.listener self.new.listener (λ picture. Draws
+        ensures drawn { OnOk result (Hears L.hears self.old.listener self.new.listener (λ picture. DrawsPicture
             (record { sessions = self.old.stage.sessions; names = self.old.stage.names }) picture
             (record { sessions = self.new.stage.sessions; names = self.new.stage.names }))) }
         ensures unheard { IfErr result IsUnheard }
@@ -363,7 +288,7 @@ impl<T: PartTable, B: Board<T>, D: Desk<OwnSession<T, B>>, L: Listener> Scene<T,
         Ok(went_on)
     }
 
-    /// Polls the session at this place of those that wait, carries a cancel out that was asked, and answers
+    /// Polls the session at `place` of those that wait, carries a cancel out that was asked, and answers
     /// whether the session goes on.
     fn poll<H: Wait>(&mut self, rt: &H, place: usize) -> Result<bool, Fault>
         requires { place < length self.old.stage.sessions.waiting }
@@ -387,10 +312,20 @@ impl<T: PartTable, B: Board<T>, D: Desk<OwnSession<T, B>>, L: Listener> Scene<T,
     }
 }
 
-/// Who asks for a listing, if the command does.
+/// Who asks for a listing, if `command` does.
 fn lister_of(command: &Command) -> Option<Caller> {
     match command {
         Command::List(caller) => Some(*caller),
+        _ => None,
+    }
+}
+
+/// The session that waits from now on, where `answer` says so of one.
+fn waiter_of(answer: &Answer) -> Option<Name>
+    ensures { IfSome result (λ name. answer.now ≡ Answer.Said name Said.Waits) }
+{
+    match answer {
+        Answer::Said(name, Said::Waits) => Some(*name),
         _ => None,
     }
 }

@@ -4,17 +4,20 @@ ghost use Rattle.std.specs.Prelude.{◌≡◌, ◌⊎◌, ◌≤◌, ◌<◌, �
 ghost use Rattle.lock_manager.specs.Crews.{SeatsAre};
 ghost use Rattle.lock_script.specs.Command.{Addresses, NamesCounter, NamesFree};
 ghost use Rattle.lock_script.specs.Objects.{name_given, tag_called};
-ghost use Rattle.scenario.specs.Answered.{AcquiresAt, CallsAt, ClosesAt, PollsAt, WaitsAt};
+ghost use Rattle.scenario.specs.Answered.{AcquiresAt, CallsAt, ClosesAt, PollsAt, TellsBlockedAt, WaitsAt};
 ghost use Rattle.scenario.specs.Answers.{Answers, IsNumberAt, IsOtherOf, NamesObject, Opens, OpensNone};
 ghost use Rattle.lock_manager.specs.Sessions.{SessionView};
 ghost use Rattle.lock_script.specs.Lending.{with_session};
 ghost use Rattle.scenario.specs.Calls.{IsDeedOf, ShowsCounter};
 
 use crate::answers::{Answer, Row, Said};
-use crate::calls::{Call, begin, cancel, draw, make, poll_wait};
+use crate::calls::{Call, draw, make};
 use crate::picture::Picture;
 use crate::style::Pen;
-use lock_manager::{Desk, OwnSession, OwnWaiting, Owner, Refusal, SessionId, TableRow, Tag};
+use crate::waits::{begin, cancel, poll_wait, tell_blocked};
+use lock_manager::{
+    Blocked, Desk, OwnSession, OwnWaiting, Owner, QueueRow, Refusal, SessionId, TableRow, Tag,
+};
 use lock_script::{
     Caller, Command, Name, Named, NamedObject, Names, ObjectName, OpenSessions, Place, Target,
 };
@@ -40,7 +43,7 @@ pub enum Deed {
     Hash(Tag),
 }
 
-/// What a command comes to, where the other session that it names, if it names one, has this number.
+/// What `command` comes to, where the other session that it names, if it names one, has the number `other`.
 pub fn deed_of(command: Command, other: SessionId) -> Deed
     ensures { IsDeedOf command other result }
 {
@@ -59,6 +62,7 @@ pub fn deed_of(command: Command, other: SessionId) -> Deed
         Command::Unlock(target, owner) => {
             Deed::Make(target.caller, Call::Unlock(target.tag, target.mode, owner))
         }
+        Command::UnlockAll(caller) => Deed::Make(caller, Call::UnlockAll),
         Command::Commit(caller) => Deed::Make(caller, Call::Commit),
         Command::Abort(caller) => Deed::Make(caller, Call::Abort),
         Command::Begin(caller) => Deed::Make(caller, Call::Begin),
@@ -93,7 +97,8 @@ pub struct Stage<T: PartTable, B: Board<T>, D: Desk<OwnSession<T, B>>> {
 impl<T: PartTable, B: Board<T>, D: Desk<OwnSession<T, B>>> Stage<T, B, D> {
     ghost use Rattle.lock_script.specs.Sessions.{IsThere, MayAct};
 
-    /// A desk at which no session was opened yet. It is let go where there is no memory for the list of them.
+    /// A stage of `desk`, at which no session was opened yet. The desk is let go where there is no memory for the list of
+    /// sessions.
     pub fn new(alloc: Global, desk: D) -> Result<Self, AllocError>
     where
         D: Drop,
@@ -111,7 +116,7 @@ impl<T: PartTable, B: Board<T>, D: Desk<OwnSession<T, B>>> Stage<T, B, D> {
         })
     }
 
-    /// Has the session that a command names do what the command says, and answers it.
+    /// Has the session that `command` names do what it says, and answers it.
     pub fn answer<H: Wait>(&mut self, rt: &H, command: Command) -> Answer
         requires seats { SeatsAre B.seat D.seat }
         requires addressed { Addresses self.old.sessions command }
@@ -133,7 +138,7 @@ impl<T: PartTable, B: Board<T>, D: Desk<OwnSession<T, B>>> Stage<T, B, D> {
         }
     }
 
-    /// The number of the other session that a command names, or else of the first one.
+    /// The number of the other session that `command` names, or else of the first one.
     fn other_of(&self, command: &Command) -> SessionId
         requires addressed { Addresses self.now.sessions command.now }
         ensures number { IsOtherOf B.seat self.now.sessions command.now result }
@@ -145,7 +150,7 @@ impl<T: PartTable, B: Board<T>, D: Desk<OwnSession<T, B>>> Stage<T, B, D> {
         }
     }
 
-    /// Opens a session of this database under this name.
+    /// Opens a session of `database` under the name `name`.
     fn open(&mut self, name: Name, database: u32) -> Answer
         requires seats { SeatsAre B.seat D.seat }
         ensures opened { Opens B.seat D.database_of D.entries
@@ -167,7 +172,7 @@ impl<T: PartTable, B: Board<T>, D: Desk<OwnSession<T, B>>> Stage<T, B, D> {
         }
     }
 
-    /// Gives an object a name.
+    /// Gives the object `tag` the name `name`.
     fn name_object(&mut self, name: ObjectName, tag: Tag) -> Answer
         requires free { tag_called self.old.names.objects name.bytes ≡ None }
         requires unnamed { name_given self.old.names.objects tag ≡ None }
@@ -182,7 +187,7 @@ impl<T: PartTable, B: Board<T>, D: Desk<OwnSession<T, B>>> Stage<T, B, D> {
         }
     }
 
-    /// Closes a session. Its name is free again, and its number is not.
+    /// Closes the session `caller`. Its name is free again, and its number is not.
     fn close<H: Wait>(&mut self, rt: &H, caller: Caller) -> Answer
         requires seats { SeatsAre B.seat D.seat }
         requires place { MayAct self.old.sessions caller.place }
@@ -196,7 +201,7 @@ impl<T: PartTable, B: Board<T>, D: Desk<OwnSession<T, B>>> Stage<T, B, D> {
         Answer::Said(caller.name, Said::Closed)
     }
 
-    /// Has a session take a mode on an object for an owner, or begin to wait for it.
+    /// Has the session of `target` take its mode on its object for `owner`, or begin to wait for it.
     fn lock<H: Wait>(&mut self, rt: &H, target: Target, owner: Owner) -> Answer
         requires { MayAct self.old.sessions target.caller.place }
         ensures locked { AcquiresAt B.seat B.view B.stack self.old.sessions self.new.sessions target owner result
@@ -217,7 +222,7 @@ impl<T: PartTable, B: Board<T>, D: Desk<OwnSession<T, B>>> Stage<T, B, D> {
         }
     }
 
-    /// Has a session make a call that answers at once.
+    /// Has the session `caller` make `call`, which is answered at once.
     fn call<H: Wait>(&mut self, rt: &H, caller: Caller, call: Call) -> Answer
         requires place { MayAct self.old.sessions caller.place }
         requires counter { ShowsCounter call }
@@ -229,7 +234,7 @@ impl<T: PartTable, B: Board<T>, D: Desk<OwnSession<T, B>>> Stage<T, B, D> {
         make(rt, session, caller.name, call)
     }
 
-    /// Who waits for whom, by the rows of the table in a listing.
+    /// Who waits for whom, by the `rows` of the table in a listing, as the session at `place` finds it; `pen` draws it.
     pub fn picture<H: Wait>(
         &mut self,
         rt: &H,
@@ -244,10 +249,89 @@ impl<T: PartTable, B: Board<T>, D: Desk<OwnSession<T, B>>> Stage<T, B, D> {
         ensures manager { D.manager self.new.desk ≡ D.manager self.old.desk }
     {
         let session = self.sessions.resting.session_mut(place);
-        draw(rt, session, pen, rows)
+        let mut picture = draw(rt, session, pen, rows)?;
+        self.add_holds(&mut picture)?;
+        Ok(picture)
     }
 
-    /// The number of the session that stands there.
+    /// Adds to `picture` what each session holds of the objects that are awaited on it. Refused where there is no memory for it.
+    fn add_holds(&self, picture: &mut Picture) -> Result<(), Refusal> {
+        match self.add_all_holds(picture) {
+            Ok(()) => Ok(()),
+            Err(_) => Err(Refusal::NoMemory),
+        }
+    }
+
+    /// Adds to `picture` what `add_holds` does. The error is being out of memory.
+    fn add_all_holds(&self, picture: &mut Picture) -> Result<(), AllocError> {
+        for place in 0..self.sessions.resting.len() {
+            let session = &self.sessions.resting.at(place).session;
+            for queue in 0..picture.queues() {
+                if let Some(tag) = picture.queue_at(queue) {
+                    picture.add_hold(session.id(), tag, session.held(tag))?;
+                }
+            }
+        }
+        for place in 0..self.sessions.waiting.len() {
+            let waiting = &self.sessions.waiting.at(place).session;
+            for queue in 0..picture.queues() {
+                if let Some(tag) = picture.queue_at(queue) {
+                    picture.add_hold(waiting.id(), tag, waiting.held(tag))?;
+                }
+            }
+        }
+        Ok(())
+    }
+
+    /// The wait of the session at `place` of those that wait, with who is in its way, as it says itself. Refused where
+    /// there is no memory for the list.
+    pub fn blocked<H: Wait>(&mut self, rt: &H, place: usize) -> Result<Blocked, Refusal>
+        requires { place < length self.old.sessions.waiting }
+        ensures told { IfOk result (TellsBlockedAt B.seat B.view B.stack self.old.sessions self.new.sessions place) }
+        ensures as_many { length self.new.sessions.waiting ≡ length self.old.sessions.waiting }
+        ensures names { self.new.names ≡ self.old.names }
+        ensures manager { D.manager self.new.desk ≡ D.manager self.old.desk }
+    {
+        let waiting = self.sessions.waiting.session_mut(place);
+        tell_blocked(rt, waiting)
+    }
+
+    /// The queue in which the session at `place` of those that wait stands, as it says itself. Refused where there is no memory for the
+    /// list.
+    fn queue_at<H: Wait>(&mut self, rt: &H, place: usize) -> Result<Vec<QueueRow>, Refusal>
+        requires { place < length self.old.sessions.waiting }
+        ensures as_many { length self.new.sessions.waiting ≡ length self.old.sessions.waiting }
+        ensures names { self.new.names ≡ self.old.names }
+        ensures manager { D.manager self.new.desk ≡ D.manager self.old.desk }
+    {
+        let waiting = self.sessions.waiting.session_mut(place);
+        waiting.queue(rt)
+    }
+
+    /// Who waits for whom, as the sessions say themselves that wait; `pen` draws it. Refused where there is no memory for
+    /// it.
+    pub fn last_picture<H: Wait>(&mut self, rt: &H, pen: Pen) -> Result<Picture, Refusal>
+        ensures names { self.new.names ≡ self.old.names }
+        ensures manager { D.manager self.new.desk ≡ D.manager self.old.desk }
+    {
+        let mut picture = Picture::new(pen);
+        'waits: for place in 0..self.sessions.waiting.len() {
+            let blocked = self.blocked(rt, place)?;
+            if picture.add_blocked(&blocked).is_err() {
+                return Err(Refusal::NoMemory);
+            }
+            if !picture.has_queue(blocked.tag) {
+                let queue = self.queue_at(rt, place)?;
+                if picture.add_queue(blocked.tag, queue.as_slice()).is_err() {
+                    return Err(Refusal::NoMemory);
+                }
+            }
+        }
+        self.add_holds(&mut picture)?;
+        Ok(picture)
+    }
+
+    /// The number of the session that stands at `place`.
     fn number_at(&self, place: Place) -> SessionId
         requires { IsThere self.now.sessions place }
         ensures { IsNumberAt B.seat self.now.sessions place result }
@@ -258,7 +342,7 @@ impl<T: PartTable, B: Board<T>, D: Desk<OwnSession<T, B>>> Stage<T, B, D> {
         }
     }
 
-    /// Polls the wait of the session at this place of those that wait, and carries a cancel out that was asked. Answers
+    /// Polls the wait of the session at `place` of those that wait, and carries a cancel out that was asked. Answers
     /// what the session is told, if it goes on.
     pub fn poll<H: Wait>(&mut self, rt: &H, place: usize) -> Option<(Name, Said)>
         requires { place < length self.old.sessions.waiting }

@@ -1,13 +1,13 @@
 //! The answers of a script as text.
 ghost use Rattle.std.specs.Prelude.{◌≡◌, Some};
-ghost use Rattle.scenario.specs.Texts.{how_text as text_of_how, in_the_way_text as text_in_the_way, name_in, object_text, plain_text as text_of_plain, refusal_text as text_of_refusal, refused_text, row_text, said_text, standing_text as text_of_standing, hash_text};
+ghost use Rattle.scenario.specs.Texts.{how_text as text_of_how, name_in, object_text, plain_text as text_of_plain, refusal_text as text_of_refusal, refused_text, row_text, said_text, standing_text as text_of_standing, hash_text};
 
 use crate::answers::{Row, Said};
-use lock_manager::{Acquired, How, InTheWay, Refusal, SessionId, SlotRow, TableRow, Tag, Unlocked};
+use lock_manager::{Acquired, How, Refusal, SessionId, SlotRow, TableRow, Tag, Unlocked};
 use lock_script::{Name, NamedObject, Names};
 use std::fmt;
 
-/// What a conflicting session does with the mode.
+/// What a session in the way does with its mode, by `how`.
 pub fn how_text(how: How) -> &'static str
     ensures { result.now ≡ text_of_how how }
 {
@@ -17,24 +17,14 @@ pub fn how_text(how: How) -> &'static str
     }
 }
 
-/// How a session stands in the way of one that waits, by its mode.
-pub fn in_the_way_text(how: InTheWay) -> &'static str
-    ensures { result.now ≡ text_in_the_way how }
-{
-    match how {
-        InTheWay::Holds => "held",
-        InTheWay::StandsBefore => "awaited",
-    }
-}
-
-/// Whether the session of a row has the lock, or awaits it.
+/// Whether the session of a row has the lock, by `granted`, or awaits it.
 fn standing_text(granted: bool) -> &'static str
     ensures { result.now ≡ text_of_standing granted }
 {
     if granted { "granted" } else { "awaited" }
 }
 
-/// The text of a refusal, before what it names.
+/// The text of `refusal`, before what it names.
 pub fn refusal_text(refusal: Refusal) -> &'static str
     ensures { result.now ≡ text_of_refusal refusal }
 {
@@ -57,14 +47,14 @@ pub fn refusal_text(refusal: Refusal) -> &'static str
     }
 }
 
-/// The name of a session that a row or a refusal tells of. All of them were opened under a name.
+/// The name of `session`, one that a row or a refusal tells of, among `names`. All of them were opened under a name.
 pub fn name_of(names: &Names, session: SessionId) -> Name
     ensures { result.bytes ≡ name_in names.now session }
 {
     names.sessions.name(session).unwrap_or(Name::new())
 }
 
-/// What a session is told in words alone, or none where that has more to it.
+/// What a session is told in words alone by `said`, or none where that has more to it.
 pub fn plain_text(said: Said) -> &'static str
     ensures { result.now ≡ text_of_plain said }
 {
@@ -83,6 +73,7 @@ pub fn plain_text(said: Said) -> &'static str
         Said::Closed => "closed",
         Said::Opened { .. }
         | Said::Asked(_)
+        | Said::UnlockedAll(_)
         | Said::Level(_)
         | Said::Owned { .. }
         | Said::NotOwned(_)
@@ -107,6 +98,7 @@ impl fmt::Display for SaidText<'_> {
                 write!(f, "session {number} database {database}")
             }
             Said::Asked(other) => write!(f, "asked {other}"),
+            Said::UnlockedAll(released) => write!(f, "released {released}"),
             Said::Level(level) => write!(f, "level {level}"),
             Said::Owned {
                 of_transaction,
@@ -210,7 +202,7 @@ impl fmt::Display for RowText<'_> {
             Row::InTheWay(name, blocker) => {
                 let who = name_of(names, blocker.session);
                 let mode = blocker.mode;
-                let how = in_the_way_text(blocker.how);
+                let how = how_text(blocker.how);
                 write!(f, "{name} waits for {who} {mode} {how}")
             }
             Row::NotWaiting(name) => write!(f, "{name} isn't waiting"),

@@ -2,7 +2,7 @@
 use crate::rows::{BadRow, Row};
 
 /// What an advisory lock outlives, where it stands, and with what it conflicts.
-pub static ADVISORY: [Row<'static>; 6] = [
+pub static ADVISORY: [Row<'static>; 7] = [
     // what the session owns of advisory locks survives an abort, and nothing else does
     (
         1,
@@ -52,6 +52,19 @@ pub static ADVISORY: [Row<'static>; 6] = [
         try b adv/5/7/42/2 ExclusiveLock\n",
         "b: session 1 database 5\na: granted\nb: granted\n\
         b: refused 1 conflict a ShareLock held\nb: granted\na: aborted\nb: granted\n",
+        "",
+    ),
+    // what the session owns of them goes at once, however often it has it, and nothing else does
+    (
+        1,
+        "session b 5\ntry a adv/5/0/42/1 ExclusiveLock session\n\
+        try a adv/5/0/42/1 ExclusiveLock session\ntry a adv/5/0/43/1 ShareLock session\n\
+        try a adv/5/0/43/1 ShareLock\ntry a 5/16384 AccessShareLock session\n\
+        lock b adv/5/0/42/1 ExclusiveLock\nunlock_all a\nlist a\nunlock_all b\n",
+        "b: session 1 database 5\na: granted\na: already held\na: granted\na: already held\n\
+        a: granted\nb: waits\na: released 1\nb: granted after waiting\n\
+        fast a 15 5/16384 AccessShareLock\ntable b adv/5/0/42/1 ExclusiveLock granted\n\
+        table a adv/5/0/43/1 ShareLock granted\nrows 3\nb: released 0\n",
         "",
     ),
 ];

@@ -17,7 +17,7 @@ fn has_the_lines_of_the_page_on_the_language(rt: HostRuntime) -> Result<(), Fail
     Ok(())
 }
 
-/// The name of a word in a form, by its kind.
+/// Whether `name` is how a form calls a word of `kind`.
 fn is_name_of(kind: WordKind, name: &str) -> bool {
     match kind {
         WordKind::FreeName => name == "NAME",

@@ -1,9 +1,9 @@
 //! Hammers: what they print, gates that show in which threads the workers run, and the line that tells how far they
 //! are.
 use crate::pipes::Pipe;
+use lock_hammer::{Gate, Hammer, OpenGate, Progress, ProgressLine, run_hammer, run_watched_hammer};
 use lock_manager::MOST_SESSIONS;
 use lock_script::Fault;
-use scenario::{Gate, Hammer, OpenGate, Progress, ProgressLine, run_hammer, run_watched_hammer};
 use std::alloc::Global;
 use std::io::{self, ErrorKind};
 use std::process::Abort;
@@ -33,7 +33,7 @@ impl MeetingGate {
         }
     }
 
-    /// How often this worker has asked. Of those that aren't counted it is never.
+    /// How often `worker` has asked. Of those that aren't counted it is never.
     fn times(&self, worker: usize) -> u64 {
         if worker < WORKERS {
             self.asked[worker].load(Ordering::SeqCst)
@@ -42,7 +42,7 @@ impl MeetingGate {
         }
     }
 
-    /// Whether this worker comes within so many turns.
+    /// Whether `worker` comes within its turns.
     fn comes(&self, worker: usize) -> bool {
         'turns: for _ in 0..TURNS {
             if self.times(worker) != 0 {
@@ -76,8 +76,8 @@ impl Gate for GateShutFor {
     }
 }
 
-/// Runs a hammer, and checks what it prints and the fault that ends it, both as text. Its numbers are put in their
-/// ranges, where they aren't.
+/// Runs a hammer of `sessions` and `rounds` in the threads of `gate`, and checks that it prints `printed` and that
+/// `fault` ends it, both as text. Numbers out of their ranges are put in these.
 fn expect_hammer<G: Gate + Sync>(
     rt: &(impl Abort + AllocGlobal + Threads + Wait + Sync),
     gate: &G,
@@ -253,7 +253,7 @@ static LINES: [(u32, u64, &str); 4] = [
     (500, 1, ""),
 ];
 
-/// Runs a hammer of one session with a line that this clock times, and checks what it says.
+/// Runs a hammer of one session with a line that the clock of `row` times, and checks what it says.
 fn expect_line(rt: &(impl Abort + AllocGlobal + Threads + Wait + Sync), row: (u32, u64, &str)) {
     let (rounds, most, said) = row;
     let alloc: Global = rt.alloc();

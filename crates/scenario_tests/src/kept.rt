@@ -1,6 +1,7 @@
 //! Runs in which lines wait with their sessions, and runs that fail by their own words.
 use crate::printed::printed;
-use crate::programs::{Run, expect_program, words_of};
+use crate::program_runs::Run;
+use crate::programs::{expect_program, words_of};
 use std::test::Fail;
 
 const KEEP: &str = "lock_scenario run --keep";

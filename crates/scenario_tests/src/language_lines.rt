@@ -1,13 +1,14 @@
 //! The lines of scripts as docs/LANGUAGE.md lists them (`.ci/scenarios` writes them here).
 
 /// All of them.
-pub static LINES: [&str; 20] = [
+pub static LINES: [&str; 21] = [
     "session NAME DB",
     "name OBJECT TAG",
     "try NAME TAG MODE OWNER",
     "fast NAME TAG MODE OWNER",
     "lock NAME TAG MODE OWNER",
     "unlock NAME TAG MODE OWNER",
+    "unlock_all NAME",
     "commit NAME",
     "abort NAME",
     "begin NAME",

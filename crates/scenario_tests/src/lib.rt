@@ -12,6 +12,8 @@ mod groups;
 #[cfg(test)]
 mod hammers;
 #[cfg(test)]
+mod help_texts;
+#[cfg(test)]
 mod inputs;
 #[cfg(test)]
 mod kept;
@@ -26,9 +28,13 @@ mod nested;
 #[cfg(test)]
 mod orders;
 #[cfg(test)]
+mod orders_texts;
+#[cfg(test)]
 mod pipes;
 #[cfg(test)]
 mod printed;
+#[cfg(test)]
+mod program_runs;
 #[cfg(test)]
 mod programs;
 #[cfg(test)]
@@ -44,9 +50,17 @@ mod scripts;
 #[cfg(test)]
 mod shells;
 #[cfg(test)]
+mod slot_groups;
+#[cfg(test)]
+mod speaking;
+#[cfg(test)]
+mod speaking_stories;
+#[cfg(test)]
 mod streams;
 #[cfg(test)]
 mod styles;
+#[cfg(test)]
+mod summaries;
 #[cfg(test)]
 mod texts;
 #[cfg(test)]

@@ -1,7 +1,7 @@
 //! The man page: it says what the help says.
 use crate::printed::printed;
 use crate::programs::words_of;
-use scenario::{NoRun, parse_arguments};
+use scenario_program::{NoRun, parse_arguments};
 use std::alloc::{AllocError, Global};
 use std::process::Abort;
 use std::test::Fail;
@@ -11,6 +11,7 @@ const HEAD: &str = ".TH LOCK_SCENARIO 1 \"\" \"lock_scenario 0.1.0\" \"User Comm
     lock_scenario \\- Run scripts against PostgreSQL\\(aqs lock manager\n.SH SYNOPSIS\n.nf\n\
     lock_scenario run [OPTIONS] < SCRIPT\n\
     lock_scenario orders [OPTIONS] < SCRIPT\n\
+    lock_scenario sql [OPTIONS] < MIGRATION\n\
     lock_scenario shell [OPTIONS]\n\
     lock_scenario modes\n\
     lock_scenario hammer \\-\\-sessions N \\-\\-rounds K\n\
@@ -33,23 +34,24 @@ const TAIL: &str = ".SH REFUSALS\n.nf\n\
     refused 16 no nested transaction          of subcommit, subabort: there is none\n\
     you don\\(aqt own a lock of type MODE         of unlock, waiters: the lock isn\\(aqt owned\n\
     .fi\n.SH EXIT STATUS\n.nf\n\
-    0  the script, its orders, the shell or the hammer ran to their end, or a text was asked for\n\
+    0  the script, its orders, the SQL, the shell or the hammer ran to their end, or a text was asked for\n\
     1  a fault of input, output or memory\n\
     2  the program\\(aqs own words were refused\n\
-    3  a bad line of a script; what the lines before it printed stays\n\
-    4  what \\-\\-fail\\-on of run names: a wait, a refused call, or somebody left waiting\n.fi\n";
+    3  a bad line of a script, where what the lines before it printed stays; or a bad SQL statement\n\
+    4  what \\-\\-fail\\-on names: of run a wait, a refused call, or somebody left waiting; of sql a statement\n.fi\n";
 
 /// The titles of the sections between them, and the words that ask for their texts.
-static SECTIONS: [(&str, &str); 6] = [
+static SECTIONS: [(&str, &str); 7] = [
     ("DESCRIPTION", "lock_scenario --help"),
     ("LOCK_SCENARIO RUN", "lock_scenario run --help"),
     ("LOCK_SCENARIO ORDERS", "lock_scenario orders --help"),
+    ("LOCK_SCENARIO SQL", "lock_scenario sql --help"),
     ("LOCK_SCENARIO SHELL", "lock_scenario shell --help"),
     ("LOCK_SCENARIO MODES", "lock_scenario modes --help"),
     ("LOCK_SCENARIO HAMMER", "lock_scenario hammer --help"),
 ];
 
-/// The text of a help, as `troff` reads it: no line of it begins with a dot.
+/// The help that the words of `line` ask for, as `troff` reads it: no line of it begins with a dot.
 fn help_of(rt: &impl Abort, alloc: Global, line: &str) -> Result<String, Fail> {
     let words = words_of(alloc, line)?;
     match parse_arguments(alloc, words.as_slice()) {
@@ -58,7 +60,7 @@ fn help_of(rt: &impl Abort, alloc: Global, line: &str) -> Result<String, Fail> {
     }
 }
 
-/// A text with its hyphens and apostrophes as `troff` prints them.
+/// The text `text` with its hyphens and apostrophes as `troff` prints them.
 fn escaped(alloc: Global, text: &str) -> Result<String, AllocError> {
     text.replace(alloc, "-", "\\-")?
         .as_str()

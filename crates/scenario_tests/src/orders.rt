@@ -1,284 +1,18 @@
 //! Every order of a script: a story whose table of outcomes is known, and a plain enumeration beside the program's.
+use crate::orders_texts::{
+    ALL_RUN, CLOSED, CLOSED_LATER, DRAWN, GUARDED, GUARDED_LOCKED, LOOKED, LOOKED_AT,
+    LOOKED_AT_ENDS, TWO_TABLES, TWO_TABLES_LOCKED, UPGRADE, UPGRADED,
+};
 use crate::printed::printed;
-use crate::programs::{Run, expect_program, words_of};
+use crate::program_runs::Run;
+use crate::programs::{expect_program, words_of};
 use std::alloc::Global;
 use std::process::Abort;
+use std::rt::Files;
 use std::sync::Wait;
 use std::test::Fail;
 use std::thread::Threads;
 use std::time::Clock;
-
-/// Two sessions share an object and then want it for themselves.
-const UPGRADE: &str = "# Whoever comes first.\n\
-    session a 5\nsession b 5\n\
-    lock a 5/1259/16384/0 ShareLock\nlock a 5/1259/16384/0 ExclusiveLock\ncommit a\n\
-    lock b 5/1259/16384/0 ShareLock\n\nlock b 5/1259/16384/0 ExclusiveLock\ncommit b\n";
-
-/// In eight orders every line comes to a session that doesn't wait. Four of these end in a simple deadlock.
-const UPGRADED: &str = "\
-# 8 orders run, of at most 20: 8 ended, 0 stuck
-
-# way 1: 2 orders
-#   a: granted; granted; committed
-#   b: granted; granted; committed
-session a 5
-session b 5
-lock a 5/1259/16384/0 ShareLock
-lock a 5/1259/16384/0 ExclusiveLock
-commit a
-lock b 5/1259/16384/0 ShareLock
-lock b 5/1259/16384/0 ExclusiveLock
-commit b
-
-# way 2: 1 order
-#   a: granted; granted; committed
-#   b: waits; granted after waiting; granted; committed
-session a 5
-session b 5
-lock a 5/1259/16384/0 ShareLock
-lock a 5/1259/16384/0 ExclusiveLock
-lock b 5/1259/16384/0 ShareLock
-commit a
-lock b 5/1259/16384/0 ExclusiveLock
-commit b
-
-# way 3: 2 orders
-#   a: granted; waits; granted after waiting; committed
-#   b: granted; refused 5 simple deadlock a; committed
-session a 5
-session b 5
-lock a 5/1259/16384/0 ShareLock
-lock b 5/1259/16384/0 ShareLock
-lock a 5/1259/16384/0 ExclusiveLock
-lock b 5/1259/16384/0 ExclusiveLock
-commit b
-commit a
-
-# way 4: 2 orders
-#   a: granted; refused 5 simple deadlock b; committed
-#   b: granted; waits; granted after waiting; committed
-session a 5
-session b 5
-lock a 5/1259/16384/0 ShareLock
-lock b 5/1259/16384/0 ShareLock
-lock b 5/1259/16384/0 ExclusiveLock
-lock a 5/1259/16384/0 ExclusiveLock
-commit a
-commit b
-
-# way 5: 1 order
-#   a: waits; granted after waiting; granted; committed
-#   b: granted; granted; committed
-session a 5
-session b 5
-lock b 5/1259/16384/0 ShareLock
-lock b 5/1259/16384/0 ExclusiveLock
-lock a 5/1259/16384/0 ShareLock
-commit b
-lock a 5/1259/16384/0 ExclusiveLock
-commit a
-
-# all were run, but for those that differ from one of these only in neighbouring
-# lines of different sessions that have nothing to do with one another
-";
-
-/// Two sessions lock two tables, each in its own order.
-const TWO_TABLES: &str = "session a 5\nsession b 5\n\
-    lock a 5/1 AccessExclusiveLock\nlock a 5/2 AccessExclusiveLock\ncommit a\n\
-    lock b 5/2 AccessExclusiveLock\nlock b 5/1 AccessExclusiveLock\ncommit b\n";
-
-/// Each may have its first table, and then both wait: which of the two comes first to its first table is nothing to the
-/// other, and who comes first to wait is. Where one has both tables, the other waits or comes later; it comes later in two
-/// orders, since both have to do with both tables.
-const TWO_TABLES_LOCKED: &str = "\
-# 6 orders run, of at most 20: 4 ended, 2 stuck
-
-# way 1: 2 orders
-#   a: granted; granted; committed
-#   b: granted; granted; committed
-session a 5
-session b 5
-lock a 5/1 AccessExclusiveLock
-lock a 5/2 AccessExclusiveLock
-commit a
-lock b 5/2 AccessExclusiveLock
-lock b 5/1 AccessExclusiveLock
-commit b
-
-# way 2: 1 order
-#   a: granted; granted; committed
-#   b: waits; granted after waiting; granted; committed
-session a 5
-session b 5
-lock a 5/1 AccessExclusiveLock
-lock a 5/2 AccessExclusiveLock
-lock b 5/2 AccessExclusiveLock
-commit a
-lock b 5/1 AccessExclusiveLock
-commit b
-
-# way 3: 1 order
-#   a: waits; granted after waiting; granted; committed
-#   b: granted; granted; committed
-session a 5
-session b 5
-lock b 5/2 AccessExclusiveLock
-lock b 5/1 AccessExclusiveLock
-lock a 5/1 AccessExclusiveLock
-commit b
-lock a 5/2 AccessExclusiveLock
-commit a
-
-# way 4: 2 orders, stuck
-#   a: granted; waits
-#   b: granted; waits
-#   left waiting: a, b
-#   not reached: commit a; commit b
-session a 5
-session b 5
-lock a 5/1 AccessExclusiveLock
-lock b 5/2 AccessExclusiveLock
-lock a 5/2 AccessExclusiveLock
-lock b 5/1 AccessExclusiveLock
-
-# all were run, but for those that differ from one of these only in neighbouring
-# lines of different sessions that have nothing to do with one another
-";
-
-/// A session looks at the queue in which another one comes to wait.
-const LOOKED: &str = "session a 5\nsession b 5\n\
-    lock a 5/1 ShareLock\n  queue a\t5/1 \nlock b 5/1 ExclusiveLock\n";
-
-/// What it sees makes two ways. In the third one it waits for a session that has no line left.
-const LOOKED_AT: &str = "\
-# 3 orders run, of at most 3: 2 ended, 1 stuck
-
-# way 1: 1 order
-#   a: granted; waits 0
-#   b: waits
-#   left waiting: b
-session a 5
-session b 5
-lock a 5/1 ShareLock
-  queue a\t5/1\x20
-lock b 5/1 ExclusiveLock
-
-# way 2: 1 order
-#   a: granted; queue b ExclusiveLock; waits 1
-#   b: waits
-#   left waiting: b
-session a 5
-session b 5
-lock a 5/1 ShareLock
-lock b 5/1 ExclusiveLock
-  queue a\t5/1\x20
-
-# way 3: 1 order, stuck
-#   a: waits
-#   b: granted
-#   left waiting: a
-#   not reached: queue a\t5/1
-session a 5
-session b 5
-lock b 5/1 ExclusiveLock
-lock a 5/1 ShareLock
-
-# all were run, but for those that differ from one of these only in neighbouring
-# lines of different sessions that have nothing to do with one another
-";
-
-/// The ways of the script with a look, with what the look sees left out: then it has nothing to do with the other session.
-const LOOKED_AT_ENDS: &str = "\
-# 2 orders run, of at most 3: 1 ended, 1 stuck
-
-# way 1: 1 order
-#   a: granted
-#   b: waits
-#   left waiting: b
-session a 5
-session b 5
-lock a 5/1 ShareLock
-  queue a\t5/1\x20
-lock b 5/1 ExclusiveLock
-
-# way 2: 1 order, stuck
-#   a: waits
-#   b: granted
-#   left waiting: a
-#   not reached: queue a\t5/1
-session a 5
-session b 5
-lock b 5/1 ExclusiveLock
-lock a 5/1 ShareLock
-
-# all were run, but for those that differ from one of these only in neighbouring
-# lines of different sessions that have nothing to do with one another
-";
-
-/// A session is asked to stop waiting, which it never does, before it is closed. Behind that nobody can ask it.
-const CLOSED: &str = "session a 5\nsession b 5\ncancel a b\nclose b\n";
-
-const CLOSED_LATER: &str = "\
-# 2 orders run, of at most 2: 1 ended, 1 stuck
-
-# way 1: 1 order
-#   a: b isn't waiting
-#   b: closed
-session a 5
-session b 5
-cancel a b
-close b
-
-# way 2: 1 order, stuck
-#   a: nothing
-#   b: closed
-#   not reached: cancel a b
-session a 5
-session b 5
-close b
-
-# all were run, but for those that differ from one of these only in neighbouring
-# lines of different sessions that have nothing to do with one another
-";
-
-/// What is said where all were run.
-const ALL_RUN: &str = "
-# all were run, but for those that differ from one of these only in neighbouring
-# lines of different sessions that have nothing to do with one another
-";
-
-/// What is said where half of a hundred were drawn.
-const DRAWN: &str = "
-# not all were run: 50 of the first ones, and 50 drawn by seed 0
-# --limit runs more, --seed draws others
-";
-
-/// Thirteen lines, which have 60,060 orders. In all that begin with a's first line, and these are the first 13,860, b
-/// waits for a, which never ends, and so never stands in c's way.
-const GUARDED: &str = "\
-session a 5
-session b 5
-session c 5
-lock a 5/1 AccessShareLock
-lock a 5/4 RowExclusiveLock
-lock a 5/5 RowExclusiveLock
-lock b 5/1 AccessExclusiveLock
-lock b 5/2 AccessExclusiveLock
-lock b 5/3 AccessExclusiveLock
-commit b
-lock c 5/6 RowExclusiveLock
-lock c 5/7 RowExclusiveLock
-lock c 5/3 AccessExclusiveLock
-lock c 5/8 RowExclusiveLock
-lock c 5/2 AccessExclusiveLock
-commit c
-";
-
-/// The deadlock of b and c.
-const GUARDED_LOCKED: &str = "
-#   b: granted; granted; waits
-#   c: granted; granted; granted; granted; waits
-#   left waiting: ";
 
 /// Words, and a run of the program on them.
 static RUNS: [(&str, Run<'static>); 18] = [
@@ -491,8 +225,8 @@ static TALES: [Tale; 3] = [
     ),
 ];
 
-/// The lines in the order that the digits of this number say, one of which says whose line comes next. There is
-/// none where a digit names a session whose lines are all taken.
+/// The `lines` lines of `tale` in the order that the digits of `code` say, one of which says whose line comes next.
+/// There is none where a digit names a session whose lines are all taken.
 fn script_of(alloc: Global, tale: &Tale, lines: u32, code: u32) -> Result<Option<String>, Fail> {
     let (opening, actors, _) = *tale;
     let many = u32::try_from(actors.len()).unwrap_or(0);
@@ -510,7 +244,7 @@ fn script_of(alloc: Global, tale: &Tale, lines: u32, code: u32) -> Result<Option
     Ok(Some(script))
 }
 
-/// The next line of a session.
+/// The next line of the one of `actors` at `place`, of whose lines `taken` are taken.
 fn next_line(
     actors: &'static [&'static [&'static str]],
     place: usize,
@@ -523,7 +257,7 @@ fn next_line(
     Some(*line)
 }
 
-/// How many orders a story has.
+/// How many orders `tale` has, whose sessions have `lines` lines in all.
 fn count_all(alloc: Global, tale: &Tale, lines: u32) -> Result<u32, Fail> {
     let mut orders = 0u32;
     let codes = u32::try_from(tale.1.len())
@@ -538,7 +272,7 @@ fn count_all(alloc: Global, tale: &Tale, lines: u32) -> Result<u32, Fail> {
     Ok(orders)
 }
 
-/// A story as one script, and how many lines its sessions have.
+/// The story `tale` as one script, and how many lines its sessions have.
 fn whole(alloc: Global, tale: &Tale) -> Result<(String, u32), Fail> {
     let mut script = String::from_str(alloc, tale.0)?;
     let mut many = 0u32;
@@ -551,9 +285,9 @@ fn whole(alloc: Global, tale: &Tale) -> Result<(String, u32), Fail> {
     Ok((script, many))
 }
 
-/// Checks that the program tells as many orders as the plain enumeration has.
+/// Checks that the program tells as many orders of `tale` as the plain enumeration has.
 fn expect_counts(
-    rt: &(impl Abort + AllocGlobal + Clock + Threads + Wait + Sync),
+    rt: &(impl Abort + AllocGlobal + Clock + Files + Threads + Wait + Sync),
     tale: &Tale,
 ) -> Result<(), Fail> {
     let alloc: Global = rt.alloc();

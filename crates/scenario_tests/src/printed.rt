@@ -1,17 +1,18 @@
 //! What the program prints.
 use crate::programs::words_of;
-use scenario::{Errors, Source, run_program};
+use scenario_program::{Errors, Source, run_program};
 use std::alloc::Global;
 use std::process::Abort;
+use std::rt::Files;
 use std::str;
 use std::sync::Wait;
 use std::test::Fail;
 use std::thread::Threads;
 use std::time::Clock;
 
-/// What it prints on these words and this input, where it ends well and nobody is at a terminal.
+/// What the program prints on the words `line` and the input `script`, where it ends well and nobody is at a terminal.
 pub fn printed(
-    rt: &(impl Abort + AllocGlobal + Clock + Threads + Wait + Sync),
+    rt: &(impl Abort + AllocGlobal + Clock + Files + Threads + Wait + Sync),
     line: &str,
     script: &str,
 ) -> Result<String, Fail> {

@@ -1,9 +1,11 @@
 //! The program's own words, its statuses, and what it writes to its output and its errors.
 use crate::pipes::Pipe;
-use scenario::{Errors, NoRun, Source, Task, parse_arguments, run_program};
+use crate::program_runs::{RUN, RUNS, Run, SHOWN, TYPED, UNREAD};
+use scenario_program::{Errors, NoRun, Source, Task, parse_arguments, run_program};
 use std::alloc::Global;
 use std::io::{self, ErrorKind, Read};
 use std::process::Abort;
+use std::rt::Files;
 use std::sync::Wait;
 use std::test::Fail;
 use std::thread::Threads;
@@ -34,7 +36,7 @@ pub fn words_of(alloc: Global, line: &str) -> Result<Vec<String>, Fail> {
 }
 
 /// Words, and how many sessions and local entries or rounds they ask for, where they aren't refused.
-static WORDS: [(&str, Option<(u32, u32)>); 44] = [
+static WORDS: [(&str, Option<(u32, u32)>); 49] = [
     ("lock_scenario run", Some((8, 1024))),
     ("lock_scenario run --sessions 1", Some((1, 1024))),
     ("lock_scenario run --sessions=64", Some((64, 1024))),
@@ -94,6 +96,14 @@ static WORDS: [(&str, Option<(u32, u32)>); 44] = [
     ("lock_scenario orders --ends more", None),
     ("lock_scenario shell --max-local 3", Some((64, 3))),
     ("lock_scenario shell more", None),
+    (
+        "lock_scenario sql --fail-on writes --single-transaction",
+        Some((0, 0)),
+    ),
+    ("lock_scenario sql --schema schema.sql", Some((0, 0))),
+    ("lock_scenario sql --schema", None),
+    ("lock_scenario sql --fail-on waits", None),
+    ("lock_scenario sql more", None),
 ];
 
 #[test]
@@ -108,8 +118,8 @@ fn reads_its_own_words(rt: HostRuntime) -> Result<(), Fail> {
             Err(NoRun::Refused(_)) => None,
             Ok(Task::Orders(limits, options)) => Some((limits.sessions, options.limit)),
             Ok(Task::Shell(limits)) => Some((limits.sessions, limits.max_local)),
-            // The conflict table and the man page, which have no limits.
-            Ok(Task::Modes) | Ok(Task::Man) => Some((0, 0)),
+            // The conflict table, the man page and SQL, which have no limits.
+            Ok(Task::Modes) | Ok(Task::Man) | Ok(Task::Sql) => Some((0, 0)),
             // A text, and being out of memory: limits that no row has.
             Err(_) => Some((0, 1)),
         };
@@ -118,381 +128,10 @@ fn reads_its_own_words(rt: HostRuntime) -> Result<(), Fail> {
     Ok(())
 }
 
-/// The text of `--help`.
-const HELP: &str = "\
-Run scripts against PostgreSQL's lock manager
-
-Usage: lock_scenario [OPTIONS] <COMMAND>
-
-Commands:
-  run     Run the script on standard input
-  orders  Run the script's lines in every order, and count how it ends
-  shell   Run lines as they are typed, with help
-  modes   Print which lock modes conflict
-  hammer  Lock and unlock in many threads, and count what is left
-  help    Print this message or the help of the given subcommand(s)
-
-Options:
-      --man      Print the man page
-  -h, --help     Print help
-  -V, --version  Print version
-
-Lines of a script begin with:
-  session, name, try, fast, lock, unlock, commit, abort, begin, subcommit,
-  subabort, owned, waiters, queue, blockers, cancel, list, count, hash, close
-
-Example:
-  lock_scenario run --sessions 2 < scenarios/object_lock.scn
-";
-
-/// The text of `run --help`.
-const RUN_HELP: &str = "\
-Run the script on standard input
-
-Usage: lock_scenario run [OPTIONS] < SCRIPT
-
-Options:
-      --sessions <N>      Sessions that may be opened, 1 to 64 [default: 8]
-      --max-local <M>     Different locks of a session, 1 to 65536 [default: 1024]
-      --slot-groups <G>   Groups of 16 fast-path slots, 1 to 8 [default: 1]
-      --echo              Print each line of the script before its answers
-      --json              Print an object of JSON for each line, instead of its text
-      --graph <LANGUAGE>  Draw who waits for whom, behind each list, or the whole script [possible values: mermaid, dot, timeline, gantt]
-      --keep              Keep a line whose session waits, and run it once that goes on
-      --fail-on <WHAT>    End with status 4 on these, with commas between [possible values: waits, refused, stuck]
-  -h, --help              Print help
-
-Lines of a script, after lock_scenario run < FILE:
-  session NAME DB                 open a session of a database
-  name OBJECT TAG                 give an object a name, which stands for its tag
-  try NAME TAG MODE [session]     take a lock, if nothing is in the way
-  fast NAME TAG MODE [session]    take a lock by a fast-path slot, or not at all
-  lock NAME TAG MODE [session]    take a lock, and wait for it if need be
-  unlock NAME TAG MODE [session]  give one count of a lock back
-  commit NAME                     drop what the transaction owns
-  abort NAME                      drop what the transaction and the session own,
-                                  but for the session's advisory locks
-  begin NAME                      begin a level of the transaction, a savepoint
-  subcommit NAME                  end it; what it owns goes to the level outside
-  subabort NAME                   end it, and drop what it owns
-  owned NAME TAG MODE             say how often each of the two owns a lock: the
-                                  transaction's innermost level, and the session
-  waiters NAME TAG MODE           say whether somebody awaits a conflicting mode
-  queue NAME TAG                  list who waits for an object, in order
-  blockers NAME OTHER TAG         list who is in the way of one that waits
-  cancel BY NAME                  ask a session to stop waiting
-  list NAME                       list all locks
-  count NAME INDEX                say what a strong lock counter shows
-  hash TAG                        say a tag's hash, partition and counter
-  close NAME                      close a session
-  # TEXT                          a comment
-
-NAME is 1 to 16 of a to z, 0 to 9 and _. DB is a number to 4294967295, INDEX one
-  to 1023.
-OBJECT is a letter or _, and up to 62 letters, digits, _, $ and . behind it.
-TAG is DB/REL for a relation, DB/CLASS/OBJ/SUB for another object, and
-  adv/DB/K1/K2/SUB for an advisory lock, of numbers to 4294967295, SUB to 65535;
-  or the name of an object.
-MODE is AccessShareLock, RowShareLock, RowExclusiveLock,
-  ShareUpdateExclusiveLock, ShareLock, ShareRowExclusiveLock, ExclusiveLock or
-  AccessExclusiveLock.
-A lock is the transaction's, and with the word session at the end of its line
-  the session's.
-
-Status: 0 the script ended, 1 input, output or memory failed, 2 these words were
-  refused, 3 a bad line, 4 what --fail-on names: a session waits, a call is
-  refused, or a session is left waiting.
-
-Examples:
-  lock_scenario run < scenarios/object_lock.scn
-  lock_scenario run --json < scenarios/object_lock.scn | jq .
-  lock_scenario run --graph dot < FILE | sed -n '/^digraph/,/^}/p' | dot -Tsvg
-  lock_scenario run --json --graph dot < FILE |
-    jq -r 'select(.graph).text' | dot -Tsvg
-  lock_scenario run --keep --fail-on refused,stuck < FILE
-";
-
-/// The text of `modes --help`.
-const MODES_HELP: &str = "\
-Print which lock modes conflict
-
-Usage: lock_scenario modes
-
-Options:
-  -h, --help  Print help
-
-Each line has a mode's number, its name, and the modes that it conflicts with: a
-hexadecimal number, whose bit 1 << NUMBER stands for the mode of that number.
-
-Example:
-  lock_scenario modes
-";
-
-/// What `modes` prints.
-const MODES: &str = "\
-1 AccessShareLock 100
-2 RowShareLock 180
-3 RowExclusiveLock 1e0
-4 ShareUpdateExclusiveLock 1f0
-5 ShareLock 1d8
-6 ShareRowExclusiveLock 1f8
-7 ExclusiveLock 1fc
-8 AccessExclusiveLock 1fe
-";
-
-/// The text of `hammer --help`.
-const HAMMER_HELP: &str = "\
-Lock and unlock in many threads, and count what is left
-
-Usage: lock_scenario hammer --sessions <N> --rounds <K>
-
-Options:
-      --sessions <N>  Sessions, each in a thread of its own, 1 to 64
-      --rounds <K>    Locks that each asks for, 1 to 1000000
-  -h, --help          Print help
-
-Each session locks and unlocks relations 5/16384 to 5/16387 in every mode, in a
-thread of its own. Then each takes AccessShareLock on 5/16384, and the first one
-ShareLock on 5/16385. Two lines tell what stands in fast-path slots and in the
-table, and the sum of the strong lock counters: by an audit then, and when all
-sessions are closed.
-
-Example:
-  lock_scenario hammer --sessions 4 --rounds 1000
-";
-
-/// What the errors take where the script is typed.
-const INVITATION: &str =
-    "reading a script from the terminal, to its end (Ctrl-D); run --help shows its lines\n";
-
-/// A script, and whether reading it fails at its end; the status of the program on it, and what it writes to its
-/// output and to its errors.
-pub type Run<'a> = (&'a str, bool, u8, &'a str, &'a str);
-
-const RUN: &str = "lock_scenario run";
-
-const OPENED: &str = "a: session 0 database 5\n";
-
-/// Words with a run of the program on them.
-static RUNS: [(&str, Run<'static>); 18] = [
-    ("lock_scenario modes", ("frob", false, 0, MODES, "")),
-    ("lock_scenario modes --help", ("", false, 0, MODES_HELP, "")),
-    (RUN, ("session a 5\n", false, 0, OPENED, "")),
-    (
-        "lock_scenario run --sessions 1 --max-local 2",
-        (
-            "session a 5\nsession b 5\n",
-            false,
-            0,
-            "a: session 0 database 5\nb: refused 12 no more sessions\n",
-            "",
-        ),
-    ),
-    (
-        RUN,
-        (
-            "session a 5\nfrob\n",
-            false,
-            3,
-            OPENED,
-            "line 2: unknown command \"frob\"; lock_scenario run --help lists the commands\n",
-        ),
-    ),
-    (RUN, ("session a 5\nses", true, 1, OPENED, "read failed\n")),
-    (
-        "lock_scenario --help",
-        ("session a 5\n", false, 0, HELP, ""),
-    ),
-    (
-        "lock_scenario run --help",
-        ("session a 5\n", false, 0, RUN_HELP, ""),
-    ),
-    (
-        "lock_scenario --version",
-        ("frob", false, 0, "lock_scenario 0.1.0\n", ""),
-    ),
-    (
-        "lock_scenario -V",
-        ("", false, 0, "lock_scenario 0.1.0\n", ""),
-    ),
-    (
-        "lock_scenario run --sessions 65",
-        (
-            "session a 5\n",
-            false,
-            2,
-            "",
-            "error: invalid value '65' for '--sessions <N>': 65 is not in 1..=64\n\n\
-             For more information, try '--help'.\n",
-        ),
-    ),
-    (
-        "lock_scenario run --slot-groups 2",
-        (
-            "session a 5\ntry a 5/16384 AccessShareLock\ntry a 5/16385 AccessShareLock\nlist a\n",
-            false,
-            0,
-            "a: session 0 database 5\na: granted\na: granted\n\
-             fast a 15 5/16384 AccessShareLock\nfast a 31 5/16385 AccessShareLock\nrows 2\n",
-            "",
-        ),
-    ),
-    (
-        "lock_scenario run --slot-groups 0",
-        (
-            "session a 5\n",
-            false,
-            2,
-            "",
-            "error: invalid value '0' for '--slot-groups <G>': 0 is not in 1..=8\n\n\
-             For more information, try '--help'.\n",
-        ),
-    ),
-    (
-        "lock_scenario run --slot-groups 9",
-        (
-            "session a 5\n",
-            false,
-            2,
-            "",
-            "error: invalid value '9' for '--slot-groups <G>': 9 is not in 1..=8\n\n\
-             For more information, try '--help'.\n",
-        ),
-    ),
-    (
-        "lock_scenario storm",
-        (
-            "",
-            false,
-            2,
-            "",
-            "error: unrecognized subcommand 'storm'\n\nUsage: lock_scenario [OPTIONS] <COMMAND>\n\n\
-             For more information, try '--help'.\n",
-        ),
-    ),
-    (
-        "lock_scenario hammer --help",
-        ("", false, 0, HAMMER_HELP, ""),
-    ),
-    (
-        "lock_scenario hammer --sessions 4 --rounds 1000",
-        (
-            "frob",
-            false,
-            0,
-            "audit fast 4 table 1 strong 1\nfinal fast 0 table 0 strong 0\n",
-            "",
-        ),
-    ),
-    (
-        "lock_scenario hammer --sessions 1 --rounds 1",
-        (
-            "",
-            false,
-            0,
-            "audit fast 1 table 1 strong 1\nfinal fast 0 table 0 strong 0\n",
-            "",
-        ),
-    ),
-];
-
-/// Words that say what a run shows, with a run of the program on them.
-static SHOWN: [(&str, Run<'static>); 4] = [
-    (
-        "lock_scenario run --echo",
-        (
-            "session a 5\nfrob",
-            false,
-            3,
-            "> session a 5\na: session 0 database 5\n> frob\n",
-            "line 2: unknown command \"frob\"; lock_scenario run --help lists the commands\n",
-        ),
-    ),
-    (
-        "lock_scenario run --json --graph=dot --echo",
-        (
-            "session a 5\n",
-            false,
-            0,
-            "{\"echo\":\"session a 5\",\"line\":1}\n\
-             {\"answer\":\"opened\",\"database\":5,\"line\":1,\"number\":0,\"session\":\"a\"}\n",
-            "",
-        ),
-    ),
-    (
-        "lock_scenario run --graph gantt --echo",
-        (
-            "session a 5\nlock a 5/1 ShareLock\n",
-            false,
-            0,
-            "gantt\n  dateFormat X\n  axisFormat %s\n  section a\n  5/1 ShareLock :done, 2, 3\n",
-            "",
-        ),
-    ),
-    (
-        "lock_scenario run --graph svg",
-        (
-            "session a 5\n",
-            false,
-            2,
-            "",
-            "error: invalid value 'svg' for '--graph <LANGUAGE>'\n  [possible values: mermaid, dot, timeline, gantt]\n\n\
-             For more information, try '--help'.\n",
-        ),
-    ),
-];
-
-/// Why words can't be read, with a run of the program then.
-static UNREAD: [(ErrorKind, Run<'static>); 2] = [
-    (
-        ErrorKind::InvalidData,
-        (
-            "session a 5\n",
-            false,
-            2,
-            "",
-            "error: invalid UTF-8 was detected in one or more arguments\n",
-        ),
-    ),
-    (
-        ErrorKind::OutOfMemory,
-        ("session a 5\n", false, 1, "", "no memory\n"),
-    ),
-];
-
-/// Words with a run of the program on them, where the script is typed and the errors are read at a terminal.
-static TYPED: [(&str, Run<'static>); 4] = [
-    // A hammer that is over before its line's time has come.
-    (
-        "lock_scenario hammer --sessions 1 --rounds 1",
-        (
-            "",
-            false,
-            0,
-            "audit fast 1 table 1 strong 1\nfinal fast 0 table 0 strong 0\n",
-            "",
-        ),
-    ),
-    (RUN, ("session a 5\n", false, 0, OPENED, INVITATION)),
-    (
-        RUN,
-        (
-            "",
-            true,
-            1,
-            "",
-            "reading a script from the terminal, to its end (Ctrl-D); run --help shows its lines\nread failed\n",
-        ),
-    ),
-    (
-        "lock_scenario --version",
-        ("", false, 0, "lock_scenario 0.1.0\n", ""),
-    ),
-];
-
-/// Runs the program on these words, and checks its status and both its texts.
+/// Runs the program on `words`, at a terminal where `is_terminal` is true, and checks its status and both its texts by
+/// `run`.
 pub fn expect_program(
-    rt: &(impl Abort + AllocGlobal + Clock + Threads + Wait + Sync),
+    rt: &(impl Abort + AllocGlobal + Clock + Files + Threads + Wait + Sync),
     words: io::Result<Vec<String>>,
     is_terminal: bool,
     run: Run<'_>,
@@ -574,9 +213,10 @@ static CLOSED: [Closed; 13] = [
     ("lock_scenario run --sessions 65", "", 1000, true, 2, 0),
 ];
 
-/// Runs the program with these writers, and checks its status, and that it writes what the errors take.
+/// Runs the program on `words` with the writers of `run`, and checks its status, and that it writes what the errors
+/// take.
 fn expect_closed(
-    rt: &(impl Abort + AllocGlobal + Clock + Threads + Wait + Sync),
+    rt: &(impl Abort + AllocGlobal + Clock + Files + Threads + Wait + Sync),
     words: Vec<String>,
     run: Closed,
 ) {

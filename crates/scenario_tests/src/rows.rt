@@ -74,7 +74,7 @@ pub static LINES: [Row<'static>; 17] = [
 ];
 
 /// Lines that are no lines of the language, as the second of a script.
-pub static BAD_LINES: [BadRow<'static>; 71] = [
+pub static BAD_LINES: [BadRow<'static>; 72] = [
     // bytes
     ("try a 5/1 Shar\u{e9}", "line 2: not ASCII text"),
     ("# \u{7f}", "line 2: not ASCII text"),
@@ -111,6 +111,7 @@ pub static BAD_LINES: [BadRow<'static>; 71] = [
     ("count a", "line 2: wrong number of words"),
     ("count A 1024 x", "line 2: wrong number of words"),
     ("unlock a 5/1", "line 2: wrong number of words"),
+    ("unlock_all a session", "line 2: wrong number of words"),
     ("list", "line 2: wrong number of words"),
     ("list a a", "line 2: wrong number of words"),
     ("hash", "line 2: wrong number of words"),

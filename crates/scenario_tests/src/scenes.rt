@@ -62,7 +62,7 @@ const PRINTED: &str = "b: session 0 database 5\na: session 1 database 5\nc: sess
     b: granted\na: granted\na: waits\nc: waits\na: session 3 database 6\na: granted\n\
     a: session 4 database 7\nrows 0\na: granted\n";
 
-/// Plays them on one stage, whose sessions this desk opens.
+/// Plays the scripts on one stage, whose sessions `desk` opens, and prints on `output`.
 fn play_in_turn<T: PartTable, B: Board<T>, D: Desk<OwnSession<T, B>> + Drop, R: Abort + Wait>(
     rt: &R,
     alloc: Global,

@@ -3,11 +3,12 @@ use crate::inputs::INPUTS;
 use crate::pipes::Pipe;
 use crate::rows::{self, BadRow, Copies, Row};
 use crate::scenarios::{deadlocks, migrations_on_a_busy_table, owners, the_fast_path, the_queue};
+use crate::slot_groups::{AFTER_MOVES, AFTER_MOVES_PRINTED, fill_all_groups, move_all_slots};
 use crate::{advisory, groups, named, nested, queues, waiting};
 use lock_manager::{Config, MOST_GROUPS, MOST_LOCAL, MOST_SESSIONS};
 use lock_script::{Defect, Fault};
 use scenario::run_script;
-use std::alloc::{AllocError, Global};
+use std::alloc::Global;
 use std::io::{self, ErrorKind, Read};
 use std::process::Abort;
 use std::sync::Wait;
@@ -69,8 +70,8 @@ const ALL_GROUPS: Config = Config {
     slot_groups: 8,
 };
 
-/// Runs a script that is read so many bytes at a time, and checks what it prints and the fault that ends it, both as
-/// text. The configuration is put in its range, where it isn't.
+/// Runs `script`, which is read `most` bytes at a time, and checks that it prints `printed` and that `fault` ends it,
+/// both as text. What is out of its range in `config` is put in that.
 fn expect_read(
     rt: &(impl Abort + AllocGlobal + Wait),
     config: Config,
@@ -104,7 +105,8 @@ fn expect_read(
     Ok(())
 }
 
-/// The same where it is read a byte, seven bytes and a page at a time.
+/// Runs `script` as it is read a byte, seven bytes and a page at a time, by `config`, and checks that it prints
+/// `printed` and that `fault` ends it.
 pub fn expect_run(
     rt: &(impl Abort + AllocGlobal + Wait),
     config: Config,
@@ -127,7 +129,8 @@ static OPENED: [(&str, &str); 5] = [
     ("session e 5\n", "e: session 4 database 5\n"),
 ];
 
-/// Opens so many sessions, `a` to `e`, runs the lines, and checks what they print and the fault that ends them.
+/// Opens the sessions of `row`, `a` to `e`, by `config`, runs its lines, and checks what they print and the fault that
+/// ends them.
 fn expect_row(
     rt: &(impl Abort + AllocGlobal + Wait),
     config: Config,
@@ -146,7 +149,7 @@ fn expect_row(
     expect_run(rt, config, script.as_str(), output.as_str(), fault)
 }
 
-/// Does so with each row.
+/// Runs and checks each of `rows` by `config`.
 fn expect_rows(
     rt: &(impl Abort + AllocGlobal + Wait),
     config: Config,
@@ -259,77 +262,6 @@ fn scripts_of_two_groups_of_slots_print_what_the_rows_say(rt: HostRuntime) -> Re
     expect_rows(&rt, TWO_GROUPS, &groups::TWO_GROUPS)
 }
 
-/// Lines that lock 128 relations and one more, and those of their listing: the first 128 are in as many slots.
-fn fill_all_groups(alloc: Global) -> Result<(String, String), Fail> {
-    let mut script = String::from_str(alloc, "session a 5\nsession b 5\n")?;
-    let mut printed = String::from_str(
-        alloc,
-        "a: session 0 database 5\nb: session 1 database 5\n",
-    )?;
-    for number in 0..129u32 {
-        let line = format!(in alloc; "lock a 5/{} AccessShareLock\n", number.wrapping_add(16384))?;
-        script.push_str(line.as_str())?;
-        printed.push_str("a: granted\n")?;
-    }
-    script.push_str("fast a 5/16513 AccessShareLock\nlist b\n")?;
-    printed.push_str("a: refused 9 slots full\n")?;
-    for slot in 0..128u32 {
-        let relation = (15 - slot % 16) * 8 + slot / 16;
-        let line = format!(in alloc;
-            "fast a {slot} 5/{} AccessShareLock\n",
-            relation.wrapping_add(16384)
-        )?;
-        printed.push_str(line.as_str())?;
-    }
-    printed.push_str("table a 5/16512 AccessShareLock granted\nrows 129\n")?;
-    Ok((script, printed))
-}
-
-/// Lines by which a strong lock of another session moves each of 128 relations, and those of the listing behind
-/// them: all stand in the table then.
-fn move_all_slots(
-    alloc: Global,
-    script: &mut String,
-    printed: &mut String,
-) -> Result<(), AllocError> {
-    for number in 0..128u32 {
-        let line = format!(in alloc;
-            "try b 5/{} AccessExclusiveLock\n",
-            number.wrapping_add(16384)
-        )?;
-        script.push_str(line.as_str())?;
-        printed.push_str("b: refused 1 conflict a AccessShareLock held\n")?;
-    }
-    script.push_str("list b\n")?;
-    for number in 0..129u32 {
-        let line = format!(in alloc;
-            "table a 5/{} AccessShareLock granted\n",
-            number.wrapping_add(16384)
-        )?;
-        printed.push_str(line.as_str())?;
-    }
-    printed.push_str("rows 129\n")
-}
-
-/// What is released in the table leaves its group's slots free to be counted anew, and those of other groups as
-/// they are.
-const AFTER_MOVES: &str = "fast a 5/16520 AccessShareLock\n\
-    unlock a 5/16384 AccessShareLock\n\
-    fast a 5/16520 AccessShareLock\n\
-    fast a 5/16513 AccessShareLock\n\
-    commit a\n\
-    fast a 5/16513 AccessShareLock\n\
-    list b\n";
-
-const AFTER_MOVES_PRINTED: &str = "a: refused 9 slots full\n\
-    a: released\n\
-    a: granted\n\
-    a: refused 9 slots full\n\
-    a: committed\n\
-    a: granted\n\
-    fast a 31 5/16513 AccessShareLock\n\
-    rows 1\n";
-
 #[test]
 fn eight_groups_have_128_slots(rt: HostRuntime) -> Result<(), Fail> {
     let alloc = rt.alloc();
@@ -340,7 +272,7 @@ fn eight_groups_have_128_slots(rt: HostRuntime) -> Result<(), Fail> {
     expect_run(&rt, ALL_GROUPS, script.as_str(), printed.as_str(), "")
 }
 
-/// Checks that each of these lines is a fault behind the others, and the end of the script.
+/// Checks that each of `rows` is a fault after the lines `before`, and the end of the script.
 fn expect_bad_lines(
     rt: &(impl Abort + AllocGlobal + Wait),
     before: (usize, &str, &str),
@@ -367,7 +299,7 @@ fn a_bad_line_ends_a_script(rt: HostRuntime) -> Result<(), Fail> {
     expect_bad_lines(&rt, waiting, &waiting::WAITING_LINES)
 }
 
-/// A text with copies of a piece.
+/// A text of `copies`: what comes before, so many copies of a piece, and what comes after.
 fn text_of(alloc: Global, copies: Copies<'_>) -> Result<String, Fail> {
     let (before, count, piece, after) = copies;
     let mut text = String::from_str(alloc, before)?;
@@ -403,7 +335,8 @@ fn bounds_an_owners_count(rt: HostRuntime) -> Result<(), Fail> {
     Ok(())
 }
 
-/// Runs a script whose output takes so many lines, and a flush only if it is to, and checks how it ends.
+/// Runs `script` with the output `pipe`, which takes some lines, and a flush only if it is to, and checks that it ends
+/// as `expected`.
 fn expect_ended(
     rt: &(impl Abort + AllocGlobal + Wait),
     script: &str,

@@ -1,6 +1,7 @@
 //! Shells: help, bad lines, and the lines of scripts between them.
 use crate::printed::printed;
-use crate::programs::{Run, expect_program, words_of};
+use crate::program_runs::Run;
+use crate::programs::{expect_program, words_of};
 use std::test::Fail;
 
 /// Lines of a shell, and what each is answered.

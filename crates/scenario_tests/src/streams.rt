@@ -52,7 +52,7 @@ impl Write for BrokenWriter<'_> {
     }
 }
 
-/// The lines of the script that end within so many bytes, and what they print.
+/// The lines of the script that end within `bytes` bytes, and what they print.
 fn lines_within(alloc: Global, bytes: usize) -> Result<(String, String), Fail> {
     let mut script = String::new(alloc);
     let mut printed = String::new(alloc);
@@ -67,7 +67,8 @@ fn lines_within(alloc: Global, bytes: usize) -> Result<(String, String), Fail> {
     Ok((script, printed))
 }
 
-/// A fault, or none, was to end the script, which was to print this.
+/// Checks that the script ended as `expected`, where it did so as `ended`, and that it printed `printed`, where
+/// `output` is what came.
 fn expect_end(
     rt: &impl Abort,
     ended: Result<(), Fault>,
@@ -79,7 +80,7 @@ fn expect_end(
     assert_eq!(rt; output, printed);
 }
 
-/// Runs the script with a reader that fails after so many reads of so many bytes. What stands before is run.
+/// Runs `script` with a reader that fails after `reads` reads of at most `most` bytes. What comes before is run.
 fn expect_read_failed(
     rt: &(impl Abort + AllocGlobal + Wait),
     script: &str,
@@ -105,7 +106,7 @@ fn expect_read_failed(
     Ok(())
 }
 
-/// Runs the script with a writer that fails after so many writes. It has taken what was printed before.
+/// Runs `script` with a writer that fails after `writes` writes. It has taken what was printed of `printed` before.
 fn expect_written(
     rt: &(impl Abort + AllocGlobal + Wait),
     script: &str,
@@ -144,6 +145,54 @@ fn a_write_that_fails_ends_a_script(rt: HostRuntime) -> Result<(), Fail> {
     let (script, printed) = lines_within(rt.alloc(), usize::MAX)?;
     for writes in 0..=printed.len() {
         expect_written(&rt, script.as_str(), printed.as_bytes(), writes);
+    }
+    Ok(())
+}
+
+/// A writer that counts how often it is flushed.
+#[derive(Drop)]
+struct Flushed<'a> {
+    flushes: &'a mut u32,
+}
+
+impl Write for Flushed<'_> {
+    fn write(&mut self, buf: &[u8]) -> io::Result<usize> {
+        Ok(buf.len())
+    }
+
+    fn flush(&mut self) -> io::Result<()> {
+        *self.flushes = self.flushes.saturating_add(1);
+        Ok(())
+    }
+}
+
+/// Scripts, how many bytes a read gives, and how often the output is flushed.
+static FLUSHES: [(&str, usize, u32); 5] = [
+    // each line by itself
+    ("session a 5\nhash 5/1\nlist a\n", 1, 3),
+    // all lines are at hand: before the last one, and behind it
+    ("session a 5\nhash 5/1\nlist a\n", 4096, 2),
+    // a comment prints nothing, and the lines before it are passed on
+    ("session a 5\nhash 5/1\nlist a\n#\n", 4096, 1),
+    // so are those before a bad line, and before one that is no line of a script
+    ("session a 5\nlist a\nlist b\nlist a\n", 4096, 1),
+    ("session a 5\nlist a\nlist \x07\n", 4096, 2),
+];
+
+#[test]
+fn passes_on_what_is_printed_before_it_waits(rt: HostRuntime) -> Result<(), Fail> {
+    for (script, most, expected) in &FLUSHES {
+        let mut flushes = 0;
+        let reader = BrokenReader {
+            text: script.as_bytes(),
+            most: *most,
+            reads: 4096,
+        };
+        let writer = Flushed {
+            flushes: &mut flushes,
+        };
+        let _ = run_script(&rt, reader, writer, ALL_SESSIONS);
+        assert_eq!(rt; flushes, *expected, "{script:?}");
     }
     Ok(())
 }

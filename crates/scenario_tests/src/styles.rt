@@ -31,6 +31,12 @@ const DOT: Style = Style {
     graph: Some(Drawing::Dot),
 };
 
+const JSON_DOT: Style = Style {
+    echo: false,
+    json: true,
+    graph: Some(Drawing::Dot),
+};
+
 const ALL: Style = Style {
     echo: true,
     json: true,
@@ -156,9 +162,9 @@ table alter 5/16384 AccessExclusiveLock awaited
 table web 5/16384 AccessShareLock awaited
 rows 3
 graph LR
-  s0[\"idle\"]
-  s1[\"alter<br/>AccessExclusiveLock on 5/16384\"]
-  s2[\"web<br/>AccessShareLock on 5/16384\"]
+  s0[\"idle<br/>holds AccessShareLock on 5/16384\"]
+  s1[\"alter<br/>awaits AccessExclusiveLock on 5/16384<br/>1 of 2 in the queue\"]
+  s2[\"web<br/>awaits AccessShareLock on 5/16384<br/>2 of 2 in the queue\"]
   s1 -->|AccessShareLock| s0
   s2 -.->|AccessExclusiveLock| s1
 idle: committed
@@ -207,9 +213,10 @@ table b 5/16385 AccessExclusiveLock granted
 rows 6
 digraph locks {
   rankdir=LR;
-  s0 [label=\"a\\nAccessExclusiveLock on 5/16385\", color=red];
-  s1 [label=\"b\\nAccessExclusiveLock on 5/16384\", color=red];
-  s2 [label=\"c\\nRowExclusiveLock on 5/16384\", color=black];
+  node [shape=box];
+  s0 [label=\"a\\nholds ShareLock, AccessExclusiveLock on 5/16384\\nawaits AccessExclusiveLock on 5/16385\\n1 of 1 in the queue\", color=red];
+  s1 [label=\"b\\nholds AccessExclusiveLock on 5/16385\\nawaits AccessExclusiveLock on 5/16384\\n1 of 2 in the queue\", color=red];
+  s2 [label=\"c\\nawaits RowExclusiveLock on 5/16384\\n2 of 2 in the queue\", color=black];
   s1 -> s0 [label=\"ShareLock\", style=solid];
   s1 -> s0 [label=\"AccessExclusiveLock\", style=solid];
   s2 -> s0 [label=\"ShareLock\", style=solid];
@@ -238,14 +245,79 @@ const TOGETHER: StyledRow<'static> = (
 {\"granted\":true,\"line\":6,\"mode\":\"ShareLock\",\"row\":\"table\",\"session\":\"a\",\"tag\":\"5/16384\"}
 {\"granted\":false,\"line\":6,\"mode\":\"ExclusiveLock\",\"row\":\"table\",\"session\":\"b\",\"tag\":\"5/16384\"}
 {\"line\":6,\"rows\":2}
-{\"graph\":\"dot\",\"line\":6,\"text\":\"digraph locks {\\n  rankdir=LR;\\n  s0 [label=\\\"a\\\", color=black];\\n  s1 [label=\\\"b\\\\nExclusiveLock on 5/16384\\\", color=black];\\n  s1 -> s0 [label=\\\"ShareLock\\\", style=solid];\\n}\\n\"}
+{\"graph\":\"dot\",\"line\":6,\"text\":\"digraph locks {\\n  rankdir=LR;\\n  node [shape=box];\\n  s0 [label=\\\"a\\\\nholds ShareLock on 5/16384\\\", color=black];\\n  s1 [label=\\\"b\\\\nawaits ExclusiveLock on 5/16384\\\\n1 of 1 in the queue\\\", color=black];\\n  s1 -> s0 [label=\\\"ShareLock\\\", style=solid];\\n}\\n\"}
 ",
 );
 
-/// All of them.
-static STYLED: [StyledRow<'static>; 6] = [ECHOED, OBJECTS, REFUSALS, CONVOY, CIRCLE, TOGETHER];
+/// Where nothing is listed the last state is drawn: here nobody is left who could list.
+const LAST: StyledRow<'static> = (
+    MERMAID,
+    "\
+session a 5
+session b 5
+session c 5
+lock a 5/16384 ShareLock
+lock b 5/16385 ShareLock
+lock c 5/16385 ExclusiveLock
+lock a 5/16385 ExclusiveLock
+lock b 5/16384 ExclusiveLock
+",
+    "\
+a: session 0 database 5
+b: session 1 database 5
+c: session 2 database 5
+a: granted
+b: granted
+c: waits
+a: waits
+b: waits
+graph LR
+  s0[\"a<br/>holds ShareLock on 5/16384<br/>awaits ExclusiveLock on 5/16385<br/>2 of 2 in the queue\"]
+  s1[\"b<br/>holds ShareLock on 5/16385<br/>awaits ExclusiveLock on 5/16384<br/>1 of 1 in the queue\"]
+  s2[\"c<br/>awaits ExclusiveLock on 5/16385<br/>1 of 2 in the queue\"]
+  s0 -->|ShareLock| s1
+  s0 -.->|ExclusiveLock| s2
+  s1 -->|ShareLock| s0
+  s2 -->|ShareLock| s1
+  style s0 stroke:red,stroke-width:3px
+  style s1 stroke:red,stroke-width:3px
+  style s2 stroke:red,stroke-width:3px
+",
+);
 
-/// Runs a script in this style, and checks what it prints.
+/// A picture of the last state is drawn as an object too, and not where nobody waits then.
+const LAST_OBJECT: StyledRow<'static> = (
+    JSON_DOT,
+    "session a 5\nsession b 5\nlock a 5/16384 ShareLock\nlock b 5/16384 ExclusiveLock\n",
+    "\
+{\"answer\":\"opened\",\"database\":5,\"line\":1,\"number\":0,\"session\":\"a\"}
+{\"answer\":\"opened\",\"database\":5,\"line\":2,\"number\":1,\"session\":\"b\"}
+{\"answer\":\"granted\",\"line\":3,\"session\":\"a\"}
+{\"answer\":\"waits\",\"line\":4,\"session\":\"b\"}
+{\"graph\":\"dot\",\"line\":4,\"text\":\"digraph locks {\\n  rankdir=LR;\\n  node [shape=box];\\n  s0 [label=\\\"a\\\\nholds ShareLock on 5/16384\\\", color=black];\\n  s1 [label=\\\"b\\\\nawaits ExclusiveLock on 5/16384\\\\n1 of 1 in the queue\\\", color=black];\\n  s1 -> s0 [label=\\\"ShareLock\\\", style=solid];\\n}\\n\"}
+",
+);
+
+const NOBODY_LAST: StyledRow<'static> = (
+    MERMAID,
+    "session a 5\nsession b 5\nlock a 5/16384 ShareLock\nlock b 5/16384 ExclusiveLock\ncommit a\n",
+    "a: session 0 database 5\nb: session 1 database 5\na: granted\nb: waits\na: committed\nb: granted after waiting\n",
+);
+
+/// All of them.
+static STYLED: [StyledRow<'static>; 9] = [
+    ECHOED,
+    OBJECTS,
+    REFUSALS,
+    CONVOY,
+    CIRCLE,
+    TOGETHER,
+    LAST,
+    LAST_OBJECT,
+    NOBODY_LAST,
+];
+
+/// Runs `script` in `style`, and checks that it prints `printed`.
 fn expect_styled(
     rt: &(impl Abort + AllocGlobal + Wait),
     style: Style,
@@ -271,7 +343,7 @@ fn each_style_shows_what_it_is_for(rt: HostRuntime) -> Result<(), Fail> {
     Ok(())
 }
 
-/// An object of JSON, read and written again.
+/// The object of JSON `line`, read and written again.
 fn rewritten(alloc: Global, line: &str) -> Result<String, Fail> {
     let value = Value::from_str(alloc, line)?;
     Ok(value.to_string(alloc)?)

@@ -65,7 +65,7 @@ fn a_refusal_has_its_number_and_text(rt: HostRuntime) -> Result<(), Fail> {
     Ok(())
 }
 
-/// Prints what sessions are told, in each variant.
+/// Prints on `output` what sessions are told, in each variant.
 fn print_said<H: AllocGlobal + Abort>(
     rt: &H,
     output: &mut Output<&mut Vec<u8>>,
@@ -98,7 +98,7 @@ fn print_said<H: AllocGlobal + Abort>(
     Ok(())
 }
 
-/// Prints rows that name no session by its number.
+/// Prints on `output` rows that name no session by its number.
 fn print_rows<H: AllocGlobal + Abort>(
     rt: &H,
     output: &mut Output<&mut Vec<u8>>,

@@ -1,7 +1,8 @@
 //! Pictures of whole scripts: what each session held and awaited, from line to line.
 use crate::scripts::ALL_SESSIONS;
 use crate::styles::StyledRow;
-use scenario::{Drawing, Style, draw_script};
+use scenario::{Drawing, Style};
+use scenario_program::draw_script;
 use std::test::Fail;
 
 const GANTT: Style = Style {

@@ -6,6 +6,7 @@ use scenario::run_script;
 use script_orders::next_merge;
 use std::alloc::{AllocError, Global};
 use std::process::Abort;
+use std::rt::Files;
 use std::str;
 use std::sync::Wait;
 use std::test::Fail;
@@ -37,7 +38,7 @@ struct Small {
     kinds: Vec<usize>,
 }
 
-/// The digits of a number to this base, the last one first.
+/// The last `many` digits of `number` to the base `base`, the last one first.
 fn digits(alloc: Global, number: u32, base: usize, many: u32) -> Result<Vec<usize>, AllocError> {
     let mut left = number as usize;
     let mut digits = Vec::new(alloc);
@@ -48,7 +49,7 @@ fn digits(alloc: Global, number: u32, base: usize, many: u32) -> Result<Vec<usiz
     Ok(digits)
 }
 
-/// Whether none of these comes before the one ahead of it.
+/// Whether none of `numbers` comes before the one ahead of it.
 fn is_ascending(numbers: &[usize]) -> bool {
     let mut last = 0;
     for number in numbers {
@@ -61,7 +62,7 @@ fn is_ascending(numbers: &[usize]) -> bool {
 }
 
 impl Small {
-    /// The line at this place.
+    /// Adds to `text` the line at `place`.
     fn push_line(&self, text: &mut String, place: usize) -> Result<(), AllocError> {
         let name = self.owners.get(place).and_then(|owner| NAMES.get(*owner));
         let line = self.kinds.get(place).and_then(|kind| LINES.get(*kind));
@@ -73,7 +74,7 @@ impl Small {
         Ok(())
     }
 
-    /// The place of a session's line, where so many of its lines come before that.
+    /// The place of a line of `session`, of whose lines `before` come before that.
     fn place_of(&self, session: usize, before: usize) -> usize {
         let first = self
             .owners
@@ -83,7 +84,7 @@ impl Small {
         first.saturating_add(before)
     }
 
-    /// The script in which the sessions' lines come in this order.
+    /// The script in which the sessions' lines come in the order `merge`.
     fn script(&self, alloc: Global, merge: &[usize]) -> Result<String, AllocError> {
         let mut text = String::from_str(alloc, OPENING)?;
         for (place, session) in merge.iter().enumerate() {
@@ -95,7 +96,7 @@ impl Small {
     }
 }
 
-/// How many of the first lines of an order are this session's.
+/// How many of the `first` first lines of the order `merge` are those of `session`.
 fn lines_of(merge: &[usize], first: usize, session: usize) -> usize {
     merge
         .iter()
@@ -112,7 +113,7 @@ struct Shown {
 }
 
 impl Shown {
-    /// What these lines tell, of which the first ones are the openings.
+    /// What the lines `printed` tell, of which the first ones are the openings.
     fn read(alloc: Global, printed: &str) -> Result<Self, AllocError> {
         let mut shown = Shown {
             answers: Vec::new(alloc),
@@ -127,7 +128,7 @@ impl Shown {
         Ok(shown)
     }
 
-    /// A session is answered.
+    /// Hears of the answer `line` to a session.
     fn hear(&mut self, line: &str) -> Result<(), AllocError> {
         for (place, name) in NAMES.iter().enumerate() {
             let said = line
@@ -146,17 +147,17 @@ impl Shown {
         Ok(())
     }
 
-    /// Whether this session waits.
+    /// Whether `session` waits.
     fn waits(&self, session: usize) -> bool {
         self.waits.get(session).copied().unwrap_or(false)
     }
 
-    /// Whether everybody waits of those whose lines are left.
+    /// Whether everybody waits whose lines are `left`.
     fn is_stuck(&self, left: &[usize]) -> bool {
         left.iter().all(|session| self.waits(*session))
     }
 
-    /// What is told of the order, of which so many lines were run.
+    /// What is told of the order `merge` of `small`, of which `run` lines were run.
     fn tell(
         &self,
         alloc: Global,
@@ -193,13 +194,13 @@ impl Shown {
     }
 }
 
-/// Ends a line, where there is one.
+/// Ends a line of `told`, where `is_any` says that there is one.
 fn end_line(told: &mut String, is_any: bool) -> Result<(), AllocError> {
     if is_any { told.push('\n') } else { Ok(()) }
 }
 
-/// Plays an order alone, and answers what is told of it. None is for one in which a line comes of a session that waits
-/// while another one could go on.
+/// Plays the order `merge` of `small` alone, and answers what is told of it. None is for one in which a line comes of a
+/// session that waits while another one could go on.
 fn played_alone(
     rt: &(impl Abort + AllocGlobal + Wait),
     small: &Small,
@@ -237,9 +238,9 @@ fn played_alone(
     Ok(Some(shown.tell(alloc, small, merge, run)?))
 }
 
-/// Checks that the ways that `orders` tells of a script are those of all orders, each played alone.
+/// Checks that the ways that `orders` tells of `small` are those of all orders, each played alone.
 fn expect_ways(
-    rt: &(impl Abort + AllocGlobal + Clock + Threads + Wait + Sync),
+    rt: &(impl Abort + AllocGlobal + Clock + Files + Threads + Wait + Sync),
     small: &Small,
 ) -> Result<(), Fail> {
     let alloc: Global = rt.alloc();
@@ -270,9 +271,9 @@ fn expect_ways(
     Ok(())
 }
 
-/// Checks the scripts with so many lines, each of these sessions'.
+/// Checks the scripts with `lines` lines, whose sessions are the digits of `owners`.
 fn expect_all_of(
-    rt: &(impl Abort + AllocGlobal + Clock + Threads + Wait + Sync),
+    rt: &(impl Abort + AllocGlobal + Clock + Files + Threads + Wait + Sync),
     lines: u32,
     owners: u32,
 ) -> Result<(), Fail> {

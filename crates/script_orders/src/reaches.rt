@@ -114,7 +114,7 @@ fn reach_of(story: &Story, line: &str, asked: Objects, ends: bool) -> Reach {
             opens: true,
             ..Reach::NONE
         },
-        "commit" | "abort" | "subabort" | "close" => Reach::of(asked),
+        "commit" | "abort" | "subabort" | "unlock_all" | "close" => Reach::of(asked),
         "count" => match counter_of(words) {
             Some(index) => Reach::of(Objects::of_counter(index)),
             None => Reach::ALL,

@@ -41,7 +41,8 @@ use Rattle.shared_rule.specs.Audits.{account_after, counter_loads, CountersSeen,
 use Rattle.lock_world.specs.Account.{ListAccount}
 use Rattle.shared_rule.specs.Boards.{lists_told}
 use Rattle.shared_rule.specs.Todos.{nothing_to_do, todo_noted}
-use Rattle.shared_rule.proofs.Taken.{todo-noted}
+use Rattle.shared_rule.specs.Owed.{first_owed, owed_noted}
+use Rattle.shared_rule.proofs.Taken.{todo-noted, owed-noted}
 use Rattle.shared_rule.proofs.Episodes.{fresh_hand, taken-in_hand, kept-since}
 
 -- What a seat at which all sessions are knows stays as its first session makes steps that change neither its own holds nor what it knows of
@@ -67,8 +68,9 @@ module _ {T : Type 0} where
   -- and it is the same seat where that step isn't a quiet one, and leaves nothing to do.
   pub noting-further :
       (view : View T) (mark : Mark T) → ((before : List Quiet) → quiet_noted before mark ≡ before)
-      → ((number : ℕ) (lists : ListAccount) → todo_noted number lists nothing_to_do mark ≡ nothing_to_do) → HasSession view → IsFurther view (noting view mark)
-  noting-further view mark silent nothing has =
+      → ((number : ℕ) (lists : ListAccount) → todo_noted number lists nothing_to_do mark ≡ nothing_to_do) → ((owed : List ℕ) → owed_noted owed mark ≡ owed) → HasSession view
+      → IsFurther view (noting view mark)
+  noting-further view mark silent nothing wakes has =
       let is : (noting view mark).sessions ≡ record { number = has.history.number; marks = mark ∷ has.history.marks } ∷ has.others = ap (λ xs. noting_first xs mark) has.sessions in
       record {
         next = refl;
@@ -78,10 +80,11 @@ module _ {T : Type 0} where
         quiet = ap first_quiet is ∙ silent (quiet_told has.history.marks) ∙ sym (ap first_quiet has.sessions);
         some = noting-some view mark has;
         free = λ was. todo-noted view mark has ∙ ap (λ todo. todo_noted (first_number view.sessions) (lists_told view.sessions) todo mark) was ∙ nothing (first_number view.sessions) (lists_told view.sessions);
+        owed = owed-noted view mark has ∙ wakes (first_owed view.sessions);
       }
 
   pub further-itself : (view : View T) → HasSession view → IsFurther view view
-  further-itself view has = record { next = refl; closed = refl; behind = refl; number = refl; quiet = refl; some = has; free = λ was. was }
+  further-itself view has = record { next = refl; closed = refl; behind = refl; number = refl; quiet = refl; some = has; free = λ was. was; owed = refl }
 
   pub further-then : (a b c : View T) → IsFurther a b → IsFurther b c → IsFurther a c
   further-then a b c first second = record {
@@ -92,6 +95,7 @@ module _ {T : Type 0} where
     quiet = second.quiet ∙ first.quiet;
     some = second.some;
     free = λ was. second.free (first.free was);
+    owed = second.owed ∙ first.owed;
   }
 
   -- the sessions at a seat, the first and those behind it
@@ -282,7 +286,7 @@ module _ {T : Type 0} (content : T → Content) where
       → more ≡ sum + modes_shown shown → SeesSlots content owner (count + 1) before after more
   sees-load owner count before mid after sum more shown has so_far is knows added =
       sees-more owner count before mid after sum more shown has so_far
-      (subst (IsFurther mid) (sym is) (noting-further mid (LoadedSlot owner count shown) (λ before. refl) (λ number lists. refl) so_far.further.some))
+      (subst (IsFurther mid) (sym is) (noting-further mid (LoadedSlot owner count shown) (λ before. refl) (λ number lists. refl) (λ owed i. owed) so_far.further.some))
       (ap (λ (v : View T). first_account content v.sessions) is ∙ account-noting content mid (LoadedSlot owner count shown) so_far.further.some)
       knows added
 
@@ -391,7 +395,7 @@ module _ {T : Type 0} (content : T → Content) where
       → ((issued : ℕ) → AreAll issued mid → KnowsOfAll content mid (Strong count) shown) → CountersSeen content (count + 1) before after (sum + shown)
   counters-load count issued before mid after sum shown has so_far are no_slots is knows =
       counters-more count issued before mid after sum (sum + shown) shown has so_far are no_slots
-      (subst (IsFurther mid) (sym is) (noting-further mid (LoadedStrong count shown) (λ before. refl) (λ number lists. refl) so_far.further.some))
+      (subst (IsFurther mid) (sym is) (noting-further mid (LoadedStrong count shown) (λ before. refl) (λ number lists. refl) (λ owed i. owed) so_far.further.some))
       (ap (λ (v : View T). first_account content v.sessions) is ∙ account-noting content mid (LoadedStrong count shown) so_far.further.some)
       knows refl
 
@@ -454,7 +458,7 @@ module _ {T : Type 0} (content : T → Content) (limit p : ℕ) (before mid : Vi
   taken = content part
 
   mid-further : IsFurther before mid
-  mid-further = subst (IsFurther before) (sym took) (noting-further before (TookPart p part) (λ before. refl) (λ number lists. refl) has)
+  mid-further = subst (IsFurther before) (sym took) (noting-further before (TookPart p part) (λ before. refl) (λ number lists. refl) (λ owed i. owed) has)
 
   pub mid-account : first_account content mid.sessions ≡ account_taking (first_account content before.sessions) p taken
   mid-account = ap (λ (v : View T). first_account content v.sessions) took ∙ account-noting content before (TookPart p part) has

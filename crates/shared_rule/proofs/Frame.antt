@@ -1,6 +1,7 @@
-use Rattle.std.proofs.Common.{◌≡◌, ◌≢◌, ◌⊎◌, ℕ, zero, suc, Bool, true, ◌<◌, ◌≤◌, List, [], ◌∷◌, ◌++◌, length, Option, Some, None, refl, sym, ap, ◌∙◌, subst, inl, inr, arith}
+use Rattle.std.proofs.Common.{◌≡◌, ◌≢◌, ◌⊎◌, ℕ, zero, suc, Bool, true, false, ◌<◌, ◌≤◌, List, [], ◌∷◌, ◌++◌, length, Option, Some, None, refl, sym, ap, ◌∙◌, subst, inl, inr, arith}
 use Rattle.std.specs.Prelude.{slice_get, slice_set}
-use Rattle.std.proofs.lemmas.Bool.{cases_eq, both_ways}
+use Rattle.std.specs.Prelude.{◌&&◌, not}
+use Rattle.std.proofs.lemmas.Bool.{cases_eq, both_ways, eq-eqb, ne_eqb}
 use mathlib.Core.Option.{some}
 use mathlib.Core.Option as maybe
 use lib.ListN.{get_elem?}
@@ -27,23 +28,27 @@ use Rattle.shared_rule.specs.Shown.{WordsAreShown}
 use Rattle.shared_rule.specs.History.{noted, told, noting_first, noting, keeper}
 use Rattle.shared_rule.proofs.Standing.{there-within, there-one}
 use Rattle.shared_rule.proofs.ClosedCounts.{opener-set}
-use Rattle.shared_rule.specs.Tells.{Tells, AreTold, LooksOnly, steps_of}
+use Rattle.shared_rule.specs.Tells.{Tells, AreTold, LooksOnly, at_list, at_lock, calls_waiter, calls_sleeper, TellsTurn, AreTurnsTold, events_of, is_turn_of, turns_of, steps_of}
 use Rattle.lw_word.specs.LightweightWord.{IsHeldByNobody, IsListLocked}
 use Rattle.lock_world.specs.WaitLists.{lock_word}
-use Rattle.lock_world.specs.Wakes.{MakesNoStep, Beside, Turn, happened, saw_list_locked, saw_held, Keeps, beside_after}
-use Rattle.lock_world.specs.Wakes.Waking.{NobodyIsForgotten, OrderIsKept, NoneOr}
-use Rattle.lock_world.specs.Wakes.Owing.{Duties, waking, duties_after, after_looking, after_attempt, HasNothingToDo, Asks}
-use Rattle.lock_world.specs.Wakes.Calling.{no_calls}
-use Rattle.lock_world.proofs.Wakes.Runs.{turn-nobody}
-use Rattle.lock_world.proofs.Wakes.Live.{turn-live}
-use Rattle.lock_world.proofs.Wakes.Order.{kept-order, step-order}
-use Rattle.shared_rule.proofs.Orders.{order-of}
-use Rattle.shared_rule.specs.Marks.{SawListLocked, SawHeld}
+use Rattle.lock_world.specs.declared.events.Step.TheVariants.{AskCancel}
+use Rattle.lock_world.specs.Wakes.{Beside, nothing_beside, Turn, happened, saw_list_locked, saw_held, called_waiter, called_sleeper, Keeps, IsInOrder, KeepsInOrder, beside_after}
+use Rattle.lock_world.specs.Wakes.Waking.{NoneOr}
+use Rattle.lock_world.specs.Wakes.Owing.{Asks}
+use Rattle.lock_world.proofs.Wakes.Live.{step-alone}
+use Rattle.lock_world.proofs.Wakes.Runs.{run-push}
+use Rattle.lock_table.specs.Put.{set_at}
+use Rattle.lock_table.proofs.PutLemmas.{set_at-else}
+use Rattle.shared_rule.specs.Marks.{Asked, SawListLocked, SawHeld, CalledWaiter, CalledSleeper}
+use Rattle.shared_rule.specs.History as history
+use Rattle.shared_rule.specs.Owed.{owed_noted, owed_told}
 use Rattle.shared_rule.specs.Todos.{Todo, no_content, todo_noted, flagged_noted, todo_told_by, flagged_told_by}
 use Rattle.shared_rule.proofs.Idle.{told-lists}
-use Rattle.shared_rule.proofs.Owings.{KeepsOwed, todo-others, flagged-others, due-others, tries-others, due-here, tries-here, calls-aside}
-use Rattle.shared_rule.specs.Ruled.{todo_of, StandsAtSeat, WakesAreKept, OpenerHasClosed, NoneBeyondSlots, ContentsAreHome, ListsAreHome, IsClosed, HistoryIsShown, IsBehind, SeatsAreShown, StandsClosed, HasSeat, HasOpener, StepsAreTold, HasClosedSo, Ruled}
-use Rattle.shared_rule.proofs.Told.{leads-push, another's, told-push, steps-beside, set-back, set-among, set-seat, seat-here, set-opener, opener-here, closed_so-push}
+use Rattle.shared_rule.proofs.Calls.{step-owed, call-owed, asked-word}
+use Rattle.shared_rule.proofs.Turns.{events-push, events-look, turns-beside, turns-push}
+use Rattle.shared_rule.proofs.Owings.{KeepsOwed, todo-others, flagged-others, due-others, tries-others, due-here, tries-here, calls-here}
+use Rattle.shared_rule.specs.Ruled.{todo_of, todo_with, OwesAsTold, TurnsAreTold, StandsAtSeat, WakesAreKept, OpenerHasClosed, NoneBeyondSlots, ContentsAreHome, ListsAreHome, IsClosed, HistoryIsShown, IsBehind, SeatsAreShown, StandsClosed, HasSeat, HasOpener, StepsAreTold, HasClosedSo, Ruled}
+use Rattle.shared_rule.proofs.Told.{leads-push, another's, tells-no_seats, told-push, steps-beside, set-back, set-among, set-seat, seat-here, set-opener, opener-here, closed_so-push}
 
 -- A step of the session that goes on by itself at a seat, noted there, keeps the rule.
 
@@ -288,29 +293,64 @@ module _ {T : Type 0} (content : T → Content) (w v : World) (views : List (Vie
         others_ y (λ e. elsewhere.1 (sym old.seat ∙ ap seats.seat_of e ∙ own.seat)) (each y elsewhere.0)
   ]
 
-  -- So nobody is forgotten after it, where that is so by other duties, which are as before of all others.
-  module _ (kept : WakesAreKept views w) (next : Duties)
-      (own_todo : todo_told_by x.number (mark ∷ x.marks) ≡ todo_of next x.number) (own_flagged : flagged_told_by (mark ∷ x.marks) ≡ next.flagged x.number)
-      (todo_same : (k : ℕ) → k ≢ x.number → todo_of next k ≡ todo_of kept.duties k) (flagged_same : (k : ℕ) → k ≢ x.number → next.flagged k ≡ kept.duties.flagged k)
-      (nobody : NobodyIsForgotten (waking v next)) (order : OrderIsKept (waking v next)) (only : (k : ℕ) → MakesNoStep v.numbers k → HasNothingToDo v next no_calls no_calls k) where
+  -- So the run goes on by the turn that the mark tells, and what stands beside the World is as the histories tell then.
+  module _ (sizes : Sizes) (events later : List Event) (kept : WakesAreKept sizes views events w) (turn : Turn) (keeps : KeepsInOrder w kept.beside turn v)
+      (its_events : events_of (kept.turns ++ turn ∷ []) ≡ later) (own_turn : is_turn_of x.number turn ≡ true) (tells : TellsTurn x.number mark turn)
+      (other_turn : (k : ℕ) → k ≢ x.number → is_turn_of k turn ≡ false)
+      (own_todo : todo_told_by x.number (mark ∷ x.marks) ≡ todo_of (beside_after w kept.beside turn) x.number)
+      (own_flagged : flagged_told_by (mark ∷ x.marks) ≡ (beside_after w kept.beside turn).duties.flagged x.number)
+      (own_owed : OwesAsTold (beside_after w kept.beside turn) x.number (owed_told (mark ∷ x.marks)))
+      (todo_same : (k : ℕ) → k ≢ x.number → todo_of (beside_after w kept.beside turn) k ≡ todo_of kept.beside k)
+      (flagged_same : (k : ℕ) → k ≢ x.number → (beside_after w kept.beside turn).duties.flagged k ≡ kept.beside.duties.flagged k)
+      (owed_same : (k : ℕ) → k ≢ x.number → (beside_after w kept.beside turn).waits.owed k ≡ kept.beside.waits.owed k) where
+    abbrev beside_next : Beside
+    beside_next = beside_after w kept.beside turn
+
+    abbrev more : List Turn
+    more = kept.turns ++ turn ∷ []
+
     young-apart : (k : ℕ) → v.numbers.issued ≤ k → k ≢ x.number
-    young-apart k later e =
-        let not_yet : w.numbers.issued ≤ k = subst (λ (n : Numbers). n.issued ≤ k) numbers later in
+    young-apart k later_ e =
+        let not_yet : w.numbers.issued ≤ k = subst (λ (n : Numbers). n.issued ≤ k) numbers later_ in
         let young = issued x.number own.live in
         let eq : ◌≡◌ {A = ℕ} k x.number = e in omega (arith, not_yet, young, eq)
 
-    pub wakes-then : WakesAreKept (slice_set views id (noting view mark)) v
+    not-issued : (k : ℕ) → v.numbers.issued ≤ k → w.numbers.issued ≤ k
+    not-issued k = subst (λ (n : Numbers). n.issued ≤ k) numbers
+
+    stood : StandsAtSeat views x
+    stood = record { seat = id; place = 0; view = view; there = at; stands = ap (λ sessions. slice_get sessions 0) is }
+
+    others-told : (y : History T) → y.number ≢ x.number → AreTurnsTold y.number y.marks (turns_of y.number kept.turns) → AreTurnsTold y.number y.marks (turns_of y.number more)
+    others-told y other = subst (AreTurnsTold y.number y.marks) (sym (turns-beside y.number kept.turns turn (other_turn y.number other)))
+
+    others-owed : (k : ℕ) (owed : List ℕ) → k ≢ x.number → OwesAsTold kept.beside k owed → OwesAsTold beside_next k owed
+    others-owed k owed other was o owes = was o (ap (λ (row : ℕ → Bool). row o) (sym (owed_same k other)) ∙ owes)
+
+    turns-then : TurnsAreTold after_it v.numbers more
+    turns-then = record {
+      at_seat = each-noted (λ y. AreTurnsTold y.number y.marks (turns_of y.number kept.turns)) (λ y. AreTurnsTold y.number y.marks (turns_of y.number more))
+          (turns-push x.number x.marks kept.turns mark turn own_turn tells (kept.told.at_seat x stood)) others-told kept.told.at_seat;
+      closed = λ y stands. let was = closed-stood y stands in others-told y (closed-another y was) (kept.told.closed y was);
+      none = λ k later_. turns-beside k kept.turns turn (other_turn k (young-apart k later_)) ∙ kept.told.none k (not-issued k later_);
+    }
+
+    pub wakes-then : WakesAreKept sizes (slice_set views id (noting view mark)) later v
     wakes-then = record {
-      duties = next;
-      todo = each-noted (λ y. todo_told_by y.number y.marks ≡ todo_of kept.duties y.number) (λ y. todo_told_by y.number y.marks ≡ todo_of next y.number) own_todo
+      turns = more;
+      beside = beside_next;
+      run = (kept.run.0, run-push KeepsInOrder (opening sizes.sessions sizes.groups) w v nothing_beside kept.beside kept.turns turn kept.run.1 keeps);
+      events_ = its_events;
+      told = turns-then;
+      todo = each-noted (λ y. todo_told_by y.number y.marks ≡ todo_of kept.beside y.number) (λ y. todo_told_by y.number y.marks ≡ todo_of beside_next y.number) own_todo
           (λ y other was. was ∙ sym (todo_same y.number other)) kept.todo;
-      flagged = each-noted (λ y. flagged_told_by y.marks ≡ kept.duties.flagged y.number) (λ y. flagged_told_by y.marks ≡ next.flagged y.number) own_flagged
+      flagged = each-noted (λ y. flagged_told_by y.marks ≡ kept.beside.duties.flagged y.number) (λ y. flagged_told_by y.marks ≡ beside_next.duties.flagged y.number) own_flagged
           (λ y other was. was ∙ sym (flagged_same y.number other)) kept.flagged;
-      none_todo = λ k later. kept.none_todo k (subst (λ (n : Numbers). n.issued ≤ k) numbers later) ∙ sym (todo_same k (young-apart k later));
-      none_flagged = λ k later. kept.none_flagged k (subst (λ (n : Numbers). n.issued ≤ k) numbers later) ∙ sym (flagged_same k (young-apart k later));
-      nobody = nobody;
-      order = order;
-      only_live = only;
+      owed = each-noted (λ y. OwesAsTold kept.beside y.number (owed_told y.marks)) (λ y. OwesAsTold beside_next y.number (owed_told y.marks)) own_owed
+          (λ y other. others-owed y.number (owed_told y.marks) other) kept.owed;
+      none_todo = λ k later_. kept.none_todo k (not-issued k later_) ∙ sym (todo_same k (young-apart k later_));
+      none_flagged = λ k later_. kept.none_flagged k (not-issued k later_) ∙ sym (flagged_same k (young-apart k later_));
+      none_owed = λ k later_. others-owed k [] (young-apart k later_) (kept.none_owed k (not-issued k later_));
     }
 
   pub closed_so-noted : (first : World) (events : List Event) (event : Event) → Happens w event v → ((y : History T) → StandsClosed views y → HasClosedSo content first w events y)
@@ -343,12 +383,12 @@ pub record IsNoted {T : Type 0} (content : T → Content) (groups : ℕ) (w : Wo
   pub few_counted : length (after.sessions.counted number) ≤ most_counted
   pub keeps : KeepsOwed w number todo flagged (todo_noted number a.lists todo mark) (flagged_noted flagged mark) step
 
--- What a look sees is so, and the session may look.
-abbrev pub IsSeen : {T : Type 0} → World → Todo → Mark T → Type 0
-IsSeen w todo mark =
-    (lock : ℕ)
-    × (((mark ≡ SawListLocked lock) × IsListLocked (lock_word w.words.partition w.words.fast lock) × NoneOr todo.due lock)
-    ⊎ ((mark ≡ SawHeld lock) × (IsHeldByNobody (lock_word w.words.partition w.words.fast lock) → ⊥) × NoneOr todo.tries lock))
+-- What a look sees is so, and the session may look; or it calls another.
+pub data IsSeen {T : Type 0} (w : World) (todo : Todo) (mark : Mark T) : Type 0 where
+  sees_list_locked : (lock : ℕ) → mark ≡ SawListLocked lock → IsListLocked (lock_word w.words.partition w.words.fast lock) → NoneOr todo.due lock → IsSeen w todo mark
+  sees_held : (lock : ℕ) → mark ≡ SawHeld lock → (IsHeldByNobody (lock_word w.words.partition w.words.fast lock) → ⊥) → NoneOr todo.tries lock → IsSeen w todo mark
+  calls_one_waiting : (other : ℕ) → mark ≡ CalledWaiter other → IsSeen w todo mark
+  calls_one_asleep : (other : ℕ) → mark ≡ CalledSleeper other → IsSeen w todo mark
 
 module _ {T : Type 0} (content : T → Content) (begun : T → Option Request) (sizes : Sizes) (s : State (Kept T) (View T)) (r : Ruled content begun sizes s)
     (id : ℕ) (view : View T) (x : History T) (others : List (History T)) (at : get_elem? s.views id ≡ some view) (is : view.sessions ≡ x ∷ others) where
@@ -404,94 +444,112 @@ module _ {T : Type 0} (content : T → Content) (begun : T → Option Request) (
         closed = subst (λ (n : Numbers). OpenerHasClosed (slice_set s.views id (noting view mark)) n) (sym noted.numbers)
             (opener-set r.world.numbers s.views id view (noting view mark) at refl (λ n says. says) r.closed);
         wakes = wakes-then content r.world noted.after s.views id view x others mark at is noted.numbers left noted.account
-            r.safe.but_slots.table.carriers.numbers.live_is_issued r.seats r.wakes (duties_after r.world duties x.number noted.step)
-            (ap (λ lists. todo_noted x.number lists (todo_told_by x.number x.marks) mark) (sym (told-lists content x.number x.marks)) ∙ noted.keeps.todo_ duties own_todo)
-            (noted.keeps.flagged_ duties own_flagged)
-            (λ k other. todo-others r.world duties x.number k other noted.step) (λ k other. flagged-others r.world duties x.number k other noted.step)
-            (turn-nobody r.world noted.after beside (happened event) r.safe r.wakes.nobody (noted.happens, asks))
-            (kept-order noted.after (duties_after r.world duties x.number noted.step) (step-order r.world noted.after x.number (order-of r.world duties r.wakes.order) noted.step noted.happens noted.keeps.in_order))
-            (λ k spent. calls-aside noted.after _ _ _ k (turn-live r.world noted.after beside (happened event) r.safe r.wakes.only_live (noted.happens, asks) k spent));
+            r.safe.but_slots.table.carriers.numbers.live_is_issued r.seats sizes r.events (r.events ++ event ∷ []) r.wakes (happened event) ((noted.happens, asks), noted.keeps.in_order)
+            (events-push r.wakes.turns event ∙ ap (λ events. events ++ event ∷ []) r.wakes.events_)
+            (λ i. eq-eqb x.number x.number refl i && not (tells-no_seats x.number mark noted.step noted.tells i)) noted.tells
+            (λ k other. another's k event other)
+            (ap (λ lists. todo_noted x.number lists (todo_told_by x.number x.marks) mark) (sym (told-lists content x.number x.marks)) ∙ noted.keeps.todo_ r.wakes.beside own_todo)
+            (noted.keeps.flagged_ r.wakes.beside own_flagged)
+            (step-owed r.world r.wakes.beside x.number (owed_told x.marks) (r.wakes.owed x stood) mark noted.step noted.tells asked)
+            (λ k other. todo-others r.world r.wakes.beside x.number k other noted.step) (λ k other. flagged-others r.world r.wakes.beside.duties x.number k other noted.step)
+            (λ k other. (step-alone r.world r.wakes.beside x.number k other noted.step).3);
       } where
-        duties : Duties
-        duties = r.wakes.duties
-
-        beside : Beside
-        beside = record { duties = r.wakes.duties; waits = no_calls; sleeps = no_calls }
-
         stood : StandsAtSeat s.views x
         stood = record { seat = id; place = 0; view = view; there = at; stands = ap (λ sessions. slice_get sessions 0) is }
 
-        own_todo : todo_told_by x.number x.marks ≡ todo_of r.wakes.duties x.number
+        own_todo : todo_told_by x.number x.marks ≡ todo_of r.wakes.beside x.number
         own_todo = r.wakes.todo x stood
 
-        own_flagged : flagged_told_by x.marks ≡ r.wakes.duties.flagged x.number
+        own_flagged : flagged_told_by x.marks ≡ r.wakes.beside.duties.flagged x.number
         own_flagged = r.wakes.flagged x stood
 
-        asks : Asks r.world r.wakes.duties no_calls no_calls x.number noted.step
-        asks = noted.keeps.asks r.wakes.duties own_todo own_flagged
+        asks : Asks r.world r.wakes.beside.duties r.wakes.beside.waits r.wakes.beside.sleeps x.number noted.step
+        asks = noted.keeps.asks r.wakes.beside own_todo own_flagged
 
-  -- A look leaves the account alone.
+        -- whoever was asked to cancel showed what its word shows
+        asked : (other before : ℕ) → mark ≡ Asked other before → before ≡ r.world.words.wait other
+        asked other before same =
+            let told_so : noted.step ≡ AskCancel other = subst (λ m. Tells x.number m noted.step) same noted.tells in
+            asked-word r.world noted.after x.number other before (told content x.number x.marks) history_of.account
+            (subst (λ its. HappensStep r.world x.number its noted.after) told_so noted.happens)
+            (ap (history.noted content x.number (told content x.number x.marks)) (sym same) ∙ noted.account)
+
+  -- A look leaves the account alone, and so does a call.
   look-account : (mark : Mark T) (number : ℕ) (a : Account) → LooksOnly mark → noted content number a mark ≡ a
-  look-account mark number a looks = elim looks.1 [
-    | inl locked ↦ ap (noted content number a) locked
-    | inr held ↦ ap (noted content number a) held
-  ]
-
-  -- It is a turn that keeps to what is owed, and nobody is forgotten after it.
-  wakes-looked : (mark : Mark T) → LooksOnly mark → (next : Duties) (turn : Turn) → Keeps r.world (record { duties = r.wakes.duties; waits = no_calls; sleeps = no_calls }) turn r.world
-      → beside_after r.world (record { duties = r.wakes.duties; waits = no_calls; sleeps = no_calls }) turn ≡ record { duties = next; waits = no_calls; sleeps = no_calls }
-      → todo_told_by x.number (mark ∷ x.marks) ≡ todo_of next x.number → flagged_told_by (mark ∷ x.marks) ≡ next.flagged x.number
-      → ((k : ℕ) → k ≢ x.number → todo_of next k ≡ todo_of r.wakes.duties k) → next.flagged ≡ r.wakes.duties.flagged
-      → WakesAreKept (slice_set s.views id (noting view mark)) r.world
-  wakes-looked mark looks next turn keeps same own_todo own_flagged todo_same flagged_same =
-      let w : World = r.world in
-      let beside : Beside = record { duties = r.wakes.duties; waits = no_calls; sleeps = no_calls } in
-      wakes-then content w w s.views id view x others mark at is refl (λ k other. refl) (look-account mark x.number (told content x.number x.marks) looks ∙ history_of.account)
-      r.safe.but_slots.table.carriers.numbers.live_is_issued r.seats r.wakes next own_todo own_flagged todo_same (λ k other. ap (λ (f : ℕ → Bool). f k) flagged_same)
-      (subst (λ (b : Beside). NobodyIsForgotten (waking w b.duties)) same (turn-nobody w w beside turn r.safe r.wakes.nobody keeps))
-      (kept-order w next (order-of w r.wakes.duties r.wakes.order))
-      (λ k spent. calls-aside w _ _ _ k (subst (λ (b : Beside). HasNothingToDo w b.duties b.waits b.sleeps k) same (turn-live w w beside turn r.safe r.wakes.only_live keeps k spent)))
+  look-account mark number a (at_list lock same) = ap (noted content number a) same
+  look-account mark number a (at_lock lock same) = ap (noted content number a) same
+  look-account mark number a (calls_waiter other same) = ap (noted content number a) same
+  look-account mark number a (calls_sleeper other same) = ap (noted content number a) same
 
   seen-looks : (mark : Mark T) → IsSeen r.world (todo_told_by x.number x.marks) mark → LooksOnly mark
-  seen-looks mark seen = (
-    seen.0,
-    elim seen.1 [
-      | inl locked ↦ inl locked.0
-      | inr held ↦ inr held.0
-    ],
-  )
+  seen-looks mark (sees_list_locked lock same locked none) = at_list lock same
+  seen-looks mark (sees_held lock same held none) = at_lock lock same
+  seen-looks mark (calls_one_waiting other same) = calls_waiter other same
+  seen-looks mark (calls_one_asleep other same) = calls_sleeper other same
 
-  wakes-seen : (mark : Mark T) → IsSeen r.world (todo_told_by x.number x.marks) mark → WakesAreKept (slice_set s.views id (noting view mark)) r.world
-  wakes-seen mark seen = elim seen.1 [
-    | inl locked ↦
-        wakes-looked mark (lock, inl locked.0) (after_looking duties x.number) (saw_list_locked x.number lock)
-        (locked.1, subst (λ (t : Todo). NoneOr t.due lock) own_todo locked.2, refl) refl
-        (ap (λ m. todo_noted x.number (told no_content x.number x.marks).lists (todo_told_by x.number x.marks) m) locked.0 ∙ due-here duties x.number (todo_told_by x.number x.marks) own_todo None)
-        (ap (flagged_noted (flagged_told_by x.marks)) locked.0 ∙ own_flagged)
-        (λ k other. due-others r.world duties x.number k other None) refl
-    | inr held ↦
-        wakes-looked mark (lock, inr held.0) (after_attempt duties x.number) (saw_held x.number lock)
-        (held.1, subst (λ (t : Todo). NoneOr t.tries lock) own_todo held.2, refl) refl
-        (ap (λ m. todo_noted x.number (told no_content x.number x.marks).lists (todo_told_by x.number x.marks) m) held.0 ∙ tries-here duties x.number (todo_told_by x.number x.marks) own_todo None)
-        (ap (flagged_noted (flagged_told_by x.marks)) held.0 ∙ own_flagged)
-        (λ k other. tries-others r.world duties x.number k other None) refl
-  ] where
-    lock : ℕ
-    lock = seen.0
+  stands_there : StandsAtSeat s.views x
+  stands_there = record { seat = id; place = 0; view = view; there = at; stands = ap (λ sessions. slice_get sessions 0) is }
 
-    duties : Duties
-    duties = r.wakes.duties
+  todo-there : todo_told_by x.number x.marks ≡ todo_of r.wakes.beside x.number
+  todo-there = r.wakes.todo x stands_there
 
-    stood : StandsAtSeat s.views x
-    stood = record { seat = id; place = 0; view = view; there = at; stands = ap (λ sessions. slice_get sessions 0) is }
+  flagged-there : flagged_told_by x.marks ≡ r.wakes.beside.duties.flagged x.number
+  flagged-there = r.wakes.flagged x stands_there
 
-    own_todo : todo_told_by x.number x.marks ≡ todo_of r.wakes.duties x.number
-    own_todo = r.wakes.todo x stood
+  owed-there : OwesAsTold r.wakes.beside x.number (owed_told x.marks)
+  owed-there = r.wakes.owed x stands_there
 
-    own_flagged : flagged_told_by x.marks ≡ r.wakes.duties.flagged x.number
-    own_flagged = r.wakes.flagged x stood
+  -- It is a turn of the run, and no event.
+  wakes-looked : (mark : Mark T) → LooksOnly mark → (turn : Turn) → Keeps r.world r.wakes.beside turn r.world → IsInOrder r.world turn → events_of (turn ∷ []) ≡ []
+      → is_turn_of x.number turn ≡ true → TellsTurn x.number mark turn → ((k : ℕ) → k ≢ x.number → is_turn_of k turn ≡ false)
+      → todo_told_by x.number (mark ∷ x.marks) ≡ todo_of (beside_after r.world r.wakes.beside turn) x.number
+      → flagged_told_by (mark ∷ x.marks) ≡ (beside_after r.world r.wakes.beside turn).duties.flagged x.number
+      → OwesAsTold (beside_after r.world r.wakes.beside turn) x.number (owed_told (mark ∷ x.marks))
+      → ((k : ℕ) → k ≢ x.number → todo_of (beside_after r.world r.wakes.beside turn) k ≡ todo_of r.wakes.beside k)
+      → ((k : ℕ) → k ≢ x.number → (beside_after r.world r.wakes.beside turn).duties.flagged k ≡ r.wakes.beside.duties.flagged k)
+      → ((k : ℕ) → k ≢ x.number → (beside_after r.world r.wakes.beside turn).waits.owed k ≡ r.wakes.beside.waits.owed k)
+      → WakesAreKept sizes (slice_set s.views id (noting view mark)) r.events r.world
+  wakes-looked mark looks turn keeps in_order no_event own_turn tells other_turn own_todo own_flagged own_owed todo_same flagged_same owed_same =
+      wakes-then content r.world r.world s.views id view x others mark at is refl (λ k other. refl) (look-account mark x.number (told content x.number x.marks) looks ∙ history_of.account)
+      r.safe.but_slots.table.carriers.numbers.live_is_issued r.seats sizes r.events r.events r.wakes turn (keeps, in_order) (events-look r.wakes.turns turn no_event ∙ r.wakes.events_)
+      own_turn tells other_turn own_todo own_flagged own_owed todo_same flagged_same owed_same
 
-  -- A look keeps the rule.
+  wakes-seen : (mark : Mark T) → IsSeen r.world (todo_told_by x.number x.marks) mark → WakesAreKept sizes (slice_set s.views id (noting view mark)) r.events r.world
+  wakes-seen mark (sees_list_locked lock same locked none) =
+      wakes-looked mark (at_list lock same) (saw_list_locked x.number lock)
+      (locked, subst (λ (t : Todo). NoneOr t.due lock) todo-there none, refl) tt refl (eq-eqb x.number x.number refl) same (λ k other. ne_eqb x.number k (λ e. other (sym e)))
+      (ap (λ m. todo_noted x.number (told no_content x.number x.marks).lists (todo_told_by x.number x.marks) m) same
+      ∙ due-here r.wakes.beside.duties (r.wakes.beside.sleeps.owed x.number) x.number (todo_told_by x.number x.marks) todo-there None)
+      (ap (flagged_noted (flagged_told_by x.marks)) same ∙ flagged-there)
+      (subst (λ m. OwesAsTold r.wakes.beside x.number (owed_noted (owed_told x.marks) m)) (sym same) owed-there)
+      (λ k other. due-others r.wakes.beside.duties (r.wakes.beside.sleeps.owed k) x.number k other None) (λ k other. refl) (λ k other. refl)
+  wakes-seen mark (sees_held lock same held none) =
+      wakes-looked mark (at_lock lock same) (saw_held x.number lock)
+      (held, subst (λ (t : Todo). NoneOr t.tries lock) todo-there none, refl) tt refl (eq-eqb x.number x.number refl) same (λ k other. ne_eqb x.number k (λ e. other (sym e)))
+      (ap (λ m. todo_noted x.number (told no_content x.number x.marks).lists (todo_told_by x.number x.marks) m) same
+      ∙ tries-here r.wakes.beside.duties (r.wakes.beside.sleeps.owed x.number) x.number (todo_told_by x.number x.marks) todo-there None)
+      (ap (flagged_noted (flagged_told_by x.marks)) same ∙ flagged-there)
+      (subst (λ m. OwesAsTold r.wakes.beside x.number (owed_noted (owed_told x.marks) m)) (sym same) owed-there)
+      (λ k other. tries-others r.wakes.beside.duties (r.wakes.beside.sleeps.owed k) x.number k other None) (λ k other. refl) (λ k other. refl)
+  wakes-seen mark (calls_one_waiting o same) =
+      wakes-looked mark (calls_waiter o same) (called_waiter x.number o)
+      refl tt refl (eq-eqb x.number x.number refl) same (λ k other. ne_eqb x.number k (λ e. other (sym e)))
+      (ap (λ m. todo_noted x.number (told no_content x.number x.marks).lists (todo_told_by x.number x.marks) m) same ∙ todo-there)
+      (ap (flagged_noted (flagged_told_by x.marks)) same ∙ flagged-there)
+      (subst (λ m. OwesAsTold (beside_after r.world r.wakes.beside (called_waiter x.number o)) x.number (owed_noted (owed_told x.marks) m)) (sym same)
+      (call-owed r.world r.wakes.beside x.number (owed_told x.marks) owed-there o))
+      (λ k other. refl) (λ k other. refl) (λ k other. set_at-else r.wakes.beside.waits.owed x.number (set_at (r.wakes.beside.waits.owed x.number) o false) k other)
+  wakes-seen mark (calls_one_asleep o same) =
+      wakes-looked mark (calls_sleeper o same) (called_sleeper x.number o)
+      refl tt refl (eq-eqb x.number x.number refl) same (λ k other. ne_eqb x.number k (λ e. other (sym e)))
+      (ap (λ m. todo_noted x.number (told no_content x.number x.marks).lists (todo_told_by x.number x.marks) m) same
+      ∙ calls-here r.wakes.beside x.number (todo_told_by x.number x.marks) todo-there o false)
+      (ap (flagged_noted (flagged_told_by x.marks)) same ∙ flagged-there)
+      (subst (λ m. OwesAsTold r.wakes.beside x.number (owed_noted (owed_told x.marks) m)) (sym same) owed-there)
+      (λ k other i. todo_with r.wakes.beside.duties (set_at-else r.wakes.beside.sleeps.owed x.number (set_at (r.wakes.beside.sleeps.owed x.number) o false) k other i) k)
+      (λ k other. refl) (λ k other. refl)
+
+  -- A look, or a call, keeps the rule.
   pub ruled-looked : (mark : Mark T) → IsSeen r.world (todo_told_by x.number x.marks) mark
       → Ruled content begun sizes (record { words = s.words; homes = s.homes; views = slice_set s.views id (noting view mark) })
   ruled-looked mark seen =

@@ -11,7 +11,8 @@ use Rattle.shared_rule.specs.declared.history.WordMark.{WordMark}
 use Rattle.shared_rule.specs.declared.history.WordMark.TheVariants as word
 use Rattle.shared_rule.specs.declared.history.View.{View}
 use Rattle.shared_rule.specs.Audits.{IsFurther}
-use Rattle.shared_rule.specs.Boards.{lists_told, IsIdle, AreIdle}
+use Rattle.shared_rule.specs.Boards.{lists_told, IsIdle, AreFree}
+use Rattle.shared_rule.specs.Owed.{first_owed}
 use Rattle.shared_rule.specs.Todos.{no_content, first_todo, nothing_to_do}
 use Rattle.shared_rule.specs.LwLocks.{no_lists}
 use Rattle.shared_rule.specs.Slots.{TriesFast}
@@ -68,6 +69,8 @@ words-lists number a (word.SetReleaseOk lock) = refl
 words-lists number a (word.SetHasWaiters lock) = refl
 words-lists number a (word.SawListLocked lock) = refl
 words-lists number a (word.SawHeld lock) = refl
+words-lists number a (word.CalledWaiter other) = refl
+words-lists number a (word.CalledSleeper other) = refl
 
 module _ {T : Type 0} (content : T → Content) where
   step-lists : (number : ℕ) (a : Account) (m : Mark T) → (noted content number a m).lists ≡ lists_after number a.lists m
@@ -104,54 +107,62 @@ tries-lists groups number a (Ok unit) b took = ap (λ (c : Account). c.lists) to
 tries-lists groups number a (Err error) b (inl held) = ap (λ (c : Account). c.lists) held.account
 tries-lists groups number a (Err error) b (inr changed) = ap (λ (c : Account). c.lists) changed.account
 
--- Sessions gathered at a seat: each is idle there,
+-- Sessions gathered at a seat: each is idle there, and has nobody to wake;
 module _ {T : Type 0} where
-  pub idle-with : (sessions others : List (History T)) → AreIdle sessions → AreIdle others → AreIdle (sessions ++ others)
-  idle-with [] others are its = its
-  idle-with (history ∷ rest) others are its = (are.0, idle-with rest others are.1 its)
+  pub free-with : (sessions others : List (History T)) → AreFree sessions → AreFree others → AreFree (sessions ++ others)
+  free-with [] others are its = its
+  free-with (history ∷ rest) others are its = (are.0, free-with rest others are.1 its)
 
-  pub idle-lone : (view : View T) (number : ℕ) (marks : List (Mark T)) → view ≡ lone number marks → IsIdle view.sessions → AreIdle view.sessions
-  idle-lone view number marks is idle =
-      subst (λ (v : View T). AreIdle v.sessions) (sym is) (subst (λ (v : View T). IsIdle v.sessions) is idle, tt)
+  pub free-lone : (view : View T) (number : ℕ) (marks : List (Mark T)) → view ≡ lone number marks → IsIdle view.sessions → first_owed view.sessions ≡ [] → AreFree view.sessions
+  free-lone view number marks is idle none =
+      subst (λ (v : View T). AreFree v.sessions) (sym is)
+      (record { idle = subst (λ (v : View T). IsIdle v.sessions) is idle; wakes_nobody = sym (ap (λ (v : View T). first_owed v.sessions) is) ∙ none }, tt)
 
   -- the last one goes on so, and so do those that stay,
-  pub idle-last : (sessions : List (History T)) → AreIdle sessions → AreIdle (last_of sessions)
-  idle-last [] are = tt
-  idle-last (history ∷ []) are = are
-  idle-last (history ∷ next ∷ others) are = idle-last (next ∷ others) are.1
+  pub free-last : (sessions : List (History T)) → AreFree sessions → AreFree (last_of sessions)
+  free-last [] are = tt
+  free-last (history ∷ []) are = are
+  free-last (history ∷ next ∷ others) are = free-last (next ∷ others) are.1
 
-  pub idle-left : (sessions : List (History T)) → AreIdle sessions → AreIdle (all_but_last sessions)
-  idle-left [] are = tt
-  idle-left (history ∷ []) are = tt
-  idle-left (history ∷ next ∷ others) are = (are.0, idle-left (next ∷ others) are.1)
+  pub free-left : (sessions : List (History T)) → AreFree sessions → AreFree (all_but_last sessions)
+  free-left [] are = tt
+  free-left (history ∷ []) are = tt
+  free-left (history ∷ next ∷ others) are = (are.0, free-left (next ∷ others) are.1)
 
-  pub first-idle : (sessions : List (History T)) → AreIdle sessions → lists_told sessions ≡ no_lists
+  pub first-idle : (sessions : List (History T)) → AreFree sessions → lists_told sessions ≡ no_lists
   first-idle [] are = refl
-  first-idle (history ∷ others) are = are.0.none
+  first-idle (history ∷ others) are = are.0.idle.none
 
-  pub first-free : (sessions : List (History T)) → AreIdle sessions → first_todo sessions ≡ nothing_to_do
+  pub first-free : (sessions : List (History T)) → AreFree sessions → first_todo sessions ≡ nothing_to_do
   first-free [] are = refl
-  first-free (history ∷ others) are = are.0.free
+  first-free (history ∷ others) are = are.0.idle.free
 
-  pub idle-one : (sessions : List (History T)) → AreIdle sessions → IsIdle sessions
-  idle-one sessions are = record { none = first-idle sessions are; free = first-free sessions are }
+  pub first-wakes : (sessions : List (History T)) → AreFree sessions → first_owed sessions ≡ []
+  first-wakes [] are = refl
+  first-wakes (history ∷ others) are = are.0.wakes_nobody
 
-  behind-idle : (sessions : List (History T)) → AreIdle sessions → AreIdle (behind_of sessions)
-  behind-idle [] are = tt
-  behind-idle (history ∷ others) are = are.1
+  pub free-one : (sessions : List (History T)) → AreFree sessions → IsIdle sessions
+  free-one sessions are = record { none = first-idle sessions are; free = first-free sessions are }
+
+  behind-free : (sessions : List (History T)) → AreFree sessions → AreFree (behind_of sessions)
+  behind-free [] are = tt
+  behind-free (history ∷ others) are = are.1
 
   -- and the first one where its steps left its lists as they were.
-  pub idle-further : (content : T → Content) (before after : View T) → IsFurther before after
+  pub free-further : (content : T → Content) (before after : View T) → IsFurther before after
       → (first_account content after.sessions).lists ≡ (first_account content before.sessions).lists
-      → AreIdle before.sessions → AreIdle after.sessions
-  idle-further content before after further same are =
+      → AreFree before.sessions → AreFree after.sessions
+  free-further content before after further same are =
       let some = further.some in
-      subst AreIdle (sym some.sessions) (
+      subst AreFree (sym some.sessions) (
         record {
-          none = sym (lists-told content (some.history ∷ []))
-              ∙ ap (λ (sessions : List (History T)). (first_account content sessions).lists) (sym some.sessions) ∙ same
-              ∙ lists-told content before.sessions ∙ first-idle before.sessions are;
-          free = sym (ap first_todo some.sessions) ∙ further.free (first-free before.sessions are);
+          idle = record {
+            none = sym (lists-told content (some.history ∷ []))
+                ∙ ap (λ (sessions : List (History T)). (first_account content sessions).lists) (sym some.sessions) ∙ same
+                ∙ lists-told content before.sessions ∙ first-idle before.sessions are;
+            free = sym (ap first_todo some.sessions) ∙ further.free (first-free before.sessions are);
+          };
+          wakes_nobody = sym (ap first_owed some.sessions) ∙ further.owed ∙ first-wakes before.sessions are;
         },
-        subst AreIdle (sym further.behind ∙ ap behind_of some.sessions) (behind-idle before.sessions are),
+        subst AreFree (sym further.behind ∙ ap behind_of some.sessions) (behind-free before.sessions are),
       )

@@ -1,9 +1,6 @@
-use Rattle.std.proofs.Common.{◌≡◌, ◌≢◌, ℕ, false, List, Option, Some, None, refl, sym, ap, ◌∙◌, subst, inl, inr}
+use Rattle.std.proofs.Common.{◌≡◌, ◌≢◌, ℕ, List, Option, Some, None, refl, sym, ap, ◌∙◌, subst}
 use Rattle.std.specs.Prelude.{if◌then◌else◌, not, is_some}
-use Rattle.std.proofs.lemmas.Bool.{cases_Bool, cond-true, cond-false}
-use Rattle.lw_word.specs.LockState.{LockState, must_wake}
 use Rattle.lock_world.specs.Account.{ListAccount}
-use Rattle.lock_world.specs.Wakes.Waking.{NoneOr}
 use Rattle.lock_world.specs.Wakes.Owing.{is_lock}
 use Rattle.std.proofs.lemmas.Bool.{ne_eqb}
 use Rattle.atomic_table.specs.declared.shared.Seat.{Seat}
@@ -19,11 +16,12 @@ use Rattle.shared_rule.specs.Led.{Led, LedBy, LedTo, KeepsOthers}
 use Rattle.shared_rule.specs.declared.history.History.{History}
 use Rattle.shared_rule.specs.Seats.{behind_of}
 use Rattle.shared_rule.specs.Audits.{IsFurther}
-use Rattle.shared_rule.specs.Plays.{account_at, number_at, quiet_at, todo_at, HasSession, IsSameSeat}
+use Rattle.shared_rule.specs.Plays.{account_at, number_at, quiet_at, todo_at, owed_at, HasSession, IsSameSeat}
 use Rattle.shared_rule.specs.Quiet.{Quiet, first_quiet, quiet_noted}
-use Rattle.shared_rule.specs.Todos.{Todo, first_todo, nothing_to_do, todo_noted, todo_looked, todo_putting, todo_leaving, todo_told, todo_setting_ok, is_off_list_in_hand}
+use Rattle.shared_rule.specs.Owed.{first_owed, owed_noted}
+use Rattle.shared_rule.specs.Todos.{Todo, first_todo, todo_noted, todo_looked, todo_leaving, todo_told, todo_setting_ok, is_off_list_in_hand}
 use Rattle.shared_rule.proofs.Idle.{lists-told}
-use Rattle.shared_rule.proofs.Taken.{lone-noted, number-noted, session-noted, account-noted, quiet-noted, todo-noted}
+use Rattle.shared_rule.proofs.Taken.{lone-noted, number-noted, session-noted, account-noted, quiet-noted, todo-noted, owed-noted}
 
 -- What calls of several steps make of a seat, step by step.
 
@@ -45,10 +43,10 @@ module _ {T : Type 0} where
 module _ {T : Type 0} (content : T → Content) (before after : Seat (Kept T) (View T)) where
   -- A step that is noted.
   pub led-noted : (mark : Mark T) → HasSession before.me.0 → IsSameSeat before after
-      → after.me.0 ≡ noting before.me.0 mark
+      → after.me.0 ≡ noting before.me.0 mark → ((owed : List ℕ) → owed_noted owed mark ≡ owed)
       → LedBy content before after (noted content (number_at before) (account_at content before) mark)
       (quiet_noted (quiet_at before) mark) (todo_noted (number_at before) (account_at content before).lists (todo_at before) mark)
-  led-noted mark has same is = record {
+  led-noted mark has same is wakes = record {
     seat = same;
     session = subst HasSession (sym is) (session-noted before.me.0 mark has);
     number = ap (λ (view : View T). first_number view.sessions) is ∙ number-noted before.me.0 mark has;
@@ -57,6 +55,7 @@ module _ {T : Type 0} (content : T → Content) (before after : Seat (Kept T) (V
     quiet = ap (λ (view : View T). first_quiet view.sessions) is ∙ quiet-noted before.me.0 mark has;
     todo = ap (λ (view : View T). first_todo view.sessions) is ∙ todo-noted before.me.0 mark has
         ∙ ap (λ lists. todo_noted (number_at before) lists (todo_at before) mark) (sym (lists-told content before.me.0.sessions));
+    owed = ap (λ (view : View T). first_owed view.sessions) is ∙ owed-noted before.me.0 mark has ∙ wakes (owed_at before);
     others = subst (KeepsOthers before.me.0) (sym is) (others-noted before.me.0 mark has);
   }
 
@@ -71,6 +70,7 @@ module _ {T : Type 0} (content : T → Content) (before after : Seat (Kept T) (V
     account = ap (λ (view : View T). first_account content view.sessions) is;
     quiet = ap (λ (view : View T). first_quiet view.sessions) is;
     todo = ap (λ (view : View T). first_todo view.sessions) is;
+    owed = ap (λ (view : View T). first_owed view.sessions) is;
     others = subst (KeepsOthers before.me.0) (sym is) (record { next = refl; closed = refl; behind = refl });
   }
 
@@ -99,6 +99,7 @@ module _ {T : Type 0} (content : T → Content) (before after : Seat (Kept T) (V
     account = two.account ∙ ap next one.account;
     quiet = two.quiet ∙ ap adds one.quiet;
     todo = two.todo ∙ ap does one.todo;
+    owed = two.owed ∙ one.owed;
     others = others-then before.me.0 after.me.0 last.me.0 one.others two.others;
   }
 
@@ -113,22 +114,19 @@ module _ {T : Type 0} (content : T → Content) (before after : Seat (Kept T) (V
   led-then last a next one two = led_to-then last a (todo_at before) next (λ todo. todo) one two
 
   -- The account is as it is.
-  pub led_to-again : (last : Seat (Kept T) (View T)) (a b : Account) (todo : Todo) → LedTo content before after a todo → Led content after last b
-      → LedTo content before last (account_at content last) todo
-  led_to-again last a b todo one two = record {
+  pub led_to-itself : (last : Seat (Kept T) (View T)) (a b : Account) (todo next : Todo) → LedTo content before after a todo → LedTo content after last b next
+      → LedTo content before last (account_at content last) (todo_at last)
+  led_to-itself last a b todo next one two = record {
     seat = record { table_id = two.seat.table_id ∙ one.seat.table_id; id = two.seat.id ∙ one.seat.id };
     session = two.session;
     number = two.number ∙ one.number;
     lone = lone-then before.me.0 after.me.0 last.me.0 one.lone two.lone;
     account = refl;
     quiet = two.quiet ∙ one.quiet;
-    todo = two.todo ∙ one.todo;
+    todo = refl;
+    owed = two.owed ∙ one.owed;
     others = others-then before.me.0 after.me.0 last.me.0 one.others two.others;
   }
-
-  pub led-again : (last : Seat (Kept T) (View T)) (a b : Account) → Led content before after a → Led content after last b
-      → Led content before last (account_at content last)
-  led-again last a b one two = led_to-again last a b (todo_at before) one two
 
 -- Nothing was done.
 pub led-self : {T : Type 0} (content : T → Content) (place : Seat (Kept T) (View T)) → HasSession place.me.0
@@ -157,22 +155,6 @@ none-owed number lists todo lock none =
 pub owes-none : {P : Type 0} (todo : Todo) (lock : ℕ) → todo.owes_release_ok ≡ None → todo.owes_release_ok ≡ Some lock → P
 owes-none todo lock none owes = let never : ◌≡◌ {A = Option ℕ} None (Some lock) = sym none ∙ owes in absurd (cc (never))
 
--- What is due once a lock was put, by whether it must wake.
-pub due-or : (todo : Todo) (lock : ℕ) (state : LockState) → NoneOr (todo_putting todo lock state).due lock
-due-or todo lock state = elim (cases_Bool (must_wake state)) [
-  | inl wakes ↦ inr (cond-true (must_wake state) (Some lock) None wakes)
-  | inr quiet ↦ inl (cond-false (must_wake state) (Some lock) None quiet)
-]
-
--- Where it need not, there is nothing to do after it,
-pub put-nothing : (todo : Todo) (lock : ℕ) (state : LockState) → todo ≡ nothing_to_do → must_wake state ≡ false → todo_putting todo lock state ≡ todo
-put-nothing todo lock state free quiet =
-    (λ i. record todo { due = cond-false (must_wake state) (Some lock) None quiet i }) ∙ (λ i. record todo { due = sym (ap (λ (t : Todo). t.due) free) i })
-
--- and else there is nothing once its list was looked at.
-pub put-looked : (todo : Todo) (lock : ℕ) (state : LockState) → todo ≡ nothing_to_do → todo_looked (todo_putting todo lock state) ≡ todo
-put-looked todo lock state free = λ i. record todo { due = sym (ap (λ (t : Todo). t.due) free) i }
-
 -- A call that leaves as much to do goes on at the same seat.
 pub led-further : {T : Type 0} (content : T → Content) (before after : Seat (Kept T) (View T)) (a : Account) → Led content before after a → IsFurther before.me.0 after.me.0
 led-further content before after a led = record {
@@ -183,4 +165,5 @@ led-further content before after a led = record {
   quiet = led.quiet;
   some = led.session;
   free = λ was. led.todo ∙ was;
+  owed = led.owed;
 }

@@ -2,6 +2,9 @@ mod Shown
 pub mod Standing
 pub mod ClosedCounts
 pub mod Told
+pub mod Turns
+pub mod Looks
+pub mod Calls
 pub mod Owings
 pub mod Orders
 pub mod Frame
@@ -20,6 +23,7 @@ pub mod QuietSteps
 pub mod Adopted
 pub mod Led
 pub mod Acquires
+pub mod Waiting
 pub mod Idle
 pub mod TakenOff
 pub mod Queueing
@@ -30,4 +34,3 @@ pub mod Episodes
 pub mod Auditing
 pub mod AuditSums
 pub mod Stacks
-mod Walks

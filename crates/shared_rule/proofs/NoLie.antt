@@ -19,18 +19,18 @@ use Rattle.shared_rule.specs.declared.kept.Kept.{Kept}
 use Rattle.shared_rule.specs.declared.rule.Sizes.{Sizes}
 use Rattle.shared_rule.specs.Layout.{index_of_word}
 use Rattle.shared_rule.specs.Marks.{LoadedStrong}
-use Rattle.shared_rule.specs.Tells.{is_of_seats, is_step_of, steps_of, AreTold, LooksOnly, Leads}
+use Rattle.shared_rule.specs.Tells.{is_of_seats, is_step_of, steps_of, AreTold, LooksOnly, at_list, at_lock, calls_waiter, calls_sleeper, Leads}
 use Rattle.shared_rule.specs.Ruled.{StandsAtSeat, NobodyElse, Ruled}
 use Rattle.shared_rule.proofs.GivenOut.{has-history}
 
 -- Where nobody else has made a step, a load that a session made last shows what its word shows.
 
--- A load is no look.
+-- A load is no look, and no call.
 no-look : {T : Type 0} (index shown : ℕ) → LooksOnly (LoadedStrong {T = T} index shown) → ⊥
-no-look index shown looks = elim looks.1 [
-  | inl locked ↦ cc (locked)
-  | inr held ↦ cc (held)
-]
+no-look index shown (at_list lock is) = cc (is)
+no-look index shown (at_lock lock is) = cc (is)
+no-look index shown (calls_waiter other is) = cc (is)
+no-look index shown (calls_sleeper other is) = cc (is)
 
 -- Steps of seats leave all words as they are.
 seats-words : (w : World) (s : ℕ) (its : Step) (v : World) → is_of_seats its ≡ true → HappensStep w s its v → v.words ≡ w.words

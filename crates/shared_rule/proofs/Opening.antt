@@ -21,9 +21,7 @@ use Rattle.shared_rule.specs.Shown.{WordsAreShown}
 use Rattle.shared_rule.specs.History.{opening_view}
 use Rattle.shared_rule.specs.Opening.{IsNew, AreNew}
 use Rattle.lock_world.specs.Wakes.{nothing_beside}
-use Rattle.lock_world.specs.Wakes.Owing.{no_duties}
-use Rattle.lock_world.proofs.Wakes.Readings.{none-some}
-use Rattle.lock_world.proofs.Wakes.Runs.{keeps-well}
+use Rattle.std.proofs.lemmas.Bool.{false≢true}
 use Rattle.shared_rule.specs.Ruled.{ClosedAreCounted, SeatsAreShown, StandsAmong, Ruled}
 
 -- The table before the first step meets the rule.
@@ -110,18 +108,23 @@ module _ {T : Type 0} (content : T → Content) (begun : T → Option Request) (
         };
     seats = opening-seats;
     closed = λ seat view number there says. subst (λ (z : View T). ClosedAreCounted (opening sizes.sessions sizes.groups).numbers z.closed) (only-one seat view there).1 none-closed;
-    wakes =
-        let well = keeps-well sizes.sessions sizes.groups [] (opening sizes.sessions sizes.groups) nothing_beside (omega (arith, few), (refl, refl)) in
-        record {
-          duties = no_duties;
-          todo = λ h stands. nobody-there (λ (z : View T). z.sessions) (λ _. refl) h stands;
-          flagged = λ h stands. nobody-there (λ (z : View T). z.sessions) (λ _. refl) h stands;
-          none_todo = λ number later. refl;
-          none_flagged = λ number later. refl;
-          nobody = well.nobody;
-          order = record { rising = λ s l held stands has. absurd (none-some l stands); bound = λ s l stands. absurd (none-some l stands) };
-          only_live = λ number spent. well.only number spent;
-        };
+    wakes = record {
+      turns = [];
+      beside = nothing_beside;
+      run = (omega (arith, few), (refl, refl));
+      events_ = refl;
+      told = record {
+        at_seat = λ h stands. nobody-there (λ (z : View T). z.sessions) (λ _. refl) h stands;
+        closed = λ h stands. nobody-there (λ (z : View T). z.closed) (λ _. refl) h stands;
+        none = λ number later. refl;
+      };
+      todo = λ h stands. nobody-there (λ (z : View T). z.sessions) (λ _. refl) h stands;
+      flagged = λ h stands. nobody-there (λ (z : View T). z.sessions) (λ _. refl) h stands;
+      owed = λ h stands. nobody-there (λ (z : View T). z.sessions) (λ _. refl) h stands;
+      none_todo = λ number later. refl;
+      none_flagged = λ number later. refl;
+      none_owed = λ number later other owes. absurd (false≢true owes);
+    };
   }
 
 -- The last of parts with nothing in them, and the others.

@@ -15,8 +15,8 @@ use Rattle.shared_rule.specs.declared.history.Mark.{Mark}
 use Rattle.shared_rule.specs.declared.history.Mark.TheVariants as mark
 use Rattle.shared_rule.specs.declared.history.WordMark.{WordMark}
 use Rattle.shared_rule.specs.declared.history.WordMark.TheVariants as word
-use Rattle.shared_rule.specs.declared.lw_lock.LwLock.{LwLock}
-use Rattle.shared_rule.specs.declared.lw_lock.LwLock.TheVariants.{OfPart, OfSlots}
+use Rattle.shared_rule.specs.declared.lw_locks.LwLock.{LwLock}
+use Rattle.shared_rule.specs.declared.lw_locks.LwLock.TheVariants.{OfPart, OfSlots}
 use Rattle.shared_rule.specs.LwLocks.{lock_number, LockIsInTable}
 use Rattle.shared_rule.specs.History.{noted, noted_words, told, account_granting_by, account_cleared, account_left, in_hand}
 use Rattle.shared_rule.specs.Todos.{Todo, HasNoLock, IsLatestBy}
@@ -84,6 +84,8 @@ words-shares number a (word.SetReleaseOk lock) = refl
 words-shares number a (word.SetHasWaiters lock) = refl
 words-shares number a (word.SawListLocked lock) = refl
 words-shares number a (word.SawHeld lock) = refl
+words-shares number a (word.CalledWaiter other) = refl
+words-shares number a (word.CalledSleeper other) = refl
 
 module _ {T : Type 0} (content : T → Content) where
   step-shares : (number : ℕ) (a : Account) (m : Mark T) → (noted content number a m).shares ≡ a.shares

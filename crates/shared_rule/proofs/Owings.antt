@@ -1,6 +1,6 @@
 use Rattle.std.proofs.Common.{◌≡◌, ◌≢◌, ℕ, ◌+◌, ◌*◌, ◌/◌, ◌%◌, ◌^◌, ◌<◌, arith, Bool, true, false, not, List, [], Option, Some, None, refl, sym, ap, ◌∙◌, subst, inl, inr}
 use Rattle.std.specs.Prelude.{◌==◌, ◌&&◌, is_some, if◌then◌else◌}
-use Rattle.std.proofs.lemmas.Bool.{cases_Bool, both_ways, cond-true, cond-false, eq-eqb, eqb-true}
+use Rattle.std.proofs.lemmas.Bool.{cases_Bool, both_ways, cond-true, cond-false, eq-eqb, eqb-true, false≢true}
 use Rattle.lw_word.specs.declared.words.LwMode.{LwMode}
 use Rattle.lw_word.specs.declared.words.LwMode.TheVariants.{Exclusive, Shared}
 use Rattle.lw_word.specs.declared.wait_lists.LwWaiter.{LwWaiter}
@@ -25,43 +25,36 @@ use Rattle.lock_world.specs.Account.{Account, ListAccount, ListInHand, account, 
 use Rattle.lock_world.specs.Wakes.Waking.{NobodyIsForgotten, TellsNobody, NoneOr, IsLeftWell, HasLock}
 use Rattle.lock_world.specs.Wakes.Waking as waking_of
 use Rattle.lock_world.specs.Wakes.Owing.{Duties, waking, lock_bit, lock_row, lock_of, is_lock, look_due, after_putting, after_setting_ok, ok_set_as_owed, ok_set_before_told, ok_set_by_told, ok_set_by_winner, duties_after, AsksUnlocking, HasNothingToDo, Asks, IsEarlier, IsLatest, AsksInOrder}
-use Rattle.lock_world.specs.Wakes.Calling.{Calls, no_calls}
+use Rattle.lock_world.specs.Wakes.{Beside, happened, beside_after}
+use Rattle.lock_world.proofs.Wakes.Live.{step-alone}
 use Rattle.lock_world.proofs.Wakes.Rows.{even-bit, odd-bit}
-use Rattle.shared_rule.specs.declared.lw_lock.LwLock.{LwLock}
-use Rattle.shared_rule.specs.declared.lw_lock.LwLock.TheVariants.{OfPart, OfSlots}
+use Rattle.shared_rule.specs.declared.lw_locks.LwLock.{LwLock}
+use Rattle.shared_rule.specs.declared.lw_locks.LwLock.TheVariants.{OfPart, OfSlots}
 use Rattle.shared_rule.specs.LwLocks.{word_of_lock, lock_number}
-use Rattle.shared_rule.specs.Ruled.{todo_of}
+use Rattle.shared_rule.specs.Ruled.{todo_of, todo_with, OwesAsTold}
 use Rattle.shared_rule.specs.Todos.{Todo, nothing_to_do, todo_attempted, todo_looked, todo_putting, todo_queueing, todo_leaving, todo_told, todo_setting_ok, is_off_list_in_hand, lock_of_list, HasBy, IsLeftWellBy, nobody_waits, took_off, still_has, tries_next, TellsNobodyBy}
 
 -- What a session's step asks, from what the session has to do and knows; and what its step makes of that.
 
 -- A step keeps to what is owed: the session, with this to do, may make it, and has that to do then.
 pub record KeepsOwed (w : World) (number : ℕ) (todo : Todo) (flagged : Bool) (next : Todo) (next_flagged : Bool) (step : Step) : Type 0 where
-  pub asks : (x : Duties) → todo ≡ todo_of x number → flagged ≡ x.flagged number → Asks w x no_calls no_calls number step
-  pub todo_ : (x : Duties) → todo ≡ todo_of x number → next ≡ todo_of (duties_after w x number step) number
-  pub flagged_ : (x : Duties) → flagged ≡ x.flagged number → next_flagged ≡ (duties_after w x number step).flagged number
+  pub asks : (b : Beside) → todo ≡ todo_of b number → flagged ≡ b.duties.flagged number → Asks w b.duties b.waits b.sleeps number step
+  pub todo_ : (b : Beside) → todo ≡ todo_of b number → next ≡ todo_of (beside_after w b (happened (record { session = number; step = step }))) number
+  pub flagged_ : (b : Beside) → flagged ≡ b.duties.flagged number → next_flagged ≡ (duties_after w b.duties number step).flagged number
   pub in_order : AsksInOrder w number step
 
--- The duties of all others stay.
+-- What all others have to do stays, after a step and after a look.
+pub todo-others : (w : World) (b : Beside) (s k : ℕ) (other : k ≢ s) (step : Step) → todo_of (beside_after w b (happened (record { session = s; step = step }))) k ≡ todo_of b k
+todo-others w b s k other step =
+    let alone = step-alone w b s k other step in λ i. record { due = alone.0 i; tries = alone.1 i; owes_release_ok = alone.2 i; calls = alone.4 i }
+
+pub due-others : (x : Duties) (calls : ℕ → Bool) (s k : ℕ) (other : k ≢ s) (its : Option ℕ) → todo_with (record x { due = set_at x.due s its }) calls k ≡ todo_with x calls k
+due-others x calls s k other its = λ i. record { due = set_at-else x.due s its k other i; tries = x.tries k; owes_release_ok = x.owes_release_ok k; calls = calls }
+
+pub tries-others : (x : Duties) (calls : ℕ → Bool) (s k : ℕ) (other : k ≢ s) (its : Option ℕ) → todo_with (record x { tries = set_at x.tries s its }) calls k ≡ todo_with x calls k
+tries-others x calls s k other its = λ i. record { due = x.due k; tries = set_at-else x.tries s its k other i; owes_release_ok = x.owes_release_ok k; calls = calls }
+
 module _ (w : World) (x : Duties) (s k : ℕ) (other : k ≢ s) where
-  setting-others : (lock : ℕ) → todo_of (after_setting_ok w x s lock) k ≡ todo_of x k
-  setting-others lock = elim (cases_Bool (is_lock (x.owes_release_ok s) lock)) [
-    | inr free ↦ ap at (cond-false (is_lock (x.owes_release_ok s) lock) (ok_set_as_owed w x s lock) x free)
-    | inl owed ↦ ap at (cond-true (is_lock (x.owes_release_ok s) lock) (ok_set_as_owed w x s lock) x owed) ∙ elim (cases_Bool (not (is_some (w.sessions.stands s)))) [
-      | inl told ↦ ap at (cond-true (not (is_some (w.sessions.stands s))) (ok_set_by_told x s lock) (ok_set_before_told w x s lock) told)
-          ∙ (λ i. record { due = x.due k; tries = set_at-else x.tries s (Some lock) k other i; owes_release_ok = set_at-else x.owes_release_ok s None k other i })
-      | inr stands ↦ ap at (cond-false (not (is_some (w.sessions.stands s))) (ok_set_by_told x s lock) (ok_set_before_told w x s lock) stands) ∙ elim (cases_Bool won) [
-        | inl got ↦ ap at (cond-true won (ok_set_by_winner x s) x got) ∙ (λ i. record { due = x.due k; tries = x.tries k; owes_release_ok = set_at-else x.owes_release_ok s None k other i })
-        | inr not_got ↦ ap at (cond-false won (ok_set_by_winner x s) x not_got)
-      ]
-    ]
-  ] where
-    at : Duties → Todo
-    at y = todo_of y k
-
-    won : Bool
-    won = is_lock (w.sessions.has_list s) lock && not (stands_in s (w.words.list lock))
-
   setting-flags : (lock : ℕ) → (after_setting_ok w x s lock).flagged ≡ x.flagged
   setting-flags lock = elim (cases_Bool (is_lock (x.owes_release_ok s) lock)) [
     | inr free ↦ ap of (cond-false (is_lock (x.owes_release_ok s) lock) (ok_set_as_owed w x s lock) x free)
@@ -78,47 +71,6 @@ module _ (w : World) (x : Duties) (s k : ℕ) (other : k ≢ s) where
 
     won : Bool
     won = is_lock (w.sessions.has_list s) lock && not (stands_in s (w.words.list lock))
-
-  pub due-others : (its : Option ℕ) → todo_of (record x { due = set_at x.due s its }) k ≡ todo_of x k
-  due-others its = λ i. record { due = set_at-else x.due s its k other i; tries = x.tries k; owes_release_ok = x.owes_release_ok k }
-
-  pub tries-others : (its : Option ℕ) → todo_of (record x { tries = set_at x.tries s its }) k ≡ todo_of x k
-  tries-others its = λ i. record { due = x.due k; tries = set_at-else x.tries s its k other i; owes_release_ok = x.owes_release_ok k }
-
-  pub todo-others : (step : Step) → todo_of (duties_after w x s step) k ≡ todo_of x k
-  todo-others (TakeExclusive word) = tries-others None
-  todo-others (PutExclusive word done) = due-others _
-  todo-others (TakeShared word) = tries-others None
-  todo-others (PutShared word) = due-others _
-  todo-others SplitSeat = refl
-  todo-others (JoinSeat joiner) = refl
-  todo-others (AskCancel o) = refl
-  todo-others (LoadWait n) = refl
-  todo-others (SetWaiting t m) = refl
-  todo-others (MarkGranted o done) = refl
-  todo-others (ClearWait leaving) = refl
-  todo-others (PutPassing o t m) = due-others _
-  todo-others (LoadStrong i n) = refl
-  todo-others (LoadWord word n) = refl
-  todo-others (SetSlot i t m) = refl
-  todo-others (ClearSlot i t m) = refl
-  todo-others (StoreDatabase d) = refl
-  todo-others (Count t m) = refl
-  todo-others (Uncount t m) = refl
-  todo-others (TransferSlot q i t m z) = refl
-  todo-others (LockList word) = due-others None
-  todo-others (UnlockList word waiters release) = refl
-  todo-others (JoinList mode) = λ i. record {
-    due = x.due k;
-    tries = set_at-else x.tries s (w.sessions.has_list s) k other i;
-    owes_release_ok = set_at-else x.owes_release_ok s (w.sessions.has_list s) k other i;
-  }
-  todo-others LeaveList = λ i. record { due = x.due k; tries = x.tries k; owes_release_ok = set_at-else x.owes_release_ok s None k other i }
-  todo-others (TakeOff o) = refl
-  todo-others (Tell o) = refl
-  todo-others (LoadSleep n) = refl
-  todo-others (SetReleaseOk word n) = setting-others (lock_of word)
-  todo-others (SetHasWaiters word n) = refl
 
   pub flagged-others : (step : Step) → (duties_after w x s step).flagged k ≡ x.flagged k
   flagged-others (TakeExclusive word) = refl
@@ -152,22 +104,49 @@ module _ (w : World) (x : Duties) (s k : ℕ) (other : k ≢ s) where
   flagged-others (SetHasWaiters word n) = set_at-else x.flagged s true k other
 
 -- Attempts, puts and looks, by the part of the duties that each changes.
-module _ (x : Duties) (number : ℕ) (todo : Todo) (is : todo ≡ todo_of x number) where
-  pub due-here : (its : Option ℕ) → record todo { due = its } ≡ todo_of (record x { due = set_at x.due number its }) number
-  due-here its = λ i. record { due = sym (set_at-here x.due number its number refl) i; tries = ap (λ (t : Todo). t.tries) is i; owes_release_ok = ap (λ (t : Todo). t.owes_release_ok) is i }
+module _ (x : Duties) (row : ℕ → Bool) (number : ℕ) (todo : Todo) (is : todo ≡ todo_with x row number) where
+  pub due-here : (its : Option ℕ) → record todo { due = its } ≡ todo_with (record x { due = set_at x.due number its }) row number
+  due-here its = λ i. record {
+    due = sym (set_at-here x.due number its number refl) i;
+    tries = ap (λ (t : Todo). t.tries) is i;
+    owes_release_ok = ap (λ (t : Todo). t.owes_release_ok) is i;
+    calls = ap (λ (t : Todo). t.calls) is i;
+  }
 
-  pub tries-here : (its : Option ℕ) → record todo { tries = its } ≡ todo_of (record x { tries = set_at x.tries number its }) number
-  tries-here its = λ i. record { due = ap (λ (t : Todo). t.due) is i; tries = sym (set_at-here x.tries number its number refl) i; owes_release_ok = ap (λ (t : Todo). t.owes_release_ok) is i }
+  pub tries-here : (its : Option ℕ) → record todo { tries = its } ≡ todo_with (record x { tries = set_at x.tries number its }) row number
+  tries-here its = λ i. record {
+    due = ap (λ (t : Todo). t.due) is i;
+    tries = sym (set_at-here x.tries number its number refl) i;
+    owes_release_ok = ap (λ (t : Todo). t.owes_release_ok) is i;
+    calls = ap (λ (t : Todo). t.calls) is i;
+  }
 
-  owes-here : (its : Option ℕ) → record todo { owes_release_ok = its } ≡ todo_of (record x { owes_release_ok = set_at x.owes_release_ok number its }) number
-  owes-here its = λ i. record { due = ap (λ (t : Todo). t.due) is i; tries = ap (λ (t : Todo). t.tries) is i; owes_release_ok = sym (set_at-here x.owes_release_ok number its number refl) i }
+  owes-here : (its : Option ℕ) → record todo { owes_release_ok = its } ≡ todo_with (record x { owes_release_ok = set_at x.owes_release_ok number its }) row number
+  owes-here its = λ i. record {
+    due = ap (λ (t : Todo). t.due) is i;
+    tries = ap (λ (t : Todo). t.tries) is i;
+    owes_release_ok = sym (set_at-here x.owes_release_ok number its number refl) i;
+    calls = ap (λ (t : Todo). t.calls) is i;
+  }
 
-  both-here : (its other : Option ℕ) → record todo { tries = its; owes_release_ok = other } ≡ todo_of (record x { tries = set_at x.tries number its; owes_release_ok = set_at x.owes_release_ok number other }) number
+  both-here : (its other : Option ℕ) → record todo { tries = its; owes_release_ok = other }
+      ≡ todo_with (record x { tries = set_at x.tries number its; owes_release_ok = set_at x.owes_release_ok number other }) row number
   both-here its other = λ i. record {
     due = ap (λ (t : Todo). t.due) is i;
     tries = sym (set_at-here x.tries number its number refl) i;
     owes_release_ok = sym (set_at-here x.owes_release_ok number other number refl) i;
+    calls = ap (λ (t : Todo). t.calls) is i;
   }
+
+-- Whom the session has to call, after one of these is owed a call or was called.
+pub calls-here : (b : Beside) (number : ℕ) (todo : Todo) → todo ≡ todo_of b number → (other : ℕ) (owes : Bool)
+    → record todo { calls = set_at todo.calls other owes } ≡ todo_with b.duties (set_at b.sleeps.owed number (set_at (b.sleeps.owed number) other owes) number) number
+calls-here b number todo is other owes = λ i. record {
+  due = ap (λ (t : Todo). t.due) is i;
+  tries = ap (λ (t : Todo). t.tries) is i;
+  owes_release_ok = ap (λ (t : Todo). t.owes_release_ok) is i;
+  calls = (ap (λ (t : Todo). set_at t.calls other owes) is ∙ sym (set_at-here b.sleeps.owed number (set_at (b.sleeps.owed number) other owes) number refl)) i;
+}
 
 -- What a put leaves to do.
 pub put-exclusive : (word found : ℕ) → found ≡ word → IsHeldExclusively word → put_in Exclusive (state_of found) ≡ state_of (put_word word)
@@ -182,7 +161,7 @@ module _ (w : World) (number : ℕ) (todo : Todo) (flagged : Bool) where
   keeps-taking word none earlier = record {
     in_order = earlier;
     asks = λ x is was. subst (λ (t : Todo). NoneOr t.tries (lock_of word)) is none;
-    todo_ = λ x is. tries-here x number todo is None;
+    todo_ = λ b is. tries-here b.duties (b.sleeps.owed number) number todo is None;
     flagged_ = λ x was. was;
   }
 
@@ -190,13 +169,13 @@ module _ (w : World) (number : ℕ) (todo : Todo) (flagged : Bool) where
   keeps-sharing word none earlier = record {
     in_order = earlier;
     asks = λ x is was. subst (λ (t : Todo). NoneOr t.tries (lock_of word)) is none;
-    todo_ = λ x is. tries-here x number todo is None;
+    todo_ = λ b is. tries-here b.duties (b.sleeps.owed number) number todo is None;
     flagged_ = λ x was. was;
   }
 
-  due-put : (lock : ℕ) (state : LockState) (word : ℕ) → state ≡ state_of word → (x : Duties) → todo ≡ todo_of x number → todo_putting todo lock state ≡ todo_of (after_putting x number lock word) number
-  due-put lock state word same x is =
-      ap (todo_putting todo lock) same ∙ due-here x number todo is (look_due lock word)
+  due-put : (lock : ℕ) (state : LockState) (word : ℕ) → state ≡ state_of word → (x : Duties) (row : ℕ → Bool) → todo ≡ todo_with x row number → todo_putting todo lock state ≡ todo_with (after_putting x number lock word) row number
+  due-put lock state word same x row is =
+      ap (todo_putting todo lock) same ∙ due-here x row number todo is (look_due lock word)
 
   -- No look is due: a lock may be put.
   pub keeps-putting : (word : Word) (done : Move) (state : LockState) → state ≡ state_of (put_word (word_in w.words word)) → todo.due ≡ None
@@ -204,7 +183,7 @@ module _ (w : World) (number : ℕ) (todo : Todo) (flagged : Bool) where
   keeps-putting word done state same none = record {
     in_order = tt;
     asks = λ x is was. sym (ap (λ (t : Todo). t.due) is) ∙ none;
-    todo_ = λ x is. due-put (lock_of word) state (put_word (word_in w.words word)) same x is;
+    todo_ = λ b is. due-put (lock_of word) state (put_word (word_in w.words word)) same b.duties (b.sleeps.owed number) is;
     flagged_ = λ x was. was;
   }
 
@@ -213,7 +192,7 @@ module _ (w : World) (number : ℕ) (todo : Todo) (flagged : Bool) where
   keeps-unsharing word state same none = record {
     in_order = tt;
     asks = λ x is was. sym (ap (λ (t : Todo). t.due) is) ∙ none;
-    todo_ = λ x is. due-put (lock_of word) state (unshared_word (word_in w.words word)) same x is;
+    todo_ = λ b is. due-put (lock_of word) state (unshared_word (word_in w.words word)) same b.duties (b.sleeps.owed number) is;
     flagged_ = λ x was. was;
   }
 
@@ -222,7 +201,7 @@ module _ (w : World) (number : ℕ) (todo : Todo) (flagged : Bool) where
   keeps-passing owner tag mode state same none = record {
     in_order = tt;
     asks = λ x is was. sym (ap (λ (t : Todo). t.due) is) ∙ none;
-    todo_ = λ x is. due-put (fast_lock owner) state (put_word (w.words.fast owner)) same x is;
+    todo_ = λ b is. due-put (fast_lock owner) state (put_word (w.words.fast owner)) same b.duties (b.sleeps.owed number) is;
     flagged_ = λ x was. was;
   }
 
@@ -231,8 +210,8 @@ module _ (w : World) (number : ℕ) (todo : Todo) (flagged : Bool) where
   keeps-locking word none nobody = record {
     in_order = tt;
     asks = λ x is was. record { no_other = subst (λ (t : Todo). NoneOr t.due (lock_of word)) is none; tells_nobody = nobody };
-    todo_ = λ x is. due-here x number todo is None;
-    flagged_ = λ x was. sym (set_at-here x.flagged number false number refl);
+    todo_ = λ b is. due-here b.duties (b.sleeps.owed number) number todo is None;
+    flagged_ = λ b was. sym (set_at-here b.duties.flagged number false number refl);
   }
 
   pub keeps-joining : (mode : LwMode) (its : Option ℕ) → its ≡ w.sessions.has_list number → flagged ≡ true → todo.owes_release_ok ≡ None
@@ -245,15 +224,15 @@ module _ (w : World) (number : ℕ) (todo : Todo) (flagged : Bool) where
       owes_no_ok = sym (ap (λ (t : Todo). t.owes_release_ok) is) ∙ none;
       no_other = λ lock has. subst (λ (t : Todo). NoneOr t.tries lock) is (no_other lock has);
     };
-    todo_ = λ x is. ap (todo_queueing todo) same ∙ both-here x number todo is (w.sessions.has_list number) (w.sessions.has_list number);
+    todo_ = λ b is. ap (todo_queueing todo) same ∙ both-here b.duties (b.sleeps.owed number) number todo is (w.sessions.has_list number) (w.sessions.has_list number);
     flagged_ = λ x was. was;
   }
 
   pub keeps-leaving : KeepsOwed w number todo flagged (todo_leaving todo) flagged LeaveList
-  keeps-leaving = record { in_order = tt; asks = λ x is was. tt; todo_ = λ x is. owes-here x number todo is None; flagged_ = λ x was. was }
+  keeps-leaving = record { in_order = tt; asks = λ x is was. tt; todo_ = λ b is. owes-here b.duties (b.sleeps.owed number) number todo is None; flagged_ = λ x was. was }
 
   pub keeps-flagging : (word : Word) (shown : ℕ) → KeepsOwed w number todo flagged todo true (SetHasWaiters word shown)
-  keeps-flagging word shown = record { in_order = tt; asks = λ x is was. tt; todo_ = λ x is. is; flagged_ = λ x was. sym (set_at-here x.flagged number true number refl) }
+  keeps-flagging word shown = record { in_order = tt; asks = λ x is was. tt; todo_ = λ x is. is; flagged_ = λ b was. sym (set_at-here b.duties.flagged number true number refl) }
 
 -- What the account has of lists and locks is so in the World.
 pub lock-in_hand : (has : Option ℕ) (list : ℕ → List LwWaiter) → lock_of_list (list_in_hand has list) ≡ has
@@ -273,18 +252,18 @@ module _ (w : World) (number : ℕ) (a : Account) (todo : Todo) (flagged : Bool)
   lists_are : a.lists ≡ (account w number).lists
   lists_are = ap (λ (b : Account). b.lists) shows
 
-  setting-is : (x : Duties) (lock : ℕ) → todo ≡ todo_of x number → todo_setting_ok number a.lists todo lock ≡ todo_of (after_setting_ok w x number lock) number
-  setting-is x lock is = (λ i. todo_setting_ok number (lists_are i) todo lock) ∙ elim (cases_Bool owed) [
+  setting-is : (x : Duties) (row : ℕ → Bool) (lock : ℕ) → todo ≡ todo_with x row number → todo_setting_ok number a.lists todo lock ≡ todo_with (after_setting_ok w x number lock) row number
+  setting-is x row lock is = (λ i. todo_setting_ok number (lists_are i) todo lock) ∙ elim (cases_Bool owed) [
     | inr free ↦ cond-false owed (if not (is_some (w.sessions.stands number)) then todo_told todo lock else (if off then todo_leaving todo else todo)) todo free
         ∙ is ∙ ap at (sym (cond-false (is_lock (x.owes_release_ok number) lock) (ok_set_as_owed w x number lock) x (sym same ∙ free)))
     | inl owes ↦ cond-true owed (if not (is_some (w.sessions.stands number)) then todo_told todo lock else (if off then todo_leaving todo else todo)) todo owes
         ∙ elim (cases_Bool (not (is_some (w.sessions.stands number)))) [
           | inl told ↦ cond-true (not (is_some (w.sessions.stands number))) (todo_told todo lock) (if off then todo_leaving todo else todo) told
-              ∙ both-here x number todo is (Some lock) None
+              ∙ both-here x row number todo is (Some lock) None
               ∙ ap at (sym (cond-true (not (is_some (w.sessions.stands number))) (ok_set_by_told x number lock) (ok_set_before_told w x number lock) told))
           | inr stands ↦ cond-false (not (is_some (w.sessions.stands number))) (todo_told todo lock) (if off then todo_leaving todo else todo) stands
               ∙ elim (cases_Bool off) [
-                | inl won ↦ cond-true off (todo_leaving todo) todo won ∙ owes-here x number todo is None
+                | inl won ↦ cond-true off (todo_leaving todo) todo won ∙ owes-here x row number todo is None
                     ∙ ap at (sym (cond-true won_ (ok_set_by_winner x number) x (sym its ∙ won)))
                 | inr lost ↦ cond-false off (todo_leaving todo) todo lost ∙ is
                     ∙ ap at (sym (cond-false won_ (ok_set_by_winner x number) x (sym its ∙ lost)))
@@ -294,7 +273,7 @@ module _ (w : World) (number : ℕ) (a : Account) (todo : Todo) (flagged : Bool)
         ∙ ap at (sym (cond-true (is_lock (x.owes_release_ok number) lock) (ok_set_as_owed w x number lock) x (sym same ∙ owes)))
   ] where
     at : Duties → Todo
-    at y = todo_of y number
+    at y = todo_with y row number
 
     owed : Bool
     owed = is_lock todo.owes_release_ok lock
@@ -327,8 +306,8 @@ module _ (w : World) (number : ℕ) (a : Account) (todo : Todo) (flagged : Bool)
       tells_nobody = λ owes has other. sym (ap (λ (l : ListAccount). l.off other) lists_are)
           ∙ nobody (ap (λ (t : Todo). t.owes_release_ok) is ∙ owes ∙ ap Some its) (some-list (lock_of word) has) other;
     };
-    todo_ = λ x is. setting-is x (lock_of word) is;
-    flagged_ = λ x was. was ∙ sym (kept x (lock_of word));
+    todo_ = λ b is. setting-is b.duties (b.sleeps.owed number) (lock_of word) is;
+    flagged_ = λ b was. was ∙ sym (kept b.duties (lock_of word));
   }) where
     kept : (x : Duties) (l : ℕ) → (after_setting_ok w x number l).flagged number ≡ x.flagged number
     kept x l = elim (cases_Bool (is_lock (x.owes_release_ok number) l)) [
@@ -389,12 +368,12 @@ module _ (w : World) (number : ℕ) (a : Account) (shows : a ≡ account w numbe
   pub tells-told : TellsNobodyBy a → TellsNobody w.sessions.off number
   tells-told nobody other = ap (λ (b : Account). b.lists.off other) (sym shows) ∙ nobody other
 
-  left-well : (x : Duties) (todo : Todo) (l : LwLock) (waiters : List LwWaiter) → todo ≡ todo_of x number → w.words.list (lock_number l) ≡ waiters → IsLeftWellBy a todo l waiters
+  left-well : (x : Duties) (row : ℕ → Bool) (todo : Todo) (l : LwLock) (waiters : List LwWaiter) → todo ≡ todo_with x row number → w.words.list (lock_number l) ≡ waiters → IsLeftWellBy a todo l waiters
       → IsLeftWell (waking w x) (lock_number l) number
-  left-well x todo l waiters is list (nobody_waits none) = waking_of.nobody_waits (list ∙ none)
-  left-well x todo l waiters is list (took_off other off) = waking_of.took_off other (off-told other off)
-  left-well x todo l waiters is list (still_has has) = waking_of.still_has (has-lock x l has)
-  left-well x todo l waiters is list (tries_next tries) = waking_of.tries_next (sym (ap (λ (t : Todo). t.tries) is) ∙ tries)
+  left-well x row todo l waiters is list (nobody_waits none) = waking_of.nobody_waits (list ∙ none)
+  left-well x row todo l waiters is list (took_off other off) = waking_of.took_off other (off-told other off)
+  left-well x row todo l waiters is list (still_has has) = waking_of.still_has (has-lock x l has)
+  left-well x row todo l waiters is list (tries_next tries) = waking_of.tries_next (sym (ap (λ (t : Todo). t.tries) is) ∙ tries)
 
   -- Unlocking a list.
   pub keeps-unlocking : (todo : Todo) (flagged : Bool) (l : LwLock) (has_waiters release_ok : Bool) (waiters : List LwWaiter) → w.words.list (lock_number l) ≡ waiters
@@ -402,7 +381,7 @@ module _ (w : World) (number : ℕ) (a : Account) (shows : a ≡ account w numbe
       → KeepsOwed w number todo flagged todo flagged (UnlockList (word_of_lock l) has_waiters release_ok)
   keeps-unlocking todo flagged l has_waiters release_ok waiters list waiters_stay release_stays well = record {
     in_order = tt;
-    asks = λ x is was. subst (λ n. AsksUnlocking w x number n has_waiters release_ok) (sym (lock-is l)) (record {
+    asks = λ b is was. subst (λ n. AsksUnlocking w b.duties number n has_waiters release_ok) (sym (lock-is l)) (record {
       waiters_stay = elim (cases_Bool has_waiters) [
         | inl stay ↦ inl stay
         | inr go ↦ inr (list ∙ waiters_stay go)
@@ -411,7 +390,7 @@ module _ (w : World) (number : ℕ) (a : Account) (shows : a ≡ account w numbe
         | inl stay ↦ inl stay
         | inr go ↦ let off = release_stays go in inr (off.0, off-told off.0 off.1)
       ];
-      left_well = left-well x todo l waiters is list well;
+      left_well = left-well b.duties (b.sleeps.owed number) todo l waiters is list well;
     });
     todo_ = λ x is. is;
     flagged_ = λ x was. was;
@@ -424,10 +403,10 @@ none-row partition fast none clear lock = elim (cases_Bool (lock % 2 == 0)) [
   | inr odd ↦ cond-false (lock % 2 == 0) (partition (lock / 2)) (fast (lock / 2)) odd ∙ clear (lock / 2)
 ]
 
-pub nothing-left : (w : World) (x : Duties) (k : ℕ) → ((p : ℕ) → w.sessions.holds_partition k p ≡ false) → ((o : ℕ) → w.sessions.holds_fast k o ≡ false)
+pub nothing-left : (w : World) (b : Beside) (k : ℕ) → ((p : ℕ) → w.sessions.holds_partition k p ≡ false) → ((o : ℕ) → w.sessions.holds_fast k o ≡ false)
     → ((p : ℕ) → w.sessions.shares_partition k p ≡ false) → ((o : ℕ) → w.sessions.shares_fast k o ≡ false)
-    → nothing_to_do ≡ todo_of x k → w.sessions.has_list k ≡ None → TellsNobody w.sessions.off k → HasNothingToDo w x no_calls no_calls k
-nothing-left w x k no_part no_fast no_shared no_shared_fast free no_list nobody = record {
+    → nothing_to_do ≡ todo_of b k → OwesAsTold b k [] → w.sessions.has_list k ≡ None → TellsNobody w.sessions.off k → HasNothingToDo w b.duties b.waits b.sleeps k
+nothing-left w b k no_part no_fast no_shared no_shared_fast free wakes_nobody no_list nobody = record {
   no_lock = λ lock has. elim has [
     | inl held ↦ both_ways (lock_row w.sessions.holds_partition w.sessions.holds_fast k lock) (none-row (w.sessions.holds_partition k) (w.sessions.holds_fast k) no_part no_fast lock) held
     | inr shared ↦ both_ways (lock_row w.sessions.shares_partition w.sessions.shares_fast k lock) (none-row (w.sessions.shares_partition k) (w.sessions.shares_fast k) no_shared no_shared_fast lock) shared
@@ -437,19 +416,9 @@ nothing-left w x k no_part no_fast no_shared no_shared_fast free no_list nobody 
   no_ok = sym (ap (λ (t : Todo). t.owes_release_ok) free);
   no_list = no_list;
   tells_nobody = nobody;
-  calls_no_waiter = λ other. refl;
-  calls_no_sleeper = λ other. refl;
-}
-
--- Calls aside, whoever has nothing to do has it still.
-pub calls-aside : (w : World) (x : Duties) (waits sleeps : Calls) (k : ℕ) → HasNothingToDo w x waits sleeps k → HasNothingToDo w x no_calls no_calls k
-calls-aside w x waits sleeps k has = record {
-  no_lock = has.no_lock;
-  no_look = has.no_look;
-  no_try = has.no_try;
-  no_ok = has.no_ok;
-  no_list = has.no_list;
-  tells_nobody = has.tells_nobody;
-  calls_no_waiter = λ other. refl;
-  calls_no_sleeper = λ other. refl;
+  calls_no_waiter = λ other. elim (cases_Bool (b.waits.owed k other)) [
+    | inl owed ↦ absurd (false≢true (wakes_nobody other owed))
+    | inr none ↦ none
+  ];
+  calls_no_sleeper = λ other. sym (ap (λ (t : Todo). t.calls other) free);
 }

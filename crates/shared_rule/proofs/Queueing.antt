@@ -15,10 +15,10 @@ use Rattle.shared_rule.specs.History.{list_here}
 use Rattle.shared_rule.specs.Led.{Led, LedTo}
 use Rattle.shared_rule.specs.LwLocks.{no_lists, queued_for}
 use Rattle.shared_rule.specs.Plays.{account_at, todo_at}
-use Rattle.shared_rule.specs.Wakeups.{all_taken_off, all_told, MayTakeAllOff, MayTellAll}
-use Rattle.shared_rule.specs.declared.lw_lock.LwLock.{LwLock}
-use Rattle.shared_rule.specs.declared.lw_lock.LwLock.TheVariants.{OfPart, OfSlots}
-use Rattle.shared_rule.specs.Todos.{HasBy, TriesAtMost, nothing_to_do, todo_queueing, todo_leaving, todo_told, todo_setting_ok, todo_in_list, todo_got, lock_of_list, is_off_list_in_hand}
+use Rattle.shared_rule.specs.Wakeups.{all_taken_off, all_told, all_owed, all_called, MayTakeAllOff, MayTellAll}
+use Rattle.shared_rule.specs.declared.lw_locks.LwLock.{LwLock}
+use Rattle.shared_rule.specs.declared.lw_locks.LwLock.TheVariants.{OfPart, OfSlots}
+use Rattle.shared_rule.specs.Todos.{Todo, todo_owing, todo_calling, HasBy, TriesAtMost, nothing_to_do, todo_queueing, todo_leaving, todo_told, todo_setting_ok, todo_in_list, todo_got, lock_of_list, is_off_list_in_hand}
 use Rattle.shared_rule.proofs.Led.{led-then, led_to-then, led_to-as, led_by-todo}
 
 -- What queueing, leaving a list and waking make of an account, step by step.
@@ -51,7 +51,7 @@ module _ {T : Type 0} (content : T → Content) (before locked : Seat (Kept T) (
       let three = led_to-then content before joined after
       (account_joining_list (account_locking_list a lock waiters) (list_here (account_locking_list a lock waiters).lists.in_hand) waiter) (todo_queueing (todo_at before) (Some lock)) account_unlocking_list (λ todo. todo) two unlocks in
       let four = led_to-as content before after (todo_queueing (todo_at before) (Some lock)) _ _ three (ap (λ (lists : ListAccount). record a { lists = record { in_hand = None; stands = Some lock; off = lists.off } }) idle) in
-      led_by-todo content before after _ _ (todo_queueing (todo_at before) (Some lock)) (todo_in_list lock) four (λ i. record { due = tries.no_look i; tries = Some lock; owes_release_ok = Some lock })
+      led_by-todo content before after _ _ (todo_queueing (todo_at before) (Some lock)) (todo_in_list lock) four (λ i. record { due = tries.no_look i; tries = Some lock; owes_release_ok = Some lock; calls = tries.calls_nobody i })
 
   -- Leaving: it is locked, left and unlocked,
   pub dequeued :
@@ -119,6 +119,20 @@ off-last items i a end past ends = sym (ap (all_taken_off a) (drop_all i items p
 
 pub told-last : (items : List LwWaiter) (i : ℕ) (a end : Account) → length items ≤ i → all_told a (drop i items) ≡ end → a ≡ end
 told-last items i a end past ends = sym (ap (all_told a) (drop_all i items past)) ∙ ends
+
+-- What is to do, in the same way.
+module _ (items : List LwWaiter) (i : ℕ) (waiter : LwWaiter) (within : i < length items) (is : waiter ≡ get_or items i waiter) where
+  pub owed-next : (todo other end : Todo) → all_owed todo (drop i items) ≡ end → other ≡ todo_owing todo waiter.session → all_owed other (drop (i + 1) items) ≡ end
+  owed-next todo other end ends same = ap (λ t. all_owed t (drop (i + 1) items)) same ∙ sym (ap (all_owed todo) (next-waiter items i waiter within is)) ∙ ends
+
+  pub called-next : (todo other end : Todo) → all_called todo (drop i items) ≡ end → other ≡ todo_calling (todo_owing todo waiter.session) waiter.session → all_called other (drop (i + 1) items) ≡ end
+  called-next todo other end ends same = ap (λ t. all_called t (drop (i + 1) items)) same ∙ sym (ap (all_called todo) (next-waiter items i waiter within is)) ∙ ends
+
+pub owed-last : (items : List LwWaiter) (i : ℕ) (todo end : Todo) → length items ≤ i → all_owed todo (drop i items) ≡ end → todo ≡ end
+owed-last items i todo end past ends = sym (ap (all_owed todo) (drop_all i items past)) ∙ ends
+
+pub called-last : (items : List LwWaiter) (i : ℕ) (todo end : Todo) → length items ≤ i → all_called todo (drop i items) ≡ end → todo ≡ end
+called-last items i todo end past ends = sym (ap (all_called todo) (drop_all i items past)) ∙ ends
 
 -- Steps on lists leave what the session has of locks.
 pub got-left : (lock : LwLock) (a b : Account) (lists : ListAccount) → b ≡ record a { lists = lists } → HasBy a lock → HasBy b lock

@@ -4,7 +4,7 @@ use Rattle.shared_rule.specs.declared.history.Mark.{Mark}
 use Rattle.shared_rule.specs.declared.history.Mark.TheVariants as mark
 use Rattle.shared_rule.specs.declared.history.WordMark.{WordMark}
 use Rattle.shared_rule.specs.declared.history.WordMark.TheVariants as word
-use Rattle.shared_rule.specs.Tells.{WordsTell, Tells, LooksOnly, AreTold}
+use Rattle.shared_rule.specs.Tells.{WordsTell, Tells, LooksOnly, at_list, at_lock, calls_waiter, calls_sleeper, AreTold}
 use Rattle.shared_rule.specs.Quiet.{Quiet, quiet_words, quiet_noted, quiet_told, quiet_after, quiet_of}
 
 -- A session's quiet steps are those of the steps that it made.
@@ -40,6 +40,8 @@ words-quiet number (word.SetReleaseOk lock) its before told = sym (ap (quiet_aft
 words-quiet number (word.SetHasWaiters lock) its before told = sym (ap (quiet_after before) told.1.2)
 words-quiet number (word.SawListLocked lock) its before told = absurd told
 words-quiet number (word.SawHeld lock) its before told = absurd told
+words-quiet number (word.CalledWaiter other) its before told = absurd told
+words-quiet number (word.CalledSleeper other) its before told = absurd told
 
 -- The last step comes last.
 last-quiet : (before : List Quiet) (steps : List Step) (last : Step) → quiet_of before (steps ++ last ∷ []) ≡ quiet_after (quiet_of before steps) last
@@ -55,12 +57,12 @@ module _ {T : Type 0} where
   mark-quiet number (mark.LeftQueue woken now) its before told = sym (ap (quiet_after before) told)
   mark-quiet number (mark.OfWords m) its before told = words-quiet number m its before told
 
-  -- A look adds nothing.
+  -- A look, or a call, adds nothing.
   look-quiet : (m : Mark T) (before : List Quiet) → LooksOnly m → quiet_noted before m ≡ before
-  look-quiet m before looks = elim looks.1 [
-    | inl locked ↦ ap (quiet_noted before) locked
-    | inr held ↦ ap (quiet_noted before) held
-  ]
+  look-quiet m before (at_list lock is) = ap (quiet_noted before) is
+  look-quiet m before (at_lock lock is) = ap (quiet_noted before) is
+  look-quiet m before (calls_waiter other is) = ap (quiet_noted before) is
+  look-quiet m before (calls_sleeper other is) = ap (quiet_noted before) is
 
   pub told-quiet : (number : ℕ) (marks : List (Mark T)) (steps : List Step) → AreTold number marks steps → quiet_told marks ≡ quiet_of [] steps
   told-quiet number [] steps told = sym (ap (quiet_of []) told)

@@ -7,6 +7,7 @@ use Rattle.shared_rule.specs.History.{first_account, first_number, lone, noted, 
 use Rattle.shared_rule.specs.Boards.{first_marks, lists_told, StaysLone}
 use Rattle.shared_rule.specs.Plays.{HasSession}
 use Rattle.shared_rule.specs.Quiet.{first_quiet, quiet_noted}
+use Rattle.shared_rule.specs.Owed.{first_owed, owed_noted}
 use Rattle.lock_world.specs.Wakes.Waking.{NoneOr}
 use Rattle.shared_rule.specs.Todos.{Todo, todo_told_by, flagged_told_by, first_todo, todo_noted, first_flagged, flagged_noted, JoinsLatest}
 use Rattle.shared_rule.specs.History.{told}
@@ -48,6 +49,12 @@ module _ {T : Type 0} where
   todo-noted view mark has =
       ap (λ (sessions : List (History T)). first_todo (noting_first sessions mark)) has.sessions
       ∙ sym (ap (λ (sessions : List (History T)). todo_noted (first_number sessions) (lists_told sessions) (first_todo sessions) mark) has.sessions)
+
+  -- So is whom it has to wake.
+  pub owed-noted : (view : View T) (mark : Mark T) → HasSession view → first_owed (noting view mark).sessions ≡ owed_noted (first_owed view.sessions) mark
+  owed-noted view mark has =
+      ap (λ (sessions : List (History T)). first_owed (noting_first sessions mark)) has.sessions
+      ∙ sym (ap (λ (sessions : List (History T)). owed_noted (first_owed sessions) mark) has.sessions)
 
   pub flagged-noted : (view : View T) (mark : Mark T) → HasSession view
       → first_flagged (noting view mark).sessions ≡ flagged_noted (first_flagged view.sessions) mark

@@ -375,7 +375,7 @@ module _ {T : Type 0} (content : T → Content) (begun : T → Option Request) (
       (event : Event) (numbers : Numbers) (views : List (View T)) → Happens r.world event (with_numbers r.world numbers) → numbers.limit ≡ r.world.numbers.limit
       → SafeWorld (with_numbers r.world numbers) → SeatsAreShown content views (with_numbers r.world numbers) → OpenerHasClosed views numbers
       → is_of_seats event.step ≡ true → StepsAreTold views numbers r.events → ((h : History T) → StandsClosed views h → StandsClosed s.views h)
-      → WakesAreKept views (with_numbers r.world numbers)
+      → WakesAreKept sizes views (r.events ++ event ∷ []) (with_numbers r.world numbers)
       → Ruled content begun sizes (record { words = s.words; homes = s.homes; views = views })
   ruled-numbered event numbers views happens same safe seats closed of_seats told stood wakes = record {
     world = with_numbers r.world numbers;
@@ -406,7 +406,7 @@ module _ {T : Type 0} (content : T → Content) (begun : T → Option Request) (
       → OpenerHasClosed views (after_closing r.world k).numbers → told content k marks ≡ account r.world k
       → StepsAreTold views (after_closing r.world k).numbers r.events
       → ((h : History T) → StandsClosed views h → StandsClosed s.views h ⊎ (h ≡ record { number = k; marks = marks }))
-      → WakesAreKept views (after_closing r.world k)
+      → WakesAreKept sizes views (r.events ++ record { session = k; step = JoinSeat None } ∷ []) (after_closing r.world k)
       → Ruled content begun sizes (record { words = s.words; homes = s.homes; views = views })
   ruled-closed k marks views may safe seats closed shown its_steps stood wakes = record {
     world = after_closing r.world k;

@@ -18,6 +18,7 @@ use Rattle.shared_rule.specs.Openers.{OpenerState}
 use Rattle.shared_rule.specs.Quiet.{first_quiet, quiet_told}
 use Rattle.shared_rule.specs.Seats.{behind_of}
 use Rattle.shared_rule.specs.Plays.{HasSession}
+use Rattle.shared_rule.specs.Owed.{first_owed}
 use Rattle.shared_rule.specs.Todos.{first_todo, nothing_to_do}
 use Rattle.shared_rule.specs.Gatherings.{Gathered, counted_at, account_among, AreDistinct, NoneWaits, HasAllInHand, AreAll, gathered_in}
 
@@ -61,6 +62,8 @@ module _ {T : Type 0} where
     pub some : HasSession after
     -- whoever has nothing to do for those who wait has nothing to do still
     pub free : first_todo before.sessions ≡ nothing_to_do → first_todo after.sessions ≡ nothing_to_do
+    -- and whom it has to wake it has to wake still
+    pub owed : first_owed after.sessions ≡ first_owed before.sessions
 
 -- The session has this partition in hand, with this content.
 abbrev pub HasPartInHand : Account → ℕ → Content → Type 0

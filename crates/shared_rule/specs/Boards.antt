@@ -9,7 +9,7 @@ use Rattle.shared_rule.specs.declared.kept.Kept.TheVariants.{Nothing}
 use Rattle.shared_rule.specs.Layout.{content_slot_of}
 use Rattle.shared_rule.specs.History.{lone, first_account}
 use Rattle.shared_rule.specs.LwLocks.{no_lists}
-use Rattle.shared_rule.specs.Owed.{owing, asking, waking}
+use Rattle.shared_rule.specs.Owed.{owing, asking, waking, first_owed}
 use Rattle.shared_rule.specs.Todos.{first_todo, nothing_to_do, no_content}
 
 -- What a board is: shared state as one session sees it.
@@ -73,10 +73,15 @@ pub record IsIdle {T : Type 0} (sessions : List (History T)) : Type 0 where
   pub none : lists_told sessions ≡ no_lists
   pub free : first_todo sessions ≡ nothing_to_do
 
--- So has each of these sessions.
-abbrev pub AreIdle : {T : Type 0} → List (History T) → Type 0
-AreIdle [] = Unit {0}
-AreIdle (history ∷ others) = IsIdle (history ∷ []) × AreIdle others
+-- It has nobody to wake, either.
+pub record IsFree {T : Type 0} (sessions : List (History T)) : Type 0 where
+  pub idle : IsIdle sessions
+  pub wakes_nobody : first_owed sessions ≡ []
+
+-- So it is of each of these sessions.
+abbrev pub AreFree : {T : Type 0} → List (History T) → Type 0
+AreFree [] = Unit {0}
+AreFree (history ∷ others) = IsFree (history ∷ []) × AreFree others
 
 -- The view is one session's still, if it was.
 abbrev pub StaysLone : {T : Type 0} → View T → View T → Type 0

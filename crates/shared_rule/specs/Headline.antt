@@ -1,11 +1,11 @@
-use Rattle.std.specs.Prelude.{◌≡◌, ◌⊎◌, ℕ, List, ◌∷◌, Option, Some, None}
+use Rattle.std.specs.Prelude.{◌≡◌, ◌≢◌, ◌⊎◌, true, ℕ, List, ◌∷◌, Option, Some, None}
 use Rattle.modes_core.specs.Tag.{partition_of}
 use Rattle.atomic_table.specs.Table.{State}
 use Rattle.lock_table.specs.declared.request.Request.{Request}
 use Rattle.lock_table.specs.Content.{Content}
 use Rattle.lock_table.specs.OwnWait.{OwnWait}
 use Rattle.lock_world.specs.declared.events.Event.{Event}
-use Rattle.lock_world.specs.World.{World, opening}
+use Rattle.lock_world.specs.World.{World, MakesSteps, opening}
 use Rattle.lock_world.specs.Happens.{Runs}
 use Rattle.lock_world.specs.Headline.{Headline, RefusalsSawWhatTheyName}
 use Rattle.lock_world.specs.WaitWord.{wait_state}
@@ -14,13 +14,16 @@ use Rattle.shared_rule.specs.declared.rule.Sizes.{Sizes}
 use Rattle.shared_rule.specs.declared.history.View.{View}
 use Rattle.shared_rule.specs.declared.kept.Kept.{Kept}
 use Rattle.shared_rule.specs.Shown.{WordsAreShown}
-use Rattle.lock_world.specs.Wakes.{IsLookedAfter, MakesNoStep}
+use Rattle.lock_world.specs.Wakes.{Beside, Turn, RunKeeps, IsLookedAfter, OnlyLiveOwe}
 use Rattle.lock_world.specs.Wakes.Waking.{NobodyIsForgotten, IsAsleep, OrderIsKept, NotAllSleep}
-use Rattle.lock_world.specs.Wakes.Owing.{Duties, waking, HasNothingToDo}
-use Rattle.lock_world.specs.Wakes.Calling.{no_calls}
+use Rattle.lock_world.specs.Wakes.Owing.{waking}
+use Rattle.lock_world.specs.Wakes.Calling.{IsParked, ShowsWaiting, ShowsUntold}
 use Rattle.shared_rule.specs.declared.history.History.{History}
 use Rattle.shared_rule.specs.Todos.{todo_told_by}
-use Rattle.shared_rule.specs.Ruled.{ContentsAreHome, SeatsAreShown, StandsAtSeat, todo_of, with_duties}
+use Rattle.shared_rule.specs.Owed.{owed_told}
+use Rattle.shared_rule.specs.Looks.{looks_told, looks_of}
+use Rattle.shared_rule.specs.History.{is_among}
+use Rattle.shared_rule.specs.Ruled.{ContentsAreHome, SeatsAreShown, StandsAtSeat, TurnsAreTold, todo_of}
 
 -- The headline of the table: its words, its contents at home and the histories of all sessions show a World to which events have led
 -- from the opening one, and which has it. Whatever a conditional request was refused with was so in a World on the way.
@@ -48,34 +51,69 @@ pub record ShowsReasons {T : Type 0} (content : T → Content) (begun : T → Op
       (session : ℕ) (wait : OwnWait) → world.sessions.awaited session ≡ Some wait → world.contents.hand (partition_of wait.tag) ≡ None
       → HasReason (world.contents.now (partition_of wait.tag)) session wait ⊎ (wait_state (world.words.wait session) ≡ 2)
 
--- No sleeper is forgotten: the table shows such a World, with duties that the histories of all sessions tell that have a seat. Where the
--- wait list of a lightweight lock has a waiter, a session has the lock or something to do for it. A session that sleeps stands in its
--- list, and one that makes steps has that lock or something to do for it; or the sleeper was taken off, and one that makes steps has
--- it to tell. Whoever makes no step has no lightweight lock, and nothing to do.
+-- No sleeper is forgotten: the table shows such a World, with what stands beside it as the histories of all sessions tell that have a
+-- seat. Where the wait list of a lightweight lock has a waiter, a session has the lock or something to do for it. A session that sleeps
+-- stands in its list, and one that makes steps has that lock or something to do for it; or the sleeper was taken off, and one that
+-- makes steps has it to tell. Whoever makes no step has no lightweight lock, and nothing to do.
 pub record ShowsSleepers {T : Type 0} (content : T → Content) (begun : T → Option Request) (sizes : Sizes)
     (state : State (Kept T) (View T)) : Type 0 where
   pub world : World
   pub words : WordsAreShown sizes.groups state.words world.words
   pub seats : SeatsAreShown content state.views world
-  pub duties : Duties
+  pub beside : Beside
   pub todo :
       (history : History T) → StandsAtSeat state.views history
-      → todo_told_by history.number history.marks ≡ todo_of duties history.number
-  pub nobody : NobodyIsForgotten (waking world duties)
-  pub owed : (session lock : ℕ) → IsAsleep (waking world duties) session lock → IsLookedAfter world (with_duties duties) session lock
-  pub only_live : (number : ℕ) → MakesNoStep world.numbers number → HasNothingToDo world duties no_calls no_calls number
+      → todo_told_by history.number history.marks ≡ todo_of beside history.number
+  pub nobody : NobodyIsForgotten (waking world beside.duties)
+  pub owed : (session lock : ℕ) → IsAsleep (waking world beside.duties) session lock → IsLookedAfter world beside session lock
+  pub only_live : OnlyLiveOwe world beside
 
--- No circle of sleepers comes: the table shows such a World, with duties that the histories of all sessions tell that have a seat. Nobody
--- stands in the list of a lightweight lock while it has a later one. So where anybody sleeps, not all of those sleep who have a lightweight
--- lock, or something to do for one, or somebody to tell.
+-- No circle of sleepers comes: the table shows such a World, with what stands beside it as the histories of all sessions tell that have
+-- a seat. Nobody stands in the list of a lightweight lock while it has a later one. So where anybody sleeps, not all of those sleep who
+-- have a lightweight lock, or something to do for one, or somebody to tell.
 pub record ShowsNoCircle {T : Type 0} (content : T → Content) (begun : T → Option Request) (sizes : Sizes)
     (state : State (Kept T) (View T)) : Type 0 where
   pub world : World
   pub words : WordsAreShown sizes.groups state.words world.words
   pub seats : SeatsAreShown content state.views world
-  pub duties : Duties
+  pub beside : Beside
   pub todo :
       (history : History T) → StandsAtSeat state.views history
-      → todo_told_by history.number history.marks ≡ todo_of duties history.number
-  pub in_order : OrderIsKept (waking world duties)
-  pub somebody_runs : NotAllSleep (waking world duties)
+      → todo_told_by history.number history.marks ≡ todo_of beside history.number
+  pub in_order : OrderIsKept (waking world beside.duties)
+  pub somebody_runs : NotAllSleep (waking world beside.duties)
+
+-- By its history this session has the other to wake, which waits for a lock of the table; or to call, which it took off a wait list.
+abbrev pub HasToWake : {T : Type 0} → History T → ℕ → Type 0
+HasToWake history other = is_among (owed_told history.marks) other ≡ true
+
+abbrev pub HasToCall : {T : Type 0} → History T → ℕ → Type 0
+HasToCall history other = (todo_told_by history.number history.marks).calls other ≡ true
+
+-- A session that makes steps, and has its history at a seat, owes the other that.
+pub record IsOwedBy {T : Type 0} (Has : History T → ℕ → Type 0) (views : List (View T)) (w : World) (other : ℕ) : Type 0 where
+  pub history : History T
+  pub stands : StandsAtSeat views history
+  pub makes : MakesSteps w.numbers history.number
+  pub owes : Has history other
+
+-- No call is lost: the table shows such a World, to which turns of all sessions led, events, looks and calls. The turns of each session
+-- are those that its history tells, one for each mark and in order. A session parks on its wait word, as it loaded it last by its history,
+-- where that shows that it waits, and on its sleep word where that does not show that it was told; a call since then wakes it. Whoever is parked on what its
+-- word no more shows has a session that makes steps and, as its history tells, has that one to wake.
+pub record ShowsCalls {T : Type 0} (content : T → Content) (begun : T → Option Request) (sizes : Sizes)
+    (state : State (Kept T) (View T)) : Type 0 where
+  pub world : World
+  pub words : WordsAreShown sizes.groups state.words world.words
+  pub seats : SeatsAreShown content state.views world
+  pub turns : List Turn
+  pub beside : Beside
+  pub run : RunKeeps sizes.sessions sizes.groups turns world beside
+  pub told : TurnsAreTold state.views world.numbers turns
+  pub looked : (history : History T) → StandsAtSeat state.views history → looks_told history.marks ≡ looks_of beside history.number
+  pub waits :
+      (session shown : ℕ) → IsParked ShowsWaiting beside.waits session shown → world.words.wait session ≢ shown
+      → IsOwedBy HasToWake state.views world session
+  pub sleeps :
+      (session shown : ℕ) → IsParked ShowsUntold beside.sleeps session shown → world.words.sleep session ≢ shown
+      → IsOwedBy HasToCall state.views world session

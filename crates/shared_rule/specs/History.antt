@@ -29,7 +29,7 @@ use Rattle.shared_rule.specs.declared.history.WordMark.TheVariants.{Counted, Unc
 use Rattle.shared_rule.specs.declared.history.WordMark.TheVariants.{LoadedDatabase, LoadedSlot, LoadedFast, LoadedStrong, SetSlot}
 use Rattle.shared_rule.specs.declared.history.WordMark.TheVariants.{ClearedSlot, TransferredSlot, StoredDatabase, LockedList, UnlockedList}
 use Rattle.shared_rule.specs.declared.history.WordMark.TheVariants.{JoinedList, LeftList, TookOff, Told, LoadedSleep}
-use Rattle.shared_rule.specs.declared.history.WordMark.TheVariants.{SetReleaseOk, SetHasWaiters, SawListLocked, SawHeld}
+use Rattle.shared_rule.specs.declared.history.WordMark.TheVariants.{SetReleaseOk, SetHasWaiters, SawListLocked, SawHeld, CalledWaiter, CalledSleeper}
 use Rattle.shared_rule.specs.declared.history.History.{History}
 use Rattle.shared_rule.specs.declared.history.View.{View}
 
@@ -156,6 +156,8 @@ noted_words number a (SetReleaseOk lock) = a
 noted_words number a (SetHasWaiters lock) = a
 noted_words number a (SawListLocked lock) = a
 noted_words number a (SawHeld lock) = a
+noted_words number a (CalledWaiter other) = a
+noted_words number a (CalledSleeper other) = a
 
 module _ {T : Type 0} (content : T → Content) where
   -- what a step makes of it

@@ -5,7 +5,7 @@ use Rattle.lock_world.specs.Account.{Account}
 use Rattle.shared_rule.specs.declared.history.View.{View}
 use Rattle.shared_rule.specs.declared.kept.Kept.{Kept}
 use Rattle.shared_rule.specs.Boards.{StaysLone}
-use Rattle.shared_rule.specs.Plays.{account_at, number_at, quiet_at, todo_at, HasSession, IsSameSeat}
+use Rattle.shared_rule.specs.Plays.{account_at, number_at, quiet_at, todo_at, owed_at, HasSession, IsSameSeat}
 use Rattle.shared_rule.specs.Quiet.{Quiet}
 use Rattle.shared_rule.specs.Seats.{behind_of}
 use Rattle.shared_rule.specs.Todos.{Todo}
@@ -17,7 +17,7 @@ pub record KeepsOthers {T : Type 0} (before after : View T) : Type 0 where
   pub behind : behind_of after.sessions ≡ behind_of before.sessions
 
 -- What a call of several steps makes of a seat: it is the same seat, of the same session, whose account is this then, whose quiet
--- steps are these, and which has this to do for those who wait.
+-- steps are these, and which has this to do for those who wait for lightweight locks. It has to wake those whom it had to wake.
 pub record LedBy {T : Type 0} (content : T → Content) (before after : Seat (Kept T) (View T)) (a : Account)
     (its_quiet : List Quiet) (its_todo : Todo) : Type 0 where
   pub seat : IsSameSeat before after
@@ -27,6 +27,7 @@ pub record LedBy {T : Type 0} (content : T → Content) (before after : Seat (Ke
   pub account : account_at content after ≡ a
   pub quiet : quiet_at after ≡ its_quiet
   pub todo : todo_at after ≡ its_todo
+  pub owed : owed_at after ≡ owed_at before
   pub others : KeepsOthers before.me.0 after.me.0
 
 -- A call that made no quiet step, and one that leaves as much to do as there was.

@@ -11,11 +11,14 @@ pub mod Slots
 pub mod LwLocks
 pub mod Plays
 pub mod Owed
+pub mod Looks
 pub mod Boards
 pub mod Led
 pub mod Acquires
+pub mod Waiting
 pub mod Wakeups
 pub mod Lawful
+pub mod Releases
 pub mod Opening
 pub mod Seats
 pub mod Openers

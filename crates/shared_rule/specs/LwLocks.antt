@@ -3,8 +3,8 @@ use Rattle.lock_world.specs.declared.events.Word.{Word}
 use Rattle.lock_world.specs.declared.events.Word.TheVariants.{Partition, Fast}
 use Rattle.lock_world.specs.WaitLists.{partition_lock, fast_lock}
 use Rattle.lock_world.specs.Account.{ListAccount}
-use Rattle.shared_rule.specs.declared.lw_lock.LwLock.{LwLock}
-use Rattle.shared_rule.specs.declared.lw_lock.LwLock.TheVariants.{OfPart, OfSlots}
+use Rattle.shared_rule.specs.declared.lw_locks.LwLock.{LwLock}
+use Rattle.shared_rule.specs.declared.lw_locks.LwLock.TheVariants.{OfPart, OfSlots}
 
 -- The lightweight locks of the table: each has a word and, by its number, a wait list.
 

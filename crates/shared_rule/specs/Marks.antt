@@ -113,3 +113,10 @@ module _ {T : Type 0} where
 
   abbrev pub SawHeld : ℕ → Mark T
   SawHeld lock = mark.OfWords (word.SawHeld lock)
+
+  -- Calls, which are none either.
+  abbrev pub CalledWaiter : ℕ → Mark T
+  CalledWaiter other = mark.OfWords (word.CalledWaiter other)
+
+  abbrev pub CalledSleeper : ℕ → Mark T
+  CalledSleeper other = mark.OfWords (word.CalledSleeper other)

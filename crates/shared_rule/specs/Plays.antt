@@ -20,12 +20,13 @@ use Rattle.shared_rule.specs.declared.history.View.{View}
 use Rattle.shared_rule.specs.declared.kept.Kept.{Kept}
 use Rattle.shared_rule.specs.declared.kept.Kept.TheVariants.{Part}
 use Rattle.shared_rule.specs.declared.kept.Kept.TheVariants as kept
-use Rattle.shared_rule.specs.declared.lw_lock.LwLock.{LwLock}
+use Rattle.shared_rule.specs.declared.lw_locks.LwLock.{LwLock}
 use Rattle.shared_rule.specs.LwLocks.{word_of_lock, lock_number, LockIsInTable}
 use Rattle.shared_rule.specs.declared.layout.TheConstants.{TABLE_WORDS, TABLE_SLOTS}
 use Rattle.shared_rule.specs.Layout.{index_of_word, content_slot_of, list_slot_of, words_of_groups, MayBeInTable}
 use Rattle.shared_rule.specs.History.{noting, first_account, first_number, slots_shown}
 use Rattle.shared_rule.specs.Quiet.{Quiet, first_quiet}
+use Rattle.shared_rule.specs.Owed.{first_owed}
 use Rattle.shared_rule.specs.Todos.{Todo, first_todo, first_flagged}
 use Rattle.shared_rule.specs.Slots.{KnowsWord}
 
@@ -63,6 +64,10 @@ module _ {T : Type 0} where
 
   abbrev pub flagged_at : Seat (Kept T) (View T) → Bool
   flagged_at place = first_flagged place.me.0.sessions
+
+  -- and whom it has to wake, of those who wait for a lock of the table
+  abbrev pub owed_at : Seat (Kept T) (View T) → List ℕ
+  owed_at place = first_owed place.me.0.sessions
 
   -- the seat is at this table
   pub record FitsTable (place : Seat (Kept T) (View T)) (table : TableId) : Type 0 where

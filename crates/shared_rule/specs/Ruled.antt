@@ -1,4 +1,4 @@
-use Rattle.std.specs.Prelude.{◌≡◌, ◌≢◌, ℕ, ◌+◌, ◌*◌, ◌<◌, ◌≤◌, ◌==◌, true, false, List, [], ◌∷◌, ◌++◌, length, slice_get, count_by, Option, Some, None}
+use Rattle.std.specs.Prelude.{◌≡◌, ◌≢◌, ℕ, ◌+◌, ◌*◌, ◌<◌, ◌≤◌, ◌==◌, Bool, true, false, List, [], ◌∷◌, ◌++◌, length, slice_get, count_by, Option, Some, None}
 use mathlib.Core.Option.{some}
 use mathlib.Core.Option as maybe
 use lib.ListN.{get_elem?}
@@ -22,13 +22,12 @@ use Rattle.shared_rule.specs.declared.kept.Kept.{Kept}
 use Rattle.shared_rule.specs.declared.kept.Kept.TheVariants as kept
 use Rattle.shared_rule.specs.Layout.{content_slot_of, list_slot_of, lock_count}
 use Rattle.shared_rule.specs.Shown.{WordsAreShown}
-use Rattle.shared_rule.specs.History.{blank_account, told, keeper}
-use Rattle.shared_rule.specs.Tells.{AreTold, Leads, steps_of}
+use Rattle.shared_rule.specs.History.{blank_account, is_among, told, keeper}
+use Rattle.shared_rule.specs.Tells.{AreTold, AreTurnsTold, Leads, steps_of, events_of, turns_of}
 use Rattle.shared_rule.specs.Todos.{Todo, nothing_to_do, todo_told_by, flagged_told_by}
-use Rattle.lock_world.specs.Wakes.{Beside, MakesNoStep}
-use Rattle.lock_world.specs.Wakes.Waking.{NobodyIsForgotten, OrderIsKept}
-use Rattle.lock_world.specs.Wakes.Owing.{Duties, waking, HasNothingToDo}
-use Rattle.lock_world.specs.Wakes.Calling.{no_calls}
+use Rattle.lock_world.specs.Wakes.{Beside, Turn, RunKeepsInOrder}
+use Rattle.lock_world.specs.Wakes.Owing.{Duties}
+use Rattle.shared_rule.specs.Owed.{owed_told}
 
 -- The rule of the table: there is a World which its words, its contents at home and the histories of all sessions show,
 -- to which a list of events leads from the World before the first step, and which is safe.
@@ -195,29 +194,53 @@ module _ {T : Type 0} (content : T → Content) where
     -- a number not yet given out has an account with nothing in it
     pub not_issued : (number : ℕ) → w.numbers.issued ≤ number → account w number ≡ blank_account
 
--- what one session has to do, of the duties of all
-abbrev pub todo_of : Duties → ℕ → Todo
-todo_of duties number = record { due = duties.due number; tries = duties.tries number; owes_release_ok = duties.owes_release_ok number }
+-- What one session has to do for those who wait for lightweight locks, of what all have.
+abbrev pub todo_with : Duties → (ℕ → Bool) → ℕ → Todo
+todo_with duties calls number = record {
+  due = duties.due number;
+  tries = duties.tries number;
+  owes_release_ok = duties.owes_release_ok number;
+  calls = calls;
+}
 
--- these duties, and nothing of calls
-abbrev pub with_duties : Duties → Beside
-with_duties duties = record { duties = duties; waits = no_calls; sleeps = no_calls }
+abbrev pub todo_of : Beside → ℕ → Todo
+todo_of beside number = todo_with beside.duties (beside.sleeps.owed number) number
 
--- Nobody who sleeps for a lightweight lock is forgotten, by the duties that histories tell: there are duties of all sessions, which are
--- those of each history at a seat; and whoever makes no step has no lock and nothing to do. All take lightweight locks in one order.
-pub record WakesAreKept {T : Type 0} (views : List (View T)) (w : World) : Type 0 where
-  pub duties : Duties
+-- Whoever waits for a lock of the table and is owed a call by this session is among those whom it has to wake.
+abbrev pub OwesAsTold : Beside → ℕ → List ℕ → Type 0
+OwesAsTold beside number owed = (other : ℕ) → beside.waits.owed number other ≡ true → is_among owed other ≡ true
+
+module _ {T : Type 0} where
+  -- Each session's turns, events, looks and calls, are those that its history tells, one for each mark and in order, and no other; a
+  -- number not given out has made none.
+  pub record TurnsAreTold (views : List (View T)) (numbers : Numbers) (turns : List Turn) : Type 0 where
+    pub at_seat :
+        (history : History T) → StandsAtSeat views history
+        → AreTurnsTold history.number history.marks (turns_of history.number turns)
+    pub closed :
+        (history : History T) → StandsClosed views history
+        → AreTurnsTold history.number history.marks (turns_of history.number turns)
+    pub none : (number : ℕ) → numbers.issued ≤ number → turns_of number turns ≡ []
+
+-- No sleeper is forgotten, no call is lost and no circle of sleepers comes: there is a run of turns that leads from the World before the
+-- first step to this one, and keeps to what is owed and to the order of lightweight locks. Its events are those of the rule, and each
+-- session's turns are those that its history tells. What stands beside the World then is what the histories at the seats tell: what
+-- each session has to do for those who wait for lightweight locks, and whom it has to wake.
+pub record WakesAreKept {T : Type 0} (sizes : Sizes) (views : List (View T)) (events : List Event) (w : World) : Type 0 where
+  pub turns : List Turn
+  pub beside : Beside
+  pub run : RunKeepsInOrder sizes.sessions sizes.groups turns w beside
+  pub events_ : events_of turns ≡ events
+  pub told : TurnsAreTold views w.numbers turns
   pub todo :
       (history : History T) → StandsAtSeat views history
-      → todo_told_by history.number history.marks ≡ todo_of duties history.number
+      → todo_told_by history.number history.marks ≡ todo_of beside history.number
   pub flagged :
-      (history : History T) → StandsAtSeat views history → flagged_told_by history.marks ≡ duties.flagged history.number
-  pub none_todo : (number : ℕ) → w.numbers.issued ≤ number → nothing_to_do ≡ todo_of duties number
-  pub none_flagged : (number : ℕ) → w.numbers.issued ≤ number → false ≡ duties.flagged number
-  pub nobody : NobodyIsForgotten (waking w duties)
-  -- and nobody stands in the list of a lock while it has a later one
-  pub order : OrderIsKept (waking w duties)
-  pub only_live : (number : ℕ) → MakesNoStep w.numbers number → HasNothingToDo w duties no_calls no_calls number
+      (history : History T) → StandsAtSeat views history → flagged_told_by history.marks ≡ beside.duties.flagged history.number
+  pub owed : (history : History T) → StandsAtSeat views history → OwesAsTold beside history.number (owed_told history.marks)
+  pub none_todo : (number : ℕ) → w.numbers.issued ≤ number → nothing_to_do ≡ todo_of beside number
+  pub none_flagged : (number : ℕ) → w.numbers.issued ≤ number → false ≡ beside.duties.flagged number
+  pub none_owed : (number : ℕ) → w.numbers.issued ≤ number → OwesAsTold beside number []
 
 -- The rule.
 module _ {T : Type 0} (content : T → Content) (begun : T → Option Request) where
@@ -244,4 +267,4 @@ module _ {T : Type 0} (content : T → Content) (begun : T → Option Request) w
     pub lists : ListsAreHome state.homes world.sessions.has_list world.words.list
     pub seats : SeatsAreShown content state.views world
     pub closed : OpenerHasClosed state.views world.numbers
-    pub wakes : WakesAreKept state.views world
+    pub wakes : WakesAreKept sizes state.views events world

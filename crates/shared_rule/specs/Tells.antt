@@ -8,6 +8,7 @@ use Rattle.lock_world.specs.declared.events.Step.{Step}
 use Rattle.lock_world.specs.declared.events.Step.TheVariants as step
 use Rattle.lock_world.specs.declared.events.Word.TheVariants.{Partition, Fast, Database, Slot}
 use Rattle.lock_world.specs.World.{World}
+use Rattle.lock_world.specs.Wakes.{Turn, happened, saw_list_locked, saw_held, called_waiter, called_sleeper}
 use Rattle.lock_world.specs.Happens.{Happens}
 use Rattle.shared_rule.specs.declared.history.Mark.{Mark}
 use Rattle.shared_rule.specs.declared.history.Mark.TheVariants.{TookPart, PutPart, SetWaiting, MarkedGranted, LeftQueue, OfWords}
@@ -17,8 +18,8 @@ use Rattle.shared_rule.specs.declared.history.WordMark.TheVariants.{Counted, Unc
 use Rattle.shared_rule.specs.declared.history.WordMark.TheVariants.{LoadedDatabase, LoadedSlot, LoadedFast, LoadedStrong, SetSlot}
 use Rattle.shared_rule.specs.declared.history.WordMark.TheVariants.{ClearedSlot, TransferredSlot, StoredDatabase, LockedList, UnlockedList}
 use Rattle.shared_rule.specs.declared.history.WordMark.TheVariants.{JoinedList, LeftList, TookOff, Told, LoadedSleep}
-use Rattle.shared_rule.specs.declared.history.WordMark.TheVariants.{SetReleaseOk, SetHasWaiters, SawListLocked, SawHeld}
-use Rattle.shared_rule.specs.declared.lw_lock.LwLock.{LwLock}
+use Rattle.shared_rule.specs.declared.history.WordMark.TheVariants.{SetReleaseOk, SetHasWaiters, SawListLocked, SawHeld, CalledWaiter, CalledSleeper}
+use Rattle.shared_rule.specs.declared.lw_locks.LwLock.{LwLock}
 use Rattle.shared_rule.specs.LwLocks.{word_of_lock, lock_number}
 
 -- The steps that a session's history tells: each mark tells one step, in order, and there is no other.
@@ -63,6 +64,8 @@ WordsTell number (SetHasWaiters lock) its =
     (shown : ℕ) × IsOnLock lock (λ l. step.SetHasWaiters (word_of_lock l) shown) its
 WordsTell number (SawListLocked lock) its = ⊥
 WordsTell number (SawHeld lock) its = ⊥
+WordsTell number (CalledWaiter other) its = ⊥
+WordsTell number (CalledSleeper other) its = ⊥
 
 -- Putting a partition names the move that was made: the mark's, or, where that is to keep, the one that stood recorded.
 abbrev pub Puts : ℕ → Move → Step → Type 0
@@ -90,17 +93,57 @@ module _ {T : Type 0} where
   Tells number (LeftQueue woken now) its = its ≡ step.ClearWait true
   Tells number (OfWords mark) its = WordsTell number mark its
 
-  -- It is the mark of a look, which is no step: the World is as it was.
-  abbrev pub LooksOnly : Mark T → Type 0
-  LooksOnly mark = (lock : ℕ) × ((mark ≡ OfWords (SawListLocked lock)) ⊎ (mark ≡ OfWords (SawHeld lock)))
+  -- It is the mark of a look or of a call, which are no steps: the World is as it was.
+  pub data LooksOnly (mark : Mark T) : Type 0 where
+    at_list : (lock : ℕ) → mark ≡ OfWords (SawListLocked lock) → LooksOnly mark
+    at_lock : (lock : ℕ) → mark ≡ OfWords (SawHeld lock) → LooksOnly mark
+    calls_waiter : (other : ℕ) → mark ≡ OfWords (CalledWaiter other) → LooksOnly mark
+    calls_sleeper : (other : ℕ) → mark ≡ OfWords (CalledSleeper other) → LooksOnly mark
 
   -- These steps are those that the marks tell, the last mark first: the last step is told by the first of them, and the steps before
-  -- it by the others; looks aside.
+  -- it by the others; looks and calls aside.
   abbrev pub AreTold : ℕ → List (Mark T) → List Step → Type 0
   AreTold number [] steps = steps ≡ []
   AreTold number (mark ∷ marks) steps =
       ((before : List Step) × (last : Step) × (steps ≡ before ++ last ∷ []) × Tells number mark last × AreTold number marks before)
       ⊎ (LooksOnly mark × AreTold number marks steps)
+
+-- The turns of a run: events, looks and calls.
+
+-- the events among them
+abbrev pub events_of : List Turn → List Event
+events_of [] = []
+events_of (happened event ∷ turns) = event ∷ events_of turns
+events_of (saw_list_locked session lock ∷ turns) = events_of turns
+events_of (saw_held session lock ∷ turns) = events_of turns
+events_of (called_waiter session other ∷ turns) = events_of turns
+events_of (called_sleeper session other ∷ turns) = events_of turns
+
+-- the turns of a session, in order, those of seats aside
+abbrev pub is_turn_of : ℕ → Turn → Bool
+is_turn_of number (happened event) = is_step_of number event
+is_turn_of number (saw_list_locked session lock) = session == number
+is_turn_of number (saw_held session lock) = session == number
+is_turn_of number (called_waiter session other) = session == number
+is_turn_of number (called_sleeper session other) = session == number
+
+abbrev pub turns_of : ℕ → List Turn → List Turn
+turns_of number turns = filter (is_turn_of number) turns
+
+module _ {T : Type 0} where
+  -- The turn that a mark tells, of the session of this number.
+  abbrev pub TellsTurn : ℕ → Mark T → Turn → Type 0
+  TellsTurn number mark (happened event) = Tells number mark event.step
+  TellsTurn number mark (saw_list_locked session lock) = mark ≡ OfWords (SawListLocked lock)
+  TellsTurn number mark (saw_held session lock) = mark ≡ OfWords (SawHeld lock)
+  TellsTurn number mark (called_waiter session other) = mark ≡ OfWords (CalledWaiter other)
+  TellsTurn number mark (called_sleeper session other) = mark ≡ OfWords (CalledSleeper other)
+
+  -- These turns are those that the marks tell, one each, the last mark first.
+  abbrev pub AreTurnsTold : ℕ → List (Mark T) → List Turn → Type 0
+  AreTurnsTold number [] turns = turns ≡ []
+  AreTurnsTold number (mark ∷ marks) turns =
+      (before : List Turn) × (last : Turn) × (turns ≡ before ++ last ∷ []) × TellsTurn number mark last × AreTurnsTold number marks before
 
 -- Events lead from one World to another, each happening in its turn: none is skipped.
 abbrev pub Leads : World → List Event → World → Type 0

@@ -3,6 +3,7 @@ use Rattle.lw_word.specs.declared.words.LwMode.TheVariants.{Exclusive, Shared}
 use Rattle.lw_word.specs.LockState.{LockState, state_of, put_in, must_wake}
 use Rattle.lw_word.specs.WaitList.{stands_in}
 use Rattle.lw_word.specs.declared.wait_lists.LwWaiter.{LwWaiter}
+use Rattle.lock_table.specs.Put.{set_at}
 use Rattle.lock_table.specs.Content.{Content, empty_content}
 use Rattle.lock_world.specs.WaitLists.{partition_lock, fast_lock}
 use Rattle.lock_world.specs.Account.{Account, ListAccount, ListInHand}
@@ -11,10 +12,10 @@ use Rattle.lock_world.specs.Wakes.Owing.{is_lock}
 use Rattle.shared_rule.specs.declared.history.Mark.{Mark}
 use Rattle.shared_rule.specs.declared.history.Mark.TheVariants.{TookPart, PutPart, OfWords}
 use Rattle.shared_rule.specs.declared.history.WordMark.{WordMark}
-use Rattle.shared_rule.specs.declared.history.WordMark.TheVariants.{TookFast, PutFast, SharedFast, UnsharedFast, Passed, LockedList, JoinedList, LeftList, SetReleaseOk, SetHasWaiters, SawListLocked, SawHeld}
+use Rattle.shared_rule.specs.declared.history.WordMark.TheVariants.{TookFast, PutFast, SharedFast, UnsharedFast, Passed, LockedList, JoinedList, LeftList, TookOff, Told, SetReleaseOk, SetHasWaiters, SawListLocked, SawHeld, CalledSleeper}
 use Rattle.shared_rule.specs.declared.history.History.{History}
-use Rattle.shared_rule.specs.declared.lw_lock.LwLock.{LwLock}
-use Rattle.shared_rule.specs.declared.lw_lock.LwLock.TheVariants.{OfPart, OfSlots}
+use Rattle.shared_rule.specs.declared.lw_locks.LwLock.{LwLock}
+use Rattle.shared_rule.specs.declared.lw_locks.LwLock.TheVariants.{OfPart, OfSlots}
 use Rattle.shared_rule.specs.History.{told, list_here}
 use Rattle.shared_rule.specs.LwLocks.{lock_number, LockIsInTable}
 use Rattle.shared_rule.specs.Lawful.{IsAboveHand}
@@ -30,9 +31,11 @@ pub record Todo : Type 0 where
   pub tries : Option ℕ
   -- the lock whose release-ok flag it has to set once it is off the list: from its joining on
   pub owes_release_ok : Option ℕ
+  -- whom it has taken off a list, and has not called since
+  pub calls : ℕ → Bool
 
 abbrev pub nothing_to_do : Todo
-nothing_to_do = record { due = None; tries = None; owes_release_ok = None }
+nothing_to_do = record { due = None; tries = None; owes_release_ok = None; calls = λ _. false }
 
 -- the lock was taken, or seen held; its list was looked at
 abbrev pub todo_attempted : Todo → Todo
@@ -51,6 +54,13 @@ todo_queueing todo lock = record todo { tries = lock; owes_release_ok = lock }
 
 abbrev pub todo_leaving : Todo → Todo
 todo_leaving todo = record todo { owes_release_ok = None }
+
+-- a session was taken off a list, or told: its sleep word was changed; and it was called
+abbrev pub todo_owing : Todo → ℕ → Todo
+todo_owing todo other = record todo { calls = set_at todo.calls other true }
+
+abbrev pub todo_calling : Todo → ℕ → Todo
+todo_calling todo other = record todo { calls = set_at todo.calls other false }
 
 -- the lock whose list is in hand
 abbrev pub lock_of_list : Option ListInHand → Option ℕ
@@ -86,6 +96,9 @@ todo_words number lists todo (SawListLocked lock) = todo_looked todo
 todo_words number lists todo (SawHeld lock) = todo_attempted todo
 todo_words number lists todo (JoinedList mode) = todo_queueing todo (lock_of_list lists.in_hand)
 todo_words number lists todo LeftList = todo_leaving todo
+todo_words number lists todo (TookOff other) = todo_owing todo other
+todo_words number lists todo (Told other) = todo_owing todo other
+todo_words number lists todo (CalledSleeper other) = todo_calling todo other
 todo_words number lists todo (SetReleaseOk lock) = todo_setting_ok number lists todo lock
 todo_words number lists todo mark = todo
 
@@ -134,16 +147,17 @@ pub record TriesAtMost (lock : ℕ) (todo : Todo) : Type 0 where
   pub no_look : todo.due ≡ None
   pub no_other : NoneOr todo.tries lock
   pub no_ok : todo.owes_release_ok ≡ None
+  pub calls_nobody : todo.calls ≡ (λ _. false)
 
 -- What it has to do once it stands in the list of a lock, and once it has got the lock then, and once it was told and is back.
 abbrev pub todo_in_list : ℕ → Todo
-todo_in_list lock = record { due = None; tries = Some lock; owes_release_ok = Some lock }
+todo_in_list lock = record { due = None; tries = Some lock; owes_release_ok = Some lock; calls = λ _. false }
 
 abbrev pub todo_got : ℕ → Todo
-todo_got lock = record { due = None; tries = None; owes_release_ok = Some lock }
+todo_got lock = record { due = None; tries = None; owes_release_ok = Some lock; calls = λ _. false }
 
 abbrev pub todo_back : ℕ → Todo
-todo_back lock = record { due = None; tries = Some lock; owes_release_ok = None }
+todo_back lock = record { due = None; tries = Some lock; owes_release_ok = None; calls = λ _. false }
 
 -- By its account the session has the lock, exclusively or shared.
 abbrev pub HasBy : Account → LwLock → Type 0
@@ -167,6 +181,7 @@ pub record MaySleepBy (a : Account) (todo : Todo) : Type 0 where
   pub no_try : todo.tries ≡ None
   pub no_list : a.lists.in_hand ≡ None
   pub tells_nobody : TellsNobodyBy a
+  pub calls_nobody : (other : ℕ) → todo.calls other ≡ false
 
 -- By its account the session has earlier lightweight locks alone: partitions below this one, or no lock at all where it is that of a
 -- session's slots.

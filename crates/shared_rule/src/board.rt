@@ -365,7 +365,7 @@ pub trait Board<T: PartTable> {
         requires no_shared_slots { (owner : ℕ) → (view self.now).fast.shared_slots owner ≡ None };
 
     /// Wakes `other`, which sleeps until its wait word changes (`SetLatch` in `ProcWakeup` of proc.c): it is then
-    /// owed one wake less. This is not a step.
+    /// owed one wake less. This is not a step, but the session's history tells it.
     fn wake(&mut self, other: SessionId)
         ensures seat { seat self.new ≡ seat self.old }
         ensures view { view self.new ≡ view self.old }

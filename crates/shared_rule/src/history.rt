@@ -195,6 +195,16 @@ pub enum WordMark {
         /// The number of the lock.
         lock: u8,
     },
+    /// The session calls a session that may be parked on its wait word: no step, but a look at that word, right before the call.
+    CalledWaiter {
+        /// The session that is called.
+        other: u8,
+    },
+    /// The session calls a session that may be parked on its sleep word: no step, but a look at that word, right before the call.
+    CalledSleeper {
+        /// The session that is called.
+        other: u8,
+    },
 }
 
 /// One atomic step of a session, as its history has it.

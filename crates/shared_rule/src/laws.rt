@@ -21,7 +21,7 @@ ghost use Rattle.shared_rule.specs.Shown.{WordsAreShown, set_word};
 ghost use Rattle.shared_rule.specs.declared.history.View.{View};
 ghost use Rattle.shared_rule.specs.declared.kept.Kept.{Kept};
 ghost use Rattle.shared_rule.specs.declared.layout.TheConstants.{TABLE_WORDS};
-ghost use Rattle.shared_rule.specs.Headline.{ShowsHeadline, ShowsReasons, ShowsSleepers, ShowsNoCircle};
+ghost use Rattle.shared_rule.specs.Headline.{ShowsHeadline, ShowsReasons, ShowsSleepers, ShowsCalls, ShowsNoCircle};
 ghost use Rattle.shared_rule.specs.Tells.{Leads, steps_of};
 ghost use Rattle.shared_rule.specs.Quiet.{quiet_told, quiet_of};
 ghost use Rattle.shared_rule.specs.Ruled.{Ruled, StandsAtSeat, StandsClosed, HasSeat, HasClosedHistory, NobodyElse, StepsAreTold};
@@ -55,6 +55,16 @@ pub fn the_table_shows_why_each_session_waits<T: PartTable>()
 pub fn the_table_forgets_no_sleeper<T: PartTable>()
     ensures { (sizes : Sizes) (state : State (Kept T) (View T)) → Ruled T.content T.begun sizes state
         → ShowsSleepers T.content T.begun sizes state }
+{}
+
+/// A table that keeps the rule loses no call, whatever the steps of the threads and their order. It shows a World to which turns of all
+/// sessions led: events, looks and calls. Each session's turns are those that its history tells, one for each mark and in order. A session
+/// parks on its wait word where that shows that it waits, and on its sleep word where that doesn't show that it was told; a call
+/// since it loaded the word wakes it. Whoever is parked on what its word no more shows is owed a call: a session that makes steps
+/// has it to wake, as its history tells.
+pub fn the_table_loses_no_call<T: PartTable>()
+    ensures { (sizes : Sizes) (state : State (Kept T) (View T)) → Ruled T.content T.begun sizes state
+        → ShowsCalls T.content T.begun sizes state }
 {}
 
 /// No circle of sleepers comes at a table that keeps the rule. It shows a World in which nobody stands in the wait list of a

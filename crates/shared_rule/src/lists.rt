@@ -10,7 +10,7 @@ ghost use Rattle.lock_world.specs.AccountLaw.{MayJoinListBy, MayLeaveListBy, May
 ghost use Rattle.lock_world.specs.AccountSteps.{account_locking_list, account_unlocking_list};
 ghost use Rattle.lock_world.specs.AccountSteps.{account_joining_list, account_leaving_list, account_taking_off};
 ghost use Rattle.lock_world.specs.AccountSteps.{account_telling, account_loading_sleep};
-ghost use Rattle.shared_rule.specs.Marks.{JoinedList, TookOff, Told};
+ghost use Rattle.shared_rule.specs.Marks.{JoinedList, TookOff, Told, CalledSleeper};
 ghost use Rattle.shared_rule.specs.Marks.{SetReleaseOk, SetHasWaiters};
 ghost use Rattle.shared_rule.specs.declared.kept.Kept.TheVariants.{Nothing};
 ghost use Rattle.shared_rule.specs.History.{list_here, noting};
@@ -18,6 +18,7 @@ ghost use Rattle.shared_rule.specs.Layout.{list_slot_of};
 ghost use Rattle.shared_rule.specs.Acquires.{GotNothing, IsAsBefore};
 ghost use Rattle.shared_rule.specs.Led.{Led, LedTo};
 ghost use Rattle.shared_rule.specs.Todos.{IsLeftWellBy, JoinsLatest, TellsNobodyBy, todo_looked, todo_queueing, todo_leaving};
+ghost use Rattle.shared_rule.specs.Todos.{todo_owing, todo_calling};
 ghost use Rattle.shared_rule.specs.Todos.{todo_setting_ok, todo_attempted, lock_of_list};
 ghost use Rattle.lw_word.specs.LightweightWord.{IsHeldByNobody};
 ghost use Rattle.lock_world.specs.Wakes.Waking.{NoneOr};
@@ -26,12 +27,12 @@ ghost use Rattle.shared_rule.specs.Plays.{account_at, number_at, todo_at, flagge
 
 use crate::kept::Kept;
 use crate::layout::sleep_word;
-use crate::lw_lock::LwLock;
+use crate::lw_locks::LwLock;
 use crate::plays::{LocksList, Marking, SeesHeld};
 use crate::rule::{Place, Top};
 use crate::words::{fetch_or_as, load_as, store_as, unlock_as};
 use lock_table::PartTable;
-use lw_word::{LwMode, LwWord, WaitList};
+use lw_word::{LwMode, LwWord, WaitList, has_locked_list};
 use modes_core::SessionId;
 use std::marker::Brand;
 
@@ -61,7 +62,7 @@ pub(crate) fn try_lock_list<T: PartTable>(
     ensures none { IfNone result (GotNothing T.content place.old place.new (todo_looked (todo_at place.old))) }
 {
     let found = top.fetch_or::<LocksList>(place, lock.word(), LwWord::LIST_LOCKED);
-    if found / LwWord::LIST_LOCKED % 2 == 0 {
+    if has_locked_list(found) {
         let kept = top.exchange(place, lock.list_slot(), Kept::Nothing);
         Some(kept.into_list())
     } else {
@@ -147,7 +148,7 @@ pub(crate) fn leave_list<T: PartTable>(top: &Top<T>, place: &mut Place<T>, numbe
     store_as::<T, Brand>(top, place, sleep_word(number), 0);
 }
 
-/// Takes `other` off the list in hand: its sleep word shows that it is to be told (the first loop of `LWLockWakeup`
+/// Takes `other` off the list in hand: its sleep word shows that it is to be told, and it is owed a call (the first loop of `LWLockWakeup`
 /// in lwlock.c, and `LW_WS_PENDING_WAKEUP`).
 pub(crate) fn take_off<T: PartTable, M: Marking<T>>(
     top: &Top<T>,
@@ -159,8 +160,8 @@ pub(crate) fn take_off<T: PartTable, M: Marking<T>>(
     requires lawful { (mine : ListInHand)
         × MayTakeOffBy (number_at place.old) (account_at T.content place.old) mine other }
     requires mark { M.mark ≡ (λ _. TookOff other) }
-    ensures led { Led T.content place.old place.new (account_taking_off (account_at T.content place.old)
-        (list_here (account_at T.content place.old).lists.in_hand) other) }
+    ensures led { LedTo T.content place.old place.new (account_taking_off (account_at T.content place.old)
+        (list_here (account_at T.content place.old).lists.in_hand) other) (todo_owing (todo_at place.old) other) }
     ensures slots { place.new.me.1 ≡ place.old.me.1 }
 {
     store_as::<T, M>(top, place, sleep_word(other), 2);
@@ -176,10 +177,29 @@ pub(crate) fn tell<T: PartTable, M: Marking<T>>(
     requires session { HasSession place.old.me.0 }
     requires lawful { MayTellBy (account_at T.content place.old) other }
     requires mark { M.mark ≡ (λ _. Told other) }
-    ensures led { Led T.content place.old place.new (account_telling (account_at T.content place.old) other) }
+    ensures led { LedTo T.content place.old place.new (account_telling (account_at T.content place.old) other)
+        (todo_owing (todo_at place.old) other) }
     ensures slots { place.new.me.1 ≡ place.old.me.1 }
 {
     store_as::<T, M>(top, place, sleep_word(other), 0);
+}
+
+/// Calls `other`, which may be parked on its sleep word (`PGSemaphoreUnlock` in `LWLockWakeup` of lwlock.c). The session looks at
+/// that word right before the call, so that its history tells of it.
+pub(crate) fn call_sleeper<T: PartTable, M: Marking<T>>(
+    top: &Top<T>,
+    place: &mut Place<T>,
+    other: SessionId,
+)
+    requires table { FitsTable place.old top.now.table_id }
+    requires session { HasSession place.old.me.0 }
+    requires mark { M.mark ≡ (λ _. CalledSleeper other) }
+    ensures led { LedTo T.content place.old place.new (account_at T.content place.old)
+        (todo_calling (todo_at place.old) other) }
+    ensures slots { place.new.me.1 ≡ place.old.me.1 }
+{
+    load_as::<T, M>(top, place, sleep_word(other));
+    top.wake_one(sleep_word(other));
 }
 
 /// Loads the sleep word of the session `number`, its own (`lwWaiting` in proc.h, as the sleep of `LWLockAcquire` in

@@ -11,12 +11,12 @@ ghost use Rattle.shared_rule.specs.Acquires.{IsAsBefore, GetsSlots};
 ghost use Rattle.shared_rule.specs.History.{noting};
 ghost use Rattle.shared_rule.specs.Led.{Led, LedTo};
 ghost use Rattle.shared_rule.specs.Todos.{IsLatestBy, nothing_to_do, todo_putting};
-ghost use Rattle.shared_rule.specs.declared.lw_lock.LwLock.TheVariants.{OfSlots};
+ghost use Rattle.shared_rule.specs.declared.lw_locks.LwLock.TheVariants.{OfSlots};
 ghost use Rattle.lock_world.specs.WaitLists.{fast_lock};
 ghost use Rattle.lock_world.specs.Wakes.Waking.{NoneOr};
 ghost use Rattle.lw_word.specs.LockState.{state_of, put_in};
 ghost use Rattle.shared_rule.specs.LwLocks.{no_lists};
-ghost use Rattle.shared_rule.specs.Plays.{account_at, number_at, quiet_at, todo_at, FitsTable, HasSession, IsSameSeat, TookSlots};
+ghost use Rattle.shared_rule.specs.Plays.{account_at, number_at, quiet_at, todo_at, owed_at, FitsTable, HasSession, IsSameSeat, TookSlots};
 ghost use Rattle.std.specs.Bool.{OnTrue, OnFalse};
 ghost use Rattle.shared_rule.specs.Quiet.{quiet_trying};
 ghost use Rattle.shared_rule.specs.Slots.{TriesFast};
@@ -24,16 +24,15 @@ ghost use Rattle.shared_rule.specs.Boards.{StaysLone};
 
 use crate::busy::Busy;
 use crate::layout::fast_word;
-use crate::lw_lock::LwLock;
 use crate::plays::{Grouping, Marking, TakesSlots, TriesSlots};
 use crate::rule::{Place, Top};
-use crate::slot_acquires::get_slots_held;
-use crate::wakeups::{must_wake_after, wake_waiters};
-use crate::words::{fetch_sub_as, load_as, taken};
+use crate::slot_locks::{SlotsLock, SlotsPassed, SlotsTaken};
+use crate::words::{fetch_sub_as, load_as};
 use lock_table::PartTable;
-use lw_word::LwMode;
+use lw_lock::{acquire, release};
+use lw_word::{LwMode, taken};
 use modes_core::{Mode, SessionId, Tag};
-use std::marker::Brand;
+use std::marker::{Brand, PhantomData};
 use std::sync::Wait;
 
 // One attempt to take the lock of a session's slots, of so many groups, by the number that its word may show.
@@ -104,9 +103,17 @@ pub(crate) fn take_fast<T: PartTable, R: Wait>(
     requires latest { IsLatestBy (account_at T.content place.old) (OfSlots owner) }
     ensures { GetsSlots T.content top.now.key.groups Exclusive owner place.old place.new }
 {
-    if !attempt_free_fast(top, place, owner) {
-        get_slots_held(rt, top, place, number, owner, LwMode::Exclusive);
-    }
+    let mode = LwMode::Exclusive;
+    acquire(
+        rt,
+        place,
+        &SlotsLock {
+            top,
+            number,
+            owner,
+            mode,
+        },
+    )
 }
 
 // Loads the word of the lock of its own slots.
@@ -165,6 +172,7 @@ pub(crate) fn try_take_fast<T: PartTable>(
         (account_at T.content place.new) }
     ensures quiet { quiet_at place.new ≡ quiet_trying number result (quiet_at place.old) }
     ensures todo { todo_at place.new ≡ nothing_to_do }
+    ensures owed { owed_at place.new ≡ owed_at place.old }
     ensures lone { StaysLone place.old.me.0 place.new.me.0 }
     ensures slots { place.new.me.1 ≡ place.old.me.1 }
 {
@@ -180,7 +188,7 @@ pub(crate) fn try_take_fast<T: PartTable>(
 }
 
 // Puts the lock of a session's fast-path slots, and tells what its word showed.
-fn put_fast_home<T: PartTable, M: Marking<T>>(
+pub(crate) fn put_fast_home<T: PartTable, M: Marking<T>>(
     top: &Top<T>,
     place: &mut Place<T>,
     owner: SessionId,
@@ -217,14 +225,12 @@ pub(crate) fn put_fast<T: PartTable, M: Marking<T>>(
         (account_putting_fast (number_at place.old) (account_at T.content place.old) owner) }
     ensures slots { place.new.me.1 ≡ place.old.me.1 }
 {
-    let found = put_fast_home::<T, M>(top, place, owner);
-    if must_wake_after(found) {
-        wake_waiters(top, place, &LwLock::OfSlots(owner));
-    }
+    let of = PhantomData::<M>;
+    release(place, &SlotsTaken { top, owner, of }, ());
 }
 
 // Puts that lock and goes past its session, and tells what its word showed.
-fn pass_fast_home<T: PartTable, M: Marking<T>>(
+pub(crate) fn pass_fast_home<T: PartTable, M: Marking<T>>(
     top: &Top<T>,
     place: &mut Place<T>,
     owner: SessionId,
@@ -266,8 +272,16 @@ pub(crate) fn pass_fast<T: PartTable, M: Marking<T>>(
         (account_passing (number_at place.old) (account_at T.content place.old) owner tag.now mode) }
     ensures slots { place.new.me.1 ≡ place.old.me.1 }
 {
-    let found = pass_fast_home::<T, M>(top, place, owner, tag, mode);
-    if must_wake_after(found) {
-        wake_waiters(top, place, &LwLock::OfSlots(owner));
-    }
+    let of = PhantomData::<M>;
+    release(
+        place,
+        &SlotsPassed {
+            top,
+            owner,
+            tag,
+            mode,
+            of,
+        },
+        (),
+    );
 }

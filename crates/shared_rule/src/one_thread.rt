@@ -8,13 +8,13 @@ ghost use Rattle.shared_rule.specs.History.{blank_account, first_account, lone};
 ghost use Rattle.shared_rule.specs.Opening.{AreNew};
 ghost use Rattle.shared_rule.specs.Boards.{Seated, nothing_due, parts_in_hand, slots_out, first_marks};
 ghost use Rattle.shared_rule.specs.Boards.{IsIdle};
+ghost use Rattle.shared_rule.specs.Owed.{first_owed};
 ghost use Rattle.shared_rule.specs.Quiet.{first_quiet};
 
 use crate::board::Board;
 use crate::busy::Busy;
 use crate::kept::Kept;
 use crate::layout::wait_word;
-use crate::owed::{Change, Owed};
 use crate::rule::{Place, Sizes};
 use crate::table::{SharedTable, open};
 use crate::{counters, locks, partitions, sharing, slots, waits};
@@ -33,7 +33,6 @@ pub struct OneThread<T: PartTable> {
     place: Place<T>,
     number: SessionId,
     sizes: Sizes,
-    owed: Owed,
     ghost at: { place.table_id ≡ table.shared.table_id },
     ghost words: { TABLE_WORDS ≤ table.shared.table_id.words },
     ghost all_words: { table.shared.table_id.words ≡ words_of_groups sizes.groups },
@@ -76,7 +75,6 @@ impl<T: PartTable> OneThread<T> {
             place,
             number,
             sizes: *sizes,
-            owed: Owed::nobody(),
         })
     }
 }
@@ -92,7 +90,8 @@ impl<T: PartTable> Board<T> for OneThread<T> {
 
     ghost view = { λ board. first_account T.content board.place.me.0.sessions };
 
-    ghost stack = { λ board. record { parts = parts_in_hand board.place.me.1; owed = board.owed.sessions } };
+    ghost stack = { λ board.
+        record { parts = parts_in_hand board.place.me.1; owed = first_owed board.place.me.0.sessions } };
 
     ghost quiet = { λ board. first_quiet board.place.me.0.sessions };
 
@@ -258,7 +257,6 @@ impl<T: PartTable> Board<T> for OneThread<T> {
             woken,
             content,
         );
-        self.owed = self.owed.after(&Change::LetGo(other));
     }
 
     fn load_wait(&mut self) -> u64 {
@@ -268,9 +266,7 @@ impl<T: PartTable> Board<T> for OneThread<T> {
 
     fn ask_cancel(&mut self, other: SessionId) -> u64 {
         let table = &self.table;
-        let shown = waits::ask_cancel::<T, Brand>(&table.shared, &mut self.place, other);
-        self.owed = self.owed.after(&Change::Asked(other, shown));
-        shown
+        waits::ask_cancel::<T, Brand>(&table.shared, &mut self.place, other)
     }
 
     fn clear_wait(&mut self) {
@@ -289,7 +285,7 @@ impl<T: PartTable> Board<T> for OneThread<T> {
     }
 
     fn wake(&mut self, other: SessionId) {
-        self.table.shared.wake_one(wait_word(other));
-        self.owed = self.owed.after(&Change::Woken(other));
+        let table = &self.table;
+        waits::call_waiter::<T, Brand>(&table.shared, &mut self.place, other);
     }
 }

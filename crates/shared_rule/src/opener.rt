@@ -29,7 +29,7 @@ pub struct Opener<T: PartTable> {
 
 impl<T: PartTable> Model for Opener<T> {
     ghost use Rattle.std.specs.Prelude.{◌≡◌, ◌≤◌, Some};
-    ghost use Rattle.shared_rule.specs.Boards.{AreIdle};
+    ghost use Rattle.shared_rule.specs.Boards.{AreFree};
     ghost use Rattle.shared_rule.specs.Openers.{OpenerState};
     ghost use Rattle.shared_rule.specs.Plays.{HasGroups, IsSized};
 
@@ -46,7 +46,7 @@ impl<T: PartTable> Model for Opener<T> {
 
     ghost invariant = { λ opener.
         (opener.place.me.0.next ≡ Some opener.issued) × (opener.issued ≤ opener.sizes.sessions)
-        × (opener.sizes.sessions ≤ 64) × IsSized opener.place.table_id × AreIdle opener.place.me.0.sessions
+        × (opener.sizes.sessions ≤ 64) × IsSized opener.place.table_id × AreFree opener.place.me.0.sessions
         × HasGroups opener.place.table_id opener.sizes.groups };
 }
 

@@ -8,7 +8,7 @@ ghost use Rattle.lock_world.specs.AccountSteps.{account_putting};
 ghost use Rattle.lock_world.specs.AccountFacts.{KnowsContent};
 ghost use Rattle.shared_rule.specs.Marks.{TookPart, PutPart};
 ghost use Rattle.shared_rule.specs.declared.kept.Kept.TheVariants.{Nothing};
-ghost use Rattle.shared_rule.specs.declared.lw_lock.LwLock.TheVariants.{OfPart};
+ghost use Rattle.shared_rule.specs.declared.lw_locks.LwLock.TheVariants.{OfPart};
 ghost use Rattle.shared_rule.specs.Acquires.{GotNothing, IsAsBefore, TakesPartition};
 ghost use Rattle.shared_rule.specs.Todos.{IsLatestBy, TriesAtMost, nothing_to_do, todo_attempted, todo_putting, todo_back};
 ghost use Rattle.lock_world.specs.WaitLists.{partition_lock};
@@ -24,17 +24,15 @@ ghost use Rattle.shared_rule.specs.Plays.{account_at, number_at, todo_at, FitsTa
 
 use crate::kept::Kept;
 use crate::layout::{content_slot, partition_word};
-use crate::lists::{look_at_lock, set_release_ok};
-use crate::lw_lock::LwLock;
+use crate::part_locks::{PartInHand, PartLock};
 use crate::plays::{Marking, TakesPart};
-use crate::queues::{SPINS, dequeue_self, pause_before, queue_self, sleep_until_told};
 use crate::rule::{Place, Top};
-use crate::wakeups::{must_wake_after, wake_waiters};
-use crate::words::{put_home_as, taken};
+use crate::words::put_home_as;
 use lock_table::{Move, PartTable};
-use lw_word::LwMode;
+use lw_lock::{acquire, release};
+use lw_word::taken;
 use modes_core::SessionId;
-use std::marker::Brand;
+use std::marker::PhantomData;
 use std::sync::Wait;
 
 // One attempt to take a partition in hand, by the number that its word may show.
@@ -69,7 +67,11 @@ fn attempt_part<T: PartTable>(
 
 // The same, where the word shows that nobody holds the lock, and else no attempt.
 #[inline(always)]
-fn attempt_free_part<T: PartTable>(top: &Top<T>, place: &mut Place<T>, part: u8) -> Option<T>
+pub(crate) fn attempt_free_part<T: PartTable>(
+    top: &Top<T>,
+    place: &mut Place<T>,
+    part: u8,
+) -> Option<T>
     requires table { FitsTable place.old top.now.table_id }
     requires exists { part < 16 }
     requires session { HasSession place.old.me.0 }
@@ -116,115 +118,6 @@ pub(crate) fn take_part_alone<T: PartTable, R: Wait>(
     unreachable!()
 }
 
-// A few attempts, with pauses before each.
-fn attempt_part_a_while<T: PartTable>(top: &Top<T>, place: &mut Place<T>, part: u8) -> Option<T>
-    requires table { FitsTable place.old top.now.table_id }
-    requires exists { part < 16 }
-    requires session { HasSession place.old.me.0 }
-    requires no_other_try { NoneOr (todo_at place.old).tries (partition_lock part) }
-    requires no_other_list { NoneOr (account_at T.content place.old).lists.stands (partition_lock part) }
-    ensures seat { IsSameSeat place.old place.new }
-    ensures lost { IfNone result (IsAsBefore T.content place.old place.new) }
-    ensures won { IfSome result (TakesPartition T.content T.begun part place.old place.new) }
-{
-    for attempt in 0..SPINS {
-        pause_before(attempt);
-        if let Some(content) = attempt_free_part(top, place, part) {
-            return Some(content);
-        }
-    }
-    None
-}
-
-// Attempts until it has the lock or sees that somebody holds it: an exchange that is lost to a flag that changed says
-// nothing, and nobody may go to sleep on that (the loop of `LWLockAttemptLock` in lwlock.c).
-fn attempt_part_unless_held<T: PartTable, R: Wait>(
-    rt: &R,
-    top: &Top<T>,
-    place: &mut Place<T>,
-    part: u8,
-) -> Option<T>
-    requires table { FitsTable place.old top.now.table_id }
-    requires exists { part < 16 }
-    requires session { HasSession place.old.me.0 }
-    requires no_other_try { NoneOr (todo_at place.old).tries (partition_lock part) }
-    requires no_other_list { NoneOr (account_at T.content place.old).lists.stands (partition_lock part) }
-    ensures seat { IsSameSeat place.old place.new }
-    ensures lost { IfNone result (GotNothing T.content place.old place.new (todo_attempted (todo_at place.old))) }
-    ensures won { IfSome result (TakesPartition T.content T.begun part place.old place.new) }
-{
-    for _ in rt.forever() {
-        let shown = look_at_lock(top, place, &LwLock::OfPart(part));
-        let Some(taken) = taken(shown) else {
-            return None;
-        };
-        if let Some(content) = attempt_part(top, place, part, shown, taken) {
-            return Some(content);
-        }
-    }
-    unreachable!()
-}
-
-// Queues the session for a partition's lock and attempts it again. Where that is lost it sleeps until somebody
-// takes it off the list and tells it, and lets releases wake others again, before it goes on.
-fn take_part_or_sleep<T: PartTable, R: Wait>(
-    rt: &R,
-    top: &Top<T>,
-    place: &mut Place<T>,
-    number: SessionId,
-    part: u8,
-) -> Option<T>
-    requires table { FitsTable place.old top.now.table_id }
-    requires exists { part < 16 }
-    requires session { HasSession place.old.me.0 }
-    requires own { number ≡ number_at place.old }
-    requires idle { (account_at T.content place.old).lists ≡ no_lists }
-    requires todo { TriesAtMost (partition_lock part) (todo_at place.old) }
-    requires latest { IsLatestBy (account_at T.content place.old) (OfPart part) }
-    ensures seat { IsSameSeat place.old place.new }
-    ensures lost { IfNone result (GotNothing T.content place.old place.new (todo_back (partition_lock part))) }
-    ensures won { IfSome result (TakesPartition T.content T.begun part place.old place.new) }
-{
-    let lock = LwLock::OfPart(part);
-    queue_self(rt, top, place, number, &lock, LwMode::Exclusive);
-    match attempt_part_unless_held(rt, top, place, part) {
-        Some(content) => {
-            dequeue_self(rt, top, place, number, &lock);
-            Some(content)
-        }
-        None => {
-            sleep_until_told(rt, top, place, number);
-            set_release_ok::<T, Brand>(top, place, &lock);
-            None
-        }
-    }
-}
-
-// The same after a few attempts.
-fn take_part_in_turn<T: PartTable, R: Wait>(
-    rt: &R,
-    top: &Top<T>,
-    place: &mut Place<T>,
-    number: SessionId,
-    part: u8,
-) -> Option<T>
-    requires table { FitsTable place.old top.now.table_id }
-    requires exists { part < 16 }
-    requires session { HasSession place.old.me.0 }
-    requires own { number ≡ number_at place.old }
-    requires idle { (account_at T.content place.old).lists ≡ no_lists }
-    requires todo { TriesAtMost (partition_lock part) (todo_at place.old) }
-    requires latest { IsLatestBy (account_at T.content place.old) (OfPart part) }
-    ensures seat { IsSameSeat place.old place.new }
-    ensures lost { IfNone result (GotNothing T.content place.old place.new (todo_back (partition_lock part))) }
-    ensures won { IfSome result (TakesPartition T.content T.begun part place.old place.new) }
-{
-    match attempt_part_a_while(top, place, part) {
-        Some(content) => Some(content),
-        None => take_part_or_sleep(rt, top, place, number, part),
-    }
-}
-
 /// Takes the lightweight lock of partition `part` exclusively, and its content in hand (`LWLockAcquire` in
 /// lwlock.c). The call waits in the lock's list until the lock is free. Of the content it tells what the account of
 /// the session `number` knows of it.
@@ -245,37 +138,7 @@ pub(crate) fn take_part<T: PartTable, R: Wait>(
     requires latest { IsLatestBy (account_at T.content place.old) (OfPart part) }
     ensures { TakesPartition T.content T.begun part place.old place.new result }
 {
-    match attempt_free_part(top, place, part) {
-        Some(content) => content,
-        None => take_part_held(rt, top, place, number, part),
-    }
-}
-
-/// Takes partition `part` as `take_part` does, after an attempt that failed.
-#[cold]
-#[inline(never)]
-fn take_part_held<T: PartTable, R: Wait>(
-    rt: &R,
-    top: &Top<T>,
-    place: &mut Place<T>,
-    number: SessionId,
-    part: u8,
-) -> T
-    requires table { FitsTable place.old top.now.table_id }
-    requires exists { part < 16 }
-    requires session { HasSession place.old.me.0 }
-    requires own { number ≡ number_at place.old }
-    requires idle { (account_at T.content place.old).lists ≡ no_lists }
-    requires todo { TriesAtMost (partition_lock part) (todo_at place.old) }
-    requires latest { IsLatestBy (account_at T.content place.old) (OfPart part) }
-    ensures { TakesPartition T.content T.begun part place.old place.new result }
-{
-    for _ in rt.forever() {
-        if let Some(content) = take_part_in_turn(rt, top, place, number, part) {
-            return content;
-        }
-    }
-    unreachable!()
+    acquire(rt, place, &PartLock { top, number, part })
 }
 
 /// Puts `content` home to partition `part`, after the move `done`, and its lightweight lock, and answers what the
@@ -330,8 +193,14 @@ pub(crate) fn put_part<T: PartTable, M: Marking<T>>(
         (taken_of ((account_at T.content place.old).hand part)) (T.content content) done.now) }
     ensures slots { place.new.me.1 ≡ rest place.old.me.1 }
 {
-    let found = put_part_home::<T, M>(top, place, part, done, content);
-    if must_wake_after(found) {
-        wake_waiters(top, place, &LwLock::OfPart(part));
-    }
+    release(
+        place,
+        &PartInHand {
+            top,
+            part,
+            done,
+            of: PhantomData::<M>,
+        },
+        content,
+    )
 }

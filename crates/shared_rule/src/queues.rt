@@ -1,4 +1,5 @@
-//! Waiting for a lightweight lock in its list (`LWLockAcquire` in lwlock.c, from the first lost attempt on).
+//! A session in the list of a lightweight lock that it comes for: joining it, leaving it, and sleeping there
+//! (`LWLockQueueSelf` and `LWLockDequeueSelf` in lwlock.c). When it does which is said by `acquire` of lw_lock.
 //!
 //! No wake-up is lost, by clauses. Has-waiters is set before a session joins a list (`join_list`), so that whoever holds
 //! the lock then sees it; and the session attempts the lock after that, before it sleeps (`sleep_until_told`). Whoever
@@ -11,10 +12,6 @@
 //! where somebody stands there, and release-ok where it took nobody off (`unlock_list`). All sessions take locks in one
 //! order. No clause tells that a session that is told is woken by the kernel, after its sleep word shows 0, and that
 //! `park` looks at the word again there.
-//!
-//! The attempt after the queueing is repeated until it wins or sees the lock held, since a change of a flag may
-//! make it fail. Somebody attempts the lock after each such change, so nobody is known to sleep for ever where it
-//! is made once; but so a session relies on no step of others.
 
 ghost use Rattle.std.specs.Prelude.{◌≡◌, ◌∷◌, true, None, Some};
 ghost use Rattle.lw_word.specs.WaitList.{stands_in};
@@ -23,7 +20,7 @@ ghost use Rattle.shared_rule.specs.declared.kept.Kept.TheVariants.{Nothing};
 ghost use Rattle.shared_rule.specs.Layout.{list_slot_of};
 ghost use Rattle.shared_rule.specs.Led.{Led, LedTo};
 ghost use Rattle.shared_rule.specs.Todos.{HasBy, IsLatestBy, MaySleepBy, TellsNobodyBy, TriesAtMost};
-ghost use Rattle.shared_rule.specs.Todos.{nothing_to_do, todo_in_list, todo_got};
+ghost use Rattle.shared_rule.specs.Todos.{nothing_to_do, todo_in_list, todo_got, todo_back};
 ghost use Rattle.shared_rule.specs.LwLocks.{lock_number, LockExists, LockIsInTable, no_lists, queued_for};
 ghost use Rattle.shared_rule.specs.Plays.{account_at, number_at, todo_at, FitsTable, HasSession};
 
@@ -31,31 +28,14 @@ use crate::layout::sleep_word;
 use crate::lists::{
     join_list, leave_list, load_sleep, set_has_waiters, set_release_ok, try_lock_list, unlock_list,
 };
-use crate::lw_lock::LwLock;
+use crate::lw_locks::LwLock;
 use crate::rule::{Place, Top};
 use crossbeam_utils::Backoff;
 use lock_table::PartTable;
 use lw_word::{LwMode, WaitList};
 use modes_core::SessionId;
-use std::hint::spin_loop;
 use std::marker::Brand;
 use std::sync::Wait;
-
-/// How many attempts a session makes before it queues, with pauses before each (PostgreSQL spins so for spin locks,
-/// `perform_spin_delay` in s_lock.c). A sleep with its wake-up takes two threads 5 to 8 microseconds, and all pauses of
-/// these attempts some 10: so a session sleeps where a lock is held for long, and seldom where others only take turns.
-pub(crate) const SPINS: u32 = 13;
-
-/// How often the number of pauses doubles, from one to 256, which take 1.5 microseconds.
-const DOUBLINGS: u32 = 8;
-
-/// Pauses before the attempt numbered `attempt`, counted from 0: once before the first, and twice as often before
-/// each further one, up to 256 times.
-pub(crate) fn pause_before(attempt: u32) {
-    for _ in 0..1u32 << attempt.min(DOUBLINGS) {
-        spin_loop();
-    }
-}
 
 /// Locks the wait list of `lock`: tries until the session has it, with pauses between (`LWLockWaitListLock` in
 /// lwlock.c). A list is in hand for a few steps only.
@@ -181,4 +161,28 @@ pub(crate) fn dequeue_self<T: PartTable, R: Wait>(
         unlock_list(top, place, lock, list, true, true);
         sleep_until_told(rt, top, place, number);
     }
+}
+
+/// Sleeps until the session `number`, which stands in the list of `lock` or was taken off it, is told so, and lets
+/// releases wake others again (the end of the loop in `LWLockAcquire` in lwlock.c).
+pub(crate) fn sleep_for<T: PartTable, R: Wait>(
+    rt: &R,
+    top: &Top<T>,
+    place: &mut Place<T>,
+    number: SessionId,
+    lock: &LwLock,
+)
+    requires table { FitsTable place.old top.now.table_id }
+    requires exists { LockExists top.now.key.sessions lock.now }
+    requires there { LockIsInTable lock.now }
+    requires session { HasSession place.old.me.0 }
+    requires own { number ≡ number_at place.old }
+    requires queued { (account_at T.content place.old).lists ≡ queued_for (lock_number lock.now) }
+    requires todo { todo_at place.old ≡ todo_got (lock_number lock.now) }
+    ensures led { LedTo T.content place.old place.new
+        (record (account_at T.content place.old) { lists = no_lists }) (todo_back (lock_number lock.now)) }
+    ensures slots { place.new.me.1 ≡ place.old.me.1 }
+{
+    sleep_until_told(rt, top, place, number);
+    set_release_ok::<T, Brand>(top, place, lock);
 }

@@ -9,12 +9,12 @@ ghost use Rattle.shared_rule.specs.Plays.{FitsTable};
 ghost use Rattle.shared_rule.specs.Seats.{DoNotConflict, MayBeKeptApartBy};
 ghost use Rattle.shared_rule.specs.Boards.{Seated, nothing_due, parts_in_hand, slots_out, first_marks};
 ghost use Rattle.shared_rule.specs.Boards.{IsIdle};
+ghost use Rattle.shared_rule.specs.Owed.{first_owed};
 ghost use Rattle.shared_rule.specs.Quiet.{first_quiet};
 
 use crate::board::Board;
 use crate::busy::Busy;
 use crate::layout::wait_word;
-use crate::owed::{Change, Owed};
 use crate::rule::{Place, Sizes, Top};
 use crate::{counters, locks, partitions, seats, sharing, slots, waits};
 use lock_table::{Move, PartTable, Woken};
@@ -30,8 +30,6 @@ pub struct SeatBoard<'a, T: PartTable> {
     place: Place<T>,
     number: SessionId,
     sizes: Sizes,
-    // Whom the session has to wake yet.
-    owed: Owed,
     ghost at: { place.table_id ≡ table.now.table_id },
     ghost words: { TABLE_WORDS ≤ table.now.table_id.words },
     ghost all_words: { table.now.table_id.words ≡ words_of_groups sizes.groups },
@@ -63,14 +61,13 @@ impl<'a, T: PartTable> SeatBoard<'a, T> {
         requires out { place.me.1 ≡ [] }
         requires idle { IsIdle place.me.0.sessions }
         ensures { (result.table.now ≡ table.now) × (result.place ≡ place) × (result.number ≡ number)
-            × (result.sizes ≡ sizes) × (result.owed.sessions ≡ []) }
+            × (result.sizes ≡ sizes) }
     {
         SeatBoard {
             table,
             place,
             number,
             sizes,
-            owed: Owed::nobody(),
         }
     }
 
@@ -104,7 +101,6 @@ impl<'a, T: PartTable> SeatBoard<'a, T> {
             place,
             number,
             sizes,
-            owed,
         } = other;
         seats::keep_apart(self.table, &mut self.place, place);
         seats::tell_apart(self.table, &mut self.place);
@@ -114,7 +110,6 @@ impl<'a, T: PartTable> SeatBoard<'a, T> {
             place,
             number,
             sizes,
-            owed,
         }
     }
 
@@ -134,7 +129,6 @@ impl<'a, T: PartTable> SeatBoard<'a, T> {
             place,
             number: _,
             sizes: _,
-            owed: _,
         } = self;
         (table, place)
     }
@@ -151,7 +145,8 @@ impl<'a, T: PartTable> Board<T> for SeatBoard<'a, T> {
 
     ghost view = { λ board. first_account T.content board.place.me.0.sessions };
 
-    ghost stack = { λ board. record { parts = parts_in_hand board.place.me.1; owed = board.owed.sessions } };
+    ghost stack = { λ board.
+        record { parts = parts_in_hand board.place.me.1; owed = first_owed board.place.me.0.sessions } };
 
     ghost quiet = { λ board. first_quiet board.place.me.0.sessions };
 
@@ -298,7 +293,6 @@ impl<'a, T: PartTable> Board<T> for SeatBoard<'a, T> {
             woken,
             content,
         );
-        self.owed = self.owed.after(&Change::LetGo(other));
     }
 
     fn load_wait(&mut self) -> u64 {
@@ -306,9 +300,7 @@ impl<'a, T: PartTable> Board<T> for SeatBoard<'a, T> {
     }
 
     fn ask_cancel(&mut self, other: SessionId) -> u64 {
-        let shown = waits::ask_cancel::<T, Brand>(self.table, &mut self.place, other);
-        self.owed = self.owed.after(&Change::Asked(other, shown));
-        shown
+        waits::ask_cancel::<T, Brand>(self.table, &mut self.place, other)
     }
 
     fn clear_wait(&mut self) {
@@ -325,7 +317,6 @@ impl<'a, T: PartTable> Board<T> for SeatBoard<'a, T> {
     }
 
     fn wake(&mut self, other: SessionId) {
-        self.table.wake_one(wait_word(other));
-        self.owed = self.owed.after(&Change::Woken(other));
+        waits::call_waiter::<T, Brand>(self.table, &mut self.place, other);
     }
 }

@@ -7,7 +7,8 @@ ghost use Rattle.shared_rule.specs.Plays.{FitsTable, IsSameSeat};
 ghost use Rattle.shared_rule.specs.Seats.{MayCloseBy, MayBeKeptApartBy, DoNotConflict, HasNumber, HasNext, HasLast, IsForOne, IsForTwo};
 ghost use Rattle.shared_rule.specs.Seats.{behind_of, opened, newcomer, with_closed, met, parted, handed_back, number_in};
 ghost use Rattle.shared_rule.specs.Openers.{HaveClosed};
-ghost use Rattle.shared_rule.specs.Boards.{IsIdle};
+ghost use Rattle.shared_rule.specs.Boards.{IsFree};
+ghost use Rattle.shared_rule.specs.Owed.{first_owed};
 ghost use Rattle.shared_rule.specs.Todos.{first_todo, nothing_to_do};
 
 use crate::history::View;
@@ -74,7 +75,7 @@ pub(crate) fn open<T: PartTable>(top: &Top<T>, opener: &mut Place<T>) -> Place<T
     top.split_seat::<Opens>(opener)
 }
 
-/// Closes a session that has nothing any more, and nothing to do for those who wait (`ProcKill` in proc.c).
+/// Closes a session that has nothing any more, nothing to do for those who wait, and nobody to wake (`ProcKill` in proc.c).
 pub(crate) fn close<T: PartTable>(top: &Top<T>, opener: &mut Place<T>, session: Place<T>)
     requires table { FitsTable opener.old top.now.table_id }
     requires session_table { FitsTable session top.now.table_id }
@@ -83,6 +84,7 @@ pub(crate) fn close<T: PartTable>(top: &Top<T>, opener: &mut Place<T>, session: 
     requires nothing_in_hand { session.me.1 ≡ [] }
     requires lawful { MayCloseBy (first_account T.content session.me.0.sessions) }
     requires todo { first_todo session.me.0.sessions ≡ nothing_to_do }
+    requires wakes_nobody { first_owed session.me.0.sessions ≡ [] }
     ensures seat { IsSameSeat opener.old opener.new }
     ensures side { opener.new.me ≡ (with_closed opener.old.me.0 session.me.0, opener.old.me.1) }
 {
@@ -100,14 +102,15 @@ pub(crate) fn tell_closed<T: PartTable>(top: &Top<T>, opener: &mut Place<T>)
     top.load::<TellsClosed>(opener, 0);
 }
 
-/// Keeps a session apart that holds no word, and has nothing to do for those who wait: its history goes behind those at the seat, for as long as they meet.
+/// Keeps a session apart that holds no word, has nothing to do for those who wait, and has nobody to wake: its history goes
+/// behind those at the seat, for as long as they meet.
 pub(crate) fn keep_apart<T: PartTable>(top: &Top<T>, place: &mut Place<T>, other: Place<T>)
     requires table { FitsTable place.old top.now.table_id }
     requires other_table { FitsTable other top.now.table_id }
     requires one { IsForOne other.me.0 }
     requires nothing_in_hand { other.me.1 ≡ [] }
     requires lawful { MayBeKeptApartBy (first_account T.content other.me.0.sessions) }
-    requires idle { IsIdle other.me.0.sessions }
+    requires free { IsFree other.me.0.sessions }
     ensures seat { IsSameSeat place.old place.new }
     ensures side { place.new.me ≡ (met place.old.me.0 other.me.0, place.old.me.1) }
 {

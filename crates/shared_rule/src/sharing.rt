@@ -2,7 +2,6 @@
 //! write them.
 
 ghost use Rattle.std.specs.Bool.{OnTrue, OnFalse};
-ghost use Rattle.std.specs.Option.{SomeIff};
 ghost use Rattle.std.specs.Prelude.{◌≡◌, ◌<◌, None};
 ghost use Rattle.lw_word.specs.declared.words.LwMode.TheVariants.{Shared};
 ghost use Rattle.lw_word.specs.LightweightWord.{IsFreeToShare, shared_word};
@@ -13,7 +12,7 @@ ghost use Rattle.lock_world.specs.AccountSteps.{account_unsharing_fast};
 ghost use Rattle.shared_rule.specs.Acquires.{IsAsBefore, GetsSlots};
 ghost use Rattle.shared_rule.specs.Led.{Led, LedTo};
 ghost use Rattle.shared_rule.specs.Todos.{IsLatestBy, nothing_to_do, todo_putting};
-ghost use Rattle.shared_rule.specs.declared.lw_lock.LwLock.TheVariants.{OfSlots};
+ghost use Rattle.shared_rule.specs.declared.lw_locks.LwLock.TheVariants.{OfSlots};
 ghost use Rattle.lock_world.specs.WaitLists.{fast_lock};
 ghost use Rattle.lock_world.specs.Wakes.Waking.{NoneOr};
 ghost use Rattle.lw_word.specs.LockState.{state_of, put_in};
@@ -21,29 +20,16 @@ ghost use Rattle.shared_rule.specs.LwLocks.{no_lists};
 ghost use Rattle.shared_rule.specs.Plays.{account_at, number_at, todo_at, FitsTable, HasSession, IsSameSeat};
 
 use crate::layout::fast_word;
-use crate::lw_lock::LwLock;
 use crate::plays::{Grouping, Marking, SharesSlots};
 use crate::rule::{Place, Top};
-use crate::slot_acquires::get_slots_held;
-use crate::wakeups::{must_wake_after_sharing, wake_waiters};
+use crate::slot_locks::{SlotsLock, SlotsShared};
 use crate::words::fetch_sub_as;
 use lock_table::PartTable;
-use lw_word::LwMode;
+use lw_lock::{acquire, release};
+use lw_word::{LwMode, shared};
 use modes_core::SessionId;
-use std::marker::Brand;
+use std::marker::{Brand, PhantomData};
 use std::sync::Wait;
-
-/// What a session that shares a lock makes of its word, which shows `shown`, or `None` where bit 24 says that
-/// another one holds it exclusively (`LWLockAttemptLock` in lwlock.c).
-pub(crate) fn shared(shown: u64) -> Option<u64>
-    ensures { SomeIff result (IsFreeToShare shown) (shared_word shown) }
-{
-    if shown / LwMode::Exclusive.amount() % 2 == 0 {
-        Some(shown + LwMode::Shared.amount())
-    } else {
-        None
-    }
-}
 
 // One attempt to share the lock of a session's slots, of so many groups, by the number that its word may show.
 #[inline(always)]
@@ -116,13 +102,21 @@ pub(crate) fn share_fast<T: PartTable, R: Wait>(
     requires latest { IsLatestBy (account_at T.content place.old) (OfSlots owner) }
     ensures { GetsSlots T.content top.now.key.groups Shared owner place.old place.new }
 {
-    if !attempt_free_share(top, place, owner) {
-        get_slots_held(rt, top, place, number, owner, LwMode::Shared);
-    }
+    let mode = LwMode::Shared;
+    acquire(
+        rt,
+        place,
+        &SlotsLock {
+            top,
+            number,
+            owner,
+            mode,
+        },
+    )
 }
 
 // Gives its share back, and tells what its word showed.
-fn unshare_fast_home<T: PartTable, M: Marking<T>>(
+pub(crate) fn unshare_fast_home<T: PartTable, M: Marking<T>>(
     top: &Top<T>,
     place: &mut Place<T>,
     owner: SessionId,
@@ -159,8 +153,6 @@ pub(crate) fn unshare_fast<T: PartTable, M: Marking<T>>(
         (account_unsharing_fast (account_at T.content place.old) owner) }
     ensures slots { place.new.me.1 ≡ place.old.me.1 }
 {
-    let found = unshare_fast_home::<T, M>(top, place, owner);
-    if must_wake_after_sharing(found) {
-        wake_waiters(top, place, &LwLock::OfSlots(owner));
-    }
+    let of = PhantomData::<M>;
+    release(place, &SlotsShared { top, owner, of }, ());
 }

@@ -13,7 +13,7 @@ ghost use Rattle.lock_table.specs.Waiter.{whose_and_mode};
 ghost use Rattle.lock_world.specs.WaitWord.{wait_state};
 ghost use Rattle.lock_world.specs.AccountLaw.{MayMoveBy, MayLeaveBy};
 ghost use Rattle.shared_rule.specs.Marks.{SetWaiting, MarkedGranted, LoadedWait, Asked};
-ghost use Rattle.shared_rule.specs.Marks.{ClearedWait, LeftQueue};
+ghost use Rattle.shared_rule.specs.Marks.{ClearedWait, LeftQueue, CalledWaiter};
 ghost use Rattle.shared_rule.specs.Lawful.{IsGrantingIn, MayMarkBy, MayClearBy};
 
 use crate::layout::wait_word;
@@ -107,6 +107,23 @@ pub(crate) fn ask_cancel<T: PartTable, M: Marking<T>>(
         → wait_state result ≡ 0 }
 {
     fetch_or_as::<T, M>(top, place, wait_word(other), 4)
+}
+
+/// Calls `other`, which may be parked on its wait word (`SetLatch` in `ProcWakeup` of proc.c). The session looks at that word
+/// right before the call, so that its history tells of it.
+pub(crate) fn call_waiter<T: PartTable, M: Marking<T>>(
+    top: &Top<T>,
+    place: &mut Place<T>,
+    other: SessionId,
+)
+    requires table { FitsTable place.old top.now.table_id }
+    requires session { HasSession place.old.me.0 }
+    requires mark { M.mark ≡ (λ _. CalledWaiter other) }
+    ensures seat { IsSameSeat place.old place.new }
+    ensures side { place.new.me ≡ (noting place.old.me.0 (CalledWaiter other), place.old.me.1) }
+{
+    load_as::<T, M>(top, place, wait_word(other));
+    top.wake_one(wait_word(other));
 }
 
 /// Clears the wait word of the session `number`, its own: the wait is over, since the grant was seen or the wait is

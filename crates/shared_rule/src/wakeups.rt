@@ -2,8 +2,6 @@
 
 ghost use Rattle.std.specs.Prelude.{◌≡◌, ◌∷◌, ℕ, Some, None, true, false};
 ghost use Rattle.atomic_table.specs.Table.{rest};
-ghost use Rattle.lw_word.specs.declared.words.LwMode.TheVariants.{Exclusive, Shared};
-ghost use Rattle.lw_word.specs.LockState.{state_of, put_in, must_wake};
 ghost use Rattle.lock_world.specs.AccountSteps.{account_unlocking_list};
 ghost use Rattle.shared_rule.specs.declared.kept.Kept.TheVariants.{Nothing};
 ghost use Rattle.shared_rule.specs.Layout.{list_slot_of};
@@ -12,43 +10,22 @@ ghost use Rattle.shared_rule.specs.Todos.{IsLeftWellBy, todo_looked};
 ghost use Rattle.lock_world.specs.Wakes.Waking.{NoneOr};
 ghost use Rattle.shared_rule.specs.LwLocks.{lock_number, LockExists, LockIsInTable, no_lists};
 ghost use Rattle.shared_rule.specs.Plays.{account_at, number_at, todo_at, FitsTable, HasSession};
-ghost use Rattle.shared_rule.specs.Wakeups.{all_taken_off, all_told, MayTakeAllOff, MayTellAll};
+ghost use Rattle.shared_rule.specs.Wakeups.{all_taken_off, all_told, all_owed, all_called, MayTakeAllOff, MayTellAll};
 
-use crate::layout::sleep_word;
-use crate::lists::{set_release_ok, take_off, tell, try_lock_list, unlock_list};
-use crate::lw_lock::LwLock;
+use crate::lists::{call_sleeper, set_release_ok, take_off, tell, try_lock_list, unlock_list};
+use crate::lw_locks::LwLock;
 use crate::rule::{Place, Top};
 use lock_table::PartTable;
-use lw_word::{LwMode, LwWaiter, LwWord, WaitList};
+use lw_word::{LwWaiter, WaitList};
 use std::marker::Brand;
-
-/// Whether a session that held a lock exclusively has to wake waiters, by `found`, the number that its
-/// fetch-and-subtract found in the lock's word (`check_waiters` in `LWLockReleaseInternal` of lwlock.c).
-pub(crate) fn must_wake_after(found: u64) -> bool
-    ensures { result ≡ must_wake (put_in Exclusive (state_of found)) }
-{
-    found % LwMode::Exclusive.amount() == 0
-        && found / LwWord::HAS_WAITERS % 2 == 1
-        && found / LwWord::RELEASE_OK % 2 == 1
-}
-
-/// Whether a session that shared a lock has to wake waiters, by `found`, the number that its fetch-and-subtract
-/// found in the lock's word: the last one to put it.
-pub(crate) fn must_wake_after_sharing(found: u64) -> bool
-    ensures { result ≡ must_wake (put_in Shared (state_of found)) }
-{
-    found % LwMode::Exclusive.amount() <= 1
-        && found / LwMode::Exclusive.amount() % 2 == 0
-        && found / LwWord::HAS_WAITERS % 2 == 1
-        && found / LwWord::RELEASE_OK % 2 == 1
-}
 
 // Takes these off the list in hand, one after the other.
 fn take_all_off<T: PartTable>(top: &Top<T>, place: &mut Place<T>, taken: &[LwWaiter])
     requires table { FitsTable place.old top.now.table_id }
     requires session { HasSession place.old.me.0 }
     requires lawful { MayTakeAllOff (number_at place.old) (account_at T.content place.old) taken.now }
-    ensures led { Led T.content place.old place.new (all_taken_off (account_at T.content place.old) taken.now) }
+    ensures led { LedTo T.content place.old place.new (all_taken_off (account_at T.content place.old) taken.now)
+        (all_owed (todo_at place.old) taken.now) }
     ensures slots { place.new.me.1 ≡ place.old.me.1 }
 {
     for waiter in taken {
@@ -56,18 +33,19 @@ fn take_all_off<T: PartTable>(top: &Top<T>, place: &mut Place<T>, taken: &[LwWai
     }
 }
 
-// Tells each of these that it may go on, and wakes it: the sleep word shows 0 before the wake, so that nobody
+// Tells each of these that it may go on, and calls it: the sleep word shows 0 before the call, so that nobody
 // sleeps through it.
 fn tell_all<T: PartTable>(top: &Top<T>, place: &mut Place<T>, taken: &[LwWaiter])
     requires table { FitsTable place.old top.now.table_id }
     requires session { HasSession place.old.me.0 }
     requires lawful { MayTellAll (account_at T.content place.old) taken.now }
-    ensures led { Led T.content place.old place.new (all_told (account_at T.content place.old) taken.now) }
+    ensures led { LedTo T.content place.old place.new (all_told (account_at T.content place.old) taken.now)
+        (all_called (todo_at place.old) taken.now) }
     ensures slots { place.new.me.1 ≡ place.old.me.1 }
 {
     for waiter in taken {
         tell::<T, Brand>(top, place, waiter.session);
-        top.wake_one(sleep_word(waiter.session));
+        call_sleeper::<T, Brand>(top, place, waiter.session);
     }
 }
 
@@ -132,6 +110,7 @@ pub(crate) fn wake_waiters<T: PartTable>(top: &Top<T>, place: &mut Place<T>, loc
     requires idle { (account_at T.content place.old).lists ≡ no_lists }
     requires no_other_look { NoneOr (todo_at place.old).due (lock_number lock.now) }
     requires owes_no_ok { (todo_at place.old).owes_release_ok ≡ None }
+    requires calls_nobody { (todo_at place.old).calls ≡ (λ _. false) }
     ensures led { LedTo T.content place.old place.new (account_at T.content place.old)
         (todo_looked (todo_at place.old)) }
     ensures slots { place.new.me.1 ≡ place.old.me.1 }

@@ -2,10 +2,9 @@
 //! seat that has the session's history first in its view, and leaves a mark there; what the mark does to the session's
 //! account is in `noted` of specs/History.
 
-ghost use Rattle.std.specs.Prelude.{ℕ, ◌≡◌, ◌<◌, ◌+◌, ◌-◌, ◌^◌, ◌%◌, None, SomeIff, Some, bit_and, bit_or};
+ghost use Rattle.std.specs.Prelude.{ℕ, ◌≡◌, ◌<◌, ◌+◌, ◌-◌, ◌^◌, ◌%◌, Some, bit_and, bit_or};
 ghost use mathlib.Core.Option.{none};
 ghost use Rattle.atomic_table.specs.Table.{Allows, step, rest};
-ghost use Rattle.lw_word.specs.LightweightWord.{IsHeldByNobody, taken_word};
 ghost use Rattle.shared_rule.specs.History.{noting};
 ghost use Rattle.shared_rule.specs.Ruled.{Ruled};
 ghost use Rattle.shared_rule.specs.Plays.{account_at, number_at, FitsTable, IsSameSeat, Marked, WentHome, Looked};
@@ -17,19 +16,6 @@ use crate::plays::{Looks, Marking, Marks, PutsHome};
 use crate::rule::{Place, Top};
 use lock_table::PartTable;
 use lw_word::LwMode;
-
-/// What a session that takes a lock exclusively makes of its word, which shows `shown`, or `None` where bits 0 to 24
-/// say that somebody holds it (`LWLockAttemptLock` in lwlock.c).
-pub(crate) fn taken(shown: u64) -> Option<u64>
-    ensures { SomeIff result (IsHeldByNobody shown) (taken_word shown) }
-{
-    let amount = LwMode::Exclusive.amount();
-    if shown % (2 * amount) == 0 {
-        Some(shown + amount)
-    } else {
-        None
-    }
-}
 
 pub(crate) fn load_as<T: PartTable, M: Marking<T>>(
     top: &Top<T>,

@@ -58,14 +58,14 @@ pub struct Link {
 }
 
 impl Link {
-    /// Whether it is another link than the one of this kind between these two.
+    /// Whether this is another link than the one of `kind` from `from` to `to`.
     fn is_other(&self, kind: LinkKind, from: usize, to: usize) -> bool
         ensures { result ≡ is_other_link kind from to self.now }
     {
         self.kind != kind || self.from != from || self.to != to
     }
 
-    /// Whether it neither begins nor ends at this relation.
+    /// Whether this link neither begins nor ends at the relation `number`.
     fn is_apart(&self, number: usize) -> bool
         ensures { result ≡ is_apart number self.now }
     {
@@ -115,14 +115,14 @@ impl Catalog {
         }
     }
 
-    /// The number of the relation of this name.
+    /// The number of the relation that is called `name`.
     pub fn find(&self, name: &str) -> Option<usize>
         ensures { result ≡ get_by_text self.now.names name.now }
     {
         self.names.get(name).copied()
     }
 
-    /// Adds a relation, which takes this name from another one that has it.
+    /// Adds a relation of `kind`, which takes `name` from another one that has it.
     pub fn add(
         &mut self,
         alloc: Global,
@@ -149,7 +149,7 @@ impl Catalog {
         }
     }
 
-    /// Adds a link.
+    /// Adds the link of `kind` from `from` to `to`.
     pub fn link(&mut self, kind: LinkKind, from: usize, to: usize) -> Result<(), AllocError>
         ensures added { OnOk result (self.new.links.items ≡
             self.old.links.items ++ record { kind = kind; from = from; to = to } ∷ []) }
@@ -159,7 +159,7 @@ impl Catalog {
         Ok(())
     }
 
-    /// Takes a link away.
+    /// Takes the link of `kind` from `from` to `to` away.
     pub fn unlink(&mut self, kind: LinkKind, from: usize, to: usize)
         ensures links { self.new.links.items ≡ filter (is_other_link kind from to) self.old.links.items }
         ensures names { SameNames self.old.names self.new.names }
@@ -167,7 +167,7 @@ impl Catalog {
         self.links.retain(|link| link.is_other(kind, from, to));
     }
 
-    /// Gives a relation another name.
+    /// Gives the relation `number` the name `name`.
     pub fn rename(&mut self, alloc: Global, number: usize, name: &str) -> Result<(), AllocError>
         ensures links { self.new.links.items ≡ self.old.links.items }
         ensures named { OnOk result (number < vec_len self.old.relations →
@@ -186,7 +186,7 @@ impl Catalog {
         }
     }
 
-    /// Adds a foreign key.
+    /// Adds the foreign key `key`.
     pub fn add_foreign_key(&mut self, key: ForeignKey) -> Result<(), AllocError>
         ensures added { OnOk result (self.new.foreign_keys.items ≡ self.old.foreign_keys.items ++ key ∷ []) }
         ensures names { SameNames self.old.names self.new.names }
@@ -198,7 +198,7 @@ impl Catalog {
         }
     }
 
-    /// Takes the foreign key away that has this name at this table.
+    /// Takes the foreign key of `table` away that is called `name`.
     pub fn drop_foreign_key(&mut self, table: usize, name: &str)
         ensures names { SameNames self.old.names self.new.names }
         ensures links { self.new.links.items ≡ self.old.links.items }
@@ -207,7 +207,7 @@ impl Catalog {
             .retain(|key| key.table != table || key.name.as_str() != name);
     }
 
-    /// Takes the relation away that has this name and number, with its links.
+    /// Takes the relation `number`, which is called `name`, away with its links.
     pub fn drop_relation(&mut self, name: &str, number: usize)
         ensures gone { get_by_text self.new.names name.now ≡ None }
         ensures others { (other : List ℕ) → bytes_eq other name.now ≡ false →

@@ -15,7 +15,7 @@ pub struct Edge {
 }
 
 impl Link {
-    /// The step along a path that the link is, if it is one.
+    /// The step that this link is of the path `along`, if it is one.
     fn step(&self, along: Along) -> Option<Edge>
         ensures { result ≡ step_of along self.now }
     {
@@ -41,7 +41,7 @@ impl Link {
     }
 }
 
-/// All steps along a path.
+/// All steps of the path `along` that `links` have.
 fn edges(alloc: Global, links: &[Link], along: Along) -> Result<Vec<Edge>, AllocError>
     ensures { IfOk result (λ edges. edges.items ≡ edges_of along links.now) }
 {
@@ -73,7 +73,7 @@ pub fn closure(
     Ok(found)
 }
 
-/// Adds the ends of all steps that begin at what was found, and answers the others.
+/// Adds to `found` the ends of those of `edges` that begin there, and answers the others.
 fn follow(alloc: Global, found: &mut Vec<usize>, edges: &Vec<Edge>) -> Result<Vec<Edge>, AllocError>
     ensures { IfOk result (λ rest. IsFollowed found.old.items edges.now.items found.new.items rest.items) }
 {

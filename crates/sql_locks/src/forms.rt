@@ -90,10 +90,12 @@ pub enum Until {
 #[derive(Clone, Copy, Debug, PartialEq, Eq)]
 pub enum Awaits {
     Nobody,
-    /// Each transaction that has written the table.
+    /// Each transaction that has written the table, and then those with older snapshots.
     Writers,
     /// Each transaction that has used the table, and be it to read.
     Users,
+    /// Each transaction that has used the table, and those with older snapshots.
+    UsersAndSnapshots,
 }
 
 /// A form of a statement. What each is, its row says.

@@ -4,6 +4,8 @@
 
 mod byte_classes;
 mod catalog;
+mod command_rows;
+mod commands;
 mod edges;
 mod faults;
 mod form_rows;
@@ -18,6 +20,7 @@ mod word_lengths;
 mod words;
 
 pub use catalog::{Catalog, ForeignKey, Link, LinkKind, Relation, RelationKind};
+pub use commands::{SqlCommand, sql_commands};
 pub use faults::{Defect, SqlFault};
 pub use form_rows::{all_rows, row_of};
 pub use forms::{Along, Awaits, Form, FormRow, Hop, Part, Path, Start, Until, Work};

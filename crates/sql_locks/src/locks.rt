@@ -30,7 +30,7 @@ pub struct Lock {
 }
 
 impl Act {
-    /// The relation from which a path begins.
+    /// The relation at which a path begins that begins as `start` says.
     fn start(&self, start: Start) -> Option<usize>
         ensures { result ≡ start_of start self.now }
     {
@@ -41,7 +41,8 @@ impl Act {
     }
 }
 
-/// The path that is gone: that of the form, or none along children where the statement says `ONLY`.
+/// The path that is gone where a form's is `along`: that one, or none along children where `is_only` is true, as for a
+/// statement that says `ONLY`.
 fn along_gone(along: Along, is_only: bool) -> Along
     ensures { result ≡ along_of along is_only }
 {
@@ -53,7 +54,8 @@ fn along_gone(along: Along, is_only: bool) -> Along
     }
 }
 
-/// The locks of a form, in the order of its row: the mode of each part on each relation that its path reaches.
+/// The locks of `act` by `links`, in the order of the row of its form: the mode of each of `parts` on each relation
+/// that its path reaches.
 pub fn locks_of(
     alloc: Global,
     links: &[Link],
@@ -70,7 +72,7 @@ pub fn locks_of(
     Ok(locks)
 }
 
-/// The locks of one part of a form's row.
+/// The locks of one part of a form's row, `part`, of `act` by `links`.
 fn part_locks(
     alloc: Global,
     links: &[Link],
@@ -91,7 +93,7 @@ fn part_locks(
     Ok(locks)
 }
 
-/// Adds a lock of this mode on each of these relations.
+/// Adds to `locks` one of `mode` on each relation of `reached`.
 fn push_locks(locks: &mut Vec<Lock>, reached: &Vec<usize>, mode: Mode) -> Result<(), AllocError>
     ensures { IfOk result (λ done. locks.new.items ≡
         locks.old.items ++ map (λ x. record { relation = x; mode = mode }) reached.now.items) }
@@ -105,7 +107,7 @@ fn push_locks(locks: &mut Vec<Lock>, reached: &Vec<usize>, mode: Mode) -> Result
     Ok(())
 }
 
-/// Where the last step of a path leads from these relations.
+/// Where the last step of a path, `hop`, leads by `links` from the relations of `found`.
 fn hop_all(
     alloc: Global,
     links: &[Link],
@@ -122,7 +124,7 @@ fn hop_all(
     Ok(reached)
 }
 
-/// Where the last step of a path leads from one relation.
+/// Where the last step of a path, `hop`, leads by `links` from the relation `number`.
 fn hop_from(
     alloc: Global,
     links: &[Link],
@@ -143,7 +145,7 @@ fn hop_from(
     }
 }
 
-/// A relation alone.
+/// The relation `number`, alone.
 fn alone(alloc: Global, number: usize) -> Result<Vec<usize>, AllocError>
     ensures { IfOk result (λ ends. ends.items ≡ number ∷ []) }
 {
@@ -152,7 +154,7 @@ fn alone(alloc: Global, number: usize) -> Result<Vec<usize>, AllocError>
     Ok(ends)
 }
 
-/// The relations to which links of this kind lead from one.
+/// The relations to which `links` of `kind` lead from `number`.
 fn targets(
     alloc: Global,
     links: &[Link],
@@ -168,7 +170,7 @@ fn targets(
         .collect(alloc)
 }
 
-/// The relations from which links of this kind lead to one.
+/// The relations from which `links` of `kind` lead to `number`.
 fn sources(
     alloc: Global,
     links: &[Link],
@@ -185,14 +187,14 @@ fn sources(
 }
 
 impl Link {
-    /// Whether it is of this kind and begins at a relation.
+    /// Whether this link is of `kind` and begins at the relation `number`.
     fn begins_at(&self, kind: LinkKind, number: usize) -> bool
         ensures { result ≡ begins_at kind number self.now }
     {
         self.kind == kind && self.from == number
     }
 
-    /// Whether it is of this kind and ends at a relation.
+    /// Whether this link is of `kind` and ends at the relation `number`.
     fn ends_at(&self, kind: LinkKind, number: usize) -> bool
         ensures { result ≡ ends_at kind number self.now }
     {

@@ -700,6 +700,10 @@ pub static ALTER_TABLE_ROWS: [FormRow; 46] = [
                 mode: Mode::ShareUpdateExclusive,
             },
             Part {
+                path: TARGET,
+                mode: Mode::ShareUpdateExclusive,
+            },
+            Part {
                 path: OTHER,
                 mode: Mode::AccessExclusive,
             },

@@ -459,7 +459,7 @@ pub static RELATION_ROWS: [FormRow; 35] = [
         ],
         work: Work::Build,
         until: Until::OwnEnd,
-        awaits: Awaits::Users,
+        awaits: Awaits::UsersAndSnapshots,
     },
     FormRow {
         form: Form::ReindexIndexConcurrently,
@@ -476,7 +476,7 @@ pub static RELATION_ROWS: [FormRow; 35] = [
         ],
         work: Work::Build,
         until: Until::OwnEnd,
-        awaits: Awaits::Users,
+        awaits: Awaits::UsersAndSnapshots,
     },
     FormRow {
         form: Form::AlterIndex,

@@ -115,7 +115,7 @@ fn is_at(text: &[u8], place: usize, byte: u8) -> bool
     }
 }
 
-/// A parameter, as `$1`, or a text between two dollar tags.
+/// The length of the word with which `rest` begins: a parameter, as `$1`, or a text between two dollar tags.
 fn dollar_word(rest: &[u8]) -> Result<(WordKind, usize), Defect>
     requires some { 0 < length rest.now }
     requires dollar { slice_index rest.now 0 ≡ 36 }
@@ -152,7 +152,7 @@ fn dollar_end(rest: &[u8], tag: usize) -> Option<usize>
     None
 }
 
-/// A point, or a number that begins with one.
+/// The length of the word with which `rest` begins: a point, or a number that begins with one.
 fn point_or_number(rest: &[u8]) -> Result<(WordKind, usize), Defect>
     requires some { 0 < length rest.now }
     requires point { slice_index rest.now 0 ≡ 46 }
@@ -166,8 +166,8 @@ fn point_or_number(rest: &[u8]) -> Result<(WordKind, usize), Defect>
     }
 }
 
-/// The line by which a dump is guarded, `\restrict KEY` or `\unrestrict KEY`, which is passed over as a comment is. Another
-/// command of psql is a defect.
+/// The length of the line with which `rest` begins and by which a dump is guarded, `\restrict KEY` or `\unrestrict
+/// KEY`. Such a line is passed as a comment is. Another command of psql is a defect.
 fn guard_of_dump(rest: &[u8]) -> Result<(WordKind, usize), Defect>
     requires some { 0 < length rest.now }
     requires backslash { slice_index rest.now 0 ≡ 92 }
@@ -181,7 +181,7 @@ fn guard_of_dump(rest: &[u8]) -> Result<(WordKind, usize), Defect>
     Err(Defect::BackslashCommand)
 }
 
-/// A comment or an operator.
+/// The length of the comment or the operator with which `rest` begins.
 fn comment_or_operator(rest: &[u8]) -> Result<(WordKind, usize), Defect>
     requires { 0 < length rest.now }
     ensures within { IfOk result (λ found. IsWithin found.1 rest.now) }
@@ -200,7 +200,7 @@ fn comment_or_operator(rest: &[u8]) -> Result<(WordKind, usize), Defect>
     Ok((WordKind::Operator, operator_length(rest)))
 }
 
-/// Where a comment ends that opens with `/*`. Comments nest.
+/// Where the comment ends with which `rest` begins and that opens with `/*`. Comments nest.
 fn comment_end(rest: &[u8]) -> Option<usize>
     ensures { IfSome result (λ end. (0 < end) × (end ≤ length rest.now)) }
 {
@@ -223,7 +223,7 @@ fn comment_end(rest: &[u8]) -> Option<usize>
     None
 }
 
-/// How many bytes an operator has: a comment ends it.
+/// How many bytes the operator has with which `rest` begins: a comment ends it.
 fn operator_length(rest: &[u8]) -> usize
     requires { 0 < length rest.now }
     ensures within { IsWithin result rest.now }
@@ -237,7 +237,8 @@ fn operator_length(rest: &[u8]) -> usize
     length.max(1)
 }
 
-/// A name, or a text with a prefix, as `E'..'`, or a name in quotes with the prefix `U&`.
+/// The length of the word with which `rest` begins: a name, a text with a prefix, as `E'..'`, or a name in quotes with
+/// the prefix `U&`.
 fn name_or_prefix(rest: &[u8]) -> Result<(WordKind, usize), Defect>
     requires some { 0 < length rest.now }
     requires name { is_in_class ByteClass.Name (slice_index rest.now 0) ≡ true }

@@ -85,7 +85,7 @@ impl CopyProgress {
         })
     }
 
-    /// How much was read with one more word.
+    /// How much was read with one more word, which is of `kind` and is `text`.
     fn after(self, kind: WordKind, text: &[u8]) -> Self {
         match kind {
             WordKind::Blank | WordKind::Comment => self,
@@ -104,7 +104,7 @@ impl CopyProgress {
         }
     }
 
-    /// How much was read with one more name.
+    /// How much was read with one more name, `text`.
     fn after_name(self, text: &[u8]) -> Self {
         match self {
             CopyProgress::Start if text.eq_ignore_ascii_case(b"copy") => CopyProgress::Copy,
@@ -155,7 +155,7 @@ pub fn split_words(alloc: Global, text: &[u8]) -> Result<Vec<Word<'_>>, SqlFault
     Ok(words)
 }
 
-/// How many line feeds a text has.
+/// How many line feeds `text` has.
 fn line_feeds(text: &[u8]) -> usize
     ensures count { result ≡ count_by is_line_feed text.now }
     ensures within { result ≤ length text.now }

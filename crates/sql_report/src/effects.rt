@@ -68,7 +68,7 @@ fn with_clashing(all: ModeSet, modes: ModeSet, mode: Mode) -> ModeSet
     }
 }
 
-/// Adds who waits, or that only `DROP TABLE` and its like do.
+/// Adds to `text` who waits by the modes `stopped`, or that only `DROP TABLE` and its like do.
 pub fn push_waiting(text: &mut String, stopped: ModeSet) -> Result<(), AllocError> {
     let mut is_first = true;
     for others in &OTHERS {
@@ -84,7 +84,7 @@ pub fn push_waiting(text: &mut String, stopped: ModeSet) -> Result<(), AllocErro
     Ok(())
 }
 
-/// Adds behind whom the statement waits, where somebody is there before it.
+/// Adds to `text` behind whom the statement waits by the modes `stopped`, where somebody is there before it.
 pub fn push_before(text: &mut String, stopped: ModeSet) -> Result<(), AllocError> {
     let mut is_first = true;
     for others in &OTHERS {
@@ -100,7 +100,7 @@ pub fn push_before(text: &mut String, stopped: ModeSet) -> Result<(), AllocError
     Ok(())
 }
 
-/// Adds the modes that say all: without those that keep nobody waiting whom another one doesn't.
+/// Adds to `text` those of `modes` that say all: without one that keeps nobody waiting whom another one doesn't.
 pub fn push_modes(text: &mut String, modes: ModeSet) -> Result<(), AllocError> {
     let mut shown = ModeSet::empty();
     let mut is_first = true;
@@ -118,7 +118,7 @@ pub fn push_modes(text: &mut String, modes: ModeSet) -> Result<(), AllocError> {
     Ok(())
 }
 
-/// Whether a mode keeps nobody waiting whom these modes don't.
+/// Whether `mode` keeps nobody waiting whom the modes `shown` don't.
 fn adds_nothing(mode: Mode, shown: ModeSet) -> bool {
     let stopped = conflicts_of(shown);
     for other in Mode::ALL {

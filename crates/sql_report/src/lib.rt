@@ -9,7 +9,8 @@ mod report;
 mod run;
 mod texts;
 
-pub use options::{FailOn, SqlOptions, SqlTask, parse_options};
+pub use options::{FailOn, SQL, SqlOptions, SqlTask, parse_options, sql_command};
 pub use outcome::{Effort, Outcome, are_known, locks_of_acts, modes_on, outcome_of, stopped_by};
 pub use report::{Answer, Refused, Report, is_open_after, make_report};
-pub use run::{is_for_sql, run_sql, status_of};
+pub use run::{run_sql, status_of};
+pub use texts::{fault_text, word_at};

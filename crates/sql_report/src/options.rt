@@ -38,7 +38,7 @@ pub enum SqlTask {
 /// What `--fail-on` may name.
 static KINDS: [&str; 2] = ["reads", "writes"];
 
-/// What `lock_sql --help` shows beside its options.
+/// What `lock_scenario sql --help` shows beside its options.
 const SQL_HELP: &str =
     "Of each statement it says, with its line: which relations it locks, in which mode and
 order, how long it works and until when the locks are held, whom that keeps waiting,
@@ -48,10 +48,13 @@ Status:  0 all was said, 1 input, output or memory failed, 2 these words were re
          3 a statement is bad or its locks are not known, 4 what --fail-on names
 
 Example:
-  lock_sql --schema schema.sql --fail-on writes < migration.sql";
+  lock_scenario sql --schema schema.sql --fail-on writes < migration.sql";
 
-/// The command line `lock_sql [--schema FILE] [--fail-on KIND] [--single-transaction]`.
-fn sql_command<'a>(alloc: Global) -> Result<Command<'a>, AllocError> {
+/// The word that asks for the subcommand.
+pub const SQL: &str = "sql";
+
+/// The subcommand `sql [--schema FILE] [--fail-on KIND] [--single-transaction]` of `lock_scenario`.
+pub fn sql_command<'a>(alloc: Global) -> Result<Command<'a>, AllocError> {
     let schema = Arg::new(alloc, "schema")
         .long("schema")
         .value_name("FILE")
@@ -65,16 +68,16 @@ fn sql_command<'a>(alloc: Global) -> Result<Command<'a>, AllocError> {
         .long("single-transaction")
         .help("Take all statements for one transaction")
         .action(ArgAction::SetTrue);
-    Command::new(alloc, "lock_sql")
+    Command::new(alloc, SQL)
         .about("Say what each SQL statement on standard input locks")
-        .override_usage("lock_sql [OPTIONS] < MIGRATION")
+        .override_usage("lock_scenario sql [OPTIONS] < MIGRATION")
         .after_help(SQL_HELP)
         .arg(schema)?
         .arg(fail_on)?
         .arg(single)
 }
 
-/// What `words` ask for, of which the first one, a program's name or a subcommand's, is passed over.
+/// What `words` ask for, of which the first one, the subcommand's, is passed over.
 pub fn parse_options(alloc: Global, words: &[String]) -> SqlTask {
     match options_of(alloc, words) {
         Ok(options) => SqlTask::Report(options),

@@ -9,7 +9,7 @@ use crate::outcome::{Outcome, are_known, modes_on, outcome_of};
 use crate::texts::{awaits_text, fault_text, shown, until_text, work_text};
 use modes_core::{Mode, ModeSet};
 use sql_locks::{Awaits, Defect, Lock, SqlFault};
-use sql_statements::{Control, SqlStatement, StatementReader, split_statements};
+use sql_statements::{Control, SqlStatement, StatementReader, has_part, split_statements};
 use std::alloc::{AllocError, Global};
 
 /// What is said of one statement.
@@ -55,7 +55,7 @@ impl Refused {
         }
     }
 
-    /// A fault of a text, which this name stands before.
+    /// The fault `fault` of `text`, which `name` comes before.
     fn of_fault(alloc: Global, name: &str, text: &[u8], fault: SqlFault) -> Self {
         if fault == SqlFault::NoMemory {
             return Refused::of_memory(alloc);
@@ -124,7 +124,7 @@ pub fn is_open_after(control: Control, was_open: bool, is_single: bool) -> bool
 }
 
 impl Writer {
-    /// Runs the statements of a schema.
+    /// Runs the statements of `schema`.
     fn read_schema(&mut self, schema: &[u8]) -> Result<(), SqlFault> {
         for statement in split_statements(self.alloc, schema)? {
             self.reader.read_statement(statement.words)?;
@@ -211,7 +211,8 @@ impl Writer {
         Ok(text)
     }
 
-    /// Adds the modes of each relation, in the order of the first locks, and tells whether others know one of these relations.
+    /// Adds to `text` the modes of each relation of `locks`, in the order of its first lock, and tells whether others
+    /// know one of these relations.
     fn push_locks(&self, text: &mut String, locks: &[Lock]) -> Result<bool, AllocError> {
         let relations = self.reader.catalog.relations.as_slice();
         let mut is_known = false;
@@ -233,7 +234,8 @@ impl Writer {
         Ok(is_known)
     }
 
-    /// Adds how long the statement works, and whom it keeps waiting where others know what it locks.
+    /// Adds to `text` how long the statement of `outcome` works, and whom it keeps waiting where `are_known` says that
+    /// others know what it locks.
     fn push_effort(
         &self,
         text: &mut String,
@@ -261,13 +263,17 @@ impl Writer {
         Ok(())
     }
 
-    /// Adds the advisory locks of the statement.
+    /// Adds to `text` the advisory locks that the statement takes, and those that it gives back.
     fn push_advisory(&self, text: &mut String) -> Result<(), AllocError> {
         for lock in &self.reader.advisory {
             let words = &self.reader.cursor.words;
             let function = word_text(words.get(lock.function));
+            if has_part(function, "all") {
+                text.push_str("  gives back all advisory locks that the session owns\n")?;
+                continue;
+            }
             let first = word_text(words.get(lock.first));
-            let mode = if function.contains("shared") {
+            let mode = if has_part(function, "shared") {
                 Mode::Share
             } else {
                 Mode::Exclusive
@@ -277,12 +283,8 @@ impl Writer {
                 let second = word_text(words.get(second));
                 write!(text, ", {second}")?;
             }
-            let until = if function.contains("xact") {
-                "the transaction's end"
-            } else {
-                "it is unlocked, or the session ends"
-            };
-            write!(text, ": {mode}, until {until}\n")?;
+            let until = until_of(function);
+            write!(text, ": {mode}, {until}\n")?;
         }
         Ok(())
     }
@@ -345,7 +347,18 @@ fn sums_of(
     Ok(text)
 }
 
-/// The text of a word, if there is one.
+/// Until when the advisory lock is held that `function` takes, or that it gives one back.
+fn until_of(function: &str) -> &'static str {
+    if has_part(function, "unlock") {
+        "given back"
+    } else if has_part(function, "xact") {
+        "until the transaction's end"
+    } else {
+        "until it is unlocked, or the session ends"
+    }
+}
+
+/// The text of `word`, if there is one.
 fn word_text(word: Option<&sql_statements::SqlWord>) -> &str {
     match word {
         Some(word) => word.text.as_str(),

@@ -20,16 +20,9 @@ const BAD_STATEMENT: u8 = 3;
 
 const KEEPS_WAITING: u8 = 4;
 
-/// Whether the words of the command line ask for the subcommand `sql`.
-pub fn is_for_sql(words: &[String]) -> bool {
-    match words.get(1) {
-        Some(word) => word.as_str() == "sql",
-        None => false,
-    }
-}
-
-/// Says what each statement of `input` locks, and answers the status: 0, 1 for a fault of input, output or memory, 2 for refused words, 3 for
-/// a bad statement or one whose locks are not known, and 4 where a statement keeps those waiting whom the words name.
+/// Says to `output` what each statement of `input` locks, and answers the status: 0, 1 for a fault of input, output or memory, 2 for refused
+/// words, 3 for a bad statement or one whose locks are not known, and 4 where a statement keeps those waiting whom the words name. The first two
+/// of `words` are the program's name and the subcommand. What is wrong goes to `errors`; files are read by `rt`.
 pub fn run_sql<H: AllocGlobal + Files, R: Read, W: Write, E: Write>(
     rt: &H,
     words: &[String],

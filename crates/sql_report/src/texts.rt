@@ -7,7 +7,7 @@ use strsim::jaro_winkler;
 /// How many bytes of a statement or a word are shown at most.
 const MOST_SHOWN: usize = 72;
 
-/// The text that stands between two places, up to its first line's end, and no more than is shown.
+/// What is between `from` and `to` in `text`, up to its first line's end, and no more than is shown.
 pub fn shown(alloc: Global, text: &[u8], from: usize, to: usize) -> Result<String, AllocError> {
     let all = text.get(from..to).unwrap_or(b"");
     let mut end = 0usize;
@@ -20,7 +20,7 @@ pub fn shown(alloc: Global, text: &[u8], from: usize, to: usize) -> Result<Strin
     String::from_utf8_lossy(alloc, all.get(..end).unwrap_or(b""))
 }
 
-/// The word that stands at this place, as it is shown.
+/// The word at the place `from` of `text`, as it is shown.
 pub fn word_at(alloc: Global, text: &[u8], from: usize) -> Result<String, AllocError> {
     let all = text.get(from..).unwrap_or(b"").trim_ascii_start();
     let mut end = 0usize;
@@ -34,7 +34,7 @@ pub fn word_at(alloc: Global, text: &[u8], from: usize) -> Result<String, AllocE
     String::from_utf8_lossy(alloc, all.get(..end).unwrap_or(b""))
 }
 
-/// What is said of a fault of a text.
+/// What is said of `fault`, one of `text`.
 pub fn fault_text(alloc: Global, text: &[u8], fault: SqlFault) -> Result<String, AllocError> {
     match fault {
         SqlFault::NoMemory => String::from_str(alloc, "no memory\n"),
@@ -52,7 +52,7 @@ pub fn fault_text(alloc: Global, text: &[u8], fault: SqlFault) -> Result<String,
     }
 }
 
-/// The first two words of a statement, in capital letters.
+/// The first two words of the statement at `from` in `text`, in capital letters.
 fn two_words(alloc: Global, text: &[u8], from: usize) -> Result<String, AllocError> {
     let line = shown(alloc, text, from, text.len())?;
     let mut words = String::new(alloc);
@@ -66,7 +66,7 @@ fn two_words(alloc: Global, text: &[u8], from: usize) -> Result<String, AllocErr
     Ok(words)
 }
 
-/// The known form that is most like these words.
+/// The known form that is most like `words`.
 fn nearest_form(alloc: Global, words: &str) -> Result<&'static str, AllocError> {
     let mut nearest = "SELECT";
     let mut most = 0.0;
@@ -80,7 +80,7 @@ fn nearest_form(alloc: Global, words: &str) -> Result<&'static str, AllocError> 
     Ok(nearest)
 }
 
-/// The form among these rows that is most like the words, and how like it is, from 0 to 1.
+/// The form among `rows` that is most like `words`, and how like it is, from 0 to 1.
 fn nearest_among(
     alloc: Global,
     rows: &'static [FormRow],
@@ -98,7 +98,7 @@ fn nearest_among(
     Ok((nearest, most))
 }
 
-/// How long work takes, as it is said behind `for`.
+/// How long `work` takes, as it is said after `for`.
 pub fn work_text(work: Work) -> &'static str {
     match work {
         Work::Moment => "a moment",
@@ -109,7 +109,7 @@ pub fn work_text(work: Work) -> &'static str {
     }
 }
 
-/// Which of two works takes longer.
+/// Which of `work` and `other` takes longer.
 pub fn longer(work: Work, other: Work) -> Work {
     if rank(other) > rank(work) {
         other
@@ -118,7 +118,7 @@ pub fn longer(work: Work, other: Work) -> Work {
     }
 }
 
-/// The place of a work among all, the shortest first.
+/// The place of `work` among all, the shortest first.
 fn rank(work: Work) -> u8 {
     match work {
         Work::Moment => 0,
@@ -129,7 +129,7 @@ fn rank(work: Work) -> u8 {
     }
 }
 
-/// Until when locks are held.
+/// Until when locks are held by `until`, where `is_in_transaction` says whether a transaction is open.
 pub fn until_text(until: Until, is_in_transaction: bool) -> &'static str {
     match until {
         Until::Commit if is_in_transaction => "COMMIT",
@@ -137,11 +137,14 @@ pub fn until_text(until: Until, is_in_transaction: bool) -> &'static str {
     }
 }
 
-/// For whom a statement waits beside its locks.
+/// For whom a statement waits beside its locks, by `awaits`.
 pub fn awaits_text(awaits: Awaits) -> &'static str {
     match awaits {
         Awaits::Nobody => "",
         Awaits::Writers => "each transaction that has written the table, and older snapshots",
         Awaits::Users => "each transaction that has used the table, and be it to read",
+        Awaits::UsersAndSnapshots => {
+            "each transaction that has used the table, and be it to read, and older snapshots"
+        }
     }
 }

@@ -5,7 +5,8 @@ use crate::reader::StatementReader;
 use sql_locks::{Form, SqlFault};
 
 impl StatementReader {
-    /// Reads a form that adds a column or a constraint.
+    /// Reads a form of `ALTER TABLE` that adds a column or a constraint to `table`, and to its children unless
+    /// `is_only`.
     pub fn read_add(&mut self, table: usize, is_only: bool) -> Result<(), SqlFault> {
         if let Some(constraint) = self.constraint("")? {
             return self.add_constraint(table, constraint, is_only);
@@ -22,7 +23,8 @@ impl StatementReader {
         self.read_new_column(table, column.as_str(), is_only)
     }
 
-    /// Reads what stands behind the name of a column that is added.
+    /// Reads what comes after the name `column` of a column that is added to `table`, and to its children unless
+    /// `is_only`.
     fn read_new_column(
         &mut self,
         table: usize,
@@ -60,7 +62,8 @@ impl StatementReader {
             && !self.cursor.is_at("varchar")
     }
 
-    /// Adds the form of a constraint of a column that is added.
+    /// Adds the form of `constraint`, which is of a column that is added to `table`, and to its children unless
+    /// `is_only`.
     fn add_column_constraint(
         &mut self,
         table: usize,
@@ -88,7 +91,7 @@ impl StatementReader {
         Ok(())
     }
 
-    /// Adds the form of a constraint of a table.
+    /// Adds the form of `constraint`, which is one of `table`, and of its children unless `is_only`.
     fn add_constraint(
         &mut self,
         table: usize,
@@ -128,7 +131,7 @@ impl StatementReader {
         Ok(())
     }
 
-    /// Adds the form of a foreign key of a table, which each of its partitions gets too.
+    /// Adds the form of the foreign key `constraint`, by which `table` and each of its partitions refer to `referred`.
     fn add_foreign_key(
         &mut self,
         table: usize,
@@ -148,7 +151,7 @@ impl StatementReader {
         self.make_foreign_key(table, referred, constraint)
     }
 
-    /// Whether the index that a key uses gets the name of the constraint.
+    /// Whether the index that the key `constraint` uses gets the name of the constraint.
     fn is_renamed(&self, constraint: &Constraint) -> Result<bool, SqlFault> {
         let Some(index) = constraint.other else {
             return Ok(false);

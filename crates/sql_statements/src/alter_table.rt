@@ -36,7 +36,7 @@ impl StatementReader {
         }
     }
 
-    /// Reads one form.
+    /// Reads one form of an `ALTER TABLE` of `table`, and of its children unless `is_only`.
     fn read_alteration(&mut self, table: usize, is_only: bool) -> Result<(), SqlFault> {
         let fault = self.fault(Defect::UnknownAlteration);
         if self.cursor.eat("add") {
@@ -66,7 +66,7 @@ impl StatementReader {
         }
     }
 
-    /// Reads a form that alters a column.
+    /// Reads a form that alters a column of `table`, and of its children unless `is_only`.
     fn read_alter_column(&mut self, table: usize, is_only: bool) -> Result<(), SqlFault> {
         if self.cursor.eat("constraint") {
             self.act_on(Form::DropConstraint, table, None, is_only)?;
@@ -101,7 +101,7 @@ impl StatementReader {
         Ok(())
     }
 
-    /// Adds the other tables of the foreign keys that a column is in.
+    /// Adds the other tables of the foreign keys that `column` of `table` is in.
     fn alter_foreign_keys(&mut self, table: usize, column: &str) -> Result<(), SqlFault> {
         let mut others = Vec::new(self.alloc);
         for key in &self.catalog.foreign_keys {
@@ -123,7 +123,8 @@ impl StatementReader {
         Ok(())
     }
 
-    /// Reads a form that renames the table, a column or a constraint.
+    /// Reads a form that renames `table`, one of its columns or one of its constraints, and those of its children
+    /// unless `is_only`.
     fn read_rename(&mut self, table: usize, is_only: bool) -> Result<(), SqlFault> {
         if self.cursor.eat("to") {
             let name = self.name()?;
@@ -143,7 +144,7 @@ impl StatementReader {
         Ok(())
     }
 
-    /// Reads the old and the new name of a constraint.
+    /// Reads the old and the new name of a constraint of `table`, and of its children unless `is_only`.
     fn read_renamed_constraint(&mut self, table: usize, is_only: bool) -> Result<(), SqlFault> {
         let old = self.name()?;
         self.cursor.eat("to");
@@ -161,7 +162,7 @@ impl StatementReader {
         Ok(())
     }
 
-    /// Reads the name of the constraint that is validated.
+    /// Reads the name of the constraint of `table` that is validated, and those of its children unless `is_only`.
     fn read_validate(&mut self, table: usize, is_only: bool) -> Result<(), SqlFault> {
         let name = self.name()?;
         let key = self
@@ -181,7 +182,7 @@ impl StatementReader {
         Ok(())
     }
 
-    /// Reads one of the other forms, and answers which it is.
+    /// Reads one of the other forms of an `ALTER TABLE` of `table`, and answers which it is.
     fn other_alteration(&mut self, table: usize) -> Result<Option<Form>, SqlFault> {
         if self.cursor.eat_all(&["cluster", "on"]) {
             if let Some(index) = self.relation()? {
@@ -211,7 +212,7 @@ impl StatementReader {
         Ok(self.plain_alteration())
     }
 
-    /// Has a table be logged or not, and answers in which form.
+    /// Makes `table` a logged one or not, by `is_logged`, and answers in which form.
     fn set_logged(&mut self, table: usize, is_logged: bool) -> Result<Form, SqlFault> {
         if self.belongings.is_unlogged(table) != is_logged {
             return Ok(Form::SetLoggedAlready);
@@ -220,7 +221,7 @@ impl StatementReader {
         Ok(Form::SetLogged)
     }
 
-    /// Gives a table, its indexes and its sequences the names that they have in another schema.
+    /// Gives `table`, its indexes and its sequences the names that they have in `schema`.
     fn move_to_schema(&mut self, table: usize, schema: &str) -> Result<(), SqlFault> {
         let mut moved = Vec::new(self.alloc);
         moved.push(table)?;

@@ -36,7 +36,7 @@ impl StatementReader {
         Err(self.fault_at(0, Defect::UnknownStatement))
     }
 
-    /// The table behind this key word.
+    /// The table that comes after the word `key_word`.
     fn table_behind(&mut self, key_word: &str) -> Result<Option<usize>, SqlFault> {
         if !self.cursor.skip_to(key_word) {
             return Err(self.fault(Defect::NoName));
@@ -154,20 +154,20 @@ impl StatementReader {
         Ok(())
     }
 
-    /// Whether a table has something of these kinds and this name.
+    /// Whether `table` has something of one of `kinds` that is called `name`.
     fn has_one(&self, kinds: &[AttachedKind], name: &str, table: usize) -> bool {
         kinds
             .iter()
             .any(|kind| self.belongings.has_named(*kind, name, table))
     }
 
-    /// Whether a trigger of this name is for each statement, so that partitions don't have it.
+    /// Whether the trigger `name` of `table` is for each statement, so that partitions don't have it.
     fn is_trigger_of_statements(&self, name: &str, table: usize) -> bool {
         self.belongings
             .has_named(AttachedKind::Trigger, name, table)
     }
 
-    /// Reads what stands behind a `DROP` of something of these kinds.
+    /// Reads the rest of a `DROP` of something of one of `kinds`, which is done in `form`.
     pub fn read_drop_attached(
         &mut self,
         form: Form,
@@ -192,7 +192,7 @@ impl StatementReader {
         Ok(())
     }
 
-    /// Reads what stands behind an `ALTER` of something of these kinds.
+    /// Reads the rest of an `ALTER` of something of one of `kinds`, which is done in `form`.
     pub fn read_alter_attached(
         &mut self,
         form: Form,
@@ -217,7 +217,7 @@ impl StatementReader {
         Ok(())
     }
 
-    /// Reads the new name of something of these kinds.
+    /// Reads the new name of what is called `old` and is of one of `kinds`, at `table`.
     fn rename_attached(
         &mut self,
         kinds: &'static [AttachedKind],
@@ -258,7 +258,7 @@ impl StatementReader {
         self.read_published(name.as_str(), loses)
     }
 
-    /// Reads the tables of a publication.
+    /// Reads the tables of the publication `name`, which it gets, or loses where `loses` is true.
     fn read_published(&mut self, name: &str, loses: bool) -> Result<(), SqlFault> {
         for _ in 0..self.cursor.words.len() {
             if self.cursor.is_at_end() {
@@ -283,7 +283,8 @@ impl StatementReader {
         Ok(())
     }
 
-    /// Has a publication have a table, with its children, or lose them.
+    /// Gives the publication `name` the table `table`, with its children unless `is_only`, or takes them from it where
+    /// `loses` is true.
     fn publish(
         &mut self,
         name: &str,

@@ -75,7 +75,7 @@ impl Belongings {
         }
     }
 
-    /// Has something belong to a table.
+    /// Has `name`, which is of `kind`, belong to `table`.
     pub fn attach(
         &mut self,
         kind: AttachedKind,
@@ -88,26 +88,26 @@ impl Belongings {
         }
     }
 
-    /// Takes away what belongs to a table under this name.
+    /// Takes away what belongs to `table` and is of `kind` and called `name`.
     pub fn detach(&mut self, kind: AttachedKind, name: &str, table: usize) {
         self.attached.retain(|attached| {
             attached.kind != kind || attached.table != table || attached.name.as_str() != name
         });
     }
 
-    /// Whether something of this kind belongs to a table.
+    /// Whether something of `kind` belongs to `table`.
     pub fn has(&self, kind: AttachedKind, table: usize) -> bool {
         self.attached.iter().any(|attached| attached.kind == kind && attached.table == table)
     }
 
-    /// Whether something of this kind and name belongs to a table.
+    /// Whether something of `kind` that is called `name` belongs to `table`.
     pub fn has_named(&self, kind: AttachedKind, name: &str, table: usize) -> bool {
         self.attached.iter().any(|attached| {
             attached.kind == kind && attached.table == table && attached.name.as_str() == name
         })
     }
 
-    /// The tables to which something of this kind and name belongs.
+    /// The tables to which something of `kind` that is called `name` belongs.
     pub fn tables_of(
         &self,
         alloc: Global,
@@ -123,17 +123,17 @@ impl Belongings {
         Ok(tables)
     }
 
-    /// Whether a table has `PARTITION BY`.
+    /// Whether `table` has `PARTITION BY`.
     pub fn is_partitioned(&self, table: usize) -> bool {
         self.partitioned.iter().any(|other| *other == table)
     }
 
-    /// Whether a table is not logged.
+    /// Whether `table` is not logged.
     pub fn is_unlogged(&self, table: usize) -> bool {
         self.unlogged.iter().any(|other| *other == table)
     }
 
-    /// Has a table be logged, or not.
+    /// Makes `table` a logged one or not, by `is_logged`.
     pub fn set_logged(&mut self, table: usize, is_logged: bool) -> Result<(), AllocError> {
         self.unlogged.retain(|other| *other != table);
         if !is_logged {
@@ -142,7 +142,7 @@ impl Belongings {
         Ok(())
     }
 
-    /// Whether a view names a column, or all.
+    /// Whether `view` names `column`, or all columns.
     pub fn view_names(&self, view: usize, column: &str) -> bool {
         self.views.iter().any(|names| {
             names.view == view
@@ -153,7 +153,7 @@ impl Belongings {
         })
     }
 
-    /// Has a column get another name.
+    /// Gives the column `old` of `table` the name `new`.
     pub fn rename_column(
         &mut self,
         alloc: Global,
@@ -171,7 +171,7 @@ impl Belongings {
     }
 }
 
-/// Whether two lists of names are the same.
+/// Whether the names `names` and `others` are the same, in the same order.
 pub fn are_same(names: &Vec<String>, others: &Vec<String>) -> bool {
     if names.len() != others.len() {
         return false;
@@ -184,7 +184,7 @@ pub fn are_same(names: &Vec<String>, others: &Vec<String>) -> bool {
     true
 }
 
-/// A copy of a list of names.
+/// A copy of `names`.
 pub fn copy_names(alloc: Global, names: &Vec<String>) -> Result<Vec<String>, AllocError> {
     let mut copied = Vec::new(alloc);
     for name in names {
@@ -193,7 +193,7 @@ pub fn copy_names(alloc: Global, names: &Vec<String>) -> Result<Vec<String>, All
     Ok(copied)
 }
 
-/// Has a name stand in a list in place of another one.
+/// Puts `new` in the place of `old` in `names`.
 pub fn rename_in(
     alloc: Global,
     names: &mut Vec<String>,

@@ -80,7 +80,7 @@ impl StatementReader {
     }
 }
 
-/// Whether two lists of columns have one in common.
+/// Whether one of `columns` is one of `others`.
 fn share_one(columns: &Vec<String>, others: &Vec<String>) -> bool {
     columns.iter().any(|column| others.iter().any(|other| other.as_str() == column.as_str()))
 }

@@ -48,7 +48,7 @@ static BEGINNINGS: [&str; 7] = [
 ];
 
 impl StatementReader {
-    /// Reads the constraint that comes next, of a column of this name or of a table. None where no constraint comes.
+    /// Reads the constraint that comes next, of the column `column` or else of a table. None where no constraint comes.
     pub fn constraint(&mut self, column: &str) -> Result<Option<Constraint>, SqlFault> {
         let alloc = self.alloc;
         let mut name = String::new(alloc);
@@ -127,7 +127,7 @@ impl StatementReader {
         Ok(columns)
     }
 
-    /// Reads what stands behind a constraint, up to the comma, the parenthesis or the constraint that comes next.
+    /// Reads the options of `constraint`, up to the comma, the parenthesis or the constraint that comes next.
     fn read_options(&mut self, constraint: &mut Constraint) {
         for _ in 0..self.cursor.words.len() {
             if self.cursor.is_at_element_end() || self.begins_constraint() {
@@ -160,7 +160,7 @@ impl StatementReader {
             || (self.cursor.is_at("not") && self.cursor.is_ahead(1, "null"))
     }
 
-    /// Makes the index of a key of this table.
+    /// Makes the index of the key `constraint` of `table`.
     pub fn make_key_index(
         &mut self,
         table: usize,
@@ -179,7 +179,7 @@ impl StatementReader {
         Ok(number)
     }
 
-    /// Adds the partitions of a table that a foreign key refers to, and the indexes of their keys.
+    /// Adds the partitions of `referred`, to which a foreign key refers, and the indexes of their keys.
     pub fn refer_to_partitions(&mut self, referred: usize) -> Result<(), SqlFault> {
         if !self.belongings.is_partitioned(referred) {
             return Ok(());
@@ -196,7 +196,7 @@ impl StatementReader {
         Ok(())
     }
 
-    /// Has the table get a foreign key.
+    /// Gives `table` the foreign key `constraint`, which refers to `referred`.
     pub fn make_foreign_key(
         &mut self,
         table: usize,
@@ -222,7 +222,7 @@ impl StatementReader {
         Ok(())
     }
 
-    /// The name of a constraint: its own, or the one that the server makes.
+    /// The name of `constraint` of `table`: its own, or the one that the server makes.
     fn constraint_name(&self, table: usize, constraint: &Constraint) -> Result<String, SqlFault> {
         if constraint.name.len() > 0 {
             return Ok(String::from_str(self.alloc, constraint.name.as_str())?);

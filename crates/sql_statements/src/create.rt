@@ -66,7 +66,8 @@ impl StatementReader {
         self.read_create_on_table()
     }
 
-    /// Reads what stands behind `CREATE VIEW`.
+    /// Reads the rest of a `CREATE VIEW`, with `OR REPLACE` where `replaces` is true and with `RECURSIVE` where
+    /// `is_recursive` is.
     fn read_create_view(&mut self, replaces: bool, is_recursive: bool) -> Result<(), SqlFault> {
         let begin = self.cursor.place;
         let name = self.name()?;
@@ -95,7 +96,7 @@ impl StatementReader {
         self.know_view(view, names)
     }
 
-    /// Keeps the names of a view's query.
+    /// Keeps that the query of `view` names `names`.
     fn know_view(&mut self, view: usize, names: Vec<String>) -> Result<(), SqlFault> {
         self.belongings.views.push(ViewNames { view, names })?;
         Ok(())
@@ -150,7 +151,8 @@ impl StatementReader {
         self.know_view(view, names)
     }
 
-    /// Links a view with the relations of all forms from the one of this number on, and tells whether none of these is the view or reads it.
+    /// Links `view`, by a link of `kind`, with the relations of all forms from the number `first` on. Tells whether
+    /// none of these is the view or reads it.
     fn link_readings(
         &mut self,
         kind: LinkKind,
@@ -187,7 +189,7 @@ impl StatementReader {
         self.read_owned_by(sequence)
     }
 
-    /// Reads the table of the column that owns a sequence, if one is named.
+    /// Reads the table of the column that owns `sequence`, if one is named.
     pub fn read_owned_by(&mut self, sequence: usize) -> Result<(), SqlFault> {
         for _ in 0..self.cursor.words.len() {
             if self.cursor.is_at_end() || self.cursor.eat_all(&["owned", "by"]) {

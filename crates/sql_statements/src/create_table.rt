@@ -7,7 +7,7 @@ use crate::reader::{Change, StatementReader};
 use sql_locks::{Form, LinkKind, RelationKind, SqlFault};
 
 impl StatementReader {
-    /// Reads what stands behind `CREATE TABLE`.
+    /// Reads the rest of a `CREATE TABLE`, of a table that is logged or not by `is_logged`.
     pub fn read_create_table(&mut self, is_logged: bool) -> Result<(), SqlFault> {
         let may_exist = self.eat_if_exists();
         let name = self.name()?;
@@ -35,7 +35,7 @@ impl StatementReader {
         self.read_table_options(table)
     }
 
-    /// Reads the parent of a partition and the rows that are its.
+    /// Reads the parent of the partition `table`, and for which rows it is.
     fn read_partition_of(&mut self, table: usize) -> Result<(), SqlFault> {
         let Some(parent) = self.relation()? else {
             return Ok(());
@@ -50,7 +50,7 @@ impl StatementReader {
         self.make_indexes_of_parent(parent, table)
     }
 
-    /// Reads the columns and constraints of a table.
+    /// Reads the columns and constraints of `table`.
     fn read_elements(&mut self, table: usize) -> Result<(), SqlFault> {
         self.cursor.advance();
         for _ in 0..self.cursor.words.len() {
@@ -64,7 +64,7 @@ impl StatementReader {
         Ok(())
     }
 
-    /// Reads a column or a constraint of a table.
+    /// Reads a column or a constraint of `table`.
     fn read_element(&mut self, table: usize) -> Result<(), SqlFault> {
         if self.cursor.eat("like") {
             return self.read_like(table);
@@ -82,7 +82,7 @@ impl StatementReader {
         self.read_column(table, column.as_str())
     }
 
-    /// Reads the table that a new one is like.
+    /// Reads the table that the new one, `table`, is like.
     fn read_like(&mut self, table: usize) -> Result<(), SqlFault> {
         let Some(other) = self.relation()? else {
             self.cursor.skip_element();
@@ -129,7 +129,7 @@ impl StatementReader {
         found
     }
 
-    /// Makes the sequence of a column.
+    /// Makes the sequence of `column` of `table`.
     pub fn make_sequence(&mut self, table: usize, column: &str) -> Result<usize, SqlFault> {
         let owner = self.name_of_relation(table)?;
         let name = made_name(self.alloc, owner.as_str(), column, "seq")?;
@@ -139,7 +139,7 @@ impl StatementReader {
         Ok(sequence)
     }
 
-    /// Reads what stands behind the name of a column of a new table.
+    /// Reads what comes after the name `column` of a column of the new table `table`.
     fn read_column(&mut self, table: usize, column: &str) -> Result<(), SqlFault> {
         for _ in 0..self.cursor.words.len() {
             if self.cursor.is_at_element_end() {
@@ -154,7 +154,7 @@ impl StatementReader {
         Ok(())
     }
 
-    /// Has a new table get a constraint.
+    /// Gives the new table `table` the constraint `constraint`.
     fn add_to_new_table(&mut self, table: usize, constraint: Constraint) -> Result<(), SqlFault> {
         match constraint.kind {
             ConstraintKind::Key => {
@@ -173,7 +173,7 @@ impl StatementReader {
         Ok(())
     }
 
-    /// Reads what stands behind the columns of a table: its parents, and the query that fills it.
+    /// Reads what comes after the columns of `table`: its parents, and the query that fills it.
     fn read_table_options(&mut self, table: usize) -> Result<(), SqlFault> {
         for _ in 0..self.cursor.words.len() {
             if self.cursor.is_at_end() {
@@ -192,7 +192,7 @@ impl StatementReader {
         Ok(())
     }
 
-    /// Reads the parents of a table.
+    /// Reads the parents of `table`.
     fn read_parents(&mut self, table: usize) -> Result<(), SqlFault> {
         self.cursor.eat_mark("(");
         for _ in 0..self.cursor.words.len() {

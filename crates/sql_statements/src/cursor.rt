@@ -15,7 +15,7 @@ pub struct SqlWord {
 }
 
 impl SqlWord {
-    /// Whether the word is this key word, which is no name in quotes.
+    /// Whether the word is `key_word`, and no name in quotes.
     pub fn is_key_word(&self, key_word: &str) -> bool {
         self.kind == WordKind::Name
             && self
@@ -24,7 +24,7 @@ impl SqlWord {
                 .eq_ignore_ascii_case(key_word.as_bytes())
     }
 
-    /// Whether the word is this mark.
+    /// Whether the word is `mark`.
     pub fn is_mark(&self, mark: &str) -> bool {
         self.kind == WordKind::Mark && self.text.as_str() == mark
     }
@@ -82,12 +82,12 @@ impl Cursor {
         }
     }
 
-    /// Whether the next word is this key word.
+    /// Whether the next word is `key_word`.
     pub fn is_at(&self, key_word: &str) -> bool {
         self.is_ahead(0, key_word)
     }
 
-    /// Whether the next word is one of these key words.
+    /// Whether the next word is one of `key_words`.
     pub fn is_at_one(&self, key_words: &[&str]) -> bool {
         for key_word in key_words {
             if self.is_at(key_word) {
@@ -97,7 +97,7 @@ impl Cursor {
         false
     }
 
-    /// Whether the word behind which the next one stands is this key word.
+    /// Whether the word before the next one is `key_word`.
     pub fn is_behind(&self, key_word: &str) -> bool {
         match self.words.get(self.place.saturating_sub(1)) {
             Some(word) => self.place > 0 && word.is_key_word(key_word),
@@ -105,7 +105,7 @@ impl Cursor {
         }
     }
 
-    /// Goes on behind the next word where it is this key word, and tells whether it is.
+    /// Passes the next word where it is `key_word`, and tells whether it is.
     pub fn eat(&mut self, key_word: &str) -> bool {
         let found = self.is_at(key_word);
         if found {
@@ -114,7 +114,7 @@ impl Cursor {
         found
     }
 
-    /// Goes on behind these key words where they come next, and tells whether they do.
+    /// Passes `key_words` where they come next, and tells whether they do.
     pub fn eat_all(&mut self, key_words: &[&str]) -> bool {
         let found = self.are_ahead(0, key_words);
         if found {
@@ -131,12 +131,12 @@ impl Cursor {
         }
     }
 
-    /// Whether the next word is this mark.
+    /// Whether the next word is `mark`.
     pub fn is_mark(&self, mark: &str) -> bool {
         self.is_mark_ahead(0, mark)
     }
 
-    /// Goes on behind the next word where it is this mark, and tells whether it is.
+    /// Passes the next word where it is `mark`, and tells whether it is.
     pub fn eat_mark(&mut self, mark: &str) -> bool {
         let found = self.is_mark(mark);
         if found {
@@ -183,8 +183,8 @@ impl Cursor {
         self.is_at_end() || self.is_mark(",") || self.is_mark(")")
     }
 
-    /// Goes on behind this key word, where it stands outside all parentheses, and tells whether it does. Where it doesn't, it goes on
-    /// to the statement's end.
+    /// Goes on after the next `key_word` outside all parentheses, and tells whether there is one. Where there is none,
+    /// it goes on to the statement's end.
     pub fn skip_to(&mut self, key_word: &str) -> bool {
         for _ in 0..self.words.len() {
             if self.eat(key_word) {
@@ -214,7 +214,7 @@ impl Cursor {
         }
     }
 
-    /// Whether one of the words that are left is this key word.
+    /// Whether one of the words that are left is `key_word`.
     pub fn has(&self, key_word: &str) -> bool {
         for place in self.place..self.words.len() {
             if self.words[place].is_key_word(key_word) {
@@ -224,7 +224,7 @@ impl Cursor {
         false
     }
 
-    /// Whether these key words come one after another among the words that are left, outside all parentheses.
+    /// Whether `key_words` come one after another among the words that are left, outside all parentheses.
     pub fn has_outside(&self, key_words: &[&str]) -> bool {
         let mut depth = 0usize;
         for ahead in 0..self.words.len() {
@@ -277,7 +277,7 @@ impl Cursor {
         }
     }
 
-    /// Whether two words are the same name, where letters may be of either case.
+    /// Whether the words at `place` and `other` are the same name, where letters may be of either case.
     pub fn is_same_name(&self, place: usize, other: usize) -> bool {
         match (self.words.get(place), self.words.get(other)) {
             (Some(word), Some(other)) => word

@@ -6,8 +6,8 @@ use crate::create::LOCKLESS_OBJECTS;
 use crate::reader::{Change, StatementReader};
 use sql_locks::{Defect, Form, Link, LinkKind, RelationKind, SqlFault};
 
-/// What goes with a relation by a link, if something does: the partitions of a table, and where the statement says `CASCADE` its children and
-/// the views that read it.
+/// What goes with the relation `number` by `link`, if something does: the partitions of a table, and where `cascades`
+/// is true its children and the views that read it.
 fn dependent(link: &Link, number: usize, cascades: bool) -> Option<usize> {
     match link.kind {
         LinkKind::Partition if link.from == number => Some(link.to),
@@ -18,7 +18,7 @@ fn dependent(link: &Link, number: usize, cascades: bool) -> Option<usize> {
     }
 }
 
-/// The form in which a relation of this kind is dropped.
+/// The form in which a relation of `kind` is dropped.
 fn drop_form(kind: RelationKind) -> Form {
     match kind {
         RelationKind::Table => Form::DropTable,
@@ -74,7 +74,7 @@ impl StatementReader {
         Err(self.fault_at(0, Defect::UnknownStatement))
     }
 
-    /// Reads the names of relations that are dropped.
+    /// Reads the names of relations that are dropped in `form`.
     fn read_dropped(&mut self, form: Form) -> Result<(), SqlFault> {
         let may_miss = self.eat_if_exists();
         let cascades = self.cursor.has("cascade");
@@ -98,7 +98,8 @@ impl StatementReader {
         Ok(())
     }
 
-    /// Adds the relation that is dropped, and what goes with it.
+    /// Adds that the relation `number` is dropped in `form`, and what goes with it, by `CASCADE` too where `cascades`
+    /// is true.
     fn drop_one(&mut self, form: Form, number: usize, cascades: bool) -> Result<(), SqlFault> {
         match self.kind(number) {
             RelationKind::Index => {
@@ -113,7 +114,7 @@ impl StatementReader {
         self.drop_dependents(number, cascades)
     }
 
-    /// Adds an index that is dropped.
+    /// Adds that `index` is dropped in `form`.
     fn drop_index(&mut self, form: Form, index: usize) -> Result<(), SqlFault> {
         match self.table_of_index(index) {
             Some(table) if self.belongings.is_partitioned(table) => {
@@ -125,7 +126,7 @@ impl StatementReader {
         Ok(())
     }
 
-    /// Adds the tables whose columns have their defaults from a sequence.
+    /// Adds the tables whose columns have their defaults from `sequence`.
     fn drop_defaults(&mut self, sequence: usize) -> Result<(), SqlFault> {
         let name = self.name_of_relation(sequence)?;
         let tables = self
@@ -137,7 +138,7 @@ impl StatementReader {
         Ok(())
     }
 
-    /// Adds what goes with a relation.
+    /// Adds what goes with the relation `number`, by `CASCADE` too where `cascades` is true.
     pub fn drop_dependents(&mut self, number: usize, cascades: bool) -> Result<(), SqlFault> {
         let mut gone = Vec::new(self.alloc);
         gone.push(number)?;
@@ -161,7 +162,7 @@ impl StatementReader {
         Ok(())
     }
 
-    /// Adds the indexes of a partitioned table, which go with it, and has all indexes of the table go.
+    /// Adds the indexes of the partitioned table `table`, which go with it, and drops all indexes of the table.
     fn drop_indexes_of(&mut self, table: usize) -> Result<(), SqlFault> {
         let mut indexes = Vec::new(self.alloc);
         for of in &self.belongings.indexes {
@@ -178,7 +179,7 @@ impl StatementReader {
         Ok(())
     }
 
-    /// Adds the views of a table that name a column, and what goes with them.
+    /// Adds the views of `table` that name `column`, and what goes with them.
     pub fn drop_views_with(&mut self, table: usize, column: &str) -> Result<(), SqlFault> {
         let mut views = Vec::new(self.alloc);
         for link in &self.catalog.links {

@@ -1,4 +1,4 @@
-//! Functions that take locks: those of sequences, and those of advisory locks.
+//! Functions that take locks or give them back: those of sequences, and those of advisory locks.
 
 use crate::belongings::AttachedKind;
 use crate::names::part_of;
@@ -6,7 +6,8 @@ use crate::reader::{Advisory, StatementReader};
 use sql_locks::{Defect, Form, SqlFault, WordKind};
 use std::alloc::AllocError;
 
-/// Reads a call of a function that takes locks, one of a sequence or of an advisory lock, or passes over another word.
+/// Reads in `reader` a call of a function that takes locks, of a sequence or of an advisory lock, or passes another
+/// word.
 pub fn read_function(reader: &mut StatementReader) -> Result<(), SqlFault> {
     if reader.cursor.is_mark_ahead(1, "(") {
         if reader.cursor.is_at_one(&["nextval", "setval"]) && !reader.is_planned {
@@ -20,8 +21,8 @@ pub fn read_function(reader: &mut StatementReader) -> Result<(), SqlFault> {
     Ok(())
 }
 
-/// The functions that take an advisory lock.
-static ADVISORY: [&str; 8] = [
+/// The functions that take an advisory lock, or give one back.
+static ADVISORY: [&str; 11] = [
     "pg_advisory_lock",
     "pg_advisory_lock_shared",
     "pg_advisory_xact_lock",
@@ -30,9 +31,19 @@ static ADVISORY: [&str; 8] = [
     "pg_try_advisory_lock_shared",
     "pg_try_advisory_xact_lock",
     "pg_try_advisory_xact_lock_shared",
+    "pg_advisory_unlock",
+    "pg_advisory_unlock_shared",
+    "pg_advisory_unlock_all",
 ];
 
-/// Reads the sequence behind `nextval` or `setval`, where it is a text.
+/// Whether one of the parts of the name of the function `function`, between underscores, is `part`, in letters of either case.
+pub fn has_part(function: &str, part: &str) -> bool {
+    function
+        .split('_')
+        .any(|one| one.eq_ignore_ascii_case(part))
+}
+
+/// Reads in `reader` the sequence of a `nextval` or `setval`, where it is a text.
 fn read_sequence(reader: &mut StatementReader) -> Result<(), SqlFault> {
     let Some(name) = sequence_name(reader)? else {
         return Ok(());
@@ -49,7 +60,7 @@ fn read_sequence(reader: &mut StatementReader) -> Result<(), SqlFault> {
     }
 }
 
-/// The number of the sequence of this name, with the usual schema or without.
+/// The number of the sequence that `reader` knows as `name`, with the usual schema or without.
 fn find_sequence(reader: &StatementReader, name: &str) -> Option<usize> {
     match name.strip_prefix("public.") {
         Some(plain) => reader.catalog.find(plain),
@@ -57,7 +68,7 @@ fn find_sequence(reader: &StatementReader, name: &str) -> Option<usize> {
     }
 }
 
-/// The name of a sequence in the text that comes two words behind the next one.
+/// The name of a sequence in the text that comes two words after the next one of `reader`.
 fn sequence_name(reader: &StatementReader) -> Result<Option<String>, AllocError> {
     let Some(word) = reader.cursor.ahead(2) else {
         return Ok(None);
@@ -76,7 +87,7 @@ fn sequence_name(reader: &StatementReader) -> Result<Option<String>, AllocError>
     Ok(Some(part_of(reader.alloc, kind, inner)?))
 }
 
-/// Reads the keys of an advisory lock.
+/// Reads in `reader` a call that takes an advisory lock or gives one back, with the places of its keys.
 fn read_advisory(reader: &mut StatementReader) -> Result<(), AllocError> {
     let function = reader.cursor.place;
     let second = if reader.cursor.is_mark_ahead(3, ",") {
@@ -93,7 +104,7 @@ fn read_advisory(reader: &mut StatementReader) -> Result<(), AllocError> {
 }
 
 impl StatementReader {
-    /// Keeps that a column of a table has its default from a sequence, where a `nextval` comes next.
+    /// Keeps that a column of `table` has its default from a sequence, where a `nextval` comes next.
     pub fn note_default(&mut self, table: usize) -> Result<(), SqlFault> {
         if !self.cursor.is_at("nextval") {
             return Ok(());
@@ -108,7 +119,8 @@ impl StatementReader {
         Ok(())
     }
 
-    /// Adds the tables of which this one is a partition: where a row comes straight to it, the server reads what they are parted by.
+    /// Adds the tables of which `table` is a partition: where a row comes straight to it, the server reads what they
+    /// are parted by.
     pub fn add_parents(&mut self, table: usize) -> Result<(), SqlFault> {
         let mut next = table;
         for _ in 0..self.catalog.relations.len() {

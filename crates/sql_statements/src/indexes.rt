@@ -29,7 +29,7 @@ impl StatementReader {
         })
     }
 
-    /// Copies of what the indexes of a table are made of, with the number of each.
+    /// Copies of what the indexes of `table` are made of, with the number of each.
     fn words_of_table(&self, table: usize) -> Result<Vec<(usize, IndexWords)>, AllocError> {
         let mut all = Vec::new(self.alloc);
         for of in &self.belongings.indexes {
@@ -43,7 +43,7 @@ impl StatementReader {
         Ok(all)
     }
 
-    /// Adds an index to those that are known, of this table.
+    /// Keeps that `index` is one of `table`, and is made of `words`.
     pub fn know_index(
         &mut self,
         index: usize,
@@ -63,7 +63,8 @@ impl StatementReader {
         }
     }
 
-    /// Links an index with its table, unless that is partitioned: such an index has no rows.
+    /// Links `index` with `table`, unless that is partitioned: such an index has no rows. The end of its name is
+    /// `suffix`.
     pub fn link_index(
         &mut self,
         index: usize,
@@ -80,7 +81,7 @@ impl StatementReader {
         Ok(())
     }
 
-    /// Makes an index of a table with the name that the server makes for it.
+    /// Makes an index of `table` from `words`, with the name that the server makes for it.
     pub fn make_index(&mut self, table: usize, words: IndexWords) -> Result<usize, AllocError> {
         let name = self.name_of_index(table, &words.columns, words.suffix)?;
         let index = self
@@ -91,7 +92,7 @@ impl StatementReader {
         Ok(index)
     }
 
-    /// The name that the server makes for an index of a table, one that nothing has.
+    /// The name that the server makes for an index of `columns` of `table` with `suffix`, one that nothing has.
     pub fn name_of_index(
         &self,
         table: usize,
@@ -111,7 +112,8 @@ impl StatementReader {
         self.free_name(table.as_str(), joined.as_str(), suffix)
     }
 
-    /// The name that the server makes of a table, columns and a suffix, with a number behind it where another relation has it.
+    /// The name that the server makes of `table`, `columns` and `suffix`, with a number after it where another relation
+    /// has it.
     pub fn free_name(
         &self,
         table: &str,
@@ -131,7 +133,7 @@ impl StatementReader {
         Ok(name)
     }
 
-    /// Has each partition of a table, and each of theirs, get an index like this one of the table.
+    /// Gives each partition of `table`, and each of theirs, an index like `whole`, in `form`.
     pub fn make_parts(&mut self, form: Form, table: usize, whole: usize) -> Result<(), SqlFault> {
         let mut parts = Vec::new(self.alloc);
         for partition in &self.partitions_of(table)? {
@@ -147,7 +149,7 @@ impl StatementReader {
         Ok(())
     }
 
-    /// A copy of what an index is made of, for one that is to be a part of it.
+    /// A copy of what `index` is made of, for one that is to be a part of it.
     fn words_of_index(&self, index: usize) -> Result<Option<IndexWords>, AllocError> {
         for of in &self.belongings.indexes {
             if of.index == index {
@@ -157,7 +159,7 @@ impl StatementReader {
         Ok(None)
     }
 
-    /// Has a new or an attached partition get an index for each of its parent's that it has none like.
+    /// Gives `partition`, which is new or attached, an index for each of the indexes of `parent` that it has none like.
     pub fn make_indexes_of_parent(
         &mut self,
         parent: usize,
@@ -189,7 +191,7 @@ impl StatementReader {
         false
     }
 
-    /// Has a new table get an index like each of another one's, as `LIKE .. INCLUDING INDEXES` has it.
+    /// Gives the new table `table` an index like each one of `other`, as `LIKE .. INCLUDING INDEXES` does.
     pub fn make_indexes_like(&mut self, table: usize, other: usize) -> Result<(), SqlFault> {
         for (_, mut words) in self.words_of_table(other)? {
             words.whole = None;
@@ -199,7 +201,7 @@ impl StatementReader {
         Ok(())
     }
 
-    /// The indexes that are parts of this one.
+    /// The indexes that are parts of `whole`.
     pub fn parts_of(&self, whole: usize) -> Result<Vec<usize>, AllocError> {
         let mut parts = Vec::new(self.alloc);
         for of in &self.belongings.indexes {
@@ -210,7 +212,7 @@ impl StatementReader {
         Ok(parts)
     }
 
-    /// The table of an index.
+    /// The table of `index`.
     pub fn table_of_index(&self, index: usize) -> Option<usize> {
         for of in &self.belongings.indexes {
             if of.index == index {
@@ -220,7 +222,7 @@ impl StatementReader {
         None
     }
 
-    /// The columns of an index.
+    /// The columns of `index`.
     pub fn columns_of_index(&self, index: usize) -> Result<Vec<String>, AllocError> {
         for of in &self.belongings.indexes {
             if of.index == index {
@@ -230,7 +232,7 @@ impl StatementReader {
         Ok(Vec::new(self.alloc))
     }
 
-    /// The index of a table's primary key.
+    /// The index of the primary key of `table`.
     pub fn key_of(&self, table: usize) -> Option<usize> {
         for of in &self.belongings.indexes {
             if of.table == table && of.suffix == "pkey" && self.is_live(of.index) {
@@ -240,7 +242,7 @@ impl StatementReader {
         None
     }
 
-    /// The columns of a table's primary key.
+    /// The columns of the primary key of `table`.
     pub fn columns_of_key(&self, table: usize) -> Result<Vec<String>, AllocError> {
         match self.key_of(table) {
             Some(index) => self.columns_of_index(index),
@@ -248,7 +250,7 @@ impl StatementReader {
         }
     }
 
-    /// Adds the parts of an index of a partitioned table, which go with it.
+    /// Adds the parts of `whole`, an index of a partitioned table, which go with it.
     pub fn drop_parts(&mut self, whole: usize) -> Result<(), SqlFault> {
         let mut gone = self.parts_of(whole)?;
         for place in 0..self.belongings.indexes.len() {
@@ -268,7 +270,7 @@ impl StatementReader {
         Ok(())
     }
 
-    /// Adds the indexes of these tables that have a column, which goes.
+    /// Adds the indexes of `tables` that have `column`, which goes.
     pub fn drop_indexes_with(&mut self, tables: &Vec<usize>, column: &str) -> Result<(), SqlFault> {
         let mut gone = Vec::new(self.alloc);
         for of in &self.belongings.indexes {

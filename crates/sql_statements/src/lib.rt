@@ -25,5 +25,6 @@ mod statements;
 
 pub use belongings::{Attached, AttachedKind, Belongings, IndexOf, ViewNames};
 pub use cursor::SqlWord;
+pub use functions::has_part;
 pub use reader::{Advisory, Change, Control, StatementReader};
 pub use statements::{SqlStatement, split_statements};

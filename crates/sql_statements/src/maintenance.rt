@@ -213,7 +213,7 @@ impl StatementReader {
         })
     }
 
-    /// Reads tables, or has the form be about each table where none is named.
+    /// Reads the tables that `form` is about, or takes each table where none is named.
     fn read_tables(&mut self, form: Form) -> Result<(), SqlFault> {
         if self.cursor.is_mark("(") {
             self.cursor.skip();
@@ -234,7 +234,7 @@ impl StatementReader {
         Ok(())
     }
 
-    /// Has a form be about a table; an `ANALYZE` reads its children, and analyzes its partitions.
+    /// Has `form` be about `table`. An `ANALYZE` reads its children, and analyzes its partitions.
     fn maintain(&mut self, form: Form, table: usize) -> Result<(), SqlFault> {
         self.act(form, table)?;
         if form != Form::Analyze {
@@ -248,7 +248,7 @@ impl StatementReader {
         Ok(())
     }
 
-    /// Has a form be about each table and materialized view.
+    /// Has `form` be about each table and materialized view.
     fn act_on_all(&mut self, form: Form) -> Result<(), SqlFault> {
         for number in 0..self.catalog.relations.len() {
             let kind = self.kind(number);

@@ -7,7 +7,7 @@ use std::alloc::{AllocError, Global};
 /// The schema that is left out of names.
 const USUAL_SCHEMA: &str = "public";
 
-/// The name that these words are, names with points between, as `sales.orders`, in the form in which every name is kept:
+/// The name that `parts` are, names with points between, as `sales.orders`, in the form in which every name is kept:
 /// without `public`, in small letters, and in double quotes only where those are needed.
 pub fn name_of(alloc: Global, parts: &[SqlWord]) -> Result<String, AllocError> {
     let mut name = String::new(alloc);
@@ -27,7 +27,7 @@ pub fn name_of(alloc: Global, parts: &[SqlWord]) -> Result<String, AllocError> {
     Ok(name)
 }
 
-/// One part of a name, in the form in which it is kept.
+/// The part `text` of a name, a word of `kind`, in the form in which it is kept.
 pub fn part_of(alloc: Global, kind: WordKind, text: &str) -> Result<String, AllocError> {
     if kind == WordKind::Name {
         let mut part = String::from_str(alloc, text)?;
@@ -40,7 +40,7 @@ pub fn part_of(alloc: Global, kind: WordKind, text: &str) -> Result<String, Allo
     }
 }
 
-/// What stands between the double quotes.
+/// What is between the double quotes of `text`.
 fn within_quotes(text: &str) -> Option<&str> {
     match text.strip_prefix("\"") {
         Some(rest) => rest.strip_suffix("\""),
@@ -48,7 +48,7 @@ fn within_quotes(text: &str) -> Option<&str> {
     }
 }
 
-/// Whether a name needs no quotes.
+/// Whether `name` needs no quotes.
 fn is_plain(name: &str) -> bool {
     match name.as_bytes() {
         [] => false,
@@ -57,7 +57,7 @@ fn is_plain(name: &str) -> bool {
     }
 }
 
-/// The name of an index, a sequence or a constraint that the server makes of a table, a column and a suffix.
+/// The name that the server makes for an index, a sequence or a constraint of `table`, `columns` and `suffix`.
 pub fn made_name(
     alloc: Global,
     table: &str,
@@ -71,7 +71,7 @@ pub fn made_name(
     }
 }
 
-/// The name that a relation has in this schema.
+/// The name that the relation `name` has in `schema`.
 pub fn name_in_schema(alloc: Global, name: &str, schema: &str) -> Result<String, AllocError> {
     let own = match name.rsplit_once('.') {
         Some((_, own)) if !name.contains('"') => own,

@@ -55,7 +55,7 @@ impl StatementReader {
         Ok(())
     }
 
-    /// What a view reads, and all that the views among these read.
+    /// What `view` reads, and all that the views among these read.
     fn read_by(&self, view: usize) -> Result<Vec<usize>, AllocError> {
         self.followed(LinkKind::Reads, view)
     }
@@ -81,6 +81,7 @@ impl StatementReader {
         if let Some(own) = own {
             query.expressions.push(own)?;
         }
+        let first = self.acts.len();
         for _ in 0..self.cursor.words.len() {
             if self.cursor.is_at_end() || (self.cursor.is_mark(")") && query.outer.is_empty()) {
                 break;
@@ -90,15 +91,32 @@ impl StatementReader {
         if query.level.expects_relation {
             return Err(self.fault(Defect::NoName));
         }
-        for reading in &query.readings {
+        self.add_readings(&query.readings, first)?;
+        Ok(())
+    }
+
+    /// Adds the forms of the `readings` of a query before those that were added behind the first `before` ones: the server locks what a query
+    /// names before it runs it, and calls functions, checks foreign keys and makes tables as it runs.
+    fn add_readings(&mut self, readings: &Vec<Reading>, before: usize) -> Result<(), AllocError> {
+        let mut behind = Vec::new(self.alloc);
+        for place in before..self.acts.len() {
+            if let Some(act) = self.acts.get(place).copied() {
+                behind.push(act)?;
+            }
+        }
+        self.acts.truncate(before);
+        for reading in readings {
             self.act_on(reading.form, reading.target, None, reading.is_only)?;
+        }
+        for act in &behind {
+            self.acts.push(*act)?;
         }
         Ok(())
     }
 }
 
 impl Query {
-    /// Reads what begins with the next word.
+    /// Reads in `reader` what begins with the next word.
     fn read_word(&mut self, reader: &mut StatementReader) -> Result<(), SqlFault> {
         if reader.cursor.eat_mark("(") {
             self.open()?;
@@ -146,7 +164,7 @@ impl Query {
         }
     }
 
-    /// Reads the name of a common table expression, up to what stands in its parentheses.
+    /// Reads in `reader` the name of a common table expression, up to what is in its parentheses.
     fn read_expression(&mut self, reader: &mut StatementReader) -> Result<(), SqlFault> {
         if reader.cursor.eat("recursive") {
             return Ok(());
@@ -163,7 +181,7 @@ impl Query {
         Ok(())
     }
 
-    /// Reads a relation that is read, or a function or an expression in its place.
+    /// Reads in `reader` a relation that is read, or a function or an expression in its place.
     fn read_reading(&mut self, reader: &mut StatementReader) -> Result<(), SqlFault> {
         if reader.cursor.eat("only") {
             self.is_only = true;
@@ -189,7 +207,7 @@ impl Query {
         self.read_relation(reader, self.reads)
     }
 
-    /// Whether a common table expression has the name at this place.
+    /// Whether a common table expression of `reader` has the name at `place`.
     fn is_expression(&self, reader: &StatementReader, place: usize) -> bool {
         for expression in &self.expressions {
             if reader.cursor.is_same_name(*expression, place) {
@@ -199,7 +217,7 @@ impl Query {
         false
     }
 
-    /// Reads a relation, which the query reaches in this form, and its other name.
+    /// Reads in `reader` a relation, which the query reaches in `form`, and its other name.
     fn read_relation(&mut self, reader: &mut StatementReader, form: Form) -> Result<(), SqlFault> {
         let number = reader.relation()?;
         let own = reader.cursor.place.saturating_sub(1);
@@ -217,7 +235,7 @@ impl Query {
         Ok(())
     }
 
-    /// Reads what begins with a key word, or passes over a name.
+    /// Reads in `reader` what begins with a key word, or passes a name.
     fn read_key_word(&mut self, reader: &mut StatementReader) -> Result<(), SqlFault> {
         if self.level.is_fresh && reader.cursor.eat("with") {
             self.level.is_in_with = true;
@@ -241,7 +259,8 @@ impl Query {
         self.read_clause(reader)
     }
 
-    /// Reads the first word of a statement or a query, with the relation that it changes, and tells whether this is one.
+    /// Reads in `reader` the first word of a statement or a query, with the relation that it changes, and tells whether
+    /// this is one.
     fn read_verb(&mut self, reader: &mut StatementReader) -> Result<bool, SqlFault> {
         if reader.cursor.eat("select") {
             self.level.is_query = true;
@@ -273,7 +292,7 @@ impl Query {
         Ok(true)
     }
 
-    /// Reads the relation that a statement changes.
+    /// Reads in `reader` the relation that a statement changes in `form`.
     fn read_target(&mut self, reader: &mut StatementReader, form: Form) -> Result<(), SqlFault> {
         self.is_only = reader.cursor.eat("only");
         let begin = reader.cursor.place;
@@ -296,7 +315,8 @@ impl Query {
         reader.add_checks(form, reading.target)
     }
 
-    /// Adds the indexes that an `INSERT` looks at where it says what to do on a conflict, unless it says nothing of which one.
+    /// Adds to `reader` the indexes that an `INSERT` of `reading` looks at where it says what to do on a conflict,
+    /// unless it says nothing of which one.
     fn read_conflict(
         &mut self,
         reader: &StatementReader,
@@ -318,7 +338,7 @@ impl Query {
         Ok(())
     }
 
-    /// Reads a clause of a query.
+    /// Reads in `reader` a clause of a query.
     fn read_clause(&mut self, reader: &mut StatementReader) -> Result<(), SqlFault> {
         if reader.cursor.is_at_one(&ENDS_OF_FROM) {
             self.level.is_in_from = false;
@@ -347,8 +367,8 @@ impl Query {
         Ok(())
     }
 
-    /// Reads what stands behind `FOR` where rows are locked: `UPDATE`, `NO KEY UPDATE`, `SHARE` or `KEY SHARE`, and the names of
-    /// the relations behind `OF`.
+    /// Reads in `reader` what comes after `FOR` where rows are locked: `UPDATE`, `NO KEY UPDATE`, `SHARE` or `KEY
+    /// SHARE`, and the names of the relations after `OF`.
     fn read_row_locks(&mut self, reader: &mut StatementReader) {
         let is_lock = reader.cursor.eat("update")
             || reader.cursor.eat("share")
@@ -373,7 +393,8 @@ impl Query {
         }
     }
 
-    /// Has the relations of the level be read for their rows to be locked: that of the name at this place, or all.
+    /// Has `reader` read the relations of the level for their rows to be locked: that of the name at the place `name`,
+    /// or all.
     fn lock_rows(&mut self, reader: &StatementReader, name: Option<usize>) {
         let before = self.level.before;
         for place in before..self.readings.len() {
@@ -389,7 +410,7 @@ impl Query {
     }
 }
 
-/// Whether a relation has a rule for a change of rows of this form.
+/// Whether `target` has by `reader` a rule for a change of rows of `form`.
 fn has_rule(reader: &StatementReader, form: Form, target: usize) -> bool {
     let kind = match form {
         Form::Insert => AttachedKind::InsertRule,
@@ -400,7 +421,7 @@ fn has_rule(reader: &StatementReader, form: Form, target: usize) -> bool {
     reader.belongings.has(kind, target)
 }
 
-/// Reads the other name of a relation, if it has one, and answers its place.
+/// Reads in `reader` the other name of a relation, if it has one, and answers its place.
 fn read_alias(reader: &mut StatementReader) -> Option<usize> {
     let is_said = reader.cursor.eat("as");
     if !reader.cursor.is_name_ahead(0) {
@@ -416,7 +437,7 @@ fn read_alias(reader: &mut StatementReader) -> Option<usize> {
     Some(place)
 }
 
-/// Reads the table that a `SELECT INTO` makes.
+/// Reads in `reader` the table that a `SELECT INTO` makes.
 fn read_new_table(reader: &mut StatementReader) -> Result<(), SqlFault> {
     reader.cursor.eat("unlogged");
     reader.cursor.eat("temp");

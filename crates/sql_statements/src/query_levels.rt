@@ -22,7 +22,7 @@ pub struct Level {
 }
 
 impl Level {
-    /// A level where nothing was read, behind so many relations.
+    /// A level where nothing was read, after `before` relations.
     pub fn new(before: usize) -> Self {
         Level {
             is_fresh: true,
@@ -36,7 +36,7 @@ impl Level {
         }
     }
 
-    /// The level behind an opening parenthesis: a list of relations, where one was to come.
+    /// The level after an opening parenthesis and `before` relations: a list of relations, where one was to come.
     pub fn within(self, before: usize) -> Self {
         let mut level = Level::new(before);
         level.is_in_from = self.expects_relation;

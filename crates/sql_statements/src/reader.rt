@@ -41,7 +41,8 @@ pub enum Control {
     Savepoint,
 }
 
-/// An advisory lock that a statement takes: the places of the function and of its keys among the words.
+/// An advisory lock that a statement takes or gives back: the places of the function and of its keys among the words. Of a function that gives
+/// all back `first` is the place behind its parenthesis.
 #[derive(Clone, Copy, Debug)]
 pub struct Advisory {
     pub function: usize,
@@ -84,8 +85,8 @@ impl StatementReader {
         }
     }
 
-    /// Reads a statement of these words, of which blanks, comments and the semicolon are left out. What the statement before
-    /// changes is to be settled first.
+    /// Reads the statement of `words`, of which blanks, comments and the semicolon are left out. What the statement
+    /// before changes is to be settled first.
     pub fn read_statement(&mut self, words: Vec<SqlWord>) -> Result<(), SqlFault> {
         self.cursor = Cursor { words, place: 0 };
         self.acts = Vec::new(self.alloc);
@@ -96,7 +97,7 @@ impl StatementReader {
         self.read()
     }
 
-    /// A fault of the word at this place, or of the last one, behind which a name can be missing.
+    /// The fault `what` of the word at `place`, or of the last word, after which a name can be missing.
     pub fn fault_at(&self, place: usize, what: Defect) -> SqlFault {
         if let Some(word) = self.cursor.words.get(place) {
             return word.fault(what);
@@ -116,12 +117,12 @@ impl StatementReader {
         }
     }
 
-    /// A fault of the next word.
+    /// The fault `what` of the next word.
     pub fn fault(&self, what: Defect) -> SqlFault {
         self.fault_at(self.cursor.place, what)
     }
 
-    /// The name that stands at this place.
+    /// The name that is at `place`.
     pub fn name_at(&self, place: NamePlace) -> Result<String, AllocError> {
         match self.cursor.words.get(place.begin..place.end) {
             Some(parts) => name_of(self.alloc, parts),
@@ -179,17 +180,17 @@ impl StatementReader {
         Err(self.fault_at(begin, Defect::UnknownRelation))
     }
 
-    /// Adds a form that reaches a relation.
+    /// Adds that `form` reaches `target`.
     pub fn act(&mut self, form: Form, target: usize) -> Result<(), AllocError> {
         self.act_on(form, target, None, false)
     }
 
-    /// Adds a form that reaches two relations.
+    /// Adds that `form` reaches `target` and `other`.
     pub fn act_with(&mut self, form: Form, target: usize, other: usize) -> Result<(), AllocError> {
         self.act_on(form, target, Some(other), false)
     }
 
-    /// Adds a form.
+    /// Adds that `form` reaches `target` and `other`, and their children unless `is_only`.
     pub fn act_on(
         &mut self,
         form: Form,
@@ -207,7 +208,7 @@ impl StatementReader {
         Ok(())
     }
 
-    /// Whether a form reaches no children of this relation, since it goes to partitions alone, or to all but these.
+    /// Whether `form` reaches no children of `target`, since it goes to partitions alone, or to all but these.
     fn stays_at(&self, form: Form, target: usize) -> bool {
         let is_partitioned = self.belongings.is_partitioned(target);
         match form {
@@ -229,7 +230,7 @@ impl StatementReader {
         }
     }
 
-    /// Adds a change.
+    /// Adds `change` to what the statement changes.
     pub fn change(&mut self, change: Change) -> Result<(), AllocError> {
         match self.changes.push(change) {
             Ok(()) => Ok(()),
@@ -237,7 +238,7 @@ impl StatementReader {
         }
     }
 
-    /// Makes a relation of this name, unless there is one.
+    /// Makes a relation of `kind` that is called `name`, unless there is one.
     pub fn make(&mut self, name: &str, kind: RelationKind) -> Result<usize, AllocError> {
         match self.catalog.find(name) {
             Some(number) => Ok(number),
@@ -245,7 +246,7 @@ impl StatementReader {
         }
     }
 
-    /// What a relation is.
+    /// What the relation `number` is.
     pub fn kind(&self, number: usize) -> RelationKind {
         match self.catalog.relations.get(number) {
             Some(relation) => relation.kind,
@@ -253,7 +254,7 @@ impl StatementReader {
         }
     }
 
-    /// The table of which a relation is a partition.
+    /// The table of which the relation `number` is a partition.
     pub fn partitioned_table(&self, number: usize) -> Option<usize> {
         for link in &self.catalog.links {
             if link.kind == LinkKind::Partition && link.to == number {
@@ -263,17 +264,17 @@ impl StatementReader {
         None
     }
 
-    /// The partitions of a table, and all of theirs.
+    /// The partitions of `table`, and all of theirs.
     pub fn partitions_of(&self, table: usize) -> Result<Vec<usize>, AllocError> {
         self.followed(LinkKind::Partition, table)
     }
 
-    /// The children and partitions of a table, and all of theirs.
+    /// The children and partitions of `table`, and all of theirs.
     pub fn children_of(&self, table: usize) -> Result<Vec<usize>, AllocError> {
         self.followed(LinkKind::Child, table)
     }
 
-    /// The relations to which links of one kind lead from a relation on, without that one.
+    /// The relations to which links of `kind` lead from the relation `from` on, without that one.
     pub fn followed(&self, kind: LinkKind, from: usize) -> Result<Vec<usize>, AllocError> {
         let mut found = Vec::new(self.alloc);
         let mut next = from;
@@ -291,7 +292,7 @@ impl StatementReader {
         Ok(found)
     }
 
-    /// Whether the relation of this number was not dropped.
+    /// Whether the relation `number` was not dropped.
     pub fn is_live(&self, number: usize) -> bool {
         match self.catalog.relations.get(number) {
             Some(relation) => self.catalog.find(relation.name.as_str()) == Some(number),
@@ -299,7 +300,7 @@ impl StatementReader {
         }
     }
 
-    /// A copy of the name of a relation.
+    /// A copy of the name of the relation `number`.
     pub fn name_of_relation(&self, number: usize) -> Result<String, AllocError> {
         match self.catalog.relations.get(number) {
             Some(relation) => String::from_str(self.alloc, relation.name.as_str()),
@@ -312,7 +313,8 @@ impl StatementReader {
         self.cursor.eat_all(&["if", "exists"]) || self.cursor.eat_all(&["if", "not", "exists"])
     }
 
-    /// Has the catalog be as the statement leaves it. The transaction's own relations are known to others where it has ended.
+    /// Leaves the catalog as the statement leaves it. Where `is_ended` says that the transaction has ended, its own
+    /// relations are known to others.
     pub fn settle(&mut self, is_ended: bool) -> Result<(), AllocError> {
         let mut changes = Vec::new(self.alloc);
         std::mem::swap(&mut changes, &mut self.changes);
@@ -327,7 +329,7 @@ impl StatementReader {
         Ok(())
     }
 
-    /// Makes one change.
+    /// Makes the change `change`.
     fn settle_change(&mut self, change: Change) -> Result<(), AllocError> {
         match change {
             Change::Drop(number) => {
@@ -354,7 +356,7 @@ impl StatementReader {
         Ok(())
     }
 
-    /// Gives a foreign key of a table another name.
+    /// Gives the foreign key `old` of `table` the name `new`.
     fn rename_foreign_key(&mut self, table: usize, old: &str, new: &str) -> Result<(), AllocError> {
         for key in self.catalog.foreign_keys.iter_mut() {
             if key.table == table && key.name.as_str() == old {
@@ -364,7 +366,7 @@ impl StatementReader {
         Ok(())
     }
 
-    /// Has all rows of a table be known to keep a foreign key.
+    /// Keeps that all rows of `table` keep the foreign key `name`.
     fn validate_key(&mut self, table: usize, name: &str) {
         for key in self.catalog.foreign_keys.iter_mut() {
             if key.table == table && key.name.as_str() == name {
@@ -373,7 +375,7 @@ impl StatementReader {
         }
     }
 
-    /// Gives a column of a table another name, where keys and indexes name it.
+    /// Gives the column `old` of `table` the name `new`, where keys and indexes name it.
     fn rename_column(&mut self, table: usize, old: &str, new: &str) -> Result<(), AllocError> {
         for key in self.catalog.foreign_keys.iter_mut() {
             if key.table == table {
@@ -387,7 +389,7 @@ impl StatementReader {
     }
 }
 
-/// Whether a name is that of one of the server's own catalogs.
+/// Whether `name` is that of one of the server's own catalogs.
 fn is_of_server(name: &str) -> bool {
     name.starts_with("pg_") || name.starts_with("information_schema.")
 }

@@ -4,7 +4,7 @@ use crate::reader::{Change, StatementReader};
 use sql_locks::{Form, LinkKind, RelationKind, SqlFault};
 
 impl StatementReader {
-    /// Reads a form that drops a column or a constraint.
+    /// Reads a form that drops a column or a constraint of `table`, and of its children unless `is_only`.
     pub fn read_drop(&mut self, table: usize, is_only: bool) -> Result<(), SqlFault> {
         let is_constraint = self.cursor.eat("constraint");
         if !is_constraint {
@@ -27,7 +27,8 @@ impl StatementReader {
         self.drop_foreign_keys(table, name.as_str(), is_constraint)
     }
 
-    /// Adds what goes with a column: its indexes, those of its children, and by `CASCADE` foreign keys and views that name it.
+    /// Adds what goes with `column` of `table`: its indexes, those of its children unless `is_only`, and where
+    /// `cascades` is true the foreign keys and views that name it.
     fn drop_with_column(
         &mut self,
         table: usize,
@@ -48,7 +49,7 @@ impl StatementReader {
         Ok(())
     }
 
-    /// Adds the tables whose foreign keys refer to a column.
+    /// Adds the tables whose foreign keys refer to `column` of `table`.
     fn drop_keys_on(&mut self, table: usize, column: &str) -> Result<(), SqlFault> {
         let mut referring = Vec::new(self.alloc);
         for key in &self.catalog.foreign_keys {
@@ -68,7 +69,8 @@ impl StatementReader {
         Ok(())
     }
 
-    /// Adds the index of the key that has this name, which goes.
+    /// Adds the index of the key `name` of `table`, which goes, and where `cascades` is true the foreign keys that
+    /// refer to its columns.
     fn drop_index_of(&mut self, table: usize, name: &str, cascades: bool) -> Result<(), SqlFault> {
         let Some(index) = self.catalog.find(name) else {
             return Ok(());
@@ -87,7 +89,8 @@ impl StatementReader {
         Ok(())
     }
 
-    /// Adds the tables of the foreign keys that go with a constraint or a column of this name.
+    /// Adds the tables of the foreign keys of `table` that go with `name`, which is a constraint or a column by
+    /// `is_constraint`.
     fn drop_foreign_keys(
         &mut self,
         table: usize,

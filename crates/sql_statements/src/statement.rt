@@ -127,7 +127,7 @@ impl StatementReader {
         Err(self.fault_at(0, Defect::UnknownStatement))
     }
 
-    /// Reads a relation that one form is about.
+    /// Reads a relation that `form` is about.
     pub fn read_named(&mut self, form: Form) -> Result<(), SqlFault> {
         let may_miss = self.eat_if_exists();
         if let Some(number) = self.relation_or_none(may_miss)? {
@@ -136,7 +136,7 @@ impl StatementReader {
         Ok(())
     }
 
-    /// Reads the table behind `ON`.
+    /// Reads the table after `ON`, which `form` is about.
     pub fn read_on_table(&mut self, form: Form) -> Result<(), SqlFault> {
         if !self.cursor.skip_to("on") {
             return Err(self.fault(Defect::NoName));

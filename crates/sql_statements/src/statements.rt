@@ -37,7 +37,7 @@ pub fn split_statements(alloc: Global, text: &[u8]) -> Result<Vec<SqlStatement>,
     Ok(parted.statements)
 }
 
-/// The fault of a text that is no UTF-8: the line and the word that have the first byte that is not.
+/// The fault of `text`, which is no UTF-8: the line and the word that have the first byte that is not.
 fn utf8_fault(text: &[u8]) -> SqlFault {
     let mut line = 1usize;
     let mut from = 0usize;
@@ -56,7 +56,7 @@ fn utf8_fault(text: &[u8]) -> SqlFault {
     }
 }
 
-/// How many bytes of a line stand before its first word, words ending at spaces, that is no UTF-8.
+/// How many bytes of `line` come before its first word, words ending at spaces, that is no UTF-8.
 fn place_of_bad_word(line: &[u8]) -> usize {
     let mut from = 0usize;
     for word in line.split(|byte| *byte == b' ') {
@@ -100,7 +100,7 @@ impl Parted {
         }
     }
 
-    /// Reads one more word.
+    /// Reads one more word, `word`.
     fn take(&mut self, alloc: Global, word: &Word<'_>) -> Result<(), SqlFault>
         ensures said { OnOk result (gathered self.new ≡ gathered self.old ++ said_of (word.now ∷ [])) }
         ensures lines { OnOk result (All IsPlaced self.old.statements.items → All IsPlaced self.new.statements.items) }
@@ -117,7 +117,7 @@ impl Parted {
         }
     }
 
-    /// Adds a word to the statement.
+    /// Adds `word`, which begins at `from`, to the statement.
     fn gather(&mut self, alloc: Global, word: &Word<'_>, from: usize) -> Result<(), SqlFault>
         ensures said { OnOk result (kept_of self.new.words.items ≡ kept_of self.old.words.items ++ said_of (word.now ∷ [])) }
         ensures statements { self.new.statements.items ≡ self.old.statements.items }
@@ -140,7 +140,7 @@ impl Parted {
         Ok(())
     }
 
-    /// Counts the parenthesis or the block that a word opens or ends.
+    /// Counts the parenthesis or the block that `word` opens or ends.
     fn nest(&mut self, word: &SqlWord) -> Result<(), SqlFault>
         ensures words { self.new.words.items ≡ self.old.words.items }
         ensures statements { self.new.statements.items ≡ self.old.statements.items }
@@ -172,7 +172,7 @@ impl Parted {
         Ok(())
     }
 
-    /// Whether a word opens a block of a function's body: the `ATOMIC` of `BEGIN ATOMIC`, or a `CASE` in there.
+    /// Whether `word` opens a block of a function's body: the `ATOMIC` of `BEGIN ATOMIC`, or a `CASE` in there.
     fn opens_block(&self, word: &SqlWord) -> bool {
         match self.words.last() {
             Some(before) => {

@@ -20,7 +20,7 @@ const READS_WAIT: &str =
 an autovacuum (which gives way after deadlock_timeout), an index build\n";
 
 /// Statements, and what is said of them up to the sums at the end.
-static SAID: [(&str, &str); 10] = [
+static SAID: [(&str, &str); 12] = [
     (
         "SELECT * FROM rich;",
         "line 1: SELECT * FROM rich;
@@ -84,6 +84,24 @@ line 3: COMMIT;
 ",
     ),
     (
+        "SELECT pg_advisory_unlock_shared(7, 42), PG_ADVISORY_UNLOCK_ALL();",
+        "line 1: SELECT pg_advisory_unlock_shared(7, 42), PG_ADVISORY_UNLOCK_ALL();
+  advisory lock 7, 42: ShareLock, given back
+  gives back all advisory locks that the session owns
+",
+    ),
+    (
+        "REINDEX INDEX CONCURRENTLY orders_pkey;",
+        "line 1: REINDEX INDEX CONCURRENTLY orders_pkey;
+  orders: ShareUpdateExclusiveLock
+  orders_pkey: ShareUpdateExclusiveLock
+  works for the build of an index, and holds its locks until its own end
+  keeps waiting: VACUUM and DDL, index builds
+  waits behind: an autovacuum (which gives way after deadlock_timeout), an index build
+  waits for the end of each transaction that has used the table, and be it to read, and older snapshots
+",
+    ),
+    (
         "DROP VIEW rich; -- and nothing else",
         "line 1: DROP VIEW rich;
   rich: AccessExclusiveLock
@@ -108,7 +126,7 @@ line 3: COMMIT;
 ];
 
 /// How many of the statements above say nothing of who waits: there all wait.
-const ALL_WAIT_FROM: usize = 7;
+const ALL_WAIT_FROM: usize = 9;
 
 /// Statements that are refused, and what is said of them.
 static REFUSED: [(&str, &str); 25] = [
@@ -205,12 +223,12 @@ static REFUSED: [(&str, &str); 25] = [
 /// How many rows of 1,009 bytes make a statement of more than a megabyte.
 const ROWS: usize = 1040;
 
-/// What is said of a migration.
+/// What is said of `migration`.
 fn said(alloc: Global, migration: &str) -> String {
     said_of_bytes(alloc, migration.as_bytes())
 }
 
-/// What is said of the bytes of a migration.
+/// What is said of the bytes of `migration`.
 fn said_of_bytes(alloc: Global, migration: &[u8]) -> String {
     match make_report(alloc, SCHEMA.as_bytes(), migration, false) {
         Ok(report) => report.text,

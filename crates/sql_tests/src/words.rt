@@ -1,6 +1,6 @@
 //! The words, the statuses and the streams of the subcommand `sql`.
 
-use sql_report::{is_for_sql, run_sql};
+use sql_report::run_sql;
 use std::alloc::Global;
 use std::io::{self, ErrorKind, Read, Write};
 use std::process::Abort;
@@ -97,7 +97,7 @@ static RUNS: [(&str, &str, u8, &str); 16] = [
         "lock_scenario sql --help",
         QUIET,
         0,
-        "Usage: lock_sql [OPTIONS] < MIGRATION",
+        "Usage: lock_scenario sql [OPTIONS] < MIGRATION",
     ),
     (
         "lock_scenario sql --schema no/such/file",
@@ -128,13 +128,13 @@ fn words_of(alloc: Global, line: &str) -> Result<Vec<String>, Fail> {
     Ok(words)
 }
 
-/// Whether a text has a part.
+/// Whether `text` has the part `part`.
 fn has_part(text: &[u8], part: &str) -> bool {
     let part = part.as_bytes();
     text.windows(part.len().max(1)).any(|window| window == part)
 }
 
-/// Tries the words and statements of a row.
+/// Tries the words and statements of `row`.
 fn try_run<H: AllocGlobal + Files + Abort>(
     rt: &H,
     row: &(&str, &str, u8, &str),
@@ -169,18 +169,6 @@ fn each_words_have_their_status_and_their_text(rt: HostRuntime) -> Result<(), Fa
     for row in &RUNS {
         try_run(&rt, row)?;
     }
-    Ok(())
-}
-
-#[test]
-fn the_first_word_says_whether_sql_is_meant(rt: HostRuntime) -> Result<(), Fail> {
-    let alloc = rt.alloc();
-    let sql = words_of(alloc, "lock_scenario sql --help")?;
-    let run = words_of(alloc, "lock_scenario run sql")?;
-    let none = words_of(alloc, "lock_scenario")?;
-    assert!(rt; is_for_sql(sql.as_slice()));
-    assert!(rt; !is_for_sql(run.as_slice()));
-    assert!(rt; !is_for_sql(none.as_slice()));
     Ok(())
 }
 

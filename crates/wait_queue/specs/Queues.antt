@@ -1,13 +1,13 @@
 use Rattle.std.specs.Prelude.{ℕ, zero, suc, Bool, ◌==◌, ◌&&◌, if◌then◌else◌, List, [], ◌∷◌, ◌++◌, Option, Some, None}
 use Rattle.std.specs.List.{before_first, flat_map}
 use Rattle.modes_core.specs.declared.modes.Mode.{Mode}
+use Rattle.modes_core.specs.declared.refusals.How.TheVariants.{Held, Awaited}
 use Rattle.modes_core.specs.declared.tags.Tag.{Tag}
 use Rattle.modes_core.specs.Conflict.{conflict}
 use Rattle.modes_core.specs.ModeSet.{all_modes}
 use Rattle.lock_table.specs.Content.{Wait, Content}
 use Rattle.lock_table.specs.Queue.{wait_in}
 use Rattle.wait_queue.specs.declared.queues.Blocker.{Blocker}
-use Rattle.wait_queue.specs.declared.queues.InTheWay.TheVariants.{Holds, StandsBefore}
 
 -- Who stands in the way of a session that waits on an object.
 
@@ -18,7 +18,7 @@ ahead_of queue session = before_first (λ wait. wait.session == session) queue
 -- a session that holds, by each mode that is in both sets
 abbrev pub by_modes : ℕ → (Mode → Bool) → (Mode → Bool) → List Blocker
 by_modes other held against =
-    flat_map (λ its. if held its && against its then record { session = other; mode = its; how = Holds } ∷ [] else []) all_modes
+    flat_map (λ its. if held its && against its then record { session = other; mode = its; how = Held } ∷ [] else []) all_modes
 
 -- another session stands in the way by each mode of the object that it holds and that conflicts with the awaited one; nobody
 -- stands in its own way
@@ -37,7 +37,7 @@ holding content tag session mode = lists_below 64 (holding_of content tag sessio
 
 -- a wait stands in the way by its mode, if that conflicts with the awaited one
 abbrev pub standing_of : Mode → Wait → List Blocker
-standing_of mode wait = if conflict mode wait.mode then record { session = wait.session; mode = wait.mode; how = StandsBefore } ∷ [] else []
+standing_of mode wait = if conflict mode wait.mode then record { session = wait.session; mode = wait.mode; how = Awaited } ∷ [] else []
 
 -- those of these waits, in their order
 abbrev pub standing : List Wait → Mode → List Blocker

@@ -2,23 +2,14 @@
 
 ghost use Rattle.std.specs.Prelude.{◌≡◌, ◌≤◌, ◌&&◌, ◌∷◌, ◌++◌, [], true, if◌then◌else◌, length, map, take, option_map, Some, None, IfOk, IfSome, IfNone, OnOk};
 ghost use Rattle.modes_core.specs.ModeSet.{set_has};
+ghost use Rattle.modes_core.specs.declared.refusals.How.TheVariants.{Held};
 ghost use Rattle.lock_table.specs.Queue.{wait_in};
 ghost use Rattle.lock_table.specs.Waiter.{shown_wait};
-ghost use Rattle.wait_queue.specs.declared.queues.InTheWay.TheVariants.{Holds};
 ghost use Rattle.wait_queue.specs.Queues.{ahead_of, by_modes, holding, holding_of, standing, standing_of, blockers_in};
 
 use lock_table::{NoMemory, PartTable, Waiter};
-use modes_core::{Mode, ModeSet, SESSIONS, SessionId, Tag, conflicts};
+use modes_core::{How, Mode, ModeSet, SESSIONS, SessionId, Tag, conflicts};
 use std::alloc::Global;
-
-/// How a session stands in the way of one that waits.
-#[derive(Clone, Copy, Debug, PartialEq, Eq)]
-pub enum InTheWay {
-    /// The session holds a mode that conflicts with the awaited one.
-    Holds,
-    /// The session stands before the other one in the queue, and awaits such a mode.
-    StandsBefore,
-}
 
 /// A session in the way of another one that waits, with the mode by which it is.
 #[derive(Clone, Copy, Debug, PartialEq, Eq)]
@@ -28,7 +19,7 @@ pub struct Blocker {
     /// The mode by which `session` is in the way.
     pub mode: Mode,
     /// Whether `session` holds that mode, or stands before the other one in the queue.
-    pub how: InTheWay,
+    pub how: How,
 }
 
 /// The waits on `tag` in the content of `part`, in the order of the object's queue. Refused only where memory for the
@@ -149,13 +140,13 @@ fn append_mode(
 ) -> Result<(), NoMemory>
     ensures { OnOk result (found.new.items ≡ found.old.items
         ++ (if set_has held mode && set_has against mode
-        then record { session = other; mode = mode; how = Holds } ∷ [] else [])) }
+        then record { session = other; mode = mode; how = Held } ∷ [] else [])) }
 {
     if held.has(mode) && against.has(mode) {
         found.push(Blocker {
             session: other,
             mode,
-            how: InTheWay::Holds,
+            how: How::Held,
         })?;
     }
     Ok(())
@@ -189,7 +180,7 @@ fn append_waiter(waiter: Waiter, mode: Mode, found: &mut Vec<Blocker>) -> Result
         found.push(Blocker {
             session: waiter.session,
             mode: waiter.mode,
-            how: InTheWay::StandsBefore,
+            how: How::Awaited,
         })?;
     }
     Ok(())

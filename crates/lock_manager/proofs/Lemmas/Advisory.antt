@@ -1,8 +1,10 @@
-use Rattle.std.proofs.Common.{◌≡◌, ◌≢◌, ℕ, ◌+◌, ◌-◌, ◌<◌, ◌≤◌, true, false, not, ◌==◌, List, [], ◌∷◌, refl, sym, ap, subst, ◌∙◌, inl, inr, arith}
+use Rattle.std.proofs.Common.{◌≡◌, ◌≢◌, ℕ, ◌+◌, ◌-◌, ◌<◌, ◌≤◌, true, false, not, ◌==◌, List, [], ◌∷◌, length, filter, refl, sym, ap, subst, ◌∙◌, inl, inr, arith}
 use Rattle.std.specs.Prelude.{Some, None, All, find}
 use Rattle.std.specs.List.{IsDistinct, AllByRecursion}
 use Rattle.std.proofs.lemmas.Bool.{cases_Bool, cases_lt, false≢true, ne_eqb, eq-eqb, eqb-true}
+use Rattle.std.proofs.lemmas.List.{length-map}
 use Rattle.std.proofs.lemmas.List.Elements.{All-tail}
+use Rattle.std.proofs.lemmas.List.Filters.{length-filter_both}
 use Rattle.modes_core.specs.declared.modes.Mode.{Mode}
 use Rattle.modes_core.specs.declared.tags.Tag.{Tag}
 use Rattle.modes_core.specs.declared.tags.LockMethod.{LockMethod}
@@ -391,6 +393,13 @@ given-back es new tag mode once counted first less =
       next = given-next es new e once counted found its;
       none = given-none es new e once counted found its;
     }) less
+
+-- no more go than there are
+pub unlocked-few : (es : List Entry) → length (unlocked_by_all es) ≤ length es
+unlocked-few es =
+    let counted : length (unlocked_by_all es) ≡ length (filter is_unlocked es) = length-map (filter is_unlocked es) (λ entry. (entry.tag, entry.mode)) in
+    let both = length-filter_both is_unlocked (λ entry. not (is_unlocked entry)) (λ entry. refl) es in
+    omega (arith, counted, both)
 
 -- ---- where none is owned
 

@@ -10,7 +10,7 @@ use Rattle.lock_world.specs.Happens.Seats.{after_issuing}
 use Rattle.lock_world.specs.Happens.Slots.{after_taking_fast, after_putting_fast}
 use Rattle.lock_world.specs.Happens.Lists.{after_locking_fast_list, after_unlocking_fast_list, after_flagging_fast, after_joining_list, after_taking_off_the_list, after_telling_one, after_loading_sleep}
 use Rattle.lock_world.specs.Wakes.Waking.{HasLock, IsAsleep, tries_next, nobody_waits}
-use Rattle.lock_world.specs.Wakes.Calling.{IsParked}
+use Rattle.lock_world.specs.Wakes.Calling.{IsParked, ShowsUntold}
 use Rattle.lock_world.specs.Wakes.Owing.{waking, IsLatest}
 use Rattle.lock_world.specs.Wakes.{Beside, nothing_beside, Turn, happened, saw_held, called_sleeper, KeepsInOrder, beside_after, RunsBy, SleepAndWakeup}
 use Rattle.lock_world.proofs.Wakes.Readings.{none-some, some-same}
@@ -199,8 +199,8 @@ sleeps-there = record {
   not_won = λ has. absurd (none-held 1 has);
 }
 
-pub parks-there : IsParked beside_asleep.sleeps 1 1
-parks-there = record { looked = refl; uncalled = refl; owes_none = λ o. refl }
+pub parks-there : IsParked ShowsUntold beside_asleep.sleeps 1 1
+parks-there = record { looked = refl; parks_on = λ none. let e : 1 ≡ 0 = none in omega (arith, e); uncalled = refl; owes_none = λ o. refl }
 
 pub wakes-up : RunsBy KeepsInOrder asleep beside_asleep to_wake won beside_won
 wakes-up = (

@@ -18,6 +18,8 @@ use Rattle.lock_world.proofs.SafeWorld.Runs.{event-safe}
 use Rattle.lock_world.specs.Happens.{Happens, HappensStep}
 use Rattle.lock_world.specs.Happens.Seats.{HappensJoining}
 use Rattle.lock_world.specs.Wakes.Owing.{Duties, lock_bit, HasIn, is_lock, ok_set_by_told, ok_set_by_winner, ok_set_before_told, ok_set_as_owed, after_setting_ok, lock_of, HasNothingToDo, Asks}
+use Rattle.lock_world.specs.WaitWord.{wait_state}
+use Rattle.lock_world.specs.Wakes.Calling.{Calls, changing}
 use Rattle.lock_world.specs.Wakes.{Beside, Turn, happened, saw_list_locked, saw_held, called_waiter, called_sleeper, Keeps, beside_after, MakesNoStep, OnlyLiveOwe}
 use Rattle.lock_world.proofs.Others.Events.{event-others}
 use Rattle.lock_world.proofs.Wakes.Readings.{none-some, none-kept}
@@ -26,7 +28,7 @@ use Rattle.lock_world.proofs.Wakes.Steppers.{IsNoSeat, step-makes, makes-some}
 -- Only a session that makes steps has a lightweight lock, something to do for those who wait, or somebody to call.
 
 -- What one session has to do stays where another makes a step.
-abbrev Alone : Beside → Beside → ℕ → Type 0
+abbrev pub Alone : Beside → Beside → ℕ → Type 0
 Alone b d k =
     (d.duties.due k ≡ b.duties.due k) × (d.duties.tries k ≡ b.duties.tries k) × (d.duties.owes_release_ok k ≡ b.duties.owes_release_ok k)
     × (d.waits.owed k ≡ b.waits.owed k) × (d.sleeps.owed k ≡ b.sleeps.owed k)
@@ -36,6 +38,12 @@ nothing b k = (refl, refl, refl, refl, refl)
 
 either : (P : Duties → Type 0) (b : Bool) (x y : Duties) → P x → P y → P (if b then x else y)
 either P b x y is else_is = elim (cases_Bool b) [
+  | inl its ↦ subst P (sym (cond-true b x y its)) is
+  | inr other ↦ subst P (sym (cond-false b x y other)) else_is
+]
+
+either-calls : (P : Calls → Type 0) (b : Bool) (x y : Calls) → P x → P y → P (if b then x else y)
+either-calls P b x y is else_is = elim (cases_Bool b) [
   | inl its ↦ subst P (sym (cond-true b x y its)) is
   | inr other ↦ subst P (sym (cond-false b x y other)) else_is
 ]
@@ -55,14 +63,16 @@ module _ (w : World) (b : Beside) (s k : ℕ) (other : k ≢ s) where
         Same : Duties → Type 0
         Same x = Alone b (record b { duties = x }) k
 
-  step-alone : (step : Step) → Alone b (after step) k
+  pub step-alone : (step : Step) → Alone b (beside_after w b (happened (record { session = s; step = step }))) k
   step-alone (TakeExclusive word) = (refl, set_at-else b.duties.tries s None k other, refl, refl, refl)
   step-alone (PutExclusive word done) = (set_at-else b.duties.due s _ k other, refl, refl, refl, refl)
   step-alone (TakeShared word) = (refl, set_at-else b.duties.tries s None k other, refl, refl, refl)
   step-alone (PutShared word) = (set_at-else b.duties.due s _ k other, refl, refl, refl, refl)
   step-alone SplitSeat = nothing b k
   step-alone (JoinSeat joiner) = nothing b k
-  step-alone (AskCancel o) = (refl, refl, refl, set_at-else b.waits.owed s _ k other, refl)
+  step-alone (AskCancel o) =
+      either-calls (λ c. Alone b (record b { waits = c }) k) (wait_state (w.words.wait o) == 1) (changing b.waits s o) b.waits
+      (refl, refl, refl, set_at-else b.waits.owed s _ k other, refl) (nothing b k)
   step-alone (LoadWait n) = nothing b k
   step-alone (SetWaiting t m) = nothing b k
   step-alone (MarkGranted o done) = (refl, refl, refl, set_at-else b.waits.owed s _ k other, refl)

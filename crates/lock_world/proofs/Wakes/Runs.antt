@@ -1,4 +1,4 @@
-use Rattle.std.proofs.Common.{◌≡◌, ◌⊎◌, ℕ, ◌%◌, ◌/◌, ◌^◌, ◌<◌, true, false, List, [], ◌∷◌, refl, sym, ap, subst, inl, inr, arith}
+use Rattle.std.proofs.Common.{◌≡◌, ◌⊎◌, ℕ, ◌%◌, ◌/◌, ◌^◌, ◌<◌, true, false, List, [], ◌∷◌, ◌++◌, refl, sym, ap, subst, inl, inr, arith}
 use Rattle.std.specs.Prelude.{◌==◌}
 use Rattle.std.proofs.lemmas.Bool.{cases_eq, cases_Bool, both_ways, cond-true, cond-false, eq-eqb, ne_eqb, false≢true}
 use Rattle.lw_word.specs.LightweightWord.{IsReleaseOk, free_word}
@@ -8,7 +8,7 @@ use Rattle.lock_world.specs.SafeWorld.{SafeWorld}
 use Rattle.lock_world.proofs.SafeWorld.Runs.{event-safe}
 use Rattle.lock_world.proofs.SafeWorld.Opening.{opening-safe}
 use Rattle.lock_world.specs.Wakes.Waking.{Owes, has_it, must_look, has_its_list, must_try, must_set_ok, IsAsleep, OrderIsKept, NotAllSleep}
-use Rattle.lock_world.specs.Wakes.Calling.{Calls, EachIsCalled}
+use Rattle.lock_world.specs.Wakes.Calling.{Calls, ShowsWaiting, ShowsUntold, EachIsCalled}
 use Rattle.lock_world.specs.Wakes.Owing.{lock_bit, waking, no_duties, HasNothingToDo}
 use Rattle.lock_world.specs.Wakes.{Beside, nothing_beside, Turn, happened, saw_list_locked, saw_held, called_waiter, called_sleeper, Keeps, IsInOrder, KeepsInOrder, beside_after, RunsBy, RunKeeps, RunKeepsInOrder, OnlyLiveOwe, IsLookedAfter, NoCallIsLost}
 use Rattle.lock_world.proofs.Wakes.Readings.{none-some, not-none}
@@ -47,8 +47,8 @@ turn-called : (w v : World) (b : Beside) (turn : Turn) → BothOf w b → Keeps 
 turn-called w v b (happened event) both h = step-called w v event.session b.waits b.sleeps both event.step h.0
 turn-called w v b (saw_list_locked s lock) both h = subst (λ a. BothOf a b) (sym h.2) both
 turn-called w v b (saw_held s lock) both h = subst (λ a. BothOf a b) (sym h.2) both
-turn-called w v b (called_waiter s o) both h = subst (λ a. BothOf a (beside_after w b (called_waiter s o))) (sym h) (calling-called w.words.wait b.waits both.0 s o, both.1)
-turn-called w v b (called_sleeper s o) both h = subst (λ a. BothOf a (beside_after w b (called_sleeper s o))) (sym h) (both.0, calling-called w.words.sleep b.sleeps both.1 s o)
+turn-called w v b (called_waiter s o) both h = subst (λ a. BothOf a (beside_after w b (called_waiter s o))) (sym h) (calling-called ShowsWaiting w.words.wait b.waits both.0 s o, both.1)
+turn-called w v b (called_sleeper s o) both h = subst (λ a. BothOf a (beside_after w b (called_sleeper s o))) (sym h) (both.0, calling-called ShowsUntold w.words.sleep b.sleeps both.1 s o)
 
 turn-order : (w v : World) (b : Beside) (turn : Turn) → Kept w → Keeps w b turn v → IsInOrder w turn → Kept v
 turn-order w v b (happened event) kept h asks = step-order w v event.session kept event.step h.0 asks
@@ -85,6 +85,12 @@ in-order : (w v : World) (b d : Beside) (turns : List Turn) → RunsBy KeepsInOr
 in-order w v b d [] run = run
 in-order w v b d (turn ∷ turns) run = (run.0, (run.1).0, in-order run.0 v (beside_after w b turn) d turns run.2)
 
+-- A run goes on by one more turn.
+pub run-push : (each : World → Beside → Turn → World → Type 0) (w v u : World) (b d : Beside) (turns : List Turn) (turn : Turn)
+    → RunsBy each w b turns v d → each v d turn u → RunsBy each w b (turns ++ turn ∷ []) u (beside_after v d turn)
+run-push each w v u b d [] turn run h = (u, subst (λ a. each a b turn u) run.0 (subst (λ c. each v c turn u) run.1 h), (refl, λ i. beside_after (run.0 i) (run.1 i) turn))
+run-push each w v u b d (first ∷ turns) turn run h = (run.0, run.1, run-push each run.0 v u (beside_after w b first) d turns turn run.2 h)
+
 -- At first nobody waits, nobody has looked, and nobody has anything to do.
 opening-nobody : (limit groups : ℕ) → Nobody (opening limit groups) no_duties
 opening-nobody limit groups = record {
@@ -120,7 +126,7 @@ opening-well : (limit groups : ℕ) → limit < 2 ^ 24 → IsWell (opening limit
 opening-well limit groups few = record {
   safe = opening-safe limit groups few;
   nobody = opening-nobody limit groups;
-  called = (λ k n looked. absurd (none-some n looked), λ k n looked. absurd (none-some n looked));
+  called = (λ k n looked parks. absurd (none-some n looked), λ k n looked parks. absurd (none-some n looked));
   only = λ k spent. record {
     no_lock = λ l has. none-held l has;
     no_look = refl;
@@ -174,21 +180,22 @@ pub well-not_all : (w : World) (b : Beside) → IsWell w b → OrderIsKept (waki
 well-not_all w b well kept = not-all (waking w b.duties) well.nobody well.safe.lists.sleepers kept
 
 no-call-lost :
-    (w : World) (word : ℕ → ℕ) (c : Calls) → EachIsCalled word c → ((k : ℕ) → (o : ℕ) → c.owed k o ≡ true → MakesSteps w.numbers k) → NoCallIsLost w word c
-no-call-lost w word c each live k n parked changed = elim (each k n parked.looked) [
+    (w : World) (ParksOn : ℕ → Type 0) (word : ℕ → ℕ) (c : Calls) → EachIsCalled ParksOn word c → ((k : ℕ) → (o : ℕ) → c.owed k o ≡ true → MakesSteps w.numbers k)
+    → NoCallIsLost w ParksOn word c
+no-call-lost w ParksOn word c each live k n parked changed = elim (each k n parked.looked parked.parks_on) [
   | inl is ↦ absurd (changed is)
   | inr (inl called) ↦ absurd (both_ways (c.called k) parked.uncalled called)
   | inr (inr owed) ↦ (owed.0, owed.1, live (owed.0) k (owed.1), λ its other. both_ways (c.owed (owed.0) k) (other.owes_none k) (owed.1))
 ]
 
-pub well-waits : (w : World) (b : Beside) → IsWell w b → NoCallIsLost w w.words.wait b.waits
-well-waits w b well = no-call-lost w w.words.wait b.waits (well.called).0 (λ k o owed. elim (makes-or-not w.numbers k) [
+pub well-waits : (w : World) (b : Beside) → IsWell w b → NoCallIsLost w ShowsWaiting w.words.wait b.waits
+well-waits w b well = no-call-lost w ShowsWaiting w.words.wait b.waits (well.called).0 (λ k o owed. elim (makes-or-not w.numbers k) [
   | inl makes ↦ makes
   | inr none ↦ absurd (both_ways (b.waits.owed k o) ((well.only k none).calls_no_waiter o) owed)
 ])
 
-pub well-sleeps : (w : World) (b : Beside) → IsWell w b → NoCallIsLost w w.words.sleep b.sleeps
-well-sleeps w b well = no-call-lost w w.words.sleep b.sleeps (well.called).1 (λ k o owed. elim (makes-or-not w.numbers k) [
+pub well-sleeps : (w : World) (b : Beside) → IsWell w b → NoCallIsLost w ShowsUntold w.words.sleep b.sleeps
+well-sleeps w b well = no-call-lost w ShowsUntold w.words.sleep b.sleeps (well.called).1 (λ k o owed. elim (makes-or-not w.numbers k) [
   | inl makes ↦ makes
   | inr none ↦ absurd (both_ways (b.sleeps.owed k o) ((well.only k none).calls_no_sleeper o) owed)
 ])

@@ -1,29 +1,39 @@
-use Rattle.std.specs.Prelude.{◌≡◌, ℕ, Bool, true, false, Option, Some, None, ◌⊎◌}
+use Rattle.std.specs.Prelude.{◌≡◌, ◌≢◌, ℕ, ◌==◌, Bool, true, false, Option, Some, None, ◌⊎◌, if◌then◌else◌}
 use Rattle.lock_table.specs.Put.{set_at}
 use Rattle.lock_world.specs.declared.events.Step.{Step}
 use Rattle.lock_world.specs.declared.events.Step.TheVariants.{AskCancel, LoadWait, SetWaiting, MarkGranted, ClearWait, JoinList, LeaveList, TakeOff, Tell, LoadSleep}
+use Rattle.lock_world.specs.World.{World}
+use Rattle.lock_world.specs.WaitWord.{wait_state}
 
 -- Calls: a session parks on a word of its own, wait word or sleep word, and a session that changes that word calls it.
 
+-- What a session parks on: a wait word that shows that it waits, and a sleep word that does not show that it was told.
+abbrev pub ShowsWaiting : ℕ → Type 0
+ShowsWaiting shown = wait_state shown ≡ 1
+
+abbrev pub ShowsUntold : ℕ → Type 0
+ShowsUntold shown = shown ≢ 0
+
 -- What is known of calls on words of one kind, where each session has one word.
 pub record Calls : Type 0 where
-  -- what each session's word showed when the session loaded it last, since when it has changed no such word: on this it may park
+  -- what each session's word showed when the session loaded it last, and has stored nothing there since
   pub looked : ℕ → Option ℕ
   -- whether it was called since it loaded that
   pub called : ℕ → Bool
   -- whom each session has still to call
   pub owed : ℕ → ℕ → Bool
 
--- Where a session's word is not what the session loaded any more, it was called since, or somebody has it to call.
-abbrev pub EachIsCalled : (ℕ → ℕ) → Calls → Type 0
-EachIsCalled word c =
-    (session shown : ℕ) → c.looked session ≡ Some shown
+-- Where a session's word is not what the session loaded any more, to park on, it was called since, or somebody has it to call.
+abbrev pub EachIsCalled : (ℕ → Type 0) → (ℕ → ℕ) → Calls → Type 0
+EachIsCalled ParksOn word c =
+    (session shown : ℕ) → c.looked session ≡ Some shown → ParksOn shown
     → (word session ≡ shown) ⊎ ((c.called session ≡ true) ⊎ ((other : ℕ) × (c.owed other session ≡ true)))
 
 -- The session is parked: the kernel found its word as the session had loaded it, and nobody has called it since. The session has nobody
 -- to call.
-pub record IsParked (c : Calls) (session shown : ℕ) : Type 0 where
+pub record IsParked (ParksOn : ℕ → Type 0) (c : Calls) (session shown : ℕ) : Type 0 where
   pub looked : c.looked session ≡ Some shown
+  pub parks_on : ParksOn shown
   pub uncalled : c.called session ≡ false
   pub owes_none : (other : ℕ) → c.owed session other ≡ false
 
@@ -37,10 +47,11 @@ storing c session = record c { looked = set_at c.looked session None }
 
 -- The session changes the word of `other`, and owes it a call.
 abbrev pub changing : Calls → ℕ → ℕ → Calls
-changing c session other = record c {
-  looked = set_at c.looked session None;
-  owed = set_at c.owed session (set_at (c.owed session) other true);
-}
+changing c session other = record c { owed = set_at c.owed session (set_at (c.owed session) other true) }
+
+-- The session asks `other` to cancel, whose wait word shows this: it owes that one a call where that waits.
+abbrev pub asking : Calls → ℕ → ℕ → ℕ → Calls
+asking c session other shown = if wait_state shown == 1 then changing c session other else c
 
 -- The session calls `other`, and owes it no call any more.
 abbrev pub calling : Calls → ℕ → ℕ → Calls
@@ -49,14 +60,14 @@ calling c session other = record c {
   owed = set_at c.owed session (set_at (c.owed session) other false);
 }
 
--- what a step makes of the calls on wait words
-abbrev pub wait_calls_after : Calls → ℕ → Step → Calls
-wait_calls_after c session (LoadWait shown) = looking c session shown
-wait_calls_after c session (SetWaiting tag mode) = storing c session
-wait_calls_after c session (ClearWait leaving) = storing c session
-wait_calls_after c session (AskCancel other) = changing c session other
-wait_calls_after c session (MarkGranted other done) = changing c session other
-wait_calls_after c session step = c
+-- what a step that is made in the World w makes of the calls on wait words
+abbrev pub wait_calls_after : World → Calls → ℕ → Step → Calls
+wait_calls_after w c session (LoadWait shown) = looking c session shown
+wait_calls_after w c session (SetWaiting tag mode) = storing c session
+wait_calls_after w c session (ClearWait leaving) = storing c session
+wait_calls_after w c session (AskCancel other) = asking c session other (w.words.wait other)
+wait_calls_after w c session (MarkGranted other done) = changing c session other
+wait_calls_after w c session step = c
 
 -- what a step makes of the calls on sleep words
 abbrev pub sleep_calls_after : Calls → ℕ → Step → Calls

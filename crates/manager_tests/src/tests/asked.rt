@@ -44,7 +44,7 @@ fn expect_fit<R: Abort>(rt: &R, wins: &Wins, answer: Answer, count: u16) {
     assert_eq!(rt; count, u16::from(answer.is_ok()));
 }
 
-/// Plays the session that waits: it sleeps until it is granted or asked to cancel.
+/// Has `session` sleep until it is granted or asked to cancel, and notes in `ring` which of the two came.
 fn wait_or_leave<T: PartTable, B: Board<T>, R: Abort + Wait>(
     rt: &R,
     ring: &Ring,
@@ -158,7 +158,7 @@ fn play_side_by_side<B: Board<Part> + Send, R: Abort + Threads + Wait + Sync>(
     for_each_mut(rt, sessions, threads, &|_, session| play(rt, ring, session));
 }
 
-/// Has three sessions race, round after round. Both ends of the wait come about.
+/// Has the three `sessions` race for `rounds` rounds. Both ends of the wait come about.
 pub fn race_three<B: Board<Part> + Send, R: Abort + Threads + Wait + Sync + Print>(
     rt: &R,
     sessions: &mut [OwnSession<Part, B>],

@@ -82,7 +82,7 @@ pub fn take_until_seen<T: PartTable, B: Board<T>, R: Abort + Wait>(
 }
 
 /// Has one session of `pair` go past the slots of the other, until that one finds them busy. At the end nothing
-/// stands.
+/// is held.
 pub fn find_slots_busy<B: Board<Part> + Send, R: Abort + Threads + Wait + Sync>(
     rt: &R,
     pair: Pair<Part, B>,

@@ -32,19 +32,19 @@ const LOOKS: u32 = 4_000;
 
 const PAUSE: u64 = 10;
 
-/// What the threads tell the watchdog, and where they begin.
+/// What the threads show the watchdog, and where they begin.
 #[derive(Drop)]
-struct Watch {
+pub struct Watch {
     start: Gate,
-    rounds: AtomicU64,
+    pub rounds: AtomicU64,
     /// Which sessions have ended, a bit each.
     ended: AtomicU64,
-    is_over: AtomicBool,
+    pub is_over: AtomicBool,
 }
 
 impl Watch {
-    /// Nobody was told anything yet.
-    fn new() -> Watch {
+    /// A watch of threads that have not begun.
+    pub fn new() -> Watch {
         Watch {
             start: Gate::new(),
             rounds: AtomicU64::new(0),
@@ -137,7 +137,7 @@ fn lock_watched<B: Board<Part> + Send, R: Abort + Clock + Threads + Wait + Sync>
 }
 
 /// Looks at `watch` until all is over. Where nobody goes on for too long it ends the test, and says what it saw.
-fn guard<R: Abort + Clock + Wait>(rt: &R, watch: &Watch) {
+pub fn guard<R: Abort + Clock + Wait>(rt: &R, watch: &Watch) {
     let mut seen = 0;
     let mut in_vain: u32 = 0;
     for _ in rt.forever() {

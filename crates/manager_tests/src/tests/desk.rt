@@ -28,7 +28,7 @@ pub fn open<T: PartTable, B: Board<T>, D: Desk<OwnSession<T, B>>, R: Abort>(
     }
 }
 
-/// Puts `session` behind the others of `list`, at the second attempt where there was no memory.
+/// Puts `session` at the end of `list`, at the second attempt where there was no memory.
 pub fn append<S, R: Abort>(rt: &R, list: &mut Vec<S>, session: S)
     ensures { list.new.items ≡ list.old.items ++ session ∷ [] }
 {
@@ -41,7 +41,7 @@ pub fn append<S, R: Abort>(rt: &R, list: &mut Vec<S>, session: S)
     }
 }
 
-/// Opens a session at `desk`, and puts it behind the others of `sessions`.
+/// Opens a session at `desk`, and puts it at the end of `sessions`.
 fn open_behind<T: PartTable, B: Board<T>, D: Desk<OwnSession<T, B>>, R: Abort>(
     rt: &R,
     desk: &mut D,

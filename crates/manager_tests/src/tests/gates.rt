@@ -12,7 +12,7 @@ const SOON: u64 = 2_000;
 
 const LATE: u64 = 20_000;
 
-/// How many steps a thread pauses at most behind a gate: some two microseconds.
+/// How many steps a thread pauses at most after a gate: some two microseconds.
 const STEPS: u64 = 2_048;
 
 /// How often it leaves its processor at most in some rounds, for each side in others, so that the other side is

@@ -24,7 +24,7 @@ pub struct Limits {
 }
 
 impl Limits {
-    /// How many modes stand in slots and in the table, where each session has all that it may have.
+    /// How many modes are in slots and in the table, where each session has all that it may have.
     fn held(self) -> Numbers {
         let (sessions, by_slot) = (u64::from(self.sessions), u64::from(BY_SLOT));
         let in_table = u64::from(self.entries).saturating_sub(by_slot);
@@ -33,7 +33,7 @@ impl Limits {
 }
 
 /// What the entry numbered `number` of `session` locks: the first ones go by slots, and the others, which no other
-/// session has, stand in the table.
+/// session has, are in the table.
 fn entry(session: u16, number: u32) -> (Tag, Mode) {
     if number < BY_SLOT {
         (Tag::relation(5, number), Mode::AccessShare)

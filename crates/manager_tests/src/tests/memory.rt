@@ -59,6 +59,7 @@ fn take_at_last<T: PartTable, B: Board<T>, R: Abort + Wait>(
     expect_granted(rt, answer, tag, mode);
 }
 
+/// Takes as many modes with `session` as `MANY` says, each at the second attempt where there was no memory.
 fn take_many<T: PartTable, B: Board<T>, R: Abort + Wait>(rt: &R, session: &mut OwnSession<T, B>)
     ensures seat { B.seat session.new.board ≡ B.seat session.old.board }
 {

@@ -4,7 +4,7 @@ ghost use Rattle.std.specs.Prelude.{◌≡◌};
 
 use super::pair::Pair;
 use super::waits::{TABLE, find_still, give_back, leave, queue, take};
-use lock_manager::{Blocked, InTheWay, Mode, OwnSession, Refusal, SessionId};
+use lock_manager::{Blocked, How, Mode, OwnSession, Refusal, SessionId};
 use lock_table::PartTable;
 use shared_rule::Board;
 use std::process::Abort;
@@ -17,7 +17,7 @@ fn is_behind(wait: &Blocked, waiter: SessionId, holder: SessionId) -> bool {
     for blocker in &wait.blockers {
         is_right &= blocker.session == holder;
         is_right &= blocker.mode == Mode::Exclusive;
-        is_right &= blocker.how == InTheWay::Holds;
+        is_right &= blocker.how == How::Held;
     }
     is_right && wait.blockers.len() == 1
 }

@@ -43,7 +43,7 @@ impl<T: PartTable, B: Board<T>> Pair<T, B> {
         Pair { first, second }
     }
 
-    /// Closes both sessions, after an audit that counts what they have. No other session is open.
+    /// Closes both sessions at `desk`, after an audit that counts what they have. No other session is open.
     pub fn close<D: Desk<OwnSession<T, B>>, R: Abort + Wait>(
         self,
         rt: &R,

@@ -58,8 +58,8 @@ impl Tally {
     }
 }
 
-/// Lets those go before `session` whose numbers are lower: it is time once the one before stands in the queue. The
-/// first of them stands behind the holder.
+/// Waits until it is the turn of `session` to join the queue: once the session with the number before its own waits.
+/// The first one to join does so after the holder, which `tally` shows.
 fn see_turn<T: PartTable, B: Board<T>, R: Wait>(
     rt: &R,
     tally: &Tally,
@@ -77,7 +77,7 @@ fn see_turn<T: PartTable, B: Board<T>, R: Wait>(
     }
 }
 
-/// Has `session` stand in the queue in its turn, sleep until the wait is granted, and give the mode back, to the
+/// Has `session` join the queue in its turn, sleep until the wait is granted, and give the mode back, to the
 /// next one if that waits still.
 fn sleep_and_pass_on<T: PartTable, B: Board<T>, R: Abort + Wait>(
     rt: &R,

@@ -20,7 +20,7 @@ use std::thread::{Threads, join_mut};
 pub enum Race {
     /// The first one takes a weak mode by a slot, the second one a strong mode.
     WeakAgainstStrong(Mode, Mode),
-    /// Both have a mode in a slot, and ask for a strong mode that the other one's stands in the way of.
+    /// Both have a mode in a slot, and ask for a strong mode. The mode of the one is in the way of the other.
     StrongOverWeak(Mode, Mode),
     /// The second one cancels its wait for a mode while the first one gives back what is in the way.
     CancelAgainstRelease(Mode, Mode),
@@ -352,7 +352,7 @@ pub fn see_nothing<T: PartTable, B: Board<T>, R: Abort + Wait>(
     assert_eq!(rt; session.strong_count(TABLE.strong_index()), 0);
 }
 
-/// Plays `rounds` rounds of `race` with `pair`, at the end of which nothing stands, and each side has won.
+/// Plays `rounds` rounds of `race` with `pair`, at the end of which nothing is held, and each side has won.
 pub fn race_often<B: Board<Part> + Send, R: Abort + Threads + Wait + Sync + Print>(
     rt: &R,
     pair: Pair<Part, B>,

@@ -5,7 +5,7 @@ ghost use Rattle.std.specs.Prelude.{◌≡◌};
 use super::pair::Pair;
 use super::races::Race;
 use super::turns::Turn;
-use super::{busy, conflicts, listings, memory, monitors, races, turns, waits};
+use super::{busy, conflicts, listings, memory, monitors, races, turns, waits_of_two};
 use lock_manager::Part;
 use shared_rule::Board;
 use std::process::Abort;
@@ -54,15 +54,15 @@ pub fn perform<B: Board<Part> + Send, R: Abort + Threads + Wait + Sync + Print>(
             conflicts::ask_for_all(rt, &mut pair);
             pair
         }
-        Scene::LeavesAsAsked => waits::leave_as_asked(rt, pair),
+        Scene::LeavesAsAsked => waits_of_two::leave_as_asked(rt, pair),
         Scene::EndsAllWaits => monitors::end_all_waits(rt, pair),
-        Scene::CancelsTooLate => waits::cancel_too_late(rt, pair),
-        Scene::LooksTooLate => waits::look_too_late(rt, pair),
-        Scene::WaitsAsAsked => waits::wait_as_asked(rt, pair),
-        Scene::WaitsForNothing => waits::wait_for_nothing(rt, pair),
-        Scene::AnsweredAtOnce => waits::answer_at_once(rt, pair),
-        Scene::SimpleDeadlock => waits::refuse_a_simple_deadlock(rt, pair),
-        Scene::Sleeps { asks } => waits::sleep_in_a_thread(rt, pair, asks),
+        Scene::CancelsTooLate => waits_of_two::cancel_too_late(rt, pair),
+        Scene::LooksTooLate => waits_of_two::look_too_late(rt, pair),
+        Scene::WaitsAsAsked => waits_of_two::wait_as_asked(rt, pair),
+        Scene::WaitsForNothing => waits_of_two::wait_for_nothing(rt, pair),
+        Scene::AnsweredAtOnce => waits_of_two::answer_at_once(rt, pair),
+        Scene::SimpleDeadlock => waits_of_two::refuse_a_simple_deadlock(rt, pair),
+        Scene::Sleeps { asks } => waits_of_two::sleep_in_a_thread(rt, pair, asks),
         Scene::ListsMany => {
             listings::list_many(rt, &mut pair);
             pair

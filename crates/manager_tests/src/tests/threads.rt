@@ -1,4 +1,4 @@
-//! Sessions in threads of their own, each of which sees by a table of the test that no two conflicting grants stand
+//! Sessions in threads of their own, each of which sees by a table of the test that no two conflicting modes are held
 //! at a time.
 
 ghost use Rattle.std.specs.Prelude.{◌≡◌, ◌<◌, ◌≤◌};
@@ -57,7 +57,8 @@ impl Plan {
     }
 }
 
-// Nobody has the object in a mode that conflicts with the one at this place.
+/// Ends the test where `modes` say that somebody has the object numbered `object` in a mode that conflicts with that at
+/// `place`.
 fn expect_free<R: Abort>(rt: &R, modes: &Modes, object: usize, place: usize)
     requires place { place < 8 }
 {
@@ -67,7 +68,7 @@ fn expect_free<R: Abort>(rt: &R, modes: &Modes, object: usize, place: usize)
     }
 }
 
-// Enters a grant once it is had.
+/// Enters in `holders` that the object numbered `object` was granted in the mode at `place`.
 fn enter<R: Abort + Wait>(rt: &R, holders: &Mutex<Holders>, object: usize, place: usize)
     requires object { object < 4 }
     requires place { place < 8 }
@@ -77,7 +78,7 @@ fn enter<R: Abort + Wait>(rt: &R, holders: &Mutex<Holders>, object: usize, place
     all[object][place] = all[object][place].saturating_add(1);
 }
 
-// Takes it out before it is given back.
+/// Takes a grant of the object numbered `object` in the mode at `place` out of `holders`, before it is given back.
 fn take_out<R: Abort + Wait>(rt: &R, holders: &Mutex<Holders>, object: usize, place: usize)
     requires object { object < 4 }
     requires place { place < 8 }
@@ -87,7 +88,7 @@ fn take_out<R: Abort + Wait>(rt: &R, holders: &Mutex<Holders>, object: usize, pl
     all[object][place] = all[object][place].saturating_sub(1);
 }
 
-// The mode is one that conflicts with the one at this place.
+/// Ends the test unless `mode` conflicts with that at `place`.
 fn expect_in_the_way<R: Abort>(rt: &R, mode: Mode, place: usize)
     requires place { place < 8 }
 {
@@ -97,7 +98,8 @@ fn expect_in_the_way<R: Abort>(rt: &R, mode: Mode, place: usize)
     }
 }
 
-// A refusal names another session, which holds a conflicting mode.
+/// Ends the test unless `refusal` names another session than `own`, which holds a mode that conflicts with that at
+/// `place`.
 fn expect_conflict<R: Abort>(rt: &R, refusal: Refusal, own: SessionId, place: usize)
     requires place { place < 8 }
 {

@@ -62,7 +62,7 @@ pub enum Who {
     Second,
 }
 
-/// What is told of `refusal`, which may name a hold in the way.
+/// The answer that a list of turns has for `refusal`, which may name a hold in the way.
 fn refused(refusal: Refusal) -> Answer {
     let Refusal::Conflict { session, mode, how } = refusal else {
         return Answer::Refused(refusal.number());
@@ -74,7 +74,7 @@ fn refused(refusal: Refusal) -> Answer {
     }
 }
 
-/// What is told of `answer`, to a request for a mode.
+/// The answer that a list of turns has for `answer`, to a request for a mode.
 fn taken(answer: Result<Acquired, Refusal>) -> Answer {
     match answer {
         Ok(Acquired::Granted) => Answer::Granted,
@@ -83,7 +83,7 @@ fn taken(answer: Result<Acquired, Refusal>) -> Answer {
     }
 }
 
-/// What is told of `answer`, to a release.
+/// The answer that a list of turns has for `answer`, to a release.
 fn given_back(answer: Result<Unlocked, Refusal>) -> Answer {
     match answer {
         Ok(Unlocked::Released) => Answer::Released,
@@ -92,7 +92,7 @@ fn given_back(answer: Result<Unlocked, Refusal>) -> Answer {
     }
 }
 
-/// What is told of `answer`, a listing: how many rows it has.
+/// The answer that a list of turns has for `answer`, a listing: how many rows it has.
 fn listed(answer: Result<Listing, Refusal>) -> Answer {
     match answer {
         Ok(listing) => Answer::Rows {
@@ -126,7 +126,7 @@ fn acquire_in_looks<T: PartTable, B: Board<T>, R: Wait>(
     })
 }
 
-/// Makes `call` with `session` the time `time`, and answers what is told of it.
+/// Makes `call` with `session` the time `time`, and answers as a list of turns says it.
 fn make<T: PartTable, B: Board<T>, R: Wait>(
     rt: &R,
     session: &mut OwnSession<T, B>,

@@ -1,22 +1,16 @@
-//! Sessions that wait: how a wait begins, is seen by others, and ends, on one thread and between two.
+//! Sessions that wait for one table: how a wait begins, is looked at, asked to cancel and seen by others.
 
 ghost use Rattle.std.specs.Prelude.{◌≡◌};
 
-use super::answers::{
-    Answer, expect_acted, expect_answer, expect_granted, expect_released, expect_seen,
-};
-use super::deeds::{Deed, act_side_by_side};
-use super::pair::Pair;
+use super::answers::{expect_answer, expect_granted, expect_released};
 use lock_manager::{
-    Acquired, Asked, Mode, OwnSession, OwnWaiting, Owner, Part, Polled, Refusal, SessionId,
-    Started, TableRow, Tag,
+    Asked, Mode, OwnSession, OwnWaiting, Owner, Polled, Refusal, SessionId, Started, TableRow, Tag,
 };
 use lock_table::PartTable;
 use shared_rule::Board;
 use std::process::Abort;
 use std::sync::Wait;
 use std::thread;
-use std::thread::Threads;
 
 pub const TABLE: Tag = Tag::Relation {
     database: 5,
@@ -63,67 +57,6 @@ pub fn queue<T: PartTable, B: Board<T>, R: Abort + Wait>(
     }
 }
 
-/// Takes the table in `mode` with `session`, or is refused it, with no wait for it. Ends the test where that isn't
-/// answered `expected`.
-fn start_as<T: PartTable, B: Board<T>, R: Abort + Wait>(
-    rt: &R,
-    session: OwnSession<T, B>,
-    mode: Mode,
-    expected: Answer,
-) -> OwnSession<T, B>
-    ensures seat { B.seat result.board ≡ B.seat session.board }
-{
-    let (session, answer) = match session.start(rt, TABLE, mode, OWNER) {
-        Started::Granted(session) => (session, Ok(Acquired::Granted)),
-        Started::AlreadyHeld(session) => (session, Ok(Acquired::AlreadyHeld)),
-        Started::Refused(session, refusal) => (session, Err(refusal)),
-        Started::Queued(_) => panic!(rt; "queued"),
-    };
-    expect_answer(rt, answer, expected);
-    session
-}
-
-/// Takes the table in `mode` with `session`, and waits for it where it must. Ends the test where that isn't answered
-/// `expected`.
-fn lock_as<T: PartTable, B: Board<T>, R: Abort + Wait>(
-    rt: &R,
-    session: OwnSession<T, B>,
-    mode: Mode,
-    expected: Answer,
-) -> OwnSession<T, B>
-    ensures seat { B.seat result.board ≡ B.seat session.board }
-{
-    let (session, answer) = session.lock(rt, TABLE, mode, OWNER).into_parts();
-    expect_answer(rt, answer, expected);
-    session
-}
-
-/// Waits until `waiting` is over. Ends the test where that isn't answered `expected`.
-fn wait_as<T: PartTable, B: Board<T>, R: Abort + Wait>(
-    rt: &R,
-    waiting: OwnWaiting<T, B>,
-    expected: Answer,
-) -> OwnSession<T, B>
-    ensures seat { B.seat result.board ≡ B.seat waiting.board }
-{
-    let (session, answer) = waiting.wait(rt).into_parts();
-    expect_answer(rt, answer, expected);
-    session
-}
-
-/// Finds `waiting` granted.
-fn find_granted<T: PartTable, B: Board<T>, R: Abort>(
-    rt: &R,
-    waiting: OwnWaiting<T, B>,
-) -> OwnSession<T, B>
-    ensures seat { B.seat result.board ≡ B.seat waiting.board }
-{
-    match waiting.poll() {
-        Polled::Granted(session) => session,
-        _ => panic!(rt; "not granted"),
-    }
-}
-
 /// Finds that `waiting` goes on, and whether another session asked to cancel it, as `is_asked` says.
 pub fn find_still<T: PartTable, B: Board<T>, R: Abort>(
     rt: &R,
@@ -139,26 +72,6 @@ pub fn find_still<T: PartTable, B: Board<T>, R: Abort>(
     };
     assert!(rt; was_asked == is_asked);
     waiting
-}
-
-/// Has a wait be seen by the holder, asked to cancel, and left; what was asked before it stands for nothing.
-pub fn leave_as_asked<T: PartTable, B: Board<T>, R: Abort + Wait>(
-    rt: &R,
-    pair: Pair<T, B>,
-) -> Pair<T, B>
-    ensures first { B.seat result.first.board ≡ B.seat pair.first.board }
-    ensures second { B.seat result.second.board ≡ B.seat pair.second.board }
-{
-    let Pair { mut first, second } = pair;
-    let number = second.id();
-    take(rt, &mut first, Mode::Exclusive);
-    ask(rt, &mut first, number, Asked::NotWaiting);
-    let waiting = find_still(rt, queue(rt, second, Mode::RowShare), false);
-    see_waiters(rt, &mut first, Mode::Exclusive);
-    ask(rt, &mut first, number, Asked::Waiting);
-    let second = leave(rt, find_still(rt, waiting, true));
-    give_back(rt, &mut first, Mode::Exclusive);
-    Pair { first, second }
 }
 
 /// Asks the session numbered `number` to cancel, with `session`. Ends the test where that isn't answered `asked`.
@@ -195,19 +108,6 @@ pub fn ask_until_heard<T: PartTable, B: Board<T>, R: Wait>(
     }
 }
 
-/// Sees that somebody waits for the table, in a mode that conflicts with `mode`, which `session` has.
-fn see_waiters<T: PartTable, B: Board<T>, R: Abort + Wait>(
-    rt: &R,
-    session: &mut OwnSession<T, B>,
-    mode: Mode,
-)
-    ensures seat { B.seat session.new.board ≡ B.seat session.old.board }
-{
-    expect_seen(rt, session.has_waiters(rt, TABLE, mode), Ok(true));
-    let not_held = session.has_waiters(rt, TABLE, Mode::AccessShare);
-    expect_seen(rt, not_held, Err(Refusal::NotHeld));
-}
-
 /// Takes `waiting` out of the queue.
 pub fn leave<T: PartTable, B: Board<T>, R: Abort + Wait>(
     rt: &R,
@@ -218,122 +118,6 @@ pub fn leave<T: PartTable, B: Board<T>, R: Abort + Wait>(
     let (session, answer) = waiting.cancel(rt).into_parts();
     expect_answer(rt, answer, Err(Refusal::Cancelled));
     session
-}
-
-/// Has a wait be cancelled after it was granted: it has the mode.
-pub fn cancel_too_late<T: PartTable, B: Board<T>, R: Abort + Wait>(
-    rt: &R,
-    pair: Pair<T, B>,
-) -> Pair<T, B>
-    ensures first { B.seat result.first.board ≡ B.seat pair.first.board }
-    ensures second { B.seat result.second.board ≡ B.seat pair.second.board }
-{
-    let Pair { mut first, second } = pair;
-    let number = second.id();
-    take(rt, &mut first, Mode::Share);
-    let waiting = queue(rt, second, Mode::AccessExclusive);
-    give_back(rt, &mut first, Mode::Share);
-    ask(rt, &mut first, number, Asked::NotWaiting);
-    let (mut second, answer) = waiting.cancel(rt).into_parts();
-    expect_answer(rt, answer, Ok(Acquired::Granted));
-    give_back(rt, &mut second, Mode::AccessExclusive);
-    Pair { first, second }
-}
-
-/// Has a wait be granted before it looks: it is found granted.
-pub fn look_too_late<T: PartTable, B: Board<T>, R: Abort + Wait>(
-    rt: &R,
-    pair: Pair<T, B>,
-) -> Pair<T, B>
-    ensures first { B.seat result.first.board ≡ B.seat pair.first.board }
-    ensures second { B.seat result.second.board ≡ B.seat pair.second.board }
-{
-    let Pair { mut first, second } = pair;
-    take(rt, &mut first, Mode::AccessExclusive);
-    let waiting = queue(rt, second, Mode::AccessShare);
-    give_back(rt, &mut first, Mode::AccessExclusive);
-    let mut second = find_granted(rt, waiting);
-    give_back(rt, &mut second, Mode::AccessShare);
-    Pair { first, second }
-}
-
-/// Has a wait be asked to cancel before it sleeps: it is over at once.
-pub fn wait_as_asked<T: PartTable, B: Board<T>, R: Abort + Wait>(
-    rt: &R,
-    pair: Pair<T, B>,
-) -> Pair<T, B>
-    ensures first { B.seat result.first.board ≡ B.seat pair.first.board }
-    ensures second { B.seat result.second.board ≡ B.seat pair.second.board }
-{
-    let Pair { mut first, second } = pair;
-    let number = second.id();
-    take(rt, &mut first, Mode::Exclusive);
-    let waiting = queue(rt, second, Mode::Share);
-    ask(rt, &mut first, number, Asked::Waiting);
-    let second = wait_as(rt, waiting, Err(Refusal::Cancelled));
-    give_back(rt, &mut first, Mode::Exclusive);
-    Pair { first, second }
-}
-
-/// Has a wait be granted before it sleeps: it is over at once.
-pub fn wait_for_nothing<T: PartTable, B: Board<T>, R: Abort + Wait>(
-    rt: &R,
-    pair: Pair<T, B>,
-) -> Pair<T, B>
-    ensures first { B.seat result.first.board ≡ B.seat pair.first.board }
-    ensures second { B.seat result.second.board ≡ B.seat pair.second.board }
-{
-    let Pair { mut first, second } = pair;
-    take(rt, &mut first, Mode::Exclusive);
-    let waiting = queue(rt, second, Mode::Share);
-    give_back(rt, &mut first, Mode::Exclusive);
-    let mut second = wait_as(rt, waiting, Ok(Acquired::Granted));
-    give_back(rt, &mut second, Mode::Share);
-    Pair { first, second }
-}
-
-/// Asks with `pair` for what needs no wait, which is answered at once.
-pub fn answer_at_once<T: PartTable, B: Board<T>, R: Abort + Wait>(
-    rt: &R,
-    pair: Pair<T, B>,
-) -> Pair<T, B>
-    ensures first { B.seat result.first.board ≡ B.seat pair.first.board }
-    ensures second { B.seat result.second.board ≡ B.seat pair.second.board }
-{
-    let Pair { first, second } = pair;
-    let first = start_as(rt, first, Mode::Exclusive, Ok(Acquired::Granted));
-    let first = start_as(rt, first, Mode::Exclusive, Ok(Acquired::AlreadyHeld));
-    let first = lock_as(rt, first, Mode::Exclusive, Ok(Acquired::AlreadyHeld));
-    let mut first = lock_as(rt, first, Mode::Share, Ok(Acquired::Granted));
-    let oneself = first.id();
-    ask(rt, &mut first, oneself, Asked::NotWaiting);
-    first.commit(rt);
-    Pair { first, second }
-}
-
-/// Has both sessions of `pair` take a mode and want a higher one: the second that asks is refused, and the first one
-/// is granted.
-pub fn refuse_a_simple_deadlock<T: PartTable, B: Board<T>, R: Abort + Wait>(
-    rt: &R,
-    pair: Pair<T, B>,
-) -> Pair<T, B>
-    ensures first { B.seat result.first.board ≡ B.seat pair.first.board }
-    ensures second { B.seat result.second.board ≡ B.seat pair.second.board }
-{
-    let Pair {
-        mut first,
-        mut second,
-    } = pair;
-    take(rt, &mut first, Mode::Share);
-    take(rt, &mut second, Mode::Share);
-    let waiting = queue(rt, first, Mode::Exclusive);
-    let session = waiting.id();
-    let deadlock = Refusal::SimpleDeadlock { session };
-    let mut second = lock_as(rt, second, Mode::Exclusive, Err(deadlock));
-    second.abort(rt);
-    let mut first = find_granted(rt, waiting);
-    first.abort(rt);
-    Pair { first, second }
 }
 
 /// Whether the wait for the table of the session numbered `number` is among `rows`.
@@ -375,30 +159,4 @@ pub fn see_wait<T: PartTable, B: Board<T>, R: Wait>(
         }
         thread::yield_now();
     }
-}
-
-/// Has a session sleep in its thread until the other one of `pair`, in another thread, gives back, or asks it to
-/// cancel where `asks`.
-pub fn sleep_in_a_thread<B: Board<Part> + Send, R: Abort + Threads + Wait + Sync>(
-    rt: &R,
-    pair: Pair<Part, B>,
-    asks: bool,
-) -> Pair<Part, B>
-    ensures first { B.seat result.first.board ≡ B.seat pair.first.board }
-    ensures second { B.seat result.second.board ≡ B.seat pair.second.board }
-{
-    let mut pair = pair;
-    let number = pair.second.id();
-    let (deed, expected) = if asks {
-        (Deed::AskOnceAwaited(number), Err(Refusal::Cancelled))
-    } else {
-        let gives_back = Deed::GiveBackOnceAwaited(number, Mode::AccessExclusive);
-        (gives_back, Ok(Acquired::Granted))
-    };
-    take(rt, &mut pair.first, Mode::AccessExclusive);
-    let (mut pair, _, answer) = act_side_by_side(rt, pair, deed, Deed::Lock(Mode::AccessShare));
-    expect_acted(rt, answer, expected);
-    pair.second.commit(rt);
-    pair.first.commit(rt);
-    pair
 }

@@ -20,7 +20,7 @@ use std::thread::{Threads, join_mut};
 /// How often a processor is left to others in a pause.
 const PAUSE: u32 = 20_000;
 
-/// Leaves the processor to others, so that whoever was about to sleep does so.
+/// Leaves the processor to others, so that a thread that was about to sleep does so.
 pub fn pause() {
     for _ in 0..PAUSE {
         thread::yield_now();
@@ -61,7 +61,8 @@ fn sleep_until_asked<T: PartTable, B: Board<T>, R: Abort + Wait>(
     expect_answer(rt, answer, Err(Refusal::Cancelled));
 }
 
-/// Takes the wait `ahead`, which is lent, out of the queue, once the session numbered `number` sleeps behind it.
+/// Takes the wait `ahead`, which is lent, out of the queue, once the session numbered `number` sleeps after it in the
+/// queue.
 fn leave_once_asleep<T: PartTable, B: Board<T>, R: Abort + Wait>(
     rt: &R,
     holder: &mut OwnSession<T, B>,
@@ -101,8 +102,9 @@ fn leave_side_by_side<B: Board<Part> + Send, R: Abort + Threads + Wait + Sync>(
     left
 }
 
-/// Has a session take the table, one wait for it in a mode that conflicts, and one sleep behind that, which only the
-/// wait ahead of it stops. That wait is cancelled, and lets it go.
+/// Has three sessions of `desk` want one table: the first one holds it, the second one waits for a mode that
+/// conflicts, and the third one sleeps, since only that wait is in its way. The wait is cancelled, and the third
+/// session goes on.
 pub fn let_go_by_a_cancel<
     B: Board<Part> + Send,
     D: Desk<OwnSession<Part, B>>,

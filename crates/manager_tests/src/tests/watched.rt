@@ -1,4 +1,4 @@
-//! A board over another one, with somebody who watches it.
+//! A board over another one, with a watch that hears of each call on it.
 
 ghost use Rattle.std.specs.Prelude.{◌≡◌};
 
@@ -8,16 +8,16 @@ use modes_core::{Mode, SessionId, Tag};
 use shared_rule::{Board, Busy};
 use std::sync::Wait;
 
-/// Is told of all that is done on a board.
+/// Hears of each call on a board.
 pub trait Watch {
-    /// Something is to be done.
+    /// A call begins.
     fn before(&self);
 
-    /// It is done.
+    /// A call has ended.
     fn after(&self);
 }
 
-/// A board of which somebody is told all that is done on it, but for what it tells of itself.
+/// A board whose watch hears of each call on it, but for those that only ask what it is.
 #[derive(Drop)]
 pub struct WatchedBoard<B, W> {
     board: B,

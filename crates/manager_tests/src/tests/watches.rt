@@ -1,5 +1,5 @@
 //! Listings beside sessions that lock and unlock. Whatever a row says was so at some time during the listing, and a
-//! hold that stood all the while has a row. Strong requests move holds from slots to the table meanwhile.
+//! hold that was there all the while has a row. Strong requests move holds from slots to the table meanwhile.
 
 ghost use Rattle.std.specs.Prelude.{◌≡◌, ◌<◌};
 ghost use Rattle.lock_manager.specs.Managers.{ManagerView};
@@ -22,7 +22,7 @@ pub const SESSIONS: u32 = 4;
 
 const LISTINGS: u32 = 1_000;
 
-/// How often a session disturbs the next one while it has its own hold, which so stands longer than a listing takes.
+/// How often a session disturbs the next one while it has its own hold, which so lasts longer than a listing takes.
 const DISTURBANCES: u32 = 8;
 
 /// What each session says of its hold on its relation, by numbers that rise.
@@ -154,14 +154,14 @@ fn rows_of(listing: &Listing, place: usize) -> u32
     rows
 }
 
-/// Ends the test unless `rows` is how many rows there can be of a hold that `never` stood meanwhile, or stood
+/// Ends the test unless `rows` is how many rows there can be of a hold that was `never` there meanwhile, or was there
 /// `throughout`.
 fn expect_rows_of<R: Abort>(rt: &R, rows: u32, never: bool, throughout: bool) {
     assert!(rt; rows <= 2, "{rows} rows of one hold");
     assert!(rt; !never || rows == 0, "a row of a hold that nobody had");
     assert!(rt;
         !throughout || rows > 0,
-        "no row of a hold that stood all the while"
+        "no row of a hold that was there all the while"
     );
 }
 

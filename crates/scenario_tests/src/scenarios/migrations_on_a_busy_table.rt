@@ -200,7 +200,8 @@ const A_PARTITION_DETACHED_CONCURRENTLY: Row<'static> = (
 # DETACH PARTITION .. CONCURRENTLY keeps nobody waiting who reads or writes the parent: its first transaction has ShareUpdateExclusiveLock
 # and commits. Then it waits, with no lock, until each transaction that uses the parent has ended, and takes AccessExclusiveLock on the partition
 # alone at last. So a report that is open on the parent holds it up, and only who reads the partition itself can come into its way.
-# 5/16384 is the parent, events, and 5/16387 the partition, events_2025. An advisory lock stands for the report's virtual transaction.
+# 5/16384 is the parent, events, and 5/16387 the partition, events_2025. Advisory locks stand for the virtual transactions of
+# the report and the job.
 session report 5
 session detach 5
 session web 5
@@ -218,6 +219,7 @@ lock detach adv/5/0/1/1 ShareLock
 lock web 5/16384 RowExclusiveLock
 commit web
 # job: BEGIN; SELECT count(*) FROM events_2025; it reads the partition by its own name, which is not waited for.
+lock job adv/5/0/2/1 ExclusiveLock
 lock job 5/16387 AccessShareLock
 # report: COMMIT; the detach goes on, and waits for the job.
 commit report
@@ -247,6 +249,7 @@ detach: waits
 web: granted
 web: committed
 job: granted
+job: granted
 report: committed
 detach: granted after waiting
 detach: released
@@ -254,10 +257,11 @@ detach: granted
 detach: waits
 web: granted
 web: committed
+table job adv/5/0/2/1 ExclusiveLock granted
 table detach 5/16384 ShareUpdateExclusiveLock granted
 table detach 5/16387 AccessExclusiveLock awaited
 table job 5/16387 AccessShareLock granted
-rows 3
+rows 4
 job: committed
 detach: granted after waiting
 detach: committed
@@ -272,7 +276,7 @@ const A_BUILD_BEHIND_A_FORGOTTEN_TRANSACTION: Row<'static> = (
 # CREATE INDEX CONCURRENTLY waits at last for older snapshots, whatever table they are for. So a transaction that was forgotten, and has
 # never touched the table, holds the build up. Reads and writes of the table go on. What queues behind the build, as a VACUUM, waits with it,
 # until somebody ends the forgotten session. An advisory lock stands for its snapshot: it takes it where it begins, and the build asks
-# for it in ShareLock.
+# for it in ShareLock. Who reads or writes the table meanwhile locks the new index too, 5/16393.
 session forgotten 5
 session builder 5
 session web 5
@@ -285,9 +289,11 @@ lock builder 5/16384 ShareUpdateExclusiveLock session
 lock builder adv/5/0/1/1 ShareLock
 # web: SELECT * FROM accounts WHERE id = 1;
 lock web 5/16384 AccessShareLock
+lock web 5/16393 AccessShareLock
 commit web
 # web: UPDATE accounts SET balance = 0 WHERE id = 1;
 lock web 5/16384 RowExclusiveLock
+lock web 5/16393 RowExclusiveLock
 commit web
 # vacuum: VACUUM accounts;
 lock vacuum 5/16384 ShareUpdateExclusiveLock
@@ -298,6 +304,7 @@ blockers web vacuum 5/16384
 close forgotten
 commit builder
 unlock builder 5/16384 ShareUpdateExclusiveLock session
+lock vacuum 5/16393 RowExclusiveLock
 commit vacuum
 ",
     "\
@@ -310,7 +317,9 @@ forgotten: granted
 builder: granted
 builder: waits
 web: granted
+web: granted
 web: committed
+web: granted
 web: granted
 web: committed
 vacuum: waits
@@ -321,6 +330,7 @@ builder: granted after waiting
 builder: committed
 builder: released
 vacuum: granted after waiting
+vacuum: granted
 vacuum: committed
 ",
     "",

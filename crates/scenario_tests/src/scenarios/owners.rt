@@ -22,6 +22,8 @@ lock web 5/16384 AccessShareLock
 list migration
 # migration: ROLLBACK TO SAVEPOINT try;
 subabort migration
+# The savepoint is there again: what comes next belongs to its level.
+begin migration
 list migration
 # migration: COMMIT;
 commit migration
@@ -39,6 +41,7 @@ table web 5/16384 AccessShareLock awaited
 rows 3
 migration: level 1
 web: granted after waiting
+migration: level 2
 fast migration 15 5/16385 RowExclusiveLock
 table web 5/16384 AccessShareLock granted
 rows 2

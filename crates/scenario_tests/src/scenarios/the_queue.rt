@@ -231,7 +231,8 @@ const AN_INDEX_BUILT_CONCURRENTLY: Row<'static> = (
 # writes go on beside it. But it waits until each transaction that has written the table has ended. So a writer that sits idle in its
 # transaction stops the build, and a VACUUM of the table waits behind the build.
 # The server waits for the writer's virtual transaction, which is no lock of this manager. An advisory lock stands for it here: the writer
-# takes it at its BEGIN, and the build asks for it in ShareLock.
+# takes it at its BEGIN, and the build asks for it in ShareLock. The new index, 5/16385, is there while it is built, and who plans an UPDATE or a
+# VACUUM of the table locks it too.
 session writer 5
 session builder 5
 session web 5
@@ -244,6 +245,7 @@ lock builder 5/16384 ShareUpdateExclusiveLock session
 lock builder adv/5/0/1/1 ShareLock
 # web: UPDATE accounts SET balance = 0 WHERE id = 2;
 lock web 5/16384 RowExclusiveLock
+lock web 5/16385 RowExclusiveLock
 commit web
 # vacuum: VACUUM accounts;
 lock vacuum 5/16384 ShareUpdateExclusiveLock
@@ -253,12 +255,51 @@ list web
 commit writer
 commit builder
 unlock builder 5/16384 ShareUpdateExclusiveLock session
+lock vacuum 5/16385 RowExclusiveLock
 commit vacuum
+",
+    "\
+writer: session 0 database 5
+builder: session 1 database 5
+web: session 2 database 5
+vacuum: session 3 database 5
+writer: granted
+writer: granted
+builder: granted
+builder: waits
+web: granted
+web: granted
+web: committed
+vacuum: waits
+fast writer 15 5/16384 RowExclusiveLock
+table writer adv/5/0/1/1 ExclusiveLock granted
+table builder adv/5/0/1/1 ShareLock awaited
+table builder 5/16384 ShareUpdateExclusiveLock granted
+table vacuum 5/16384 ShareUpdateExclusiveLock awaited
+rows 5
+writer: committed
+builder: granted after waiting
+builder: committed
+builder: released
+vacuum: granted after waiting
+vacuum: granted
+vacuum: committed
+",
+    "",
+);
 
-# An ALTER TABLE waits behind the build too, and has a snapshot meanwhile. Before its end the build waits for older snapshots,
-# so each waits for the other. An advisory lock stands for that snapshot. The server finds the deadlock after deadlock_timeout, and ends
-# one of the two with an error: here the build.
+/// `an_alter_behind_an_index_build.scn`.
+const AN_ALTER_BEHIND_AN_INDEX_BUILD: Row<'static> = (
+    0,
+    "\
+# An ALTER TABLE waits behind a CREATE INDEX CONCURRENTLY, and has a snapshot meanwhile. Before its end the build waits for older snapshots,
+# so each waits for the other. Advisory locks stand for the writer's virtual transaction and for that snapshot. The server finds the deadlock
+# after deadlock_timeout, and ends one of the two with an error: here the build.
+session writer 5
+session builder 5
 session alter 5
+session web 5
+session clock 5
 # writer: BEGIN; UPDATE accounts SET balance = 0 WHERE id = 1;
 lock writer adv/5/0/1/1 ExclusiveLock
 lock writer 5/16384 RowExclusiveLock
@@ -275,7 +316,7 @@ commit writer
 commit builder
 lock builder adv/5/0/2/1 ShareLock
 # The build leaves an invalid index behind.
-cancel vacuum builder
+cancel clock builder
 abort builder
 commit alter
 commit web
@@ -283,28 +324,9 @@ commit web
     "\
 writer: session 0 database 5
 builder: session 1 database 5
-web: session 2 database 5
-vacuum: session 3 database 5
-writer: granted
-writer: granted
-builder: granted
-builder: waits
-web: granted
-web: committed
-vacuum: waits
-fast writer 15 5/16384 RowExclusiveLock
-table writer adv/5/0/1/1 ExclusiveLock granted
-table builder adv/5/0/1/1 ShareLock awaited
-table builder 5/16384 ShareUpdateExclusiveLock granted
-table vacuum 5/16384 ShareUpdateExclusiveLock awaited
-rows 5
-writer: committed
-builder: granted after waiting
-builder: committed
-builder: released
-vacuum: granted after waiting
-vacuum: committed
-alter: session 4 database 5
+alter: session 2 database 5
+web: session 3 database 5
+clock: session 4 database 5
 writer: granted
 writer: granted
 builder: granted
@@ -316,7 +338,7 @@ writer: committed
 builder: granted after waiting
 builder: committed
 builder: waits
-vacuum: asked builder
+clock: asked builder
 builder: cancelled
 builder: aborted
 alter: granted after waiting
@@ -332,7 +354,7 @@ const TWO_INDEX_BUILDS_OVER_TWO_WRITERS: Row<'static> = (
     0,
     "\
 # Two index builds of one table. Both wait for the writes that go on, and for neither of them alone: the last one to end lets both
-# builds go, side by side. A write that comes later waits for both.
+# builds go, side by side. A write that comes later waits for both. Each build locks its new index too, which nobody else knows.
 session writer1 5
 session writer2 5
 session index1 5
@@ -353,7 +375,9 @@ list writer1
 commit writer1
 # writer2: COMMIT;
 commit writer2
+lock index1 5/16385 AccessExclusiveLock
 commit index1
+lock index2 5/16386 AccessExclusiveLock
 commit index2
 commit late
 ",
@@ -378,7 +402,9 @@ writer1: committed
 writer2: committed
 index1: granted after waiting
 index2: granted after waiting
+index1: granted
 index1: committed
+index2: granted
 index2: committed
 late: granted after waiting
 late: committed
@@ -444,14 +470,15 @@ const AN_INSERT_CHECKS_A_FOREIGN_KEY: Row<'static> = (
     0,
     "\
 # Orders (5/16385) refer to customers (5/16384). An INSERT into orders locks both tables: its own in RowExclusiveLock, and
-# for the check of the foreign key customers in RowShareLock. So an ALTER TABLE of customers waits for it, and a read of
-# customers waits for the ALTER.
+# for the check of the foreign key customers in RowShareLock, with the index of its primary key (5/16386). So an ALTER TABLE of customers waits
+# for it, and a read of customers waits for the ALTER.
 session shop 5
 session admin 5
 session report 5
 # shop: BEGIN; INSERT INTO orders VALUES (1, 7);
 lock shop 5/16385 RowExclusiveLock
 lock shop 5/16384 RowShareLock
+lock shop 5/16386 RowShareLock
 # admin: ALTER TABLE customers ADD COLUMN note text;
 lock admin 5/16384 AccessExclusiveLock
 # report: SELECT * FROM customers;
@@ -459,6 +486,7 @@ lock report 5/16384 AccessShareLock
 # shop: COMMIT;
 commit shop
 commit admin
+lock report 5/16386 AccessShareLock
 commit report
 ",
     "\
@@ -467,12 +495,14 @@ admin: session 1 database 5
 report: session 2 database 5
 shop: granted
 shop: granted
+shop: granted
 admin: waits
 report: waits
 shop: committed
 admin: granted after waiting
 admin: committed
 report: granted after waiting
+report: granted
 report: committed
 ",
     "",
@@ -574,12 +604,13 @@ a: you don't own a lock of type ExclusiveLock
 );
 
 /// All of them.
-pub static ROWS: [Row<'static>; 10] = [
+pub static ROWS: [Row<'static>; 11] = [
     ALTER_BEHIND_A_LONG_READ,
     A_CONVOY_BEHIND_AN_IDLE_TRANSACTION,
     A_MIGRATION_THAT_NEVER_WAITS,
     AN_INDEX_BUILD_STOPS_THE_WRITERS,
     AN_INDEX_BUILT_CONCURRENTLY,
+    AN_ALTER_BEHIND_AN_INDEX_BUILD,
     TWO_INDEX_BUILDS_OVER_TWO_WRITERS,
     A_DUMP_AGAINST_A_TRUNCATE,
     AN_INSERT_CHECKS_A_FOREIGN_KEY,

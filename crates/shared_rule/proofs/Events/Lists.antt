@@ -45,15 +45,15 @@ use Rattle.lw_word.specs.LightweightWord.{IsHeldByNobody, IsListLocked}
 use Rattle.lock_world.specs.Wakes.Owing.{IsLatest}
 use Rattle.lock_world.proofs.Wakes.Readings.{some-same}
 use Rattle.shared_rule.proofs.Orders.{latest-by, none-shared}
-use Rattle.shared_rule.proofs.Owings.{keeps-locking, keeps-unlocking, keeps-joining, keeps-leaving, keeps-setting_ok, keeps-flagging, lock-in_hand, tells-told}
+use Rattle.shared_rule.proofs.Owings.{keeps-locking, keeps-unlocking, keeps-joining, keeps-leaving, keeps-setting_ok, keeps-flagging, lock-in_hand, tells-told, calls-here}
 use Rattle.shared_rule.specs.Marks as mark
 use Rattle.shared_rule.specs.declared.history.History.{History}
 use Rattle.shared_rule.specs.declared.rule.Sizes.{Sizes}
 use Rattle.shared_rule.specs.declared.kept.Kept.{Kept}
 use Rattle.shared_rule.specs.declared.kept.Kept.TheVariants as kept
 use Rattle.shared_rule.specs.declared.layout.TheConstants.{TABLE_SLOTS}
-use Rattle.shared_rule.specs.declared.lw_lock.LwLock.{LwLock}
-use Rattle.shared_rule.specs.declared.lw_lock.LwLock.TheVariants.{OfPart, OfSlots}
+use Rattle.shared_rule.specs.declared.lw_locks.LwLock.{LwLock}
+use Rattle.shared_rule.specs.declared.lw_locks.LwLock.TheVariants.{OfPart, OfSlots}
 use Rattle.shared_rule.specs.Layout.{index_of_word, content_slot_of, list_slot_of, lock_count, IsInTable}
 use Rattle.shared_rule.specs.LwLocks.{word_of_lock, lock_number, LockExists, LockIsInTable}
 use Rattle.shared_rule.specs.Shown.{WordsAreShown, set_word}
@@ -61,7 +61,7 @@ use Rattle.shared_rule.specs.History.{told, noting, first_account, first_number,
 use Rattle.shared_rule.specs.Ruled.{IsHomeUnlessInHand, ContentsAreHome, IsInNoHand, ListIsAtHome, ListsAreHome, Ruled}
 use Rattle.shared_rule.specs.Plays.{Side, WentHome, TookList, LockedListOr, SawHeldOr}
 use Rattle.shared_rule.proofs.Shown.{words-set}
-use Rattle.shared_rule.proofs.Frame.{Stepper, IsNoted, ruled-steps, ruled-noted}
+use Rattle.shared_rule.proofs.Frame.{Stepper, IsNoted, sees_list_locked, sees_held, ruled-steps, ruled-noted}
 use Rattle.shared_rule.proofs.Events.Words.{IsAlwaysLawful, nothing-changes, looks-only}
 
 -- Steps on wait lists: locking one and unlocking it, joining and leaving, taking off and telling, and the flags.
@@ -364,7 +364,7 @@ module _ {T : Type 0} (content : T → Content) (sizes : Sizes) (x : History T) 
           words = refl;
           none_beyond = steps.none_beyond;
           few_counted = steps.few_counted x.number;
-          keeps = record { in_order = tt; asks = λ d is was. tt; todo_ = λ d is. is; flagged_ = λ d was. was };
+          keeps = record { in_order = tt; asks = λ d is was. tt; todo_ = λ d is. calls-here d x.number todo is other true; flagged_ = λ d was. was };
         };
         home = λ p none. (none, refl);
         lists = λ l nobody. (nobody, kept-beside w mine.lock _ lawful.has.in_hand l nobody);
@@ -385,7 +385,7 @@ module _ {T : Type 0} (content : T → Content) (sizes : Sizes) (x : History T) 
           words = refl;
           none_beyond = steps.none_beyond;
           few_counted = steps.few_counted x.number;
-          keeps = record { in_order = tt; asks = λ d is was. tt; todo_ = λ d is. is; flagged_ = λ d was. was };
+          keeps = record { in_order = tt; asks = λ d is was. tt; todo_ = λ d is. calls-here d x.number todo is other true; flagged_ = λ d was. was };
         };
         home = λ p none. (none, refl);
         lists = λ l nobody. (nobody, refl);
@@ -553,7 +553,7 @@ module _ {T : Type 0} (content : T → Content) (begun : T → Option Request) (
       tt,
       subst (λ k. Ruled content begun sizes (record { words = slice_set s.words at_word k; homes = s.homes; views = slice_set s.views id (noting me.0 (mark.SawListLocked (lock_number lock))) })) (sym (or-locked n locked))
           (looks-only content begun sizes id at_word me.0 x others is s r at_view (mark.SawListLocked (lock_number lock))
-          (lock_number lock, inl (refl, shown-locked r.world lock n (sym (r.words.word (word_of_lock lock) (lock-word_there lock there most_groups))) locked, fits))),
+          (sees_list_locked (lock_number lock) refl (shown-locked r.world lock n (sym (r.words.word (word_of_lock lock) (lock-word_there lock there most_groups))) locked) fits)),
       (
         (λ unlocked. absurd (locked unlocked)),
         (λ _ other also same.
@@ -626,8 +626,8 @@ module _ {T : Type 0} (content : T → Content) (begun : T → Option Request) (
       (unlocks_list has_waiters release_ok list sized known carried waiters_stay release_stays well (step slots at_word (kept_bits has_waiters release_ok) 0 none))))
 
   -- A load sees whether the lock is held.
-  sees_held : NoneOr (todo_told_by x.number x.marks).tries (lock_number lock) → (its : Step (Kept T)) → its.word ≡ at_word → Allows (Ruled content begun sizes) slots id me at_word (λ n. n) (SawHeldOr its me)
-  sees_held fits its word s r many at_view below = elim (cases_eq (n % 2 ^ 25) 0) [
+  sees_it_held : NoneOr (todo_told_by x.number x.marks).tries (lock_number lock) → (its : Step (Kept T)) → its.word ≡ at_word → Allows (Ruled content begun sizes) slots id me at_word (λ n. n) (SawHeldOr its me)
+  sees_it_held fits its word s r many at_view below = elim (cases_eq (n % 2 ^ 25) 0) [
     | inl free ↦ (
       me.0,
       keeps,
@@ -640,7 +640,7 @@ module _ {T : Type 0} (content : T → Content) (begun : T → Option Request) (
       keeps,
       tt,
       looks-only content begun sizes id at_word me.0 x others is s r at_view (mark.SawHeld (lock_number lock))
-          (lock_number lock, inr (refl, shown-held r.world lock n (sym (r.words.word (word_of_lock lock) (lock-word_there lock there most_groups))) held, fits)),
+          (sees_held (lock_number lock) refl (shown-held r.world lock n (sym (r.words.word (word_of_lock lock) (lock-word_there lock there most_groups))) held) fits),
       (
         (λ free. absurd (held free)),
         (λ _ other also same.
@@ -654,4 +654,4 @@ module _ {T : Type 0} (content : T → Content) (begun : T → Option Request) (
 
   pub sees_held_at : NoneOr (todo_told_by x.number x.marks).tries (lock_number lock) → (i : ℕ) → i ≡ at_word → Allows (Ruled content begun sizes) slots id me i (λ n. n) (SawHeldOr (step slots i 0 0 none) me)
   sees_held_at fits i at =
-      subst (λ k. Allows (Ruled content begun sizes) slots id me k (λ n. n) (SawHeldOr (step slots k 0 0 none) me)) (sym at) (sees_held fits (step slots at_word 0 0 none) refl)
+      subst (λ k. Allows (Ruled content begun sizes) slots id me k (λ n. n) (SawHeldOr (step slots k 0 0 none) me)) (sym at) (sees_it_held fits (step slots at_word 0 0 none) refl)

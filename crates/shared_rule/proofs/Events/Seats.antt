@@ -27,12 +27,15 @@ use Rattle.shared_rule.specs.History.{keeper, lone, spent_view, first_account}
 use Rattle.shared_rule.specs.Plays.{Side}
 use Rattle.shared_rule.specs.Openers.{HaveClosed}
 use Rattle.lock_world.specs.Account.{ListAccount}
-use Rattle.shared_rule.specs.Boards.{IsIdle}
+use Rattle.shared_rule.specs.Boards.{IsFree}
+use Rattle.shared_rule.specs.Owed.{first_owed, owed_told}
+use Rattle.shared_rule.specs.Tells.{AreTurnsTold, turns_of}
+use Rattle.shared_rule.proofs.Calls.{none-owed_call}
 use Rattle.shared_rule.specs.LwLocks.{no_lists}
 use Rattle.shared_rule.specs.Todos.{first_todo, nothing_to_do}
 use Rattle.shared_rule.proofs.Idle.{lists-told}
 use Rattle.shared_rule.proofs.Owings.{nothing-left}
-use Rattle.shared_rule.proofs.WakeSeats.{TellsTodo, TellsFlagged, wakes-seated, wakes-moved}
+use Rattle.shared_rule.proofs.WakeSeats.{TellsSo, each-tells, new-tells, wakes-seated, wakes-moved}
 use Rattle.shared_rule.specs.Ruled.{StandsAtSeat, HistoryIsShown, ClosedAreCounted, OpenerHasClosed, SeatsAreShown, StandsClosed, StepsAreTold, Ruled}
 use Rattle.shared_rule.proofs.ClosedCounts.{opener-set, counted-opened, counted-closed, counted-told}
 use Rattle.shared_rule.specs.Seats.{MayCloseBy, MayBeKeptApartBy, DoNotConflict, HasNumber, HasNext, HasLast, all_but_last, last_of, ToldClosed, IsForOne, IsForTwo, number_in, number_after, behind_of, opened, newcomer, with_closed, met, parted, handed_back, ToldApart}
@@ -142,20 +145,23 @@ module _ {T : Type 0} (content : T → Content) (begun : T → Option Request) (
       (opened-counted s r id view has.number at has.next)
       refl (told-opened s.views r.world.numbers r.events id view has.number at (r.seats.next id view has.number at has.next).1 r.steps)
       (closed-opened s.views r.world.numbers r.events id view has.number at (r.seats.next id view has.number at has.next).1 r.steps)
-      (wakes-seated s.views _ r.world (after_issuing r.world has.number) (record { session = has.number; step = SplitSeat }) r.safe (inl (may, refl)) r.wakes tt tt refl
-      (each-opened s.views r.world.numbers r.events id view has.number at may.next r.steps (TellsTodo r.wakes.duties) (r.wakes.none_todo has.number (let e : has.number ≡ r.world.numbers.issued = may.next in omega (arith, e))) r.wakes.todo)
-      (each-opened s.views r.world.numbers r.events id view has.number at may.next r.steps (TellsFlagged r.wakes.duties) (r.wakes.none_flagged has.number (let e : has.number ≡ r.world.numbers.issued = may.next in omega (arith, e))) r.wakes.flagged)
+      (wakes-seated sizes s.views _ r.events r.world (after_issuing r.world has.number) (record { session = has.number; step = SplitSeat }) (inl (may, refl)) r.wakes tt tt refl refl
+      (each-opened s.views r.world.numbers r.events id view has.number at may.next r.steps (TellsSo r.wakes.beside r.wakes.turns)
+      (new-tells sizes s.views r.events r.world r.wakes has.number (let e : has.number ≡ r.world.numbers.issued = may.next in omega (arith, e))) (each-tells sizes s.views r.events r.world r.wakes))
+      (λ h stands. r.wakes.told.closed h (closed-opened s.views r.world.numbers r.events id view has.number at may.next r.steps h stands))
       (λ k later. let e : has.number ≡ r.world.numbers.issued = may.next in let after : has.number + 1 ≤ k = later in omega (arith, e, after))))
 
   -- A session closes.
-  pub closes : (id : ℕ) (opener : View T) (other : ℕ) (view : View T) → HasNext opener → IsForOne view → MayCloseBy (first_account content view.sessions) → first_todo view.sessions ≡ nothing_to_do
+  pub closes : (id : ℕ) (opener : View T) (other : ℕ) (view : View T) → HasNext opener → IsForOne view → MayCloseBy (first_account content view.sessions) → first_todo view.sessions ≡ nothing_to_do → first_owed view.sessions ≡ []
       → Joins (Ruled content begun sizes) id opener other view (with_closed opener view) spent_view
-  closes id opener other view has one may free s r at apart there =
+  closes id opener other view has one may free wakes_nobody s r at apart there =
       let k = one.number in
       let same : with_closed opener view ≡ with_closed opener (lone k one.marks) = ap (λ (z : View T). with_closed opener z) one.one in
       let stands : get_elem? s.views other ≡ some (lone k one.marks) = sym (set_else s.views id other (with_closed opener view) apart) ∙ there ∙ ap some one.one in
       let shown = history-alone content r.world s.views other k one.marks stands r.seats in
       let may_by : MayCloseBy (account r.world k) = subst MayCloseBy (ap (λ (z : View T). first_account content z.sessions) one.one ∙ shown.account) may in
+      let its : History T = record { number = k; marks = one.marks } in
+      let its_stands : StandsAtSeat s.views its = record { seat = other; place = 0; view = lone k one.marks; there = stands; stands = refl } in
       let may_close = closing-lawful r.world r.safe k (record { live = shown.live; by_itself = shown.kept_by }) (keeps-nobody content r.world s.views other k one.marks stands r.seats) may_by in
       subst (λ (v : View T). Ruled content begun sizes (record { words = s.words; homes = s.homes; views = slice_set (slice_set s.views id v) other spent_view })) (sym same)
       (ruled-closed content begun sizes s r k one.marks _ may_close (closing-safe_world r.world k r.safe may_close)
@@ -163,19 +169,23 @@ module _ {T : Type 0} (content : T → Content) (begun : T → Option Request) (
       (closed-counted s r id opener has.number other k one.marks at has.next apart shown.live)
       shown.account (told-closing s.views r.world.numbers r.events id opener other k one.marks at stands apart r.steps)
       (closed-closing s.views r.world.numbers r.events id opener other k one.marks at stands apart r.steps)
-      (wakes-seated s.views _ r.world (after_closing r.world k) (record { session = k; step = JoinSeat None }) r.safe (may_close, refl) r.wakes
-      (nothing-left r.world r.wakes.duties k may_close.no_word may_close.no_fast_word may_close.no_shared_word may_close.no_shared_fast_word
-      (sym free ∙ ap (λ (z : View T). first_todo z.sessions) one.one ∙ r.wakes.todo (record { number = k; marks = one.marks }) (record { seat = other; place = 0; view = lone k one.marks; there = stands; stands = refl }))
-      may_close.no_list may_close.none_untold) tt refl
-      (each-closing s.views r.world.numbers r.events id opener other k one.marks at stands apart r.steps (TellsTodo r.wakes.duties) r.wakes.todo)
-      (each-closing s.views r.world.numbers r.events id opener other k one.marks at stands apart r.steps (TellsFlagged r.wakes.duties) r.wakes.flagged)
+      (wakes-seated sizes s.views _ r.events r.world (after_closing r.world k) (record { session = k; step = JoinSeat None }) (may_close, refl) r.wakes
+      (nothing-left r.world r.wakes.beside k may_close.no_word may_close.no_fast_word may_close.no_shared_word may_close.no_shared_fast_word
+      (sym free ∙ ap (λ (z : View T). first_todo z.sessions) one.one ∙ r.wakes.todo its its_stands)
+      (none-owed_call r.wakes.beside k (owed_told one.marks) (sym (ap (λ (z : View T). first_owed z.sessions) one.one) ∙ wakes_nobody) (r.wakes.owed its its_stands))
+      may_close.no_list may_close.none_untold) tt refl refl
+      (each-closing s.views r.world.numbers r.events id opener other k one.marks at stands apart r.steps (TellsSo r.wakes.beside r.wakes.turns) (each-tells sizes s.views r.events r.world r.wakes))
+      (λ h closed. elim (closed-closing s.views r.world.numbers r.events id opener other k one.marks at stands apart r.steps h closed) [
+        | inl old ↦ r.wakes.told.closed h old
+        | inr same_one ↦ subst (λ (z : History T). AreTurnsTold z.number z.marks (turns_of z.number r.wakes.turns)) (sym same_one) (r.wakes.told.at_seat its its_stands)
+      ])
       (λ j later. later)))
 
   -- A session meets those at a seat, behind them.
   meets : (s : State (Kept T) (View T)) (r : Ruled content begun sizes s) (id : ℕ) (view : View T) (other b : ℕ) (marks : List (Mark T)) (at : get_elem? s.views id ≡ some view)
-      (there : get_elem? s.views other ≡ some (lone b marks)) (apart : other ≢ id) → MayBeKeptApartBy (account r.world b) → IsIdle (record { number = b; marks = marks } ∷ []) → (sessions : List (History T)) → view.sessions ≡ sessions
+      (there : get_elem? s.views other ≡ some (lone b marks)) (apart : other ≢ id) → MayBeKeptApartBy (account r.world b) → IsFree (record { number = b; marks = marks } ∷ []) → (sessions : List (History T)) → view.sessions ≡ sessions
       → Ruled content begun sizes (record { words = s.words; homes = s.homes; views = slice_set (slice_set s.views id (met view (lone b marks))) other spent_view })
-  meets s r id view other b marks at there apart may idle sessions is = by sessions is where
+  meets s r id view other b marks at there apart may free sessions is = by sessions is where
     theirs : History T
     theirs = record { number = b; marks = marks }
 
@@ -200,14 +210,14 @@ module _ {T : Type 0} (content : T → Content) (begun : T → Option Request) (
     met_steps : StepsAreTold after r.world.numbers r.events
     met_steps = told-met s.views r.world.numbers r.events id view other b marks at there apart r.steps
 
-    each_todo : (h : History T) → StandsAtSeat after h → TellsTodo r.wakes.duties h
-    each_todo = each-met s.views r.world.numbers r.events id view other b marks at there apart (TellsTodo r.wakes.duties) r.wakes.todo
+    each : (h : History T) → StandsAtSeat after h → TellsSo r.wakes.beside r.wakes.turns h
+    each = each-met s.views r.world.numbers r.events id view other b marks at there apart (TellsSo r.wakes.beside r.wakes.turns) (each-tells sizes s.views r.events r.world r.wakes)
 
-    each_flagged : (h : History T) → StandsAtSeat after h → TellsFlagged r.wakes.duties h
-    each_flagged = each-met s.views r.world.numbers r.events id view other b marks at there apart (TellsFlagged r.wakes.duties) r.wakes.flagged
+    its_stands : StandsAtSeat s.views theirs
+    its_stands = record { seat = other; place = 0; view = lone b marks; there = there; stands = refl }
 
     no_lists_there : (account r.world b).lists ≡ no_lists
-    no_lists_there = ap (λ (a : Account). a.lists) (sym shown.account) ∙ lists-told content (theirs ∷ []) ∙ idle.none
+    no_lists_there = ap (λ (a : Account). a.lists) (sym shown.account) ∙ lists-told content (theirs ∷ []) ∙ free.idle.none
 
     stood : (h : History T) → StandsClosed after h → StandsClosed s.views h
     stood = closed-met s.views r.world.numbers r.events id view other b marks at there apart
@@ -234,7 +244,7 @@ module _ {T : Type 0} (content : T → Content) (begun : T → Option Request) (
           (ap (λ (xs : List (History T)). set_at r.world.numbers.kept_by b (keeper (xs ++ theirs ∷ []) (length xs))) none
           ∙ set_at-same r.world.numbers.kept_by b None (sym shown.kept_by));
       closed = closed;
-      wakes = wakes-moved s.views after r.world r.wakes each_todo each_flagged;
+      wakes = wakes-moved sizes s.views after r.events r.world r.wakes each stood;
     }
     by (x ∷ others) its =
         let get : slice_get view.sessions 0 ≡ Some x = ap (λ (xs : List (History T)). slice_get xs 0) its in
@@ -253,23 +263,23 @@ module _ {T : Type 0} (content : T → Content) (begun : T → Option Request) (
         (seats_as (set_at r.world.numbers.kept_by b (Some x.number)) (ap (λ (xs : List (History T)). set_at r.world.numbers.kept_by b (keeper (xs ++ theirs ∷ []) (length xs))) its))
         (kept-counted r.world.numbers (after_keeping_apart r.world b x.number).numbers.kept_by after closed)
         refl (told-kept after r.world.numbers r.events (after_keeping_apart r.world b x.number).numbers.kept_by met_steps) stood
-        (wakes-seated s.views after r.world (after_keeping_apart r.world b x.number) (record { session = b; step = JoinSeat (Some x.number) }) r.safe (may_be, refl) r.wakes
-        (nothing-left r.world r.wakes.duties b may_be.no_word may_be.no_fast_word may_be.no_shared_word may_be.no_shared_fast_word
-        (sym idle.free ∙ r.wakes.todo theirs (record { seat = other; place = 0; view = lone b marks; there = there; stands = refl }))
-        (no-list (r.world.sessions.has_list b) r.world.words.list (ap (λ (l : ListAccount). l.in_hand) no_lists_there)) (λ o. ap (λ (l : ListAccount). l.off o) no_lists_there)) tt refl
-        each_todo each_flagged (λ j later. later))
+        (wakes-seated sizes s.views after r.events r.world (after_keeping_apart r.world b x.number) (record { session = b; step = JoinSeat (Some x.number) }) (may_be, refl) r.wakes
+        (nothing-left r.world r.wakes.beside b may_be.no_word may_be.no_fast_word may_be.no_shared_word may_be.no_shared_fast_word
+        (sym free.idle.free ∙ r.wakes.todo theirs its_stands) (none-owed_call r.wakes.beside b (owed_told marks) free.wakes_nobody (r.wakes.owed theirs its_stands))
+        (no-list (r.world.sessions.has_list b) r.world.words.list (ap (λ (l : ListAccount). l.in_hand) no_lists_there)) (λ o. ap (λ (l : ListAccount). l.off o) no_lists_there)) tt refl refl
+        each (λ h stands. r.wakes.told.closed h (stood h stands)) (λ j later. later))
 
   -- A session is kept apart.
-  pub keeps_apart : (id : ℕ) (view : View T) (other : ℕ) (theirs : View T) → IsForOne theirs → MayBeKeptApartBy (first_account content theirs.sessions) → IsIdle theirs.sessions
+  pub keeps_apart : (id : ℕ) (view : View T) (other : ℕ) (theirs : View T) → IsForOne theirs → MayBeKeptApartBy (first_account content theirs.sessions) → IsFree theirs.sessions
       → Joins (Ruled content begun sizes) id view other theirs (met view theirs) spent_view
-  keeps_apart id view other theirs one may idle s r at apart there =
+  keeps_apart id view other theirs one may free s r at apart there =
       let b = one.number in
       let stands : get_elem? s.views other ≡ some (lone b one.marks) = sym (set_else s.views id other (met view theirs) apart) ∙ there ∙ ap some one.one in
       let shown = history-alone content r.world s.views other b one.marks stands r.seats in
       let may_by : MayBeKeptApartBy (account r.world b) = subst MayBeKeptApartBy (ap (λ (z : View T). first_account content z.sessions) one.one ∙ shown.account) may in
       subst (λ (v : View T). Ruled content begun sizes (record { words = s.words; homes = s.homes; views = slice_set (slice_set s.views id v) other spent_view }))
       (sym (ap (λ (z : View T). met view z) one.one))
-      (meets s r id view other b one.marks at stands apart may_by (subst (λ (z : View T). IsIdle z.sessions) one.one idle) view.sessions refl)
+      (meets s r id view other b one.marks at stands apart may_by (subst (λ (z : View T). IsFree z.sessions) one.one free) view.sessions refl)
 
   -- The last one goes on by itself.
   parts : (s : State (Kept T) (View T)) (r : Ruled content begun sizes s) (id : ℕ) (view : View T) (before : List (History T)) (y : History T) (at : get_elem? s.views id ≡ some view)
@@ -309,8 +319,9 @@ module _ {T : Type 0} (content : T → Content) (begun : T → Option Request) (
         closed =
             opener-longer r.world.numbers (slice_set s.views id (record { next = view.next; closed = view.closed; sessions = [] })) (record { next = None; closed = []; sessions = y ∷ [] }) refl
             (opener-set r.world.numbers s.views id view (record { next = view.next; closed = view.closed; sessions = [] }) at refl (λ n says. says) r.closed);
-        wakes = wakes-moved s.views _ r.world r.wakes (each-parted s.views r.world.numbers r.events id view [] y at is (TellsTodo r.wakes.duties) r.wakes.todo)
-            (each-parted s.views r.world.numbers r.events id view [] y at is (TellsFlagged r.wakes.duties) r.wakes.flagged);
+        wakes = wakes-moved sizes s.views _ r.events r.world r.wakes
+            (each-parted s.views r.world.numbers r.events id view [] y at is (TellsSo r.wakes.beside r.wakes.turns) (each-tells sizes s.views r.events r.world r.wakes))
+            (closed-parted s.views r.world.numbers r.events id view [] y at is);
       }
   parts s r id view (x ∷ before) y at is =
       let shown = last-shown content r.world s.views id view (x ∷ before) y at is r.seats in
@@ -325,9 +336,9 @@ module _ {T : Type 0} (content : T → Content) (begun : T → Option Request) (
       (told-kept (slice_set s.views id (record { next = view.next; closed = view.closed; sessions = x ∷ before }) ++ record { next = None; closed = []; sessions = y ∷ [] } ∷ [])
       r.world.numbers r.events (after_going_on r.world y.number).numbers.kept_by (told-parted s.views r.world.numbers r.events id view (x ∷ before) y at is r.steps))
       (closed-parted s.views r.world.numbers r.events id view (x ∷ before) y at is)
-      (wakes-seated s.views _ r.world (after_going_on r.world y.number) (record { session = y.number; step = SplitSeat }) r.safe (inr ((x.number, kept), refl)) r.wakes tt tt refl
-      (each-parted s.views r.world.numbers r.events id view (x ∷ before) y at is (TellsTodo r.wakes.duties) r.wakes.todo)
-      (each-parted s.views r.world.numbers r.events id view (x ∷ before) y at is (TellsFlagged r.wakes.duties) r.wakes.flagged)
+      (wakes-seated sizes s.views _ r.events r.world (after_going_on r.world y.number) (record { session = y.number; step = SplitSeat }) (inr ((x.number, kept), refl)) r.wakes tt tt refl refl
+      (each-parted s.views r.world.numbers r.events id view (x ∷ before) y at is (TellsSo r.wakes.beside r.wakes.turns) (each-tells sizes s.views r.events r.world r.wakes))
+      (λ h stands. r.wakes.told.closed h (closed-parted s.views r.world.numbers r.events id view (x ∷ before) y at is h stands))
       (λ j later. later))
 
   pub hands_back : (id : ℕ) (view : View T) → HasLast view → Splits (Ruled content begun sizes) id view (parted view) (handed_back view)

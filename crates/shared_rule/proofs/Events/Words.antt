@@ -225,3 +225,12 @@ pub looks-only :
 looks-only {T} content begun sizes id i view x others is s r at mark seen =
     subst (λ (words : List ℕ). Ruled content begun sizes (record { words = words; homes = s.homes; views = slice_set s.views id (noting view mark) })) (sym (set-get_or s.words i 0))
     (ruled-looked content begun sizes s r id view x others at is mark seen)
+
+-- A call: a load that leaves its mark, and changes nothing.
+pub calls_at :
+    {T : Type 0} (content : T → Content) (begun : T → Option Request) (sizes : Sizes) (slots id i : ℕ) (me : Side T) (x : History T) (others : List (History T)) → me.0.sessions ≡ x ∷ others
+    → (mark : ℕ → Mark T) (left : Mark T) → mark ≡ (λ _. left) → ((w : World) → IsSeen w (todo_told_by x.number x.marks) left)
+    → Allows (Ruled content begun sizes) slots id me i (λ n. n) (Marked mark (step 0 0 0 0 none) me)
+calls_at {T} content begun sizes slots id i me x others is mark left same seen =
+    subst (λ (m : ℕ → Mark T). Allows (Ruled content begun sizes) slots id me i (λ n. n) (Marked m (step 0 0 0 0 none) me)) (sym same)
+    (λ s r many at below. (noting me.0 left, keeps, tt, looks-only content begun sizes id i me.0 x others is s r at left (seen r.world), refl))

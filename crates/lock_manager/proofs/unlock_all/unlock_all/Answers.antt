@@ -1,12 +1,12 @@
 use Rattle.lock_manager.specs.Releases.{ReleasesAll}
 use Rattle.lock_manager.specs.Quiet.{QuietOfReleases}
-use Rattle.std.proofs.Common.{[], refl, sym, ◌∙◌, subst}
+use Rattle.std.proofs.Common.{◌≡◌, ◌≤◌, ◌+◌, [], length, refl, sym, ap, ◌∙◌, subst, arith}
 use Rattle.local_locks.specs.Owned.{with_one_less}
 use Rattle.modes_core.specs.declared.sessions.Owner.TheVariants.{Session}
 use Rattle.local_locks.proofs.EntryLaws.{gone-released}
 use Rattle.shared_rule.specs.Boards.{Seated}
 use Rattle.lock_manager.specs.Rest.{IsUseCount}
-use Rattle.lock_manager.proofs.Lemmas.Advisory.{given-back, none-unlocked, none-left, unlocks-next, unlocks-quiet}
+use Rattle.lock_manager.proofs.Lemmas.Advisory.{given-back, none-unlocked, none-left, unlocked-few, unlocks-next, unlocks-quiet}
 use Rattle.lock_manager.proofs.Lemmas.Quiet.{quiet-over}
 use Rattle.lock_manager.proofs.Lemmas.Rest.Entries.{is_counted-rest, IsAtRest-still_held, IsAtRest-released}
 use Rattle.lock_manager.specs.Advisory.{unlocked_by_all}
@@ -67,6 +67,7 @@ locks-preserved-in-Ok-Released g c =
           c.locks.own.uses c.release_hold.new.uses left (unlocked_by_all old) (unlocked_by_all new) (c.in-Some.tag, c.in-Some.mode)
           (g.B.Board.quiet c.locks.board) (g.B.Board.quiet c.release_hold.new.board) after
           its.kept.seat_ next c.release_hold.ensures.steps c.release_hold.ensures.quiet others);
+      released = (let counted = its.released in let more = ap length next in omega (arith, counted, more));
       none_unlocked = λ none. let no_more = (its.none_unlocked none).0 in absurd (cc (next, no_more));
       entries = back.left ∙ its.entries;
       levels = dropped.outer ∙ its.levels;
@@ -95,6 +96,7 @@ locks-preserved g c =
       steps = λ last left others. its.steps last left (subst (λ keys. ReleasesAll seat.groups seat.number (g.B.Board.view c.locks.board) c.locks.own.uses keys last left) same others);
       quiet = λ last left after others. its.quiet last left after
           (subst (λ keys. QuietOfReleases seat.groups seat.number (g.B.Board.view c.locks.board) c.locks.own.uses keys last left (g.B.Board.quiet c.locks.board) after) same others);
+      released = ap (λ n. c.locks.released + length n) same ∙ its.released;
       none_unlocked = λ none. (same ∙ (its.none_unlocked none).0, (its.none_unlocked none).1);
       entries = back.left ∙ its.entries;
       levels = dropped.outer ∙ its.levels;
@@ -127,3 +129,19 @@ pub returns-clause-entries : goal.returns-clause-entries
 returns-clause-entries g c =
     let its = c.locks.invariant in
     sym (none-left c.locks.own.locals.entries its.kept.well_owned.counted (c.in_default.ensures {u = tt}).none) ∙ its.entries
+
+pub returns-clause-released : goal.returns-clause-released
+returns-clause-released g c =
+    let its = c.locks.invariant in
+    let counted = its.released in
+    let none = ap length (none-unlocked c.locks.own.locals.entries its.kept.well_owned.counted (c.in_default.ensures {u = tt}).none) in
+    omega (arith, counted, none)
+
+-- Fewer go than a session may have entries.
+pub overflow_add-released : goal.overflow_add-released
+overflow_add-released g c =
+    let counted = c.locks.invariant.released in
+    let few = unlocked-few c.args.own.now.locals.entries in
+    let within = c.requires.well_owned.within in
+    let at_most = c.requires.few_entries in
+    omega (arith, counted, few, within, at_most)

@@ -1,4 +1,4 @@
-use Rattle.std.proofs.Common.{◌≡◌, List, []}
+use Rattle.std.proofs.Common.{◌≡◌, ◌+◌, List, [], length}
 use Rattle.lock_world.specs.Account.{Account}
 use Rattle.fast_path.specs.declared.use_counts.UseCounts.{UseCounts}
 use Rattle.shared_rule.specs.Quiet.{Quiet}
@@ -23,6 +23,7 @@ invariant-locks g l = record {
       (unlocked_by_all l.own.locals.entries) last left (g.B.Board.quiet l.board) after
       → QuietOfReleases (g.B.Board.seat l.fn.board).groups (g.B.Board.seat l.fn.board).number (g.B.Board.view l.fn.board) l.fn.own.uses
       (unlocked_by_all l.fn.own.locals.entries) last left (g.B.Board.quiet l.fn.board) after;
+  released : l.released + length (unlocked_by_all l.own.locals.entries) ≡ length (unlocked_by_all l.fn.own.locals.entries);
   none_unlocked : unlocked_by_all l.fn.own.locals.entries ≡ [] → (unlocked_by_all l.own.locals.entries ≡ []) × (l.board ≡ l.fn.board);
   entries : left_by_unlock_all l.own.locals.entries ≡ left_by_unlock_all l.fn.own.locals.entries;
   levels : l.own.locals.outer ≡ l.fn.own.locals.outer;

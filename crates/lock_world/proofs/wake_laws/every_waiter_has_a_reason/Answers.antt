@@ -12,6 +12,6 @@ pub returns-clause-reason : goal.returns-clause-reason
 returns-clause-reason c = λ w safe s wait is home. has-reason w safe s wait is home
 
 pub returns-clause-called : goal.returns-clause-called
-returns-clause-called c = λ limit groups turns v d run s shown parked waits granted.
-    let f = well-waits v d (keeps-well limit groups turns v d run) s shown parked (granted-changed (v.words.wait s) shown waits granted) in
+returns-clause-called c = λ limit groups turns v d run s shown parked granted.
+    let f = well-waits v d (keeps-well limit groups turns v d run) s shown parked (granted-changed (v.words.wait s) shown parked.parks_on granted) in
     (f.0, f.1, f.2)

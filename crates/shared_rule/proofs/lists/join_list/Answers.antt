@@ -43,7 +43,7 @@ returns-clause-led g c =
     led_to-as content place c.store_as.new.place _ _ _
     (led-noted content place c.store_as.new.place (JoinedList c.args.mode) c.requires.session c.store_as.ensures.seat
     (ap (λ (side : Side g.row.T.Denot). side.0) (c.store_as.ensures.side
-    ∙ ap (λ m. (Rattle.shared_rule.specs.History.noting place.me.0 (m 1), place.me.1)) c.requires.mark)))
+    ∙ ap (λ m. (Rattle.shared_rule.specs.History.noting place.me.0 (m 1), place.me.1)) c.requires.mark)) (λ owed i. owed))
     (ap (λ number. account_joining_list a (list_here a.lists.in_hand) (record { session = number; mode = c.args.mode })) (sym c.requires.own))
 
 pub returns-clause-slots : goal.returns-clause-slots

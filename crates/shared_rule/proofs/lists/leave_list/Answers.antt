@@ -36,5 +36,5 @@ returns-clause-led g c =
     let a = account_at content place in
     led_to-as content place c.store_as.new.place _ _ _
     (led-noted content place c.store_as.new.place LeftList c.requires.session c.store_as.ensures.seat
-    (ap (λ (side : Side g.row.T.Denot). side.0) c.store_as.ensures.side))
+    (ap (λ (side : Side g.row.T.Denot). side.0) c.store_as.ensures.side) (λ owed i. owed))
     (ap (λ number. account_leaving_list a (list_here a.lists.in_hand) number) (sym c.requires.own))

@@ -28,4 +28,4 @@ pub returns-clause-led : goal.returns-clause-led
 returns-clause-led g c =
     led-noted g.T.PartTable.content c.args.place.now c.load_as.new.place (LoadedSleep c.load_as.result)
     c.requires.session c.load_as.ensures.seat
-    (ap (λ (side : Side g.row.T.Denot). side.0) c.load_as.ensures.side)
+    (ap (λ (side : Side g.row.T.Denot). side.0) c.load_as.ensures.side) (λ owed i. owed)

@@ -23,7 +23,7 @@ returns-clause-held g c = λ held.
     let saw = c.load.ensures.2.1 held c.args.lock.now c.requires.there c.word.ensures.index in
     record {
       led = led-noted g.T.PartTable.content place c.load.new.seat (SawHeld (lock_number c.args.lock.now)) c.requires.session
-          (record { table_id = c.load.ensures.0; id = c.load.ensures.1 }) (ap (λ (side : Side g.row.T.Denot). side.0) saw);
+          (record { table_id = c.load.ensures.0; id = c.load.ensures.1 }) (ap (λ (side : Side g.row.T.Denot). side.0) saw) (λ owed i. owed);
       slots = ap (λ (side : Side g.row.T.Denot). side.1) saw;
     }
 

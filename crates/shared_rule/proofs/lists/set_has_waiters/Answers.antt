@@ -35,7 +35,7 @@ returns-clause-led g c =
     led-noted g.T.PartTable.content place c.fetch_or_as.new.place (SetHasWaiters (lock_number c.args.lock.now))
     c.requires.session c.fetch_or_as.ensures.seat
     (ap (λ (side : Side g.row.T.Denot). side.0) (c.fetch_or_as.ensures.side
-    ∙ ap (λ m. (noting place.me.0 (m c.fetch_or_as.result), place.me.1)) c.requires.mark))
+    ∙ ap (λ m. (noting place.me.0 (m c.fetch_or_as.result), place.me.1)) c.requires.mark)) (λ owed i. owed)
 
 pub returns-clause-slots : goal.returns-clause-slots
 returns-clause-slots g c = ap (λ (side : Side g.row.T.Denot). side.1) c.fetch_or_as.ensures.side

@@ -31,7 +31,7 @@ returns-clause-led g c =
     led-noted g.T.PartTable.content place c.store_as.new.place (TookOff c.args.other) c.requires.session
     c.store_as.ensures.seat
     (ap (λ (side : Side g.row.T.Denot). side.0) (c.store_as.ensures.side
-    ∙ ap (λ m. (noting place.me.0 (m 2), place.me.1)) c.requires.mark))
+    ∙ ap (λ m. (noting place.me.0 (m 2), place.me.1)) c.requires.mark)) (λ owed i. owed)
 
 pub returns-clause-slots : goal.returns-clause-slots
 returns-clause-slots g c = ap (λ (side : Side g.row.T.Denot). side.1) c.store_as.ensures.side

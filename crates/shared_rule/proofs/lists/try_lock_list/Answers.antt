@@ -1,4 +1,5 @@
 use Rattle.std.proofs.Common.{rules, ◌≡◌, List, None, sym, ap, ◌∙◌, subst}
+use Rattle.std.proofs.lemmas.Bool.{false≢true}
 use Rattle.lock_world.specs.AccountSteps.{account_locking_list}
 use Rattle.shared_rule.specs.declared.history.History.{History}
 use Rattle.shared_rule.specs.Marks.{LockedList, SawListLocked}
@@ -36,7 +37,7 @@ fetch_or-found-requires g c =
 pub exchange-kept-requires : goal.exchange-kept-requires
 exchange-kept-requires g c =
     let n = lock_number c.args.lock.now in
-    let took = c.fetch_or-found.ensures.2.0 (search rules) c.args.lock.now c.requires.there c.word.ensures.index in (
+    let took = c.fetch_or-found.ensures.2.0 (c.has_locked_list.ensures.0 c.if-has_locked_list.true) c.args.lock.now c.requires.there c.word.ensures.index in (
       c.fetch_or-found.ensures.0 ∙ c.requires.table.at,
       (
         kept.List took.list,
@@ -48,18 +49,18 @@ exchange-kept-requires g c =
 pub into_list-requires : goal.into_list-requires
 into_list-requires g c =
     let n = lock_number c.args.lock.now in
-    let took = c.fetch_or-found.ensures.2.0 (search rules) c.args.lock.now c.requires.there c.word.ensures.index in (
+    let took = c.fetch_or-found.ensures.2.0 (c.has_locked_list.ensures.0 c.if-has_locked_list.true) c.args.lock.now c.requires.there c.word.ensures.index in (
       took.list,
       last-came c.fetch_or-found.new.seat.me (noting c.args.place.now.me.0 (LockedList n took.list.value)) c.list_slot.result
           (list_slot_of n) (kept.List took.list) c.exchange-kept.result c.args.place.now.me.1 took.side c.exchange-kept.ensures.2,
     )
 
-pub returns-then-found-eq0-clause-led : goal.returns-then-found-eq0-clause-led
-returns-then-found-eq0-clause-led g c =
+pub returns-then-has_locked_list-clause-led : goal.returns-then-has_locked_list-clause-led
+returns-then-has_locked_list-clause-led g c =
     let content = g.T.PartTable.content in
     let place = c.args.place.now in
     let n = lock_number c.args.lock.now in
-    let took = c.fetch_or-found.ensures.2.0 (search rules) c.args.lock.now c.requires.there c.word.ensures.index in
+    let took = c.fetch_or-found.ensures.2.0 (c.has_locked_list.ensures.0 c.if-has_locked_list.true) c.args.lock.now c.requires.there c.word.ensures.index in
     let came = last-came c.fetch_or-found.new.seat.me (noting place.me.0 (LockedList n took.list.value)) c.list_slot.result
     (list_slot_of n) (kept.List took.list) c.exchange-kept.result place.me.1 took.side c.exchange-kept.ensures.2 in
     let same : took.list ≡ c.into_list.result = list-same took.list c.into_list.result (sym came ∙ c.into_list.ensures) in
@@ -72,35 +73,35 @@ returns-then-found-eq0-clause-led g c =
       table_id = c.exchange-kept.ensures.0 ∙ c.fetch_or-found.ensures.0;
       id = c.exchange-kept.ensures.1 ∙ c.fetch_or-found.ensures.1;
     })
-    (ap (λ (side : Side g.row.T.Denot). side.0) set))
+    (ap (λ (side : Side g.row.T.Denot). side.0) set) (λ owed i. owed))
     (ap (λ (list : Box (List LwWaiter)). account_locking_list (account_at content place) n list.value) same)
 
-pub returns-then-found-eq0-clause-slots : goal.returns-then-found-eq0-clause-slots
-returns-then-found-eq0-clause-slots g c =
+pub returns-then-has_locked_list-clause-slots : goal.returns-then-has_locked_list-clause-slots
+returns-then-has_locked_list-clause-slots g c =
     let place = c.args.place.now in
     let n = lock_number c.args.lock.now in
-    let took = c.fetch_or-found.ensures.2.0 (search rules) c.args.lock.now c.requires.there c.word.ensures.index in
+    let took = c.fetch_or-found.ensures.2.0 (c.has_locked_list.ensures.0 c.if-has_locked_list.true) c.args.lock.now c.requires.there c.word.ensures.index in
     ap (λ (side : Side g.row.T.Denot). side.1) (last-set c.fetch_or-found.new.seat.me c.exchange-kept.new.seat.me
     (noting place.me.0 (LockedList n took.list.value)) c.list_slot.result (list_slot_of n) (kept.List took.list) kept.Nothing
     place.me.1 took.side c.list_slot.ensures.slot c.exchange-kept.ensures.3)
 
-pub returns-then-found-eq0-clause-stands : goal.returns-then-found-eq0-clause-stands
-returns-then-found-eq0-clause-stands g c = λ there.
+pub returns-then-has_locked_list-clause-stands : goal.returns-then-has_locked_list-clause-stands
+returns-then-has_locked_list-clause-stands g c = λ there.
     let place = c.args.place.now in
     let n = lock_number c.args.lock.now in
-    let took = c.fetch_or-found.ensures.2.0 (search rules) c.args.lock.now c.requires.there c.word.ensures.index in
+    let took = c.fetch_or-found.ensures.2.0 (c.has_locked_list.ensures.0 c.if-has_locked_list.true) c.args.lock.now c.requires.there c.word.ensures.index in
     let came = last-came c.fetch_or-found.new.seat.me (noting place.me.0 (LockedList n took.list.value)) c.list_slot.result
     (list_slot_of n) (kept.List took.list) c.exchange-kept.result place.me.1 took.side c.exchange-kept.ensures.2 in
     let same : took.list ≡ c.into_list.result = list-same took.list c.into_list.result (sym came ∙ c.into_list.ensures) in
     took.stands (ap (λ (list : Box (List LwWaiter)). stands_in (number_at place) list.value) same ∙ there)
 
-pub returns-else-found-eq0-clause-none : goal.returns-else-found-eq0-clause-none
-returns-else-found-eq0-clause-none g c =
+pub returns-else-has_locked_list-clause-none : goal.returns-else-has_locked_list-clause-none
+returns-else-has_locked_list-clause-none g c =
     let place = c.args.place.now in
     let n = lock_number c.args.lock.now in
-    let saw = c.fetch_or-found.ensures.2.1 c.if-found-eq0.false c.args.lock.now c.requires.there c.word.ensures.index in
+    let saw = c.fetch_or-found.ensures.2.1 (λ free. false≢true (sym c.if-has_locked_list.false ∙ c.has_locked_list.ensures.1 free)) c.args.lock.now c.requires.there c.word.ensures.index in
     record {
       led = led-noted g.T.PartTable.content place c.fetch_or-found.new.seat (SawListLocked n) c.requires.session
-          (record { table_id = c.fetch_or-found.ensures.0; id = c.fetch_or-found.ensures.1 }) (ap (λ (side : Side g.row.T.Denot). side.0) saw);
+          (record { table_id = c.fetch_or-found.ensures.0; id = c.fetch_or-found.ensures.1 }) (ap (λ (side : Side g.row.T.Denot). side.0) saw) (λ owed i. owed);
       slots = ap (λ (side : Side g.row.T.Denot). side.1) saw;
     }

@@ -41,4 +41,4 @@ returns-clause-led g c =
       id = c.unlock_as.ensures.seat.id ∙ c.exchange.ensures.1;
     })
     (ap (λ (side : Side g.row.T.Denot). side.0) c.unlock_as.ensures.side.1
-    ∙ ap (λ (side : Side g.row.T.Denot). noting side.0 UnlockedList) set)
+    ∙ ap (λ (side : Side g.row.T.Denot). noting side.0 UnlockedList) set) (λ owed i. owed)

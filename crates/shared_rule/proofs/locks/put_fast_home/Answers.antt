@@ -29,4 +29,4 @@ returns-clause-led g c =
     let place = c.args.place.now in
     led-noted g.T.PartTable.content place c.fetch_sub_as.new.place (PutFast c.args.owner c.fetch_sub_as.result) c.requires.session c.fetch_sub_as.ensures.seat
     (ap (λ (side : Side g.row.T.Denot). side.0) c.fetch_sub_as.ensures.side
-    ∙ ap (λ m. noting place.me.0 (m c.fetch_sub_as.result)) c.requires.mark)
+    ∙ ap (λ m. noting place.me.0 (m c.fetch_sub_as.result)) c.requires.mark) (λ owed i. owed)

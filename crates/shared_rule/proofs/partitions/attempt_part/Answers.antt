@@ -64,7 +64,7 @@ returns-clause-won g c =
             table_id = c.exchange.ensures.0 ∙ c.compare_exchange.ensures.0;
             id = c.exchange.ensures.1 ∙ c.compare_exchange.ensures.1;
           })
-          (ap (λ (s : Side g.row.T.Denot). s.0) side))
+          (ap (λ (s : Side g.row.T.Denot). s.0) side) (λ owed i. owed))
           (ap (λ its. account_taking (account_at content place) part (content its)) same);
       slots = ap (λ (s : Side g.row.T.Denot). s.1) side;
       none_begun = ap g.T.PartTable.begun (sym same) ∙ took.none_begun;

@@ -84,6 +84,7 @@ sleep_until_told-requires-clause-may g c =
     record {
       no_look = ap (λ (todo : Todo). todo.due) done;
       no_try = ap (λ (todo : Todo). todo.tries) done;
+      calls_nobody = λ other. ap (λ (todo : Todo). todo.calls other) done;
       no_list = ap (λ (a : Account). a.lists.in_hand) c.unlock_list-else-leave.ensures.led.account;
       tells_nobody = λ other.
           ap (λ (a : Account). a.lists.off other) (c.unlock_list-else-leave.ensures.led.account ∙ ap account_unlocking_list (c.set_release_ok.ensures.led.account ∙ c.lock_list-list.ensures.led.account))

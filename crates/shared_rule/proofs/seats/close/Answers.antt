@@ -10,5 +10,5 @@ join_seat-requires g c =
       c.requires.session_table.at,
       c.requires.nothing_in_hand,
       search rules,
-      closes g.T.PartTable.content g.T.PartTable.begun c.args.top.now.key place.id place.me.0 other.id other.me.0 c.requires.opener c.requires.one c.requires.lawful c.requires.todo,
+      closes g.T.PartTable.content g.T.PartTable.begun c.args.top.now.key place.id place.me.0 other.id other.me.0 c.requires.opener c.requires.one c.requires.lawful c.requires.todo c.requires.wakes_nobody,
     )

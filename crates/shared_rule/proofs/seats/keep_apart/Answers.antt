@@ -10,5 +10,5 @@ join_seat-requires g c =
       c.requires.other_table.at,
       c.requires.nothing_in_hand,
       search rules,
-      keeps_apart g.T.PartTable.content g.T.PartTable.begun c.args.top.now.key place.id place.me.0 other.id other.me.0 c.requires.one c.requires.lawful c.requires.idle,
+      keeps_apart g.T.PartTable.content g.T.PartTable.begun c.args.top.now.key place.id place.me.0 other.id other.me.0 c.requires.one c.requires.lawful c.requires.free,
     )

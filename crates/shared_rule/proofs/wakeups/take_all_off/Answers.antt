@@ -1,8 +1,8 @@
 use Rattle.std.proofs.Common.{refl, sym, ◌∙◌, subst, arith, drop, ◌+◌}
-use Rattle.shared_rule.specs.Plays.{account_at, number_at}
-use Rattle.shared_rule.specs.Wakeups.{MayTakeAllOff}
-use Rattle.shared_rule.proofs.Led.{led-as, led-again, led-self}
-use Rattle.shared_rule.proofs.Queueing.{may_take_off-first, off-next, off-last}
+use Rattle.shared_rule.specs.Plays.{account_at, number_at, todo_at}
+use Rattle.shared_rule.specs.Wakeups.{all_owed, MayTakeAllOff}
+use Rattle.shared_rule.proofs.Led.{led_to-as, led_by-todo, led_to-itself, led-self}
+use Rattle.shared_rule.proofs.Queueing.{may_take_off-first, off-next, off-last, owed-next, owed-last}
 use Rattle.shared_rule.proofs.wakeups.take_all_off.Goals as goal
 
 pub loop-waiter-init : goal.loop-waiter-init
@@ -10,6 +10,7 @@ loop-waiter-init g c = record {
   led = led-self g.T.PartTable.content c.args.place.now c.requires.session;
   lawful = c.requires.lawful;
   ends = refl;
+  owes = refl;
   slots = refl;
 }
 
@@ -32,11 +33,12 @@ loop-waiter-preserved g c =
     let may = may_take_off-first content items i waiter c.loop-waiter-test.true c.waiter-item.is (number_at place)
     (account_at content place) c.loop-waiter.invariant.lawful in
     record {
-      led = led-again content c.args.place.now place after _ _ c.loop-waiter.invariant.led led;
+      led = led_to-itself content c.args.place.now place after _ _ _ _ c.loop-waiter.invariant.led led;
       lawful = subst (λ n. MayTakeAllOff n (account_at content after) (drop (i + 1) items)) (sym led.number)
           (subst (λ a. MayTakeAllOff (number_at place) a (drop (i + 1) items)) (sym led.account) may.1);
       ends = off-next content items i waiter c.loop-waiter-test.true c.waiter-item.is (account_at content place)
           (account_at content after) _ c.loop-waiter.invariant.ends led.account;
+      owes = owed-next items i waiter c.loop-waiter-test.true c.waiter-item.is (todo_at place) (todo_at after) _ c.loop-waiter.invariant.owes led.todo;
       slots = c.take_off.ensures.slots ∙ c.loop-waiter.invariant.slots;
     }
 
@@ -44,6 +46,8 @@ pub returns-clause-led : goal.returns-clause-led
 returns-clause-led g c =
     let content = g.T.PartTable.content in
     let place = c.loop-waiter.place in
-    led-as content c.args.place.now place _ _ c.loop-waiter.invariant.led
+    led_to-as content c.args.place.now place (all_owed (todo_at c.args.place.now) c.args.taken.now) _ _
+    (led_by-todo content c.args.place.now place _ _ _ _ c.loop-waiter.invariant.led
+    (owed-last c.args.taken.now c.loop-waiter.waiter-index (todo_at place) _ (omega arith) c.loop-waiter.invariant.owes))
     (off-last c.args.taken.now c.loop-waiter.waiter-index (account_at content place) _ (omega arith)
     c.loop-waiter.invariant.ends)

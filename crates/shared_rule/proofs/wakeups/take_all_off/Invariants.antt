@@ -1,16 +1,17 @@
 use Rattle.std.proofs.Common.{◌≡◌, drop}
-use Rattle.shared_rule.specs.Led.{Led}
-use Rattle.shared_rule.specs.Plays.{account_at, number_at}
-use Rattle.shared_rule.specs.Wakeups.{all_taken_off, MayTakeAllOff}
+use Rattle.shared_rule.specs.Led.{LedTo}
+use Rattle.shared_rule.specs.Plays.{account_at, number_at, todo_at}
+use Rattle.shared_rule.specs.Wakeups.{all_taken_off, all_owed, MayTakeAllOff}
 use Rattle.shared_rule.specs.Marks.{TookOff}
 use Rattle.shared_rule.proofs.wakeups.take_all_off.Given as goal
 
 abbrev pub invariant-loop-waiter : goal.invariant-loop-waiter
 invariant-loop-waiter g l = record {
-  led : Led g.T.PartTable.content l.fn.place l.place (account_at g.T.PartTable.content l.place);
+  led : LedTo g.T.PartTable.content l.fn.place l.place (account_at g.T.PartTable.content l.place) (todo_at l.place);
   lawful : MayTakeAllOff (number_at l.place) (account_at g.T.PartTable.content l.place) (drop l.waiter-index l.taken);
   ends : all_taken_off (account_at g.T.PartTable.content l.place) (drop l.waiter-index l.taken)
       ≡ all_taken_off (account_at g.T.PartTable.content l.fn.place) l.taken;
+  owes : all_owed (todo_at l.place) (drop l.waiter-index l.taken) ≡ all_owed (todo_at l.fn.place) l.taken;
   slots : l.place.me.1 ≡ l.fn.place.me.1;
 }
 

@@ -1,8 +1,9 @@
-use Rattle.std.proofs.Common.{refl, sym, ◌∙◌, subst, arith, drop, ◌+◌}
-use Rattle.shared_rule.specs.Plays.{account_at}
-use Rattle.shared_rule.specs.Wakeups.{MayTellAll}
-use Rattle.shared_rule.proofs.Led.{led-as, led-again, led-self}
-use Rattle.shared_rule.proofs.Queueing.{may_tell-first, told-next, told-last}
+use Rattle.shared_rule.specs.Todos.{todo_calling}
+use Rattle.std.proofs.Common.{refl, sym, ap, ◌∙◌, subst, arith, drop, ◌+◌}
+use Rattle.shared_rule.specs.Plays.{account_at, todo_at}
+use Rattle.shared_rule.specs.Wakeups.{all_called, MayTellAll}
+use Rattle.shared_rule.proofs.Led.{led_to-as, led_by-todo, led_to-itself, led-self}
+use Rattle.shared_rule.proofs.Queueing.{may_tell-first, told-next, told-last, called-next, called-last}
 use Rattle.shared_rule.proofs.wakeups.tell_all.Goals as goal
 
 pub loop-waiter-init : goal.loop-waiter-init
@@ -10,6 +11,7 @@ loop-waiter-init g c = record {
   led = led-self g.T.PartTable.content c.args.place.now c.requires.session;
   lawful = c.requires.lawful;
   ends = refl;
+  calls = refl;
   slots = refl;
 }
 
@@ -27,22 +29,28 @@ loop-waiter-preserved g c =
     let i = c.loop-waiter.waiter-index in
     let waiter = c.waiter-item.result in
     let place = c.loop-waiter.place in
-    let after = c.tell.new.place in
+    let told = c.tell.new.place in
+    let after = c.call_sleeper.new.place in
     let led = c.tell.ensures.led in
+    let calls = c.call_sleeper.ensures.led in
     let may = may_tell-first content items i waiter c.loop-waiter-test.true c.waiter-item.is
     (account_at content place) c.loop-waiter.invariant.lawful in
     record {
-      led = led-again content c.args.place.now place after _ _ c.loop-waiter.invariant.led led;
-      lawful = subst (λ a. MayTellAll a (drop (i + 1) items)) (sym led.account) may.1;
+      led = led_to-itself content c.args.place.now told after _ _ _ _ (led_to-itself content c.args.place.now place told _ _ _ _ c.loop-waiter.invariant.led led) calls;
+      lawful = subst (λ a. MayTellAll a (drop (i + 1) items)) (sym (calls.account ∙ led.account)) may.1;
       ends = told-next content items i waiter c.loop-waiter-test.true c.waiter-item.is (account_at content place)
-          (account_at content after) _ c.loop-waiter.invariant.ends led.account;
-      slots = c.tell.ensures.slots ∙ c.loop-waiter.invariant.slots;
+          (account_at content after) _ c.loop-waiter.invariant.ends (calls.account ∙ led.account);
+      calls = called-next items i waiter c.loop-waiter-test.true c.waiter-item.is (todo_at place) (todo_at after) _ c.loop-waiter.invariant.calls
+          (calls.todo ∙ ap (λ t. todo_calling t waiter.session) led.todo);
+      slots = c.call_sleeper.ensures.slots ∙ c.tell.ensures.slots ∙ c.loop-waiter.invariant.slots;
     }
 
 pub returns-clause-led : goal.returns-clause-led
 returns-clause-led g c =
     let content = g.T.PartTable.content in
     let place = c.loop-waiter.place in
-    led-as content c.args.place.now place _ _ c.loop-waiter.invariant.led
+    led_to-as content c.args.place.now place (all_called (todo_at c.args.place.now) c.args.taken.now) _ _
+    (led_by-todo content c.args.place.now place _ _ _ _ c.loop-waiter.invariant.led
+    (called-last c.args.taken.now c.loop-waiter.waiter-index (todo_at place) _ (omega arith) c.loop-waiter.invariant.calls))
     (told-last c.args.taken.now c.loop-waiter.waiter-index (account_at content place) _ (omega arith)
     c.loop-waiter.invariant.ends)

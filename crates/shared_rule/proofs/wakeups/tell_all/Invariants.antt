@@ -1,18 +1,22 @@
 use Rattle.std.proofs.Common.{◌≡◌, drop}
-use Rattle.shared_rule.specs.Led.{Led}
-use Rattle.shared_rule.specs.Plays.{account_at}
-use Rattle.shared_rule.specs.Wakeups.{all_told, MayTellAll}
-use Rattle.shared_rule.specs.Marks.{Told}
+use Rattle.shared_rule.specs.Led.{LedTo}
+use Rattle.shared_rule.specs.Plays.{account_at, todo_at}
+use Rattle.shared_rule.specs.Wakeups.{all_told, all_called, MayTellAll}
+use Rattle.shared_rule.specs.Marks.{Told, CalledSleeper}
 use Rattle.shared_rule.proofs.wakeups.tell_all.Given as goal
 
 abbrev pub invariant-loop-waiter : goal.invariant-loop-waiter
 invariant-loop-waiter g l = record {
-  led : Led g.T.PartTable.content l.fn.place l.place (account_at g.T.PartTable.content l.place);
+  led : LedTo g.T.PartTable.content l.fn.place l.place (account_at g.T.PartTable.content l.place) (todo_at l.place);
   lawful : MayTellAll (account_at g.T.PartTable.content l.place) (drop l.waiter-index l.taken);
   ends : all_told (account_at g.T.PartTable.content l.place) (drop l.waiter-index l.taken)
       ≡ all_told (account_at g.T.PartTable.content l.fn.place) l.taken;
+  calls : all_called (todo_at l.place) (drop l.waiter-index l.taken) ≡ all_called (todo_at l.fn.place) l.taken;
   slots : l.place.me.1 ≡ l.fn.place.me.1;
 }
 
 abbrev pub ghosts-tell : goal.ghosts-tell
 ghosts-tell g a = record { mark = λ _. Told a.other }
+
+abbrev pub ghosts-call_sleeper : goal.ghosts-call_sleeper
+ghosts-call_sleeper g a = record { mark = λ _. CalledSleeper a.other }

@@ -7,7 +7,7 @@ use Rattle.lock_world.specs.Account.{ListAccount}
 use Rattle.shared_rule.specs.Todos.{Todo, todo_looked}
 use Rattle.std.proofs.Common.{sym}
 use Rattle.std.proofs.lemmas.Bool.{both_ways}
-use Rattle.shared_rule.proofs.Woken.{some-off, taken-none, not-there, may-take_all_off, left-in_hand, may-tell_all, woken, left-well}
+use Rattle.shared_rule.proofs.Woken.{some-off, taken-none, not-there, may-take_all_off, left-in_hand, may-tell_all, woken, left-well, owed-else}
 use Rattle.shared_rule.proofs.wakeups.wake_waiters.Goals as goal
 
 pub take_all_off-requires-clause-lawful : goal.take_all_off-requires-clause-lawful
@@ -78,7 +78,7 @@ returns-clause-led g c =
     c.wake_split-wakeup.ensures.taken ∙ ap taken_off c.deref_mut.ensures.value in
     woken content place c.try_lock_list.new.place n ws (todo_looked (todo_at place)) locks c.requires.idle once other c.as_slice.result.now (c.as_slice.ensures.value ∙ taken)
     c.take_all_off.new.place c.take_all_off.ensures.led c.unlock_after_wakeup.new.place c.unlock_after_wakeup.ensures.led
-    c.tell_all.new.place c.as_slice-2.result.now (c.as_slice-2.ensures.value ∙ taken) c.tell_all.ensures.led
+    c.tell_all.new.place c.as_slice-2.result.now (c.as_slice-2.ensures.value ∙ taken) c.requires.calls_nobody c.tell_all.ensures.led
 
 pub unlock_after_wakeup-requires-clause-release_stays : goal.unlock_after_wakeup-requires-clause-release_stays
 unlock_after_wakeup-requires-clause-release_stays g c = λ clear.
@@ -96,7 +96,9 @@ try_lock_list-requires-clause-tells_nobody g c = λ other. ap (λ (lists : ListA
 
 pub unlock_after_wakeup-requires-clause-owes_no_ok : goal.unlock_after_wakeup-requires-clause-owes_no_ok
 unlock_after_wakeup-requires-clause-owes_no_ok g c =
-    ap (λ (todo : Todo). todo.owes_release_ok) (c.take_all_off.ensures.led.todo ∙ (c.in-Some.ensures {u = tt}).led.todo) ∙ c.requires.owes_no_ok
+    ap (λ (todo : Todo). todo.owes_release_ok) c.take_all_off.ensures.led.todo
+    ∙ ap (λ (todo : Todo). todo.owes_release_ok) (owed-else c.as_slice.result.now (todo_at c.try_lock_list.new.place))
+    ∙ ap (λ (todo : Todo). todo.owes_release_ok) (c.in-Some.ensures {u = tt}).led.todo ∙ c.requires.owes_no_ok
 
 pub unlock_after_wakeup-requires-clause-left_well : goal.unlock_after_wakeup-requires-clause-left_well
 unlock_after_wakeup-requires-clause-left_well g c =

@@ -15,3 +15,9 @@ invariant_of-self-clause-resting g c =
 
 pub returns-clause-looked : goal.returns-clause-looked
 returns-clause-looked g c = (c.draw.new.session, refl)
+
+pub returns-in_err-picture-clause-looked : goal.returns-in_err-picture-clause-looked
+returns-in_err-picture-clause-looked g c = (c.draw.new.session, refl)
+
+pub returns-in_err-add_holds-clause-looked : goal.returns-in_err-add_holds-clause-looked
+returns-in_err-add_holds-clause-looked g c = (c.draw.new.session, refl)

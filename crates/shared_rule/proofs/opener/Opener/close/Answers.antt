@@ -8,6 +8,8 @@ use Rattle.shared_rule.specs.Plays.{Side}
 use Rattle.shared_rule.specs.Seats.{first_of}
 use Rattle.shared_rule.specs.Quiet.{first_quiet}
 use Rattle.shared_rule.proofs.opener.Opener.close.Goals as goal
+use Rattle.shared_rule.specs.Boards.{Stack}
+use Rattle.shared_rule.specs.Owed.{first_owed}
 
 pub tell_closed-requires-clause-opener : goal.tell_closed-requires-clause-opener
 tell_closed-requires-clause-opener g c = record {
@@ -44,3 +46,7 @@ returns-clause-quiet g c = λ its others is.
     ∙ ap (λ (side : Side g.row.T.Denot). first_quiet side.0.closed) (c.tell_closed.ensures.side ∙ c.close.ensures.side)
     ∙ ap (λ (view : View g.row.T.Denot). first_quiet (first_of view.sessions ++ c.self.inside.place.me.0.closed)) (came ∙ board.lone)
     ∙ ap (λ (view : View g.row.T.Denot). first_quiet view.sessions) (sym board.lone)
+
+pub close-requires-clause-wakes_nobody : goal.close-requires-clause-wakes_nobody
+close-requires-clause-wakes_nobody g c =
+    ap (λ place. first_owed place.me.0.sessions) c.into_place-place.ensures.1 ∙ ap (λ (s : Stack). s.owed) c.requires.stack

@@ -7,7 +7,7 @@ use Rattle.shared_rule.specs.Gatherings.{NoneWaits, AreAll, gathered_in}
 use Rattle.shared_rule.specs.Openers.{OpenerState}
 use Rattle.shared_rule.specs.Plays.{HasGroups, HasSession, IsSized}
 use Rattle.lock_world.specs.Account.{Account}
-use Rattle.shared_rule.proofs.Idle.{idle-further, first-idle, first-free, lists-told}
+use Rattle.shared_rule.proofs.Idle.{free-further, first-idle, first-free, lists-told}
 use Rattle.shared_rule.proofs.AuditSums.{counts-all, has-first, are-all}
 use Rattle.shared_rule.proofs.opener.Opener.count.Goals as goal
 
@@ -54,8 +54,8 @@ invariant_of-self g c =
       c.self.invariant.1,
       c.self.invariant.2,
       subst IsSized (sym (c.count_from.ensures.seat.table_id ∙ c.count_counters-strong.ensures.seat.table_id)) c.self.invariant.3,
-      idle-further content v1 v2 counts.further (ap (λ (a : Account). a.lists) counts.account)
-          (idle-further content v0 v1 seen.further (ap (λ (a : Account). a.lists) seen.account) c.self.invariant.4),
+      free-further content v1 v2 counts.further (ap (λ (a : Account). a.lists) counts.account)
+          (free-further content v0 v1 seen.further (ap (λ (a : Account). a.lists) seen.account) c.self.invariant.4),
       subst (λ (t : TableId). HasGroups t c.self.inside.sizes.groups) (sym (c.count_from.ensures.seat.table_id ∙ c.count_counters-strong.ensures.seat.table_id)) c.self.invariant.5,
     )
 
@@ -71,8 +71,8 @@ invariant_of-self-2 g c =
       c.self.invariant.1,
       c.self.invariant.2,
       subst IsSized (sym (c.count_from.ensures.seat.table_id ∙ c.count_counters-strong.ensures.seat.table_id)) c.self.invariant.3,
-      idle-further content v1 v2 counts.further (ap (λ (a : Account). a.lists) counts.account)
-          (idle-further content v0 v1 seen.further (ap (λ (a : Account). a.lists) seen.account) c.self.invariant.4),
+      free-further content v1 v2 counts.further (ap (λ (a : Account). a.lists) counts.account)
+          (free-further content v0 v1 seen.further (ap (λ (a : Account). a.lists) seen.account) c.self.invariant.4),
       subst (λ (t : TableId). HasGroups t c.self.inside.sizes.groups) (sym (c.count_from.ensures.seat.table_id ∙ c.count_counters-strong.ensures.seat.table_id)) c.self.invariant.5,
     )
 

@@ -2,27 +2,28 @@ use Rattle.std.proofs.Common.{◌≡◌, [], ◌∷◌, ◌++◌, refl, sym, ap,
 use Rattle.atomic_table.specs.Seated.{TableId}
 use Rattle.shared_rule.specs.declared.history.History.{History}
 use Rattle.shared_rule.specs.declared.history.View.{View}
-use Rattle.shared_rule.specs.Boards.{first_marks, AreIdle}
+use Rattle.shared_rule.specs.Boards.{first_marks, AreFree}
 use Rattle.shared_rule.specs.History.{first_account}
 use Rattle.shared_rule.specs.Openers.{OpenerState}
 use Rattle.shared_rule.specs.Plays.{Side, HasGroups, IsSized}
 use Rattle.shared_rule.specs.Quiet.{first_quiet}
-use Rattle.shared_rule.proofs.Idle.{idle-with, idle-lone}
+use Rattle.shared_rule.proofs.Idle.{free-with, free-lone}
 use Rattle.shared_rule.proofs.opener.Opener.gather.Goals as goal
+use Rattle.shared_rule.specs.Boards.{Stack, IsFree}
 
 pub invariant_of-self : goal.invariant_of-self
 invariant_of-self g c =
     let board = c.args.board in
     let side = ap (λ (m : Side g.row.T.Denot). m.0) c.keep_apart.ensures.side in
     let came : c.into_place-place.result.1.me.0 ≡ board.place.me.0 = ap (λ place. place.me.0) c.into_place-place.ensures.1 in
-    let its : AreIdle board.place.me.0.sessions = idle-lone board.place.me.0 board.number (first_marks board.place.me.0.sessions) board.lone board.idle in (
+    let its : AreFree board.place.me.0.sessions = free-lone board.place.me.0 board.number (first_marks board.place.me.0.sessions) board.lone board.idle (ap (λ (s : Stack). s.owed) c.requires.stack) in (
       ap (λ (view : View g.row.T.Denot). view.next) side ∙ c.self.invariant.0,
       c.self.invariant.1,
       c.self.invariant.2,
       subst IsSized (sym c.keep_apart.ensures.seat.table_id) c.self.invariant.3,
-      subst (λ (view : View g.row.T.Denot). AreIdle view.sessions) (sym side)
-          (idle-with c.self.inside.place.me.0.sessions c.into_place-place.result.1.me.0.sessions c.self.invariant.4
-          (subst (λ (view : View g.row.T.Denot). AreIdle view.sessions) (sym came) its)),
+      subst (λ (view : View g.row.T.Denot). AreFree view.sessions) (sym side)
+          (free-with c.self.inside.place.me.0.sessions c.into_place-place.result.1.me.0.sessions c.self.invariant.4
+          (subst (λ (view : View g.row.T.Denot). AreFree view.sessions) (sym came) its)),
       subst (λ (t : TableId). HasGroups t c.self.inside.sizes.groups) (sym c.keep_apart.ensures.seat.table_id) c.self.invariant.5,
     )
 
@@ -45,3 +46,8 @@ returns-clause-gathered g c =
       opener = (λ i. record { table = table i; issued = c.self.inside.issued; limit = c.self.inside.sizes.sessions; groups = c.self.inside.sizes.groups; closed = closed i; gathered = gathered i })
           ∙ ap (λ (old : OpenerState g.row.T.Denot). record old { gathered = old.gathered ++ last ∷ [] }) c.self.view_is;
     }
+
+pub keep_apart-requires-clause-free : goal.keep_apart-requires-clause-free
+keep_apart-requires-clause-free g c =
+    subst (λ place. IsFree place.me.0.sessions) (sym c.into_place-place.ensures.1)
+    (record { idle = c.args.board.idle; wakes_nobody = ap (λ (s : Stack). s.owed) c.requires.stack })

@@ -1,15 +1,16 @@
-use Rattle.std.proofs.Common.{sym, ap, ◌∙◌, subst}
+use Rattle.std.proofs.Common.{◌≡◌, [], sym, ap, ◌∙◌, subst}
 use Rattle.atomic_table.specs.Seated.{TableId}
 use Rattle.shared_rule.specs.declared.history.View.{View}
-use Rattle.shared_rule.specs.Boards.{Seated, first_marks, IsIdle, AreIdle}
+use Rattle.shared_rule.specs.Boards.{parts_in_hand, Seated, first_marks, IsIdle, AreFree}
 use Rattle.shared_rule.specs.History.{lone, first_account}
 use Rattle.shared_rule.specs.Openers.{OpenerState}
 use Rattle.shared_rule.specs.Plays.{Side, HasGroups, IsSized}
 use Rattle.shared_rule.specs.Quiet.{first_quiet}
 use Rattle.shared_rule.specs.Seats.{all_but_last, last_of}
-use Rattle.shared_rule.proofs.Idle.{idle-one, idle-last, idle-left}
+use Rattle.shared_rule.proofs.Idle.{free-one, free-last, free-left, first-wakes}
 use Rattle.shared_rule.proofs.Meetings.{all_but_last-of, last_of-of, lone-last}
 use Rattle.shared_rule.proofs.opener.Opener.send_back.Goals as goal
+use Rattle.shared_rule.specs.Owed.{first_owed}
 
 pub at-requires-clause-lone : goal.at-requires-clause-lone
 at-requires-clause-lone g c =
@@ -45,7 +46,7 @@ pub at-requires-clause-idle : goal.at-requires-clause-idle
 at-requires-clause-idle g c =
     let came = ap (λ (m : Side g.row.T.Denot). m.0) c.hand_back-place.ensures.other in
     subst (λ (v : View g.row.T.Denot). IsIdle v.sessions) (sym came)
-    (idle-one (last_of c.self.inside.place.me.0.sessions) (idle-last c.self.inside.place.me.0.sessions c.self.invariant.4))
+    (free-one (last_of c.self.inside.place.me.0.sessions) (free-last c.self.inside.place.me.0.sessions c.self.invariant.4))
 
 pub invariant_of-self : goal.invariant_of-self
 invariant_of-self g c =
@@ -54,6 +55,16 @@ invariant_of-self g c =
       c.self.invariant.1,
       c.self.invariant.2,
       subst IsSized (sym c.hand_back-place.ensures.seat.table_id) c.self.invariant.3,
-      subst (λ (v : View g.row.T.Denot). AreIdle v.sessions) (sym left) (idle-left c.self.inside.place.me.0.sessions c.self.invariant.4),
+      subst (λ (v : View g.row.T.Denot). AreFree v.sessions) (sym left) (free-left c.self.inside.place.me.0.sessions c.self.invariant.4),
       subst (λ (t : TableId). HasGroups t c.self.inside.sizes.groups) (sym c.hand_back-place.ensures.seat.table_id) c.self.invariant.5,
     )
+
+pub returns-clause-stack : goal.returns-clause-stack
+returns-clause-stack g c =
+    let came = ap (λ (m : Side g.row.T.Denot). m.0) c.hand_back-place.ensures.other in
+    let none : first_owed c.hand_back-place.result.me.0.sessions ≡ [] =
+    ap (λ (v : View g.row.T.Denot). first_owed v.sessions) came
+    ∙ first-wakes (last_of c.self.inside.place.me.0.sessions) (free-last c.self.inside.place.me.0.sessions c.self.invariant.4) in
+    let owed : first_owed c.at.result.place.me.0.sessions ≡ [] = ap (λ place. first_owed place.me.0.sessions) c.at.ensures.1 ∙ none in
+    let parts : c.at.result.place.me.1 ≡ [] = ap (λ place. place.me.1) c.at.ensures.1 ∙ ap (λ (m : Side g.row.T.Denot). m.1) c.hand_back-place.ensures.other in
+    λ i. record { parts = parts_in_hand (parts i); owed = owed i }

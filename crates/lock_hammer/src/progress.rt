@@ -1,0 +1,135 @@
+//! How far a hammer is: what its workers tell while they play, and the line on a terminal that shows it.
+
+use std::io::{self, Write};
+use std::sync::Mutex;
+use std::sync::atomic::{AtomicU64, Ordering};
+use std::time::{Clock, Duration, Instant};
+
+/// After so many rounds, whoever played them, the clock is read.
+const ROUNDS_A_LOOK: u64 = 64;
+
+/// The line is written anew after so many milliseconds at the soonest.
+const PAUSE: u128 = 250;
+
+/// What the workers of a hammer tell while they play.
+pub trait Progress {
+    /// A worker has played a round.
+    fn count_round(&self);
+
+    /// No worker plays any more.
+    fn end(&self);
+}
+
+/// Nobody looks how far a hammer is.
+#[derive(Drop)]
+pub struct Unwatched;
+
+impl Progress for Unwatched {
+    fn count_round(&self) {}
+
+    fn end(&self) {}
+}
+
+/// One line on a terminal, written anew a few times a second: how many rounds of all are played, and how many that
+/// is a second. A hammer that ends before the line's time has come writes none. Nothing of it is in the lock
+/// manager's table.
+#[derive(Drop)]
+pub struct ProgressLine<'a, C, E> {
+    clock: &'a C,
+    all: u64,
+    played: AtomicU64,
+    line: Mutex<Line<'a, E>>,
+}
+
+impl<'a, C: Clock, E: Write> ProgressLine<'a, C, E> {
+    /// A line on `writer` of `all` rounds, which begin now by `clock`. The error is the clock's.
+    pub fn new(clock: &'a C, writer: &'a mut E, all: u64) -> io::Result<Self> {
+        let begun = Instant::now(clock)?;
+        let line = Line {
+            writer,
+            begun,
+            written: begun,
+            is_written: false,
+        };
+        Ok(ProgressLine {
+            clock,
+            all,
+            played: AtomicU64::new(0),
+            line: Mutex::new(line),
+        })
+    }
+}
+
+impl<'a, C: Clock, E: Write> Progress for ProgressLine<'a, C, E> {
+    fn count_round(&self) {
+        let played = self.played.fetch_add(1, Ordering::SeqCst).wrapping_add(1);
+        if played % ROUNDS_A_LOOK != 0 {
+            return;
+        }
+        // Where the clock fails, or another worker is at the line, the next look writes it.
+        let Ok(now) = Instant::now(self.clock) else {
+            return;
+        };
+        if let Some(mut line) = self.line.try_lock() {
+            line.renew(now, played, self.all);
+        }
+    }
+
+    fn end(&self) {
+        let played = self.played.load(Ordering::SeqCst);
+        let Ok(now) = Instant::now(self.clock) else {
+            return;
+        };
+        if let Some(mut line) = self.line.try_lock() {
+            line.end(now, played, self.all);
+        }
+    }
+}
+
+/// The line itself, which one worker writes at a time.
+#[derive(Drop)]
+struct Line<'a, E> {
+    writer: &'a mut E,
+    /// When the rounds began.
+    begun: Instant,
+    /// When it was written last, or else the rounds began.
+    written: Instant,
+    is_written: bool,
+}
+
+impl<'a, E: Write> Line<'a, E> {
+    /// Writes the line anew at the time `now`, if its time has come: `played` of `all` rounds.
+    fn renew(&mut self, now: Instant, played: u64, all: u64) {
+        if now.duration_since(self.written).as_millis() >= PAUSE {
+            self.written = now;
+            self.is_written = true;
+            self.write(now, played, all);
+        }
+    }
+
+    /// Writes the line for the last time at the time `now`, `played` of `all` rounds, and ends it, if there is one.
+    fn end(&mut self, now: Instant, played: u64, all: u64) {
+        if self.is_written {
+            self.write(now, played, all);
+            // Where the line can't be written, the hammer goes on all the same.
+            let _ = writeln!(self.writer);
+        }
+    }
+
+    /// Writes at the time `now` that `played` of `all` rounds are played, over what is there, and erases what comes
+    /// after it.
+    fn write(&mut self, now: Instant, played: u64, all: u64) {
+        let rate = rounds_a_second(played, now.duration_since(self.begun));
+        // Where the line can't be written, the hammer goes on all the same.
+        let _ = write!(
+            self.writer,
+            "\r{played} of {all} rounds, {rate} a second\x1b[K"
+        );
+        let _ = self.writer.flush();
+    }
+}
+
+/// How many rounds `played` rounds since `since` are in a second.
+fn rounds_a_second(played: u64, since: Duration) -> u128 {
+    u128::from(played) * 1000 / since.as_millis().max(1)
+}

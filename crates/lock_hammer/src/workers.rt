@@ -1,0 +1,248 @@
+//! The workers of a hammer: what each session does in its thread, and what they take at the end.
+
+ghost use Rattle.std.specs.Prelude.{◌≡◌, length};
+ghost use Rattle.lock_manager.specs.Crews.{KeepManagers, KeepsSeat};
+
+use crate::progress::Progress;
+use lock_manager::{Acquired, Board, Mode, OwnSession, Owner, Part, Refusal, Tag};
+use lock_script::Fault;
+use lock_table::NoMemory;
+use std::sync::Wait;
+use std::sync::atomic::{AtomicBool, Ordering};
+use std::thread::{Threads, for_each_mut};
+
+/// The database of all sessions.
+pub const DATABASE: u32 = 5;
+
+/// The first of the relations that they lock, and how many there are.
+const FIRST_RELATION: u32 = 16_384;
+
+const RELATIONS: u32 = 4;
+
+/// Every so many rounds a worker waits for its lock, where it would else be refused.
+const PATIENCE: u32 = 16;
+
+/// What a worker of a hammer passes before its first round.
+pub trait Gate {
+    /// Whether `worker` may begin. Workers are numbered from 0, as their sessions are.
+    fn pass(&self, worker: u32) -> bool;
+}
+
+/// A gate that lets everyone pass.
+#[derive(Drop)]
+pub struct OpenGate;
+
+impl Gate for OpenGate {
+    fn pass(&self, _worker: u32) -> bool {
+        true
+    }
+}
+
+/// What the workers tell of themselves.
+#[derive(Drop)]
+pub struct Reports<'a, P> {
+    /// A gate didn't let one of them pass.
+    is_held: AtomicBool,
+    /// One of them was refused memory.
+    is_short: AtomicBool,
+    /// How far they are.
+    progress: &'a P,
+}
+
+impl<'a, P: Progress> Reports<'a, P> {
+    /// Reports of nothing yet, which tell `progress` of each round.
+    pub fn new(progress: &'a P) -> Self {
+        Reports {
+            is_held: AtomicBool::new(false),
+            is_short: AtomicBool::new(false),
+            progress,
+        }
+    }
+
+    /// A gate didn't let one pass.
+    fn hold(&self) {
+        self.is_held.store(true, Ordering::SeqCst);
+    }
+
+    /// One was refused memory.
+    fn run_short(&self) {
+        self.is_short.store(true, Ordering::SeqCst);
+    }
+
+    /// One has played a round.
+    fn count_round(&self) {
+        self.progress.count_round();
+    }
+
+    /// All have ended. Answers the fault that they come to.
+    pub fn end(&self) -> Result<(), Fault> {
+        self.progress.end();
+        self.outcome()
+    }
+
+    /// The fault that they come to.
+    pub fn outcome(&self) -> Result<(), Fault> {
+        if self.is_held.load(Ordering::SeqCst) {
+            Err(Fault::GateHeld)
+        } else if self.is_short.load(Ordering::SeqCst) {
+            Err(Fault::NoMemory)
+        } else {
+            Ok(())
+        }
+    }
+}
+
+/// What all sessions do.
+#[derive(Clone, Copy, Debug, PartialEq, Eq)]
+pub enum Act {
+    /// Each asks the gate and plays so many rounds, beside the others.
+    Rounds(u32),
+    /// Each in turn takes a weak mode.
+    Weak,
+    /// The first one takes a strong mode.
+    Strong,
+}
+
+/// The relation of `round`.
+fn relation(round: u32) -> Tag {
+    Tag::relation(DATABASE, FIRST_RELATION + round % RELATIONS)
+}
+
+/// Has all of `sessions` do `act`, in the threads of `gate`, and report to `reports`.
+pub fn all_act<B: Board<Part> + Send, G: Gate + Sync, P: Progress + Sync, R: Threads + Wait + Sync>(
+    rt: &R,
+    gate: &G,
+    reports: &Reports<P>,
+    act: Act,
+    sessions: &mut Vec<OwnSession<Part, B>>,
+)
+    ensures own { KeepManagers B.seat sessions.old.items sessions.new.items }
+    ensures as_many { length sessions.new.items ≡ length sessions.old.items }
+{
+    each_acts(rt, gate, reports, act, sessions.as_mut_slice());
+}
+
+/// Has each of `sessions`, a slice, do `act` and report to `reports`. Rounds are played in as many threads of `gate` as
+/// there are sessions, and all else in one, in the order of the sessions.
+fn each_acts<B: Board<Part> + Send, G: Gate + Sync, P: Progress + Sync, R: Threads + Wait + Sync>(
+    rt: &R,
+    gate: &G,
+    reports: &Reports<P>,
+    act: Act,
+    sessions: &mut [OwnSession<Part, B>],
+)
+    ensures own { KeepManagers B.seat sessions.old sessions.new }
+{
+    let threads = match act {
+        Act::Rounds(_) => sessions.len().max(1),
+        Act::Weak | Act::Strong => 1,
+    };
+    for_each_mut(
+        rt,
+        sessions,
+        threads,
+        &|place, session| play_part(rt, gate, reports, act, place, session),
+    );
+}
+
+/// Has `session`, the one at `place`, do its part of `act` through `gate`, and report to `reports`.
+fn play_part<B: Board<Part>, G: Gate, P: Progress, R: Wait>(
+    rt: &R,
+    gate: &G,
+    reports: &Reports<P>,
+    act: Act,
+    place: usize,
+    session: &mut OwnSession<Part, B>,
+)
+    ensures seat { KeepsSeat B.seat session.old session.new }
+{
+    match act {
+        Act::Rounds(rounds) => work(rt, gate, reports, rounds, session),
+        Act::Weak => take(rt, reports, relation(0), Mode::AccessShare, session),
+        Act::Strong => {
+            if place == 0 {
+                take(rt, reports, relation(1), Mode::Share, session);
+            }
+        }
+    }
+}
+
+/// Has the worker of `session` ask `gate` once and then play its `rounds`, as long as there is memory, and report to
+/// `reports`.
+fn work<B: Board<Part>, G: Gate, P: Progress, R: Wait>(
+    rt: &R,
+    gate: &G,
+    reports: &Reports<P>,
+    rounds: u32,
+    session: &mut OwnSession<Part, B>,
+)
+    ensures seat { KeepsSeat B.seat session.old session.new }
+{
+    let worker = u32::from(session.id().number());
+    if !gate.pass(worker) {
+        reports.hold();
+        return;
+    }
+    'rounds: for round in 0..rounds {
+        if play_round(rt, worker, round, session).is_err() {
+            reports.run_short();
+            return;
+        }
+        reports.count_round();
+    }
+}
+
+/// Plays `round`: `worker` has `session` ask for a mode on a relation, and gives back what it was granted.
+fn play_round<B: Board<Part>, R: Wait>(
+    rt: &R,
+    worker: u32,
+    round: u32,
+    session: &mut OwnSession<Part, B>,
+) -> Result<(), NoMemory>
+    ensures seat { KeepsSeat B.seat session.old session.new }
+{
+    let tag = relation(round);
+    let mode = Mode::ALL[((worker % 8 + round % 8) % 8) as usize];
+    match ask(rt, round, tag, mode, session) {
+        Ok(_) => {
+            let _released = session.unlock(rt, tag, mode, Owner::Transaction);
+            Ok(())
+        }
+        Err(Refusal::NoMemory) => Err(NoMemory),
+        Err(_) => Ok(()),
+    }
+}
+
+/// Has `session` ask for `mode` on `tag` in `round`: in the last of every sixteen rounds it waits where something is in
+/// the way.
+fn ask<B: Board<Part>, R: Wait>(
+    rt: &R,
+    round: u32,
+    tag: Tag,
+    mode: Mode,
+    session: &mut OwnSession<Part, B>,
+) -> Result<Acquired, Refusal>
+    ensures seat { KeepsSeat B.seat session.old session.new }
+{
+    if round % PATIENCE == PATIENCE - 1 {
+        session.acquire(rt, tag, mode, Owner::Transaction)
+    } else {
+        session.try_lock(rt, tag, mode, Owner::Transaction)
+    }
+}
+
+/// Has `session` take `mode` on `tag`, which nothing is in the way of, and keep it, and reports to `reports`.
+fn take<B: Board<Part>, P: Progress, R: Wait>(
+    rt: &R,
+    reports: &Reports<P>,
+    tag: Tag,
+    mode: Mode,
+    session: &mut OwnSession<Part, B>,
+)
+    ensures seat { KeepsSeat B.seat session.old session.new }
+{
+    let answer = session.try_lock(rt, tag, mode, Owner::Transaction);
+    if let Err(Refusal::NoMemory) = answer {
+        reports.run_short();
+    }
+}

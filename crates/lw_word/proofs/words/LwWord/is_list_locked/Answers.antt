@@ -1,5 +1,0 @@
-use Rattle.lw_word.proofs.Bits.{bit_test}
-use Rattle.lw_word.proofs.words.LwWord.is_list_locked.Goals as goal
-
-pub returns : goal.returns
-returns c = rw (← c.self.view_is) (bit_test c.self.inside.number 28)

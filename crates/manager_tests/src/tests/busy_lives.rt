@@ -1,0 +1,367 @@
+//! Connections that come and go in one thread, each with the number that the one before it had, while another thread
+//! lists, and a third one takes strong modes on what they hold: under a watchdog.
+
+ghost use Rattle.std.specs.Prelude.{◌≡◌, ◌+◌, ◌<◌, length};
+ghost use Rattle.lock_manager.specs.Crews.{AreOf, SeatsAre};
+
+use super::answers::Answer;
+use super::crowds::{Watch, guard};
+use super::desk::open;
+use super::gates::Wins;
+use super::waits::{OWNER, TABLE, find_still, give_back, leave, queue, take};
+use lock_manager::{
+    Asked, Desk, How, Listing, Mode, OwnSession, Part, Refusal, SessionId, SessionLife,
+    SessionPool, Tag,
+};
+use lock_table::PartTable;
+use shared_rule::Board;
+use std::alloc::Global;
+use std::process::Abort;
+use std::sync::Wait;
+use std::sync::atomic::{AtomicU32, Ordering};
+use std::thread;
+use std::thread::{Threads, join_mut};
+use std::time::Clock;
+
+/// How many sessions there are: one that asks others to cancel, one that lists, one that takes strong modes, and the
+/// one that is lent.
+pub const SESSIONS: u32 = 4;
+
+/// The number that is lent.
+const LENT: u8 = 3;
+
+/// Of how many connections one waits, and is asked to cancel.
+const WAITS: u32 = 16;
+
+/// The first connection's table.
+const FIRST: u32 = 20_000;
+
+/// What the threads show each other.
+#[derive(Drop)]
+struct Shown {
+    /// Which connection comes, or is there. What those before it held is released.
+    life: AtomicU32,
+    /// How often a strong mode met what a connection held, and how often nothing.
+    wins: Wins,
+    watch: Watch,
+}
+
+impl Shown {
+    /// Which connection comes, or is there.
+    fn life(&self) -> u32 {
+        self.life.load(Ordering::SeqCst)
+    }
+
+    /// Whether all connections have come and gone.
+    fn is_over(&self) -> bool {
+        self.watch.is_over.load(Ordering::SeqCst)
+    }
+}
+
+/// The database of the connection numbered `life`: those that follow each other are to different ones.
+fn database_of(life: u32) -> u32 {
+    if life % 2 == 0 { 5 } else { 6 }
+}
+
+/// The table of the connection numbered `life`.
+fn table_of(life: u32) -> Tag {
+    Tag::relation(database_of(life), FIRST.saturating_add(life))
+}
+
+/// Whether a row that says that `session` has or awaits `tag` is another session's, or of a connection from that
+/// numbered `first` to that numbered `last`.
+fn is_of_those(session: SessionId, tag: Tag, first: u32, last: u32) -> bool {
+    if session.number() != LENT || tag == TABLE {
+        return true;
+    }
+    match tag {
+        Tag::Relation { relation, .. } => {
+            let life = relation.saturating_sub(FIRST);
+            first <= life && life <= last && tag == table_of(life)
+        }
+        _ => false,
+    }
+}
+
+/// Whether each row of `listing` is another session's, or of a connection from that numbered `first` to that numbered
+/// `last`.
+fn are_of_those(listing: &Listing, first: u32, last: u32) -> bool {
+    let mut are = true;
+    for row in &listing.fast {
+        are &= is_of_those(row.session, row.tag, first, last);
+    }
+    for row in &listing.table {
+        are &= is_of_those(row.session, row.tag, first, last);
+    }
+    are
+}
+
+/// Ends the test unless a cancel for a life that was over, and then one for the life that there was, were answered
+/// `over` and `now`.
+fn expect_asked<R: Abort>(rt: &R, over: Asked, now: Asked) {
+    assert!(rt; over == Asked::NotWaiting);
+    assert!(rt; now == Asked::Waiting);
+}
+
+/// Ends the test unless `refusal`, of a strong mode, names what a connection held.
+fn expect_held<R: Abort>(rt: &R, refusal: Refusal) {
+    let Refusal::Conflict { session, mode, how } = refusal else {
+        panic!(rt; "refused otherwise: {refusal}")
+    };
+    assert!(rt; session.number() == LENT);
+    assert!(rt; mode == Mode::AccessShare && how == How::Held);
+}
+
+/// Notes in `wins` whether a strong mode met what a connection held, by `answer`. Ends the test where it was refused for
+/// something else.
+fn note<R: Abort>(rt: &R, wins: &Wins, answer: Answer) {
+    match answer {
+        Ok(_) => wins.second(),
+        Err(refusal) => {
+            expect_held(rt, refusal);
+            wins.first();
+        }
+    }
+}
+
+/// Has `session` wait, be asked to cancel in the life that is over, which does nothing, and then in its own, `now`.
+fn wait_and_be_asked<T: PartTable, B: Board<T>, R: Abort + Wait>(
+    rt: &R,
+    pool: &SessionPool<T, B>,
+    asker: &mut OwnSession<T, B>,
+    session: OwnSession<T, B>,
+    now: SessionLife,
+) -> OwnSession<T, B>
+    ensures asker { B.seat asker.new.board ≡ B.seat asker.old.board }
+    ensures seat { B.seat result.board ≡ B.seat session.board }
+{
+    let last = SessionLife {
+        number: now.number,
+        life: now.life.wrapping_sub(1),
+    };
+    let waiting = queue(rt, session, Mode::AccessShare);
+    let asked_before = pool.ask_cancel(asker, last);
+    let waiting = find_still(rt, waiting, false);
+    let asked = pool.ask_cancel(asker, now);
+    expect_asked(rt, asked_before, asked);
+    leave(rt, find_still(rt, waiting, true))
+}
+
+/// Does with `session` what the connection numbered `life` does: it holds its table, unless a strong mode is in the
+/// way, and may wait.
+fn live<T: PartTable, B: Board<T>, R: Abort + Wait>(
+    rt: &R,
+    pool: &SessionPool<T, B>,
+    asker: &mut OwnSession<T, B>,
+    session: OwnSession<T, B>,
+    life: u32,
+) -> OwnSession<T, B>
+    ensures asker { B.seat asker.new.board ≡ B.seat asker.old.board }
+    ensures seat { B.seat result.board ≡ B.seat session.board }
+{
+    let mut session = session;
+    let now = pool.life_of(&session);
+    let _answer = session.try_lock(rt, table_of(life), Mode::AccessShare, OWNER);
+    thread::yield_now();
+    if life % WAITS == 0 {
+        return wait_and_be_asked(rt, pool, asker, session, now);
+    }
+    session
+}
+
+/// Has the connection numbered `life` come and go, with the session that `pool` lends.
+fn live_once<T: PartTable, B: Board<T>, D: Desk<OwnSession<T, B>>, R: Abort + Wait>(
+    rt: &R,
+    shown: &Shown,
+    desk: &mut D,
+    pool: &mut SessionPool<T, B>,
+    asker: &mut OwnSession<T, B>,
+    life: u32,
+)
+    requires seats { SeatsAre B.seat D.seat }
+    requires free { AreOf B.seat (D.manager desk.old) pool.old.free }
+    requires few { length pool.old.free < 2 }
+    ensures free { AreOf B.seat (D.manager desk.old) pool.new.free }
+    ensures few { length pool.new.free < 2 }
+    ensures manager { D.manager desk.new ≡ D.manager desk.old }
+    ensures live { D.live desk.new + length pool.old.free ≡ D.live desk.old + length pool.new.free }
+    ensures asker { B.seat asker.new.board ≡ B.seat asker.old.board }
+{
+    shown.life.store(life, Ordering::SeqCst);
+    let session = pool
+        .open(rt, desk, database_of(life))
+        .expect(rt, "a session");
+    let session = live(rt, pool, asker, session, life);
+    pool.close(rt, desk, session);
+    shown.watch.rounds.fetch_add(1, Ordering::SeqCst);
+}
+
+/// Has `lives` connections come and go, one after another, and says that it is over.
+fn serve<T: PartTable, B: Board<T>, D: Desk<OwnSession<T, B>>, R: Abort + Wait>(
+    rt: &R,
+    shown: &Shown,
+    desk: &mut D,
+    pool: &mut SessionPool<T, B>,
+    asker: &mut OwnSession<T, B>,
+    lives: u32,
+)
+    requires seats { SeatsAre B.seat D.seat }
+    requires free { AreOf B.seat (D.manager desk.old) pool.old.free }
+    requires few { length pool.old.free < 2 }
+    ensures free { AreOf B.seat (D.manager desk.old) pool.new.free }
+    ensures few { length pool.new.free < 2 }
+    ensures manager { D.manager desk.new ≡ D.manager desk.old }
+    ensures live { D.live desk.new + length pool.old.free ≡ D.live desk.old + length pool.new.free }
+    ensures asker { B.seat asker.new.board ≡ B.seat asker.old.board }
+{
+    take(rt, asker, Mode::AccessExclusive);
+    'lives: for life in 0..lives {
+        live_once(rt, shown, desk, pool, asker, life);
+    }
+    give_back(rt, asker, Mode::AccessExclusive);
+    shown.watch.is_over.store(true, Ordering::SeqCst);
+}
+
+/// Lists with `session` until all is over. What is listed of the lent session is of a connection that was there
+/// meanwhile, in its own database, and of none before it.
+fn list_often<T: PartTable, B: Board<T>, R: Abort + Wait>(
+    rt: &R,
+    shown: &Shown,
+    session: &mut OwnSession<T, B>,
+)
+    ensures seat { B.seat session.new.board ≡ B.seat session.old.board }
+{
+    'listings: for _ in rt.forever() {
+        if shown.is_over() {
+            return;
+        }
+        let first = shown.life();
+        let listing = session.list(rt).expect(rt, "a listing");
+        let are_right = are_of_those(&listing, first, shown.life());
+        assert!(rt; are_right, "a row of a life that was over");
+    }
+}
+
+/// Takes the strongest mode with `session` on the table of each connection that is there, until all is over: what the
+/// connection holds by a slot is moved to the table, and is in the way.
+fn disturb_often<T: PartTable, B: Board<T>, R: Abort + Wait>(
+    rt: &R,
+    shown: &Shown,
+    session: &mut OwnSession<T, B>,
+)
+    ensures seat { B.seat session.new.board ≡ B.seat session.old.board }
+{
+    'disturbances: for _ in rt.forever() {
+        if shown.is_over() {
+            return;
+        }
+        let answer = session.try_lock(rt, table_of(shown.life()), Mode::AccessExclusive, OWNER);
+        note(rt, &shown.wins, answer);
+        session.commit(rt);
+    }
+}
+
+/// Has `lister` list, and `strong` take strong modes, each in a thread of its own.
+fn look_on<B: Board<Part> + Send, R: Abort + Threads + Wait + Sync>(
+    rt: &R,
+    shown: &Shown,
+    lister: &mut OwnSession<Part, B>,
+    strong: &mut OwnSession<Part, B>,
+)
+    ensures lister { B.seat lister.new.board ≡ B.seat lister.old.board }
+    ensures strong { B.seat strong.new.board ≡ B.seat strong.old.board }
+{
+    join_mut(
+        rt,
+        &mut || list_often(rt, shown, lister),
+        &mut || disturb_often(rt, shown, strong),
+    );
+}
+
+/// Has `lister` list, and `strong` take strong modes, under the watchdog.
+fn look_on_watched<B: Board<Part> + Send, R: Abort + Clock + Threads + Wait + Sync>(
+    rt: &R,
+    shown: &Shown,
+    lister: &mut OwnSession<Part, B>,
+    strong: &mut OwnSession<Part, B>,
+)
+    ensures lister { B.seat lister.new.board ≡ B.seat lister.old.board }
+    ensures strong { B.seat strong.new.board ≡ B.seat strong.old.board }
+{
+    join_mut(
+        rt,
+        &mut || look_on(rt, shown, lister, strong),
+        &mut || guard(rt, &shown.watch),
+    );
+}
+
+/// Has `lives` connections come and go with sessions of `pool`, while `lister` and `strong` do their part.
+fn act_side_by_side<
+    B: Board<Part> + Send,
+    D: Desk<OwnSession<Part, B>> + Send,
+    R: Abort + Clock + Threads + Wait + Sync,
+>(
+    rt: &R,
+    shown: &Shown,
+    desk: &mut D,
+    pool: &mut SessionPool<Part, B>,
+    asker: &mut OwnSession<Part, B>,
+    lister: &mut OwnSession<Part, B>,
+    strong: &mut OwnSession<Part, B>,
+    lives: u32,
+)
+    requires seats { SeatsAre B.seat D.seat }
+    requires free { AreOf B.seat (D.manager desk.old) pool.old.free }
+    requires few { length pool.old.free < 2 }
+    ensures free { AreOf B.seat (D.manager desk.old) pool.new.free }
+    ensures manager { D.manager desk.new ≡ D.manager desk.old }
+    ensures live { D.live desk.new + length pool.old.free ≡ D.live desk.old + length pool.new.free }
+    ensures asker { B.seat asker.new.board ≡ B.seat asker.old.board }
+    ensures lister { B.seat lister.new.board ≡ B.seat lister.old.board }
+    ensures strong { B.seat strong.new.board ≡ B.seat strong.old.board }
+{
+    join_mut(
+        rt,
+        &mut || serve(rt, shown, desk, pool, asker, lives),
+        &mut || look_on_watched(rt, shown, lister, strong),
+    );
+}
+
+/// Has `lives` connections come and go at `desk`, one after another, each with the session that a pool lends, while
+/// others list and take strong modes.
+pub fn come_and_go_beside<
+    B: Board<Part> + Send,
+    D: Desk<OwnSession<Part, B>> + Send,
+    R: Abort + Clock + Threads + Wait + Sync + Print,
+>(rt: &R, alloc: Global, desk: &mut D, lives: u32)
+    requires seats { SeatsAre B.seat D.seat }
+    ensures manager { D.manager desk.new ≡ D.manager desk.old }
+    ensures live { D.live desk.new ≡ D.live desk.old }
+{
+    let shown = Shown {
+        life: AtomicU32::new(0),
+        wins: Wins::none(),
+        watch: Watch::new(),
+    };
+    let mut asker = open(rt, desk);
+    let mut lister = open(rt, desk);
+    let mut strong = open(rt, desk);
+    let mut pool = SessionPool::new(alloc).expect(rt, "a pool");
+    act_side_by_side(
+        rt,
+        &shown,
+        desk,
+        &mut pool,
+        &mut asker,
+        &mut lister,
+        &mut strong,
+        lives,
+    );
+    shown
+        .wins
+        .expect_both(rt, "what a life holds against a strong mode");
+    pool.end(rt, desk);
+    desk.close(rt, strong);
+    desk.close(rt, lister);
+    desk.close(rt, asker);
+}

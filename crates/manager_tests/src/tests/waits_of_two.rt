@@ -1,0 +1,251 @@
+//! Scenes of a wait: two sessions of which one waits for the other, on one thread and asleep in one of its own.
+
+ghost use Rattle.std.specs.Prelude.{◌≡◌};
+
+use super::answers::{Answer, expect_acted, expect_answer, expect_seen};
+use super::deeds::{Deed, act_side_by_side};
+use super::pair::Pair;
+use super::waits::{OWNER, TABLE, ask, find_still, give_back, leave, queue, take};
+use lock_manager::{Acquired, Asked, Mode, OwnSession, OwnWaiting, Part, Polled, Refusal, Started};
+use lock_table::PartTable;
+use shared_rule::Board;
+use std::process::Abort;
+use std::sync::Wait;
+use std::thread::Threads;
+
+/// Takes the table in `mode` with `session`, or is refused it, with no wait for it. Ends the test where that isn't
+/// answered `expected`.
+fn start_as<T: PartTable, B: Board<T>, R: Abort + Wait>(
+    rt: &R,
+    session: OwnSession<T, B>,
+    mode: Mode,
+    expected: Answer,
+) -> OwnSession<T, B>
+    ensures seat { B.seat result.board ≡ B.seat session.board }
+{
+    let (session, answer) = match session.start(rt, TABLE, mode, OWNER) {
+        Started::Granted(session) => (session, Ok(Acquired::Granted)),
+        Started::AlreadyHeld(session) => (session, Ok(Acquired::AlreadyHeld)),
+        Started::Refused(session, refusal) => (session, Err(refusal)),
+        Started::Queued(_) => panic!(rt; "queued"),
+    };
+    expect_answer(rt, answer, expected);
+    session
+}
+
+/// Takes the table in `mode` with `session`, and waits for it where it must. Ends the test where that isn't answered
+/// `expected`.
+fn lock_as<T: PartTable, B: Board<T>, R: Abort + Wait>(
+    rt: &R,
+    session: OwnSession<T, B>,
+    mode: Mode,
+    expected: Answer,
+) -> OwnSession<T, B>
+    ensures seat { B.seat result.board ≡ B.seat session.board }
+{
+    let (session, answer) = session.lock(rt, TABLE, mode, OWNER).into_parts();
+    expect_answer(rt, answer, expected);
+    session
+}
+
+/// Waits until `waiting` is over. Ends the test where that isn't answered `expected`.
+fn wait_as<T: PartTable, B: Board<T>, R: Abort + Wait>(
+    rt: &R,
+    waiting: OwnWaiting<T, B>,
+    expected: Answer,
+) -> OwnSession<T, B>
+    ensures seat { B.seat result.board ≡ B.seat waiting.board }
+{
+    let (session, answer) = waiting.wait(rt).into_parts();
+    expect_answer(rt, answer, expected);
+    session
+}
+
+/// Finds `waiting` granted.
+fn find_granted<T: PartTable, B: Board<T>, R: Abort>(
+    rt: &R,
+    waiting: OwnWaiting<T, B>,
+) -> OwnSession<T, B>
+    ensures seat { B.seat result.board ≡ B.seat waiting.board }
+{
+    match waiting.poll() {
+        Polled::Granted(session) => session,
+        _ => panic!(rt; "not granted"),
+    }
+}
+
+/// Has the second session of `pair` wait, be seen and asked to cancel by the first one, which holds, and leave. A
+/// request to cancel that came before the wait does nothing.
+pub fn leave_as_asked<T: PartTable, B: Board<T>, R: Abort + Wait>(
+    rt: &R,
+    pair: Pair<T, B>,
+) -> Pair<T, B>
+    ensures first { B.seat result.first.board ≡ B.seat pair.first.board }
+    ensures second { B.seat result.second.board ≡ B.seat pair.second.board }
+{
+    let Pair { mut first, second } = pair;
+    let number = second.id();
+    take(rt, &mut first, Mode::Exclusive);
+    ask(rt, &mut first, number, Asked::NotWaiting);
+    let waiting = find_still(rt, queue(rt, second, Mode::RowShare), false);
+    see_waiters(rt, &mut first, Mode::Exclusive);
+    ask(rt, &mut first, number, Asked::Waiting);
+    let second = leave(rt, find_still(rt, waiting, true));
+    give_back(rt, &mut first, Mode::Exclusive);
+    Pair { first, second }
+}
+
+/// Sees that somebody waits for the table, in a mode that conflicts with `mode`, which `session` has.
+fn see_waiters<T: PartTable, B: Board<T>, R: Abort + Wait>(
+    rt: &R,
+    session: &mut OwnSession<T, B>,
+    mode: Mode,
+)
+    ensures seat { B.seat session.new.board ≡ B.seat session.old.board }
+{
+    expect_seen(rt, session.has_waiters(rt, TABLE, mode), Ok(true));
+    let not_held = session.has_waiters(rt, TABLE, Mode::AccessShare);
+    expect_seen(rt, not_held, Err(Refusal::NotHeld));
+}
+
+/// Has the second session of `pair` cancel its wait after that was granted: it has the mode.
+pub fn cancel_too_late<T: PartTable, B: Board<T>, R: Abort + Wait>(
+    rt: &R,
+    pair: Pair<T, B>,
+) -> Pair<T, B>
+    ensures first { B.seat result.first.board ≡ B.seat pair.first.board }
+    ensures second { B.seat result.second.board ≡ B.seat pair.second.board }
+{
+    let Pair { mut first, second } = pair;
+    let number = second.id();
+    take(rt, &mut first, Mode::Share);
+    let waiting = queue(rt, second, Mode::AccessExclusive);
+    give_back(rt, &mut first, Mode::Share);
+    ask(rt, &mut first, number, Asked::NotWaiting);
+    let (mut second, answer) = waiting.cancel(rt).into_parts();
+    expect_answer(rt, answer, Ok(Acquired::Granted));
+    give_back(rt, &mut second, Mode::AccessExclusive);
+    Pair { first, second }
+}
+
+/// Has the second session of `pair` look at its wait after that was granted: it finds the grant.
+pub fn look_too_late<T: PartTable, B: Board<T>, R: Abort + Wait>(
+    rt: &R,
+    pair: Pair<T, B>,
+) -> Pair<T, B>
+    ensures first { B.seat result.first.board ≡ B.seat pair.first.board }
+    ensures second { B.seat result.second.board ≡ B.seat pair.second.board }
+{
+    let Pair { mut first, second } = pair;
+    take(rt, &mut first, Mode::AccessExclusive);
+    let waiting = queue(rt, second, Mode::AccessShare);
+    give_back(rt, &mut first, Mode::AccessExclusive);
+    let mut second = find_granted(rt, waiting);
+    give_back(rt, &mut second, Mode::AccessShare);
+    Pair { first, second }
+}
+
+/// Has the second session of `pair` go to sleep after it was asked to cancel: its wait is over at once.
+pub fn wait_as_asked<T: PartTable, B: Board<T>, R: Abort + Wait>(
+    rt: &R,
+    pair: Pair<T, B>,
+) -> Pair<T, B>
+    ensures first { B.seat result.first.board ≡ B.seat pair.first.board }
+    ensures second { B.seat result.second.board ≡ B.seat pair.second.board }
+{
+    let Pair { mut first, second } = pair;
+    let number = second.id();
+    take(rt, &mut first, Mode::Exclusive);
+    let waiting = queue(rt, second, Mode::Share);
+    ask(rt, &mut first, number, Asked::Waiting);
+    let second = wait_as(rt, waiting, Err(Refusal::Cancelled));
+    give_back(rt, &mut first, Mode::Exclusive);
+    Pair { first, second }
+}
+
+/// Has the second session of `pair` go to sleep after its wait was granted: the wait is over at once.
+pub fn wait_for_nothing<T: PartTable, B: Board<T>, R: Abort + Wait>(
+    rt: &R,
+    pair: Pair<T, B>,
+) -> Pair<T, B>
+    ensures first { B.seat result.first.board ≡ B.seat pair.first.board }
+    ensures second { B.seat result.second.board ≡ B.seat pair.second.board }
+{
+    let Pair { mut first, second } = pair;
+    take(rt, &mut first, Mode::Exclusive);
+    let waiting = queue(rt, second, Mode::Share);
+    give_back(rt, &mut first, Mode::Exclusive);
+    let mut second = wait_as(rt, waiting, Ok(Acquired::Granted));
+    give_back(rt, &mut second, Mode::Share);
+    Pair { first, second }
+}
+
+/// Asks with `pair` for what needs no wait, which is answered at once.
+pub fn answer_at_once<T: PartTable, B: Board<T>, R: Abort + Wait>(
+    rt: &R,
+    pair: Pair<T, B>,
+) -> Pair<T, B>
+    ensures first { B.seat result.first.board ≡ B.seat pair.first.board }
+    ensures second { B.seat result.second.board ≡ B.seat pair.second.board }
+{
+    let Pair { first, second } = pair;
+    let first = start_as(rt, first, Mode::Exclusive, Ok(Acquired::Granted));
+    let first = start_as(rt, first, Mode::Exclusive, Ok(Acquired::AlreadyHeld));
+    let first = lock_as(rt, first, Mode::Exclusive, Ok(Acquired::AlreadyHeld));
+    let mut first = lock_as(rt, first, Mode::Share, Ok(Acquired::Granted));
+    let oneself = first.id();
+    ask(rt, &mut first, oneself, Asked::NotWaiting);
+    first.commit(rt);
+    Pair { first, second }
+}
+
+/// Has both sessions of `pair` take a mode and want a higher one: the second that asks is refused, and the first one
+/// is granted.
+pub fn refuse_a_simple_deadlock<T: PartTable, B: Board<T>, R: Abort + Wait>(
+    rt: &R,
+    pair: Pair<T, B>,
+) -> Pair<T, B>
+    ensures first { B.seat result.first.board ≡ B.seat pair.first.board }
+    ensures second { B.seat result.second.board ≡ B.seat pair.second.board }
+{
+    let Pair {
+        mut first,
+        mut second,
+    } = pair;
+    take(rt, &mut first, Mode::Share);
+    take(rt, &mut second, Mode::Share);
+    let waiting = queue(rt, first, Mode::Exclusive);
+    let session = waiting.id();
+    let deadlock = Refusal::SimpleDeadlock { session };
+    let mut second = lock_as(rt, second, Mode::Exclusive, Err(deadlock));
+    second.abort(rt);
+    let mut first = find_granted(rt, waiting);
+    first.abort(rt);
+    Pair { first, second }
+}
+
+/// Has a session sleep in its thread until the other one of `pair`, in another thread, gives back, or asks it to
+/// cancel where `asks`.
+pub fn sleep_in_a_thread<B: Board<Part> + Send, R: Abort + Threads + Wait + Sync>(
+    rt: &R,
+    pair: Pair<Part, B>,
+    asks: bool,
+) -> Pair<Part, B>
+    ensures first { B.seat result.first.board ≡ B.seat pair.first.board }
+    ensures second { B.seat result.second.board ≡ B.seat pair.second.board }
+{
+    let mut pair = pair;
+    let number = pair.second.id();
+    let (deed, expected) = if asks {
+        (Deed::AskOnceAwaited(number), Err(Refusal::Cancelled))
+    } else {
+        let gives_back = Deed::GiveBackOnceAwaited(number, Mode::AccessExclusive);
+        (gives_back, Ok(Acquired::Granted))
+    };
+    take(rt, &mut pair.first, Mode::AccessExclusive);
+    let (mut pair, _, answer) = act_side_by_side(rt, pair, deed, Deed::Lock(Mode::AccessShare));
+    expect_acted(rt, answer, expected);
+    pair.second.commit(rt);
+    pair.first.commit(rt);
+    pair
+}

@@ -1,0 +1,9 @@
+use Rattle.scenario.specs.Heard.{Listed}
+use Rattle.scenario.specs.declared.answers.Row.TheVariants as row
+use Rattle.scenario.proofs.Hearing.{hears-next}
+use Rattle.scenario.proofs.listener.tell_waits.Goals as goal
+
+pub rows-preserved : goal.rows-preserved
+rows-preserved g c =
+    hears-next g.L.Listener.hears (λ wait. Listed c.args.names.now (row.Wait wait)) c.args.listener.now c.rows.listener c.row.new.self c.args.rows.now c.rows.row-index c.row-item.result
+    c.rows-test.true c.row-item.is c.rows.invariant c.in_ok-row.ensures.heard

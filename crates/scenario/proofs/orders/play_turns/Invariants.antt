@@ -1,5 +1,0 @@
-use Rattle.std.proofs.Common.{◌≡◌}
-use Rattle.scenario.proofs.orders.play_turns.Given as goal
-
-abbrev pub invariant-turns : goal.invariant-turns
-invariant-turns g l = g.D.Desk.manager l.scene.stage.desk ≡ g.D.Desk.manager l.fn.scene.stage.desk

@@ -1,5 +1,0 @@
-use Rattle.std.proofs.Common.{◌≡◌}
-use Rattle.scenario.proofs.run.Scene.converse.Given as goal
-
-abbrev pub invariant-lines : goal.invariant-lines
-invariant-lines g l = g.D.Desk.manager l.self.stage.desk ≡ g.D.Desk.manager l.fn.self.stage.desk

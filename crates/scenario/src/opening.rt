@@ -1,0 +1,71 @@
+//! How a script begins, which says whether it speaks SQL.
+
+use lock_script::Fault;
+use std::alloc::Global;
+use std::io::{ErrorKind, Read};
+
+/// How many bytes of a script are looked at for its first command.
+const MOST_BYTES: usize = 65536;
+
+/// How often they are read, with reads that a signal interrupts.
+const MOST_READS: u32 = 1_000_000;
+
+/// How many bytes a read asks for.
+const CAPACITY: usize = 4096;
+
+/// The first bytes of a script, and whether it speaks SQL.
+#[derive(Drop)]
+pub struct Opening {
+    pub front: Vec<u8>,
+    pub speaks: bool,
+}
+
+/// Reads of `reader` what shows whether its script speaks SQL: whether its first command is a `schema`.
+pub fn read_opening<R: Read>(alloc: Global, reader: &mut R) -> Result<Opening, Fault> {
+    let mut front = Vec::new(alloc);
+    let mut chunk = [0; CAPACITY];
+    for _ in 0..MOST_READS {
+        if let Some(speaks) = speaks_sql(front.as_slice(), false) {
+            return Ok(Opening { front, speaks });
+        }
+        let read = match reader.read(&mut chunk) {
+            Ok(read) => read,
+            Err(error) if error.kind() == ErrorKind::Interrupted => continue,
+            Err(_) => return Err(Fault::ReadFailed),
+        };
+        if read == 0 || front.len() >= MOST_BYTES {
+            break;
+        }
+        let Ok(()) = front.extend_from_slice(&chunk[..read]) else {
+            return Err(Fault::NoMemory);
+        };
+    }
+    let speaks = speaks_sql(front.as_slice(), true).unwrap_or(false);
+    Ok(Opening { front, speaks })
+}
+
+/// Whether the first command of a script that begins with `front` is a `schema`, where that is known. The last line is a whole one
+/// where `is_all` says so.
+fn speaks_sql(front: &[u8], is_all: bool) -> Option<bool> {
+    let mut left = front;
+    for _ in 0..front.len() {
+        let line = match left.iter().position(|byte| *byte == b'\n') {
+            Some(place) => {
+                let line = left.get(..place).unwrap_or(b"");
+                left = left.get(place.saturating_add(1)..).unwrap_or(b"");
+                line
+            }
+            None if is_all => {
+                let line = left;
+                left = b"";
+                line
+            }
+            None => return None,
+        };
+        let words = line.trim_ascii();
+        if !words.is_empty() && !words.starts_with(b"#") {
+            return Some(words == b"schema".as_slice());
+        }
+    }
+    None
+}

@@ -1,0 +1,171 @@
+//! Runs of scripts that speak SQL: a schema makes tables, and a session plays what the statements of its `do` lines lock.
+ghost use Rattle.std.specs.Prelude.{◌≡◌};
+ghost use Rattle.lock_manager.specs.Crews.{SeatsAre};
+
+use crate::kept::ReadLine;
+use crate::listener::Listener;
+use crate::run::Scene;
+use crate::runs::Keeping;
+use lock_manager::{Desk, OwnSession};
+use lock_script::{Defect, Fault, KeptLines, parse_object_name};
+use lock_table::PartTable;
+use shared_rule::Board;
+use sql_script::{Heard, SqlScript, Statements, Table, Unplayed, lines_of};
+use std::alloc::Global;
+use std::sync::Wait;
+
+/// What a script says in SQL, if it speaks SQL.
+#[derive(Drop)]
+pub(crate) struct Spoken {
+    script: Option<SqlScript>,
+}
+
+impl Spoken {
+    /// Nothing was said yet, in a script that speaks SQL as `keeping` says.
+    pub fn new(keeping: Keeping) -> Self {
+        let script = if keeping.speaks {
+            Some(SqlScript::new(keeping.alloc))
+        } else {
+            None
+        };
+        Spoken { script }
+    }
+
+    /// What `line` says.
+    pub fn hear(&mut self, line: ReadLine<'_>) -> Result<Heard, Unplayed> {
+        match &mut self.script {
+            Some(script) => script.hear(line.number, line.text),
+            None => Ok(Heard::Plain),
+        }
+    }
+
+    /// Ends the script. Refused where it ends within a schema.
+    pub fn finish(self) -> Result<(), Unplayed> {
+        match self.script {
+            Some(script) => script.finish(),
+            None => Ok(()),
+        }
+    }
+}
+
+impl<T: PartTable, B: Board<T>, D: Desk<OwnSession<T, B>>, L: Listener> Scene<T, B, D, L> {
+    /// Runs `line`, which says what is `heard`. What is kept of it by `keeping` while its session waits goes to `kept`.
+    pub(crate) fn run_heard<H: Wait>(
+        &mut self,
+        rt: &H,
+        keeping: Keeping,
+        kept: &mut KeptLines,
+        line: ReadLine<'_>,
+        heard: &Heard,
+    ) -> Result<(), Fault>
+        requires seats { SeatsAre B.seat D.seat }
+        ensures manager { D.manager self.new.stage.desk ≡ D.manager self.old.stage.desk }
+    {
+        match heard {
+            Heard::Plain => self.run_plain(rt, keeping, kept, line),
+            Heard::Schema => self.show_line(line),
+            Heard::Statements(statements) => {
+                self.show_line(line)?;
+                self.play_statements(rt, keeping.alloc, kept, line, statements)
+            }
+        }
+    }
+
+    /// Runs `line`, which says no SQL. Where `keeping` says so it is kept while its session waits.
+    fn run_plain<H: Wait>(
+        &mut self,
+        rt: &H,
+        keeping: Keeping,
+        kept: &mut KeptLines,
+        line: ReadLine<'_>,
+    ) -> Result<(), Fault>
+        requires seats { SeatsAre B.seat D.seat }
+        ensures manager { D.manager self.new.stage.desk ≡ D.manager self.old.stage.desk }
+    {
+        if keeping.keeps {
+            return self.take_in(rt, keeping.alloc, kept, line);
+        }
+        self.run_line(rt, line.number, line.text, line.more)?;
+        self.run_ready(rt, kept, line.more)
+    }
+
+    /// Tells the listener `line`, which asks for nothing by itself.
+    fn show_line(&mut self, line: ReadLine<'_>) -> Result<(), Fault>
+        ensures manager { D.manager self.new.stage.desk ≡ D.manager self.old.stage.desk }
+    {
+        self.listener.begin_line(line.number, line.text, line.more)?;
+        self.listener.end_line()
+    }
+
+    /// Plays `statements` of `line`: each of their lines is run, or kept while the session waits.
+    fn play_statements<H: Wait>(
+        &mut self,
+        rt: &H,
+        alloc: Global,
+        kept: &mut KeptLines,
+        line: ReadLine<'_>,
+        statements: &Statements,
+    ) -> Result<(), Fault>
+        requires seats { SeatsAre B.seat D.seat }
+        ensures manager { D.manager self.new.stage.desk ≡ D.manager self.old.stage.desk }
+    {
+        'turns: for turn in &statements.turns {
+            'tables: for table in &turn.named {
+                self.name_table(rt, alloc, line, table)?;
+            }
+        }
+        let session = statements.session.as_str();
+        let Ok(played) = lines_of(alloc, session, statements.turns.as_slice()) else {
+            return Err(Fault::NoMemory);
+        };
+        'played: for text in &played {
+            let next = ReadLine {
+                number: line.number,
+                text: text.as_str(),
+                more: line.more,
+            };
+            self.take_in(rt, alloc, kept, next)?;
+        }
+        Ok(())
+    }
+
+    /// Gives `table` its name, where neither has another, by a line in place of `line`. One whose name no object may have goes without.
+    fn name_table<H: Wait>(
+        &mut self,
+        rt: &H,
+        alloc: Global,
+        line: ReadLine<'_>,
+        table: &Table,
+    ) -> Result<(), Fault>
+        requires seats { SeatsAre B.seat D.seat }
+        ensures manager { D.manager self.new.stage.desk ≡ D.manager self.old.stage.desk }
+    {
+        let name = table.name.as_str();
+        let objects = &self.stage.names.objects;
+        let is_free = objects.tag_called(name).is_none() && objects.name_of(table.tag).is_none();
+        if !is_free || parse_object_name(name).is_none() {
+            return Ok(());
+        }
+        let tag = table.tag;
+        match format!(in alloc; "name {name} {tag}") {
+            Ok(text) => self.run_line(rt, line.number, text.as_str(), line.more),
+            Err(_) => Err(Fault::NoMemory),
+        }
+    }
+
+    /// The fault of the line of the number `number`, whose SQL can't be played. The listener is told why in place of the line.
+    pub(crate) fn refuse(&mut self, number: u32, unplayed: Unplayed) -> Fault
+        ensures manager { D.manager self.new.stage.desk ≡ D.manager self.old.stage.desk }
+    {
+        let Unplayed::Told(why) = unplayed else {
+            return Fault::NoMemory;
+        };
+        match self.listener.keep_line(number, why.as_str(), false) {
+            Ok(()) => Fault::BadLine {
+                line: number,
+                what: Defect::UnknownCommand,
+            },
+            Err(fault) => fault,
+        }
+    }
+}

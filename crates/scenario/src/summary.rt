@@ -1,0 +1,214 @@
+//! Who waited in a run, from which line to which, for what, and behind whom.
+
+ghost use Rattle.std.specs.Prelude.{◌≡◌, ℕ, ◌<◌, [], All, length, map, IfNone, IfOk, IfSome, OnErr, OnOk, Some, false, slice_set, true};
+ghost use Rattle.std.specs.List.{HoldsAt};
+ghost use Rattle.scenario.specs.Summaries.{BeginsRow, EndsRow, IsOpen, obstacle_in, shown_obstacle};
+
+use crate::answers::Said;
+use crate::text::{ObjectText, name_of};
+use lock_manager::{Blocked, Blocker, How, Mode, Tag};
+use lock_script::{Name, Names};
+use std::alloc::{AllocError, Global};
+use std::fmt;
+
+/// A session that is in the way of a wait, by a mode.
+#[derive(Clone, Copy, Debug)]
+pub struct Obstacle {
+    pub session: Name,
+    pub mode: Mode,
+    pub how: How,
+}
+
+/// How a wait ended.
+#[derive(Clone, Copy, Debug)]
+pub struct WaitEnd {
+    /// The line of the script behind which it ended.
+    pub line: u32,
+    /// Whether the session had its lock then, and was not asked to stop.
+    pub granted: bool,
+}
+
+/// A wait of a run.
+#[derive(Drop)]
+pub struct WaitRow {
+    pub session: Name,
+    /// The line of the script that asked for the lock.
+    pub from: u32,
+    /// `None` while it waits.
+    pub ended: Option<WaitEnd>,
+    pub tag: Tag,
+    pub mode: Mode,
+    /// Who was in its way when it began.
+    pub behind: Vec<Obstacle>,
+}
+
+/// The waits of a run, in the order in which they began.
+#[derive(Drop)]
+pub struct Summary {
+    alloc: Global,
+    /// The line of the script that is run.
+    pub line: u32,
+    pub waits: Vec<WaitRow>,
+}
+
+impl Summary {
+    /// Nobody waited. Rows take memory by `alloc`.
+    pub fn new(alloc: Global) -> Self
+        ensures { result.waits.items ≡ [] }
+    {
+        Summary {
+            alloc,
+            line: 0,
+            waits: Vec::new(alloc),
+        }
+    }
+
+    /// The line of this `number` is run.
+    pub fn begin_line(&mut self, number: u32)
+        ensures line { self.new.line ≡ number }
+        ensures waits { self.new.waits ≡ self.old.waits }
+    {
+        self.line = number;
+    }
+
+    /// A wait begins, which its session told as `blocked`; it is the last row. Sessions are known by `names`.
+    pub fn begin_wait(&mut self, names: &Names, blocked: &Blocked) -> Result<(), AllocError>
+        ensures begun { OnOk result (BeginsRow names.now self.old.line blocked.now self.old.waits.items self.new.waits.items) }
+        ensures refused { OnErr result (self.new.waits.items ≡ self.old.waits.items) }
+        ensures line { self.new.line ≡ self.old.line }
+    {
+        let behind = obstacles(self.alloc, names, blocked.blockers.as_slice())?;
+        self.waits.push(WaitRow {
+            session: name_of(names, blocked.session),
+            from: self.line,
+            ended: None,
+            tag: blocked.tag,
+            mode: blocked.mode,
+            behind,
+        })?;
+        Ok(())
+    }
+
+    /// The wait of the session of this `name` ends at the line that is run: it was `granted`, or the session gave up.
+    fn end_wait(&mut self, name: &Name, granted: bool)
+        ensures ended { EndsRow name.now.bytes self.old.line granted self.old.waits.items self.new.waits.items }
+        ensures line { self.new.line ≡ self.old.line }
+    {
+        let line = self.line;
+        if let Some(place) = place_of_open(self.waits.as_slice(), name) {
+            end_row(self.waits.as_mut_slice(), place, WaitEnd { line, granted });
+        }
+    }
+
+    /// The session of this `name` is told what ends its wait, or something else.
+    pub fn hear(&mut self, name: &Name, said: &Said)
+        ensures line { self.new.line ≡ self.old.line }
+        ensures granted { said.now ≡ Said.GrantedAfterWaiting →
+            EndsRow name.now.bytes self.old.line true self.old.waits.items self.new.waits.items }
+        ensures cancelled { said.now ≡ Said.Cancelled →
+            EndsRow name.now.bytes self.old.line false self.old.waits.items self.new.waits.items }
+    {
+        match said {
+            Said::GrantedAfterWaiting => self.end_wait(name, true),
+            Said::Cancelled => self.end_wait(name, false),
+            _ => {}
+        }
+    }
+
+    /// Who waits still, in the order in which they began.
+    pub fn left(&self) -> Result<Vec<Name>, AllocError> {
+        let mut names = Vec::new(self.alloc);
+        for row in &self.waits {
+            if row.ended.is_none() {
+                names.push(row.session)?;
+            }
+        }
+        Ok(names)
+    }
+}
+
+/// Those `found` in the way of a wait, by their `names`.
+fn obstacles(alloc: Global, names: &Names, found: &[Blocker]) -> Result<Vec<Obstacle>, AllocError>
+    ensures { IfOk result (λ those. map shown_obstacle those.items ≡ map (obstacle_in names.now) found.now) }
+{
+    let mut behind = Vec::new(alloc);
+    'found: for blocker in found {
+        behind.push(Obstacle {
+            session: name_of(names, blocker.session),
+            mode: blocker.mode,
+            how: blocker.how,
+        })?;
+    }
+    Ok(behind)
+}
+
+/// Ends the wait of the row at `place` of `waits` as `end` says.
+fn end_row(waits: &mut [WaitRow], place: usize, end: WaitEnd)
+    requires { place < length waits.old }
+    ensures { HoldsAt (λ row. waits.new ≡ slice_set waits.old place (record row { ended = Some end })) waits.old place }
+{
+    waits[place].ended = Some(end);
+}
+
+/// Where among `waits` the one of the session `name` stands that has not ended.
+fn place_of_open(waits: &[WaitRow], name: &Name) -> Option<usize>
+    ensures within { IfSome result (λ place. place < length waits.now) }
+    ensures open { IfSome result (HoldsAt (IsOpen name.now.bytes) waits.now) }
+    ensures none { IfNone result (All (λ row. IsOpen name.now.bytes row → ⊥) waits.now) }
+{
+    'rows: for (place, row) in waits.iter().enumerate() {
+        if row.ended.is_none() && row.session.as_str() == name.as_str() {
+            return Some(place);
+        }
+    }
+    None
+}
+
+/// A row of a summary, as text. Its object is known by `names`.
+#[derive(Clone, Copy, Drop)]
+pub struct WaitText<'a> {
+    pub names: &'a Names,
+    pub wait: &'a WaitRow,
+}
+
+impl fmt::Display for WaitText<'_> {
+    fn fmt<W: fmt::Write>(&self, f: &mut fmt::Formatter<W>) -> fmt::Result {
+        let WaitRow {
+            session,
+            from,
+            mode,
+            tag,
+            ..
+        } = self.wait;
+        let object = ObjectText {
+            names: self.names,
+            tag: *tag,
+        };
+        match self.wait.ended {
+            Some(WaitEnd { line, .. }) => {
+                write!(f, "{session} waited from line {from} to line {line}")?
+            }
+            None => write!(f, "{session} waits from line {from}")?,
+        }
+        write!(f, " for {mode} on {object}")?;
+        if let Some(WaitEnd { granted: false, .. }) = self.wait.ended {
+            write!(f, ", cancelled")?;
+        }
+        let mut before = ":";
+        for obstacle in &self.wait.behind {
+            let Obstacle { session, mode, how } = *obstacle;
+            let how = standing_text(how);
+            write!(f, "{before} {session} {how} {mode}")?;
+            before = ",";
+        }
+        Ok(())
+    }
+}
+
+/// How a session is in the way of a wait, as `how` says, before the name of its mode.
+fn standing_text(how: How) -> &'static str {
+    match how {
+        How::Held => "holds",
+        How::Awaited => "stands before with",
+    }
+}

@@ -1,0 +1,86 @@
+//! The calls of a session that has to wait, or that waits, over any board, and what it is told.
+ghost use Rattle.std.specs.Prelude.{◌≡◌, IfOk, IfErr};
+ghost use Rattle.scenario.specs.Waits.{GivesUp, GoesOn, IsBegun, IsQueued, LooksOn, TellsBlocked};
+
+use crate::answers::Said;
+use lock_manager::{
+    Acquired, Blocked, Cancelled, Mode, OwnSession, OwnWaiting, Owner, Polled, Refusal, Started,
+    Tag,
+};
+use lock_table::PartTable;
+use shared_rule::Board;
+use std::sync::Wait;
+
+/// Has `session` ask for `mode` on `tag` for `owner`, and wait where it must: the session with what it is told, or what
+/// it is while it waits.
+pub fn begin<T: PartTable, B: Board<T>, H: Wait>(
+    rt: &H,
+    session: OwnSession<T, B>,
+    tag: Tag,
+    mode: Mode,
+    owner: Owner,
+) -> Result<(OwnSession<T, B>, Said), OwnWaiting<T, B>>
+    ensures begun { IfOk result (λ it. IsBegun B.seat B.view B.stack session tag mode owner it.1 it.0) }
+    ensures queued { IfErr result (IsQueued B.seat B.view B.stack session tag mode owner) }
+    ensures rests { IfOk result (λ it. B.seat it.0.board ≡ B.seat session.board) }
+    ensures waits { IfErr result (λ waiting. B.seat waiting.board ≡ B.seat session.board) }
+{
+    match session.start(rt, tag, mode, owner) {
+        Started::Granted(session) => Ok((session, Said::Acquired(Acquired::Granted))),
+        Started::AlreadyHeld(session) => Ok((session, Said::Acquired(Acquired::AlreadyHeld))),
+        Started::Queued(waiting) => Err(waiting),
+        Started::Refused(session, refusal) => Ok((session, Said::Refused(refusal))),
+    }
+}
+
+/// Polls the wait `waiting`, and carries a cancel out that was asked: the session that waits no more with what it is
+/// told, or the wait that goes on.
+pub fn poll_wait<T: PartTable, B: Board<T>, H: Wait>(
+    rt: &H,
+    waiting: OwnWaiting<T, B>,
+) -> Result<(OwnSession<T, B>, Said), OwnWaiting<T, B>>
+    ensures goes_on { IfOk result (λ seen. GoesOn B.seat B.view B.stack waiting seen.1 seen.0) }
+    ensures looks_on { IfErr result (LooksOn B.seat B.view B.stack waiting) }
+    ensures rests { IfOk result (λ seen. B.seat seen.0.board ≡ B.seat waiting.board) }
+    ensures waits { IfErr result (λ still. B.seat still.board ≡ B.seat waiting.board) }
+{
+    match waiting.poll() {
+        Polled::Still(waiting) => Err(waiting),
+        Polled::Granted(session) => Ok((session, Said::GrantedAfterWaiting)),
+        Polled::CancelAsked(waiting) => match cancel(rt, waiting) {
+            (session, true) => Ok((session, Said::GrantedAfterWaiting)),
+            (session, false) => Ok((session, Said::Cancelled)),
+        },
+    }
+}
+
+/// The wait of the session `waiting` with those in its way, as it says itself. Refused where there is no memory for the list.
+pub fn tell_blocked<T: PartTable, B: Board<T>, H: Wait>(
+    rt: &H,
+    waiting: &mut OwnWaiting<T, B>,
+) -> Result<Blocked, Refusal>
+    ensures told { IfOk result (TellsBlocked B.seat B.view B.stack waiting.old waiting.new) }
+    ensures seat { B.seat waiting.new.board ≡ B.seat waiting.old.board }
+{
+    let blockers = waiting.blockers(rt)?;
+    Ok(Blocked {
+        session: waiting.id(),
+        tag: waiting.tag(),
+        mode: waiting.mode(),
+        blockers,
+    })
+}
+
+/// The session of the wait `waiting`, which is given up, and whether it was granted before that.
+pub fn cancel<T: PartTable, B: Board<T>, H: Wait>(
+    rt: &H,
+    waiting: OwnWaiting<T, B>,
+) -> (OwnSession<T, B>, bool)
+    ensures gave_up { GivesUp B.seat B.view B.stack waiting result.1 result.0 }
+    ensures seat { B.seat result.0.board ≡ B.seat waiting.board }
+{
+    match waiting.cancel(rt) {
+        Cancelled::Removed(session) => (session, false),
+        Cancelled::WasGranted(session) => (session, true),
+    }
+}

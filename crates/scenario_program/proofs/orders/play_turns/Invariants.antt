@@ -1,0 +1,5 @@
+use Rattle.std.proofs.Common.{◌≡◌}
+use Rattle.scenario_program.proofs.orders.play_turns.Given as goal
+
+abbrev pub invariant-turns : goal.invariant-turns
+invariant-turns g l = g.D.Desk.manager l.scene.stage.desk ≡ g.D.Desk.manager l.fn.scene.stage.desk

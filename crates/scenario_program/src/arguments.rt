@@ -1,0 +1,396 @@
+//! The words of the command line.
+ghost use Rattle.std.specs.Prelude.{IfOk};
+ghost use Rattle.lock_hammer.specs.Sizes.{IsPlayable};
+ghost use Rattle.scenario.specs.Sizes.{IsForManager};
+ghost use Rattle.scenario_program.specs.Tasks.{HasSlotGroups, OfHammer, OfRun};
+
+use crate::helps::{HAMMER_HELP, Helps, MODES_HELP, ORDERS_HELP, SHELL_HELP};
+use crate::options::{FAILURES, FailOn, RunOptions};
+use clap::error::ErrorKind;
+use clap::{Arg, ArgAction, ArgMatches, Command, Error, value_parser};
+use lock_hammer::Hammer;
+use lock_manager::{Config, MOST_GROUPS, MOST_LOCAL, MOST_SESSIONS};
+use scenario::{DRAWINGS, Drawing, Style};
+use script_orders::OrdersOptions;
+use sql_report::{SQL, sql_command};
+use std::alloc::{AllocError, Global};
+
+/// How many sessions a script may open, where the command line doesn't say, and as `--help` shows it.
+const USUAL_SESSIONS: u32 = 8;
+
+const USUAL_SESSIONS_SHOWN: &str = "8";
+
+/// How many sessions a shell may open in its whole life, where the command line doesn't say.
+const SHELL_SESSIONS_SHOWN: &str = "64";
+
+/// How many local entries a session may have, where the command line doesn't say, and as `--help` shows it.
+const USUAL_LOCAL: u32 = 1024;
+
+const USUAL_LOCAL_SHOWN: &str = "1024";
+
+/// How many groups of fast-path slots a session has, where the command line doesn't say, and as `--help` shows it.
+const USUAL_GROUPS: u32 = 1;
+
+const USUAL_GROUPS_SHOWN: &str = "1";
+
+/// The program's name.
+pub const PROGRAM: &str = "lock_scenario";
+
+/// The version that `--version` shows.
+pub const VERSION: &str = "0.1.0";
+
+/// What `--help` says first.
+pub const ABOUT: &str = "Run scripts against PostgreSQL's lock manager";
+
+/// The option that prints the man page.
+const MAN: &str = "--man";
+
+/// What is said of a summary beside a picture of the whole script.
+const SUMMARY_OF_A_DRAWING: &str =
+    "error: the argument '--summary' cannot be used with '--graph timeline' or '--graph gantt'
+
+Usage: lock_scenario run [OPTIONS] < SCRIPT
+
+For more information, try '--help'.
+";
+
+/// The subcommand that runs a script's lines in every order.
+const ORDERS: &str = "orders";
+
+/// How many orders it runs at most, and how many where the command line doesn't say, and as `--help` shows it.
+const MOST_ORDERS: u32 = 1_000_000;
+
+const USUAL_ORDERS: u32 = 10_000;
+
+const USUAL_ORDERS_SHOWN: &str = "10000";
+
+/// The seed by which orders are drawn, where the command line doesn't say, and as `--help` shows it.
+const USUAL_SEED: u32 = 0;
+
+const USUAL_SEED_SHOWN: &str = "0";
+
+/// The subcommand that runs lines as they are typed.
+const SHELL: &str = "shell";
+
+/// The subcommand that prints the conflict table.
+const MODES: &str = "modes";
+
+/// The subcommand that has sessions lock and unlock in threads.
+const HAMMER: &str = "hammer";
+
+/// How many rounds a hammer plays at most.
+const MOST_ROUNDS: u32 = 1_000_000;
+
+/// The subcommand `hammer --sessions N --rounds K`.
+fn hammer_command<'a>(alloc: Global) -> Result<Command<'a>, AllocError> {
+    let sessions = Arg::new(alloc, "sessions")
+        .long("sessions")
+        .value_name("N")
+        .help("Sessions, each in a thread of its own, 1 to 64")
+        .value_parser(value_parser!(u32).range(1..=i64::from(MOST_SESSIONS)))
+        .required(true);
+    let rounds = Arg::new(alloc, "rounds")
+        .long("rounds")
+        .value_name("K")
+        .help("Locks that each asks for, 1 to 1000000")
+        .value_parser(value_parser!(u32).range(1..=i64::from(MOST_ROUNDS)))
+        .required(true);
+    Command::new(alloc, HAMMER)
+        .about("Lock and unlock in many threads, and count what is left")
+        .after_help(HAMMER_HELP)
+        .arg(sessions)?
+        .arg(rounds)
+}
+
+/// The subcommand `run` with the options of what it shows.
+fn with_styles<'a>(alloc: Global, run: Command<'a>) -> Result<Command<'a>, AllocError> {
+    let echo = Arg::new(alloc, "echo")
+        .long("echo")
+        .help("Print each line of the script before its answers")
+        .action(ArgAction::SetTrue);
+    let json = Arg::new(alloc, "json")
+        .long("json")
+        .help("Print an object of JSON for each line, instead of its text")
+        .action(ArgAction::SetTrue);
+    let graph = Arg::new(alloc, "graph")
+        .long("graph")
+        .value_name("LANGUAGE")
+        .help("Draw who waits for whom, behind each list or at the end, or the whole script")
+        .value_parser(DRAWINGS.as_slice());
+    run.arg(echo)?.arg(json)?.arg(graph)
+}
+
+/// The subcommand `run` with the options of how its script is run, what is told at its end, and what it fails for.
+fn with_manners<'a>(alloc: Global, run: Command<'a>) -> Result<Command<'a>, AllocError> {
+    let keep = Arg::new(alloc, "keep")
+        .long("keep")
+        .help("Keep a line whose session waits, and run it once that goes on")
+        .action(ArgAction::SetTrue);
+    let fail_on = Arg::new(alloc, "fail-on")
+        .long("fail-on")
+        .value_name("WHAT")
+        .help("End with status 4 on these, with commas between")
+        .value_delimiter(',')
+        .value_parser(FAILURES.as_slice());
+    let summary = Arg::new(alloc, "summary")
+        .long("summary")
+        .help("Tell at the end who waited, for what and behind whom")
+        .action(ArgAction::SetTrue);
+    run.arg(keep)?.arg(summary)?.arg(fail_on)
+}
+
+/// The subcommand `command` with the options of how large the lock manager is; it has `usual_sessions` where they don't say.
+fn with_config<'a>(
+    alloc: Global,
+    command: Command<'a>,
+    usual_sessions: &'static str,
+) -> Result<Command<'a>, AllocError> {
+    let sessions = Arg::new(alloc, "sessions")
+        .long("sessions")
+        .value_name("N")
+        .help("Sessions that may be opened, 1 to 64")
+        .value_parser(value_parser!(u32).range(1..=i64::from(MOST_SESSIONS)))
+        .default_value(usual_sessions);
+    let max_local = Arg::new(alloc, "max-local")
+        .long("max-local")
+        .value_name("M")
+        .help("Different locks of a session, 1 to 65536")
+        .value_parser(value_parser!(u32).range(1..=i64::from(MOST_LOCAL)))
+        .default_value(USUAL_LOCAL_SHOWN);
+    let slot_groups = Arg::new(alloc, "slot-groups")
+        .long("slot-groups")
+        .value_name("G")
+        .help("Groups of 16 fast-path slots, 1 to 8")
+        .value_parser(value_parser!(u32).range(1..=i64::from(MOST_GROUPS)))
+        .default_value(USUAL_GROUPS_SHOWN);
+    command.arg(sessions)?.arg(max_local)?.arg(slot_groups)
+}
+
+/// The subcommand `orders [--sessions N] [--max-local M] [--slot-groups G] [--limit K] [--seed S] [--ends]`.
+fn orders_command<'a>(alloc: Global) -> Result<Command<'a>, AllocError> {
+    let limit = Arg::new(alloc, "limit")
+        .long("limit")
+        .value_name("K")
+        .help("Orders begun at most, 1 to 1000000")
+        .value_parser(value_parser!(u32).range(1..=i64::from(MOST_ORDERS)))
+        .default_value(USUAL_ORDERS_SHOWN);
+    let seed = Arg::new(alloc, "seed")
+        .long("seed")
+        .value_name("S")
+        .help("Which orders are drawn where not all are run, 0 to 4294967295")
+        .value_parser(value_parser!(u32))
+        .default_value(USUAL_SEED_SHOWN);
+    let ends = Arg::new(alloc, "ends")
+        .long("ends")
+        .help("Leave out what list, count, queue, owned, blockers and waiters answer")
+        .action(ArgAction::SetTrue);
+    let orders = Command::new(alloc, ORDERS)
+        .about("Run the script's lines in every order, and count how it ends")
+        .override_usage("lock_scenario orders [OPTIONS] < SCRIPT")
+        .after_help(ORDERS_HELP);
+    with_config(alloc, orders, USUAL_SESSIONS_SHOWN)?
+        .arg(limit)?
+        .arg(seed)?
+        .arg(ends)
+}
+
+/// The command line: `run [--sessions N] [--max-local M] [--slot-groups G] [--echo] [--json] [--graph LANGUAGE]
+/// [--keep] [--summary] [--fail-on WHAT]`,
+/// `orders [--sessions N] [--max-local M] [--slot-groups G] [--limit K] [--seed S] [--ends]`,
+/// `sql [--schema FILE] [--fail-on KIND] [--single-transaction]`,
+/// `shell [--sessions N] [--max-local M] [--slot-groups G]`, `modes`, `hammer --sessions N --rounds K`, or `--man`. Its help has `helps`.
+fn command<'a>(alloc: Global, helps: &'a Helps) -> Result<Command<'a>, AllocError> {
+    let run = Command::new(alloc, "run")
+        .about("Run the script on standard input")
+        .override_usage("lock_scenario run [OPTIONS] < SCRIPT")
+        .after_help(helps.run.as_str());
+    let run = with_config(alloc, run, USUAL_SESSIONS_SHOWN)?;
+    let run = with_styles(alloc, run)?;
+    let run = with_manners(alloc, run)?;
+    let shell = Command::new(alloc, SHELL)
+        .about("Run lines as they are typed, with help")
+        .after_help(SHELL_HELP);
+    let shell = with_config(alloc, shell, SHELL_SESSIONS_SHOWN)?;
+    let modes = Command::new(alloc, MODES)
+        .about("Print which lock modes conflict")
+        .after_help(MODES_HELP);
+    let man = Arg::new(alloc, "man")
+        .long("man")
+        .help("Print the man page")
+        .action(ArgAction::SetTrue);
+    Command::new(alloc, PROGRAM)
+        .version(VERSION)
+        .about(ABOUT)
+        .after_help(helps.program.as_str())
+        .subcommand_required(true)
+        .arg(man)?
+        .subcommand(run)?
+        .subcommand(orders_command(alloc)?)?
+        .subcommand(sql_command(alloc)?)?
+        .subcommand(shell)?
+        .subcommand(modes)?
+        .subcommand(hammer_command(alloc)?)
+}
+
+/// What the words ask for.
+#[derive(Clone, Copy, Debug, PartialEq, Eq)]
+pub enum Task {
+    /// To run the script on standard input in this way.
+    Run(Config, RunOptions),
+    /// To run the lines of the script on standard input in every order.
+    Orders(Config, OrdersOptions),
+    /// To say what the SQL statements on standard input lock, in the way that the words say.
+    Sql,
+    /// To run lines as they are typed.
+    Shell(Config),
+    /// To have sessions lock and unlock in threads.
+    Hammer(Hammer),
+    /// To print the conflict table.
+    Modes,
+    /// To print the man page.
+    Man,
+}
+
+/// What words come to that ask for no run.
+#[derive(Debug, Drop)]
+pub enum NoRun {
+    /// They ask for this text, a help or the version.
+    Text(String),
+    /// They are refused, and this says why.
+    Refused(String),
+    /// There was no memory to read them, or for the text.
+    NoMemory,
+}
+
+impl NoRun {
+    /// What `clap` says of the words by its `error`.
+    fn of(alloc: Global, error: &Error) -> Self {
+        if error.kind() == ErrorKind::OutOfMemory {
+            return NoRun::NoMemory;
+        }
+        match format!(in alloc; "{error}") {
+            Ok(text) if error.use_stderr() => NoRun::Refused(text),
+            Ok(text) => NoRun::Text(text),
+            Err(_) => NoRun::NoMemory,
+        }
+    }
+}
+
+/// What `words` ask for, with each limit in its range: 1 to 64 sessions, 1 to 65,536 local entries, 1 to 8 groups
+/// of slots, 1 to 1,000,000 rounds. The first word is the program's name.
+pub fn parse_arguments(alloc: Global, words: &[String]) -> Result<Task, NoRun>
+    ensures config { IfOk result (λ task. OfRun task IsForManager) }
+    ensures slot_groups { IfOk result (λ task. OfRun task HasSlotGroups) }
+    ensures hammer { IfOk result (λ task. OfHammer task IsPlayable) }
+{
+    if asks_for_man(words) {
+        return Ok(Task::Man);
+    }
+    match task_of(alloc, words) {
+        Ok(Task::Run(_, options)) if options.summarizes_a_drawing() => Err(refuse_summary(alloc)),
+        Ok(task) => Ok(task),
+        Err(error) => Err(NoRun::of(alloc, &error)),
+    }
+}
+
+/// Why a summary is refused of a script that one picture tells, in memory by `alloc`.
+fn refuse_summary(alloc: Global) -> NoRun {
+    match String::from_str(alloc, SUMMARY_OF_A_DRAWING) {
+        Ok(text) => NoRun::Refused(text),
+        Err(_) => NoRun::NoMemory,
+    }
+}
+
+/// Whether the first of `words` behind the program's name is the option that prints the man page. No subcommand is wanted
+/// then, as none is for the help.
+fn asks_for_man(words: &[String]) -> bool {
+    match words.get(1) {
+        Some(word) => word.as_str() == MAN,
+        None => false,
+    }
+}
+
+/// The text of the help that `words` ask for.
+pub fn help_text(alloc: Global, words: &'static [&'static str]) -> Result<String, AllocError> {
+    let helps = Helps::new(alloc)?;
+    match command(alloc, &helps)?.try_get_matches_from(words) {
+        Ok(_) => Ok(String::new(alloc)),
+        Err(error) => format!(in alloc; "{error}"),
+    }
+}
+
+/// What `words` ask for, or `clap`'s own error.
+fn task_of<'a>(alloc: Global, words: &'a [String]) -> Result<Task, Error>
+    ensures config { IfOk result (λ task. OfRun task IsForManager) }
+    ensures slot_groups { IfOk result (λ task. OfRun task HasSlotGroups) }
+    ensures hammer { IfOk result (λ task. OfHammer task IsPlayable) }
+{
+    let helps = Helps::new(alloc)?;
+    let matches = command(alloc, &helps)?.try_get_matches_from(words)?;
+    match matches.subcommand() {
+        Some((name, _)) if name == MODES => Ok(Task::Modes),
+        Some((name, _)) if name == SQL => Ok(Task::Sql),
+        Some((name, hammer)) if name == HAMMER => Ok(Task::Hammer(hammer_of(hammer))),
+        Some((name, shell)) if name == SHELL => Ok(Task::Shell(config_of(shell))),
+        Some((name, orders)) if name == ORDERS => {
+            Ok(Task::Orders(config_of(orders), options_of(orders)))
+        }
+        Some((_, run)) => Ok(Task::Run(config_of(run), run_options_of(run))),
+        None => Ok(Task::Man),
+    }
+}
+
+/// How large a lock manager `words` ask for.
+fn config_of(words: &ArgMatches) -> Config
+    ensures for_manager { IsForManager result }
+    ensures slot_groups { HasSlotGroups result }
+{
+    let sessions = words.get_one::<u32>("sessions").unwrap_or(USUAL_SESSIONS);
+    let max_local = words.get_one::<u32>("max-local").unwrap_or(USUAL_LOCAL);
+    let slot_groups = words.get_one::<u32>("slot-groups").unwrap_or(USUAL_GROUPS);
+    Config {
+        sessions: sessions.clamp(1, MOST_SESSIONS),
+        max_local: max_local.clamp(1, MOST_LOCAL),
+        slot_groups: slot_groups.clamp(1, MOST_GROUPS),
+    }
+}
+
+/// How `words` ask for orders to be run and told.
+fn options_of(words: &ArgMatches) -> OrdersOptions {
+    OrdersOptions {
+        limit: words.get_one::<u32>("limit").unwrap_or(USUAL_ORDERS),
+        seed: words.get_one::<u32>("seed").unwrap_or(USUAL_SEED),
+        ends: words.get_flag("ends"),
+    }
+}
+
+/// How `words` ask for a run.
+fn run_options_of(words: &ArgMatches) -> RunOptions {
+    RunOptions {
+        style: style_of(words),
+        keep: words.get_flag("keep"),
+        summary: words.get_flag("summary"),
+        fail_on: FailOn::named(words.get_strs("fail-on").unwrap_or(&[])),
+    }
+}
+
+/// The style that `words` ask for.
+fn style_of(words: &ArgMatches) -> Style {
+    Style {
+        echo: words.get_flag("echo"),
+        json: words.get_flag("json"),
+        graph: words.get_one::<Drawing>("graph"),
+    }
+}
+
+/// The numbers of the hammer that `words` ask for.
+fn hammer_of(words: &ArgMatches) -> Hammer
+    ensures { IsPlayable result }
+{
+    let sessions = words.get_one::<u32>("sessions").unwrap_or(1);
+    let rounds = words.get_one::<u32>("rounds").unwrap_or(1);
+    Hammer {
+        sessions: sessions.clamp(1, MOST_SESSIONS),
+        rounds: rounds.clamp(1, MOST_ROUNDS),
+    }
+}

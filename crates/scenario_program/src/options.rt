@@ -1,0 +1,49 @@
+//! How a script is run, and what the program's status says of it.
+
+use scenario::Style;
+
+/// How a run goes, what it shows, and what it fails for.
+#[derive(Clone, Copy, Debug, PartialEq, Eq)]
+pub struct RunOptions {
+    pub style: Style,
+    /// Whether a line whose session waits is kept, and run once that goes on.
+    pub keep: bool,
+    /// Whether it is told at the end who waited, for what and behind whom.
+    pub summary: bool,
+    pub fail_on: FailOn,
+}
+
+impl RunOptions {
+    /// Whether it is to be told who waited where one picture of the script takes the place of all that is told.
+    pub fn summarizes_a_drawing(self) -> bool {
+        match self.style.graph {
+            Some(drawing) => self.summary && drawing.is_of_all_lines(),
+            None => false,
+        }
+    }
+}
+
+/// The names of what a run may fail for, as the command line has them.
+pub static FAILURES: [&str; 3] = ["waits", "refused", "stuck"];
+
+/// What a run fails for, though its script has no bad line.
+#[derive(Clone, Copy, Debug, PartialEq, Eq)]
+pub struct FailOn {
+    /// A session waits.
+    pub waits: bool,
+    /// A call is refused.
+    pub refused: bool,
+    /// A session is left waiting at the end.
+    pub stuck: bool,
+}
+
+impl FailOn {
+    /// What a run fails for where `names` are given, each of which is one of `FAILURES`.
+    pub fn named(names: &[&str]) -> Self {
+        FailOn {
+            waits: names.contains(&FAILURES[0]),
+            refused: names.contains(&FAILURES[1]),
+            stuck: names.contains(&FAILURES[2]),
+        }
+    }
+}

@@ -1,0 +1,214 @@
+//! The orders of a script, played against lock managers that are emptied between two orders.
+
+ghost use Rattle.std.specs.Prelude.{◌≡◌, IfOk};
+ghost use Rattle.lock_manager.specs.Crews.{SeatsAre};
+ghost use Rattle.scenario.specs.Sizes.{IsForManager};
+
+use crate::hints::{Reader, push_correction};
+use lock_manager::{
+    Blocked, Config, Desk, MOST_SESSIONS, Manager, ManagerDesk, OwnSession, Refusal,
+};
+use lock_script::{Caller, Command, Fault, Name, Names, parse};
+use lock_table::PartTable;
+use scenario::{Listener, Pen, Picture, Row, RowText, Said, SaidText, Scene, Stage};
+use script_orders::{BadLine, News, Orders, Player, RefusedSession, Turn};
+use shared_rule::Board;
+use std::alloc::{AllocError, Global};
+use std::sync::Wait;
+
+/// Plays the lines of orders against lock managers of this size.
+#[derive(Clone, Copy)]
+pub struct OnManagers {
+    pub config: Config,
+    ghost for_manager: { IsForManager config },
+}
+
+impl Player for OnManagers {
+    fn play<H: AllocGlobal + Wait>(&self, rt: &H, orders: &mut Orders<'_>) -> Result<(), Fault> {
+        let alloc = rt.alloc();
+        let Ok((manager, opener)) = Manager::new(alloc, self.config) else {
+            return Err(Fault::NoMemory);
+        };
+        let desk = ManagerDesk::new(&manager, opener);
+        let Ok((desk, ended)) = play_at(rt, alloc, desk, orders) else {
+            return Err(Fault::NoMemory);
+        };
+        let opener = desk.into_opener();
+        manager.finish(opener);
+        ended
+    }
+}
+
+/// Plays the lines that `orders` gives, with the sessions that `desk` opens, of which none is open after it. They are
+/// not begun where there is no memory for the list of sessions.
+fn play_at<T: PartTable, B: Board<T>, D: Desk<OwnSession<T, B>> + Drop, H: Wait>(
+    rt: &H,
+    alloc: Global,
+    desk: D,
+    orders: &mut Orders<'_>,
+) -> Result<(D, Result<(), Fault>), AllocError>
+    requires seats { SeatsAre B.seat D.seat }
+    requires none_issued { D.issued desk ≡ 0 }
+    requires none_live { D.live desk ≡ 0 }
+    ensures manager { IfOk result (λ played. D.manager played.0 ≡ D.manager desk) }
+    ensures none_live { IfOk result (λ played. D.live played.0 ≡ 0) }
+{
+    let mut scene = Scene::new(alloc, desk, Spectator { orders })?;
+    let ended = play_turns(rt, &mut scene);
+    scene.stage.close_all(rt);
+    let Scene { stage, listener: _ } = scene;
+    let Stage {
+        desk,
+        names: _,
+        sessions,
+    } = stage;
+    sessions.finish();
+    Ok((desk, ended))
+}
+
+/// Does in `scene` what its orders say, turn by turn, to their end or to the first fault.
+fn play_turns<T: PartTable, B: Board<T>, D: Desk<OwnSession<T, B>>, H: Wait>(
+    rt: &H,
+    scene: &mut Scene<T, B, D, Spectator<'_, '_>>,
+) -> Result<(), Fault>
+    requires seats { SeatsAre B.seat D.seat }
+    ensures manager { D.manager scene.new.stage.desk ≡ D.manager scene.old.stage.desk }
+{
+    'turns: for _ in 0..u64::MAX {
+        let turn = scene.listener.orders.next_turn();
+        match turn.map_err(|_| Fault::NoMemory)? {
+            Turn::Line(line) => play_line(rt, scene, line)?,
+            Turn::Anew => let_all_go(rt, &mut scene.stage),
+            Turn::End => return Ok(()),
+        }
+    }
+    Ok(())
+}
+
+/// Runs `line` in `scene`, and tells its orders what it is answered.
+fn play_line<T: PartTable, B: Board<T>, D: Desk<OwnSession<T, B>>, H: Wait>(
+    rt: &H,
+    scene: &mut Scene<T, B, D, Spectator<'_, '_>>,
+    line: &str,
+) -> Result<(), Fault>
+    requires seats { SeatsAre B.seat D.seat }
+    ensures manager { D.manager scene.new.stage.desk ≡ D.manager scene.old.stage.desk }
+{
+    let stage = &scene.stage;
+    let command = parse(line, &stage.sessions, &stage.names.objects).map_err(|what| Fault::BadLine {
+        line: 0,
+        what,
+    })?;
+    match command {
+        Some(command) => scene.run(rt, command),
+        None => Ok(()),
+    }
+}
+
+/// Has all sessions of `stage` abort. Those that wait stop that before.
+fn let_all_go<T: PartTable, B: Board<T>, D: Desk<OwnSession<T, B>>, H: Wait>(
+    rt: &H,
+    stage: &mut Stage<T, B, D>,
+)
+    requires seats { SeatsAre B.seat D.seat }
+    ensures manager { D.manager stage.new.desk ≡ D.manager stage.old.desk }
+{
+    stage.cancel_all(rt);
+    'sessions: for place in 0..stage.sessions.resting.len() {
+        if place < stage.sessions.resting.len() {
+            let name = stage.sessions.resting.at(place).name;
+            let _ = stage.answer(rt, Command::Abort(Caller { name, place }));
+        }
+    }
+}
+
+/// Tells the orders what is answered.
+#[derive(Drop)]
+struct Spectator<'a, 'b> {
+    orders: &'a mut Orders<'b>,
+}
+
+impl Listener for Spectator<'_, '_> {
+    ghost use Rattle.std.specs.Prelude.{⊤};
+
+    ghost hears = { λ _ _ _. ⊤ };
+
+    fn begin_line(&mut self, _number: u32, _text: &str, _more: bool) -> Result<(), Fault> {
+        Ok(())
+    }
+
+    fn said(&mut self, names: &Names, name: Name, said: Said) -> Result<(), Fault> {
+        let news = news_of(&said);
+        self.orders
+            .tell(Some((name, news)), SaidText { names, said })
+            .map_err(|_| Fault::NoMemory)
+    }
+
+    fn row(&mut self, names: &Names, row: Row) -> Result<(), Fault> {
+        self.orders
+            .tell(None, RowText { names, row })
+            .map_err(|_| Fault::NoMemory)
+    }
+
+    fn pen(&self) -> Option<Pen> {
+        None
+    }
+
+    fn blocked(&mut self, _names: &Names, _blocked: &Blocked) -> Result<(), Fault> {
+        Ok(())
+    }
+
+    fn picture(&mut self, _names: &Names, _picture: &Picture) -> Result<(), Fault> {
+        Ok(())
+    }
+
+    fn tell(&mut self, _text: &str) -> Result<(), Fault> {
+        Ok(())
+    }
+
+    fn end_line(&mut self) -> Result<(), Fault> {
+        Ok(())
+    }
+}
+
+/// What `said` says of the session that is told it.
+fn news_of(said: &Said) -> News {
+    match said {
+        Said::Opened { .. } => News::Opened,
+        Said::Waits => News::Waits,
+        Said::Closed => News::Closed,
+        Said::Refused(Refusal::NoMoreSessions) => News::NotOpened,
+        _ => News::Rests,
+    }
+}
+
+/// What is said of the bad line `bad`: its number, and what is wrong with it, as a shell tells it.
+pub fn bad_line_text(alloc: Global, bad: &BadLine) -> Result<String, AllocError> {
+    let reader = Reader {
+        names: bad.open.as_slice(),
+        objects: &[],
+        is_in_shell: false,
+    };
+    let mut text = format!(in alloc; "line {}: ", bad.number)?;
+    push_correction(alloc, &mut text, bad.text.as_str(), bad.what, reader)?;
+    Ok(text)
+}
+
+/// What is said of a session that was refused by `refused`, where `config` says how many may be opened.
+pub fn refused_session_text(
+    alloc: Global,
+    refused: RefusedSession,
+    config: Config,
+) -> Result<String, AllocError> {
+    let RefusedSession { number, wanted } = refused;
+    let most = config.sessions;
+    if wanted <= MOST_SESSIONS {
+        format!(in alloc;
+            "line {number}: no more than {most} sessions may be opened; --sessions {wanted} allows all of them\n"
+        )
+    } else {
+        format!(in alloc;
+            "line {number}: no more than {most} sessions may be opened; --sessions allows {MOST_SESSIONS} at most\n"
+        )
+    }
+}

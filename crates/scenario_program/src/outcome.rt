@@ -1,0 +1,220 @@
+//! What a run came to, which the program tells behind it.
+
+use crate::hints::{Reader, push_correction};
+use crate::options::FailOn;
+use lock_manager::Blocked;
+use lock_script::{Defect, Fault, Name, NamedObject, Names};
+use scenario::{Listener, Output, Pen, Picture, Row, Said, Summary};
+use std::alloc::{AllocError, Global};
+use std::io::Write;
+
+/// What a run came to.
+#[derive(Drop)]
+pub struct Outcome {
+    alloc: Global,
+    /// The line that was read last, and its number.
+    text: String,
+    number: u32,
+    /// The names of the sessions that are open, and the objects that have names.
+    open: Vec<Name>,
+    objects: Vec<NamedObject>,
+    /// Whether somebody waited.
+    waited: bool,
+    /// Whether a call was refused.
+    was_refused: bool,
+    /// How many sessions wait.
+    waiting: u32,
+}
+
+impl Outcome {
+    /// Nothing was heard yet. What is kept takes memory by `alloc`.
+    pub fn new(alloc: Global) -> Self {
+        Outcome {
+            alloc,
+            text: String::new(alloc),
+            number: 0,
+            open: Vec::new(alloc),
+            objects: Vec::new(alloc),
+            waited: false,
+            was_refused: false,
+            waiting: 0,
+        }
+    }
+
+    /// Whether what was heard is one of what a run fails for, `fail_on`.
+    pub fn fails(&self, fail_on: FailOn) -> bool {
+        (fail_on.waits && self.waited)
+            || (fail_on.refused && self.was_refused)
+            || (fail_on.stuck && self.waiting > 0)
+    }
+
+    /// What is said of the bad line that ended the script, where that is the `fault`: its number, its defect, the word that has it, and the nearest
+    /// good one. Of SQL that can't be played it is what was told in place of the line. There is none of a line that isn't text, of another
+    /// fault, and where there is no memory for it.
+    pub fn correction(&self, fault: &Fault) -> Option<String> {
+        match fault {
+            Fault::BadLine { line, .. } if *line == self.number && is_told(&self.text) => {
+                self.text.clone().ok()
+            }
+            Fault::BadLine { line, what } if *line == self.number => {
+                self.correction_of(*what).ok()
+            }
+            _ => None,
+        }
+    }
+
+    /// What is said of the line that was read last, where it has the defect `what`.
+    fn correction_of(&self, what: Defect) -> Result<String, AllocError> {
+        let reader = Reader {
+            names: self.open.as_slice(),
+            objects: self.objects.as_slice(),
+            is_in_shell: false,
+        };
+        let number = self.number;
+        let mut text = format!(in self.alloc; "line {number}: ")?;
+        push_correction(self.alloc, &mut text, self.text.as_str(), what, reader)?;
+        Ok(text)
+    }
+
+    /// A line was read, its `text` with this `number`.
+    pub fn read(&mut self, number: u32, text: &str) -> Result<(), AllocError> {
+        self.text = String::from_str(self.alloc, text)?;
+        self.number = number;
+        Ok(())
+    }
+
+    /// The session `name` was told what `said` is.
+    pub fn hear(&mut self, name: &Name, said: &Said) -> Result<(), AllocError> {
+        match said {
+            Said::Opened { .. } => self.open.push(*name)?,
+            Said::Closed => self.forget(name),
+            Said::Waits => {
+                self.waited = true;
+                self.waiting = self.waiting.saturating_add(1);
+            }
+            Said::GrantedAfterWaiting | Said::Cancelled => {
+                self.waiting = self.waiting.saturating_sub(1);
+            }
+            Said::Refused(_) | Said::NotOwned(_) => self.was_refused = true,
+            _ => {}
+        }
+        Ok(())
+    }
+
+    /// The session `name` is not open any more.
+    fn forget(&mut self, name: &Name) {
+        let place = self
+            .open
+            .iter()
+            .position(|other| other.as_str() == name.as_str());
+        if let Some(place) = place {
+            if place < self.open.len() {
+                self.open.remove(place);
+            }
+        }
+    }
+
+    /// A `row` was told.
+    pub fn hear_row(&mut self, row: &Row) -> Result<(), AllocError> {
+        if let Row::Named(object) = row {
+            self.objects.push(*object)?;
+        }
+        Ok(())
+    }
+}
+
+/// Whether `text` says why SQL can't be played, and is no line of a script: those have no line feed.
+fn is_told(text: &String) -> bool {
+    text.as_str().ends_with('\n')
+}
+
+/// Passes on to the output what is heard, and keeps what a run comes to.
+#[derive(Drop)]
+pub struct Witness<'a, W: Write + Drop> {
+    pub output: Output<W>,
+    pub outcome: &'a mut Outcome,
+    /// Who waited, if that is told at the end.
+    pub summary: Option<Summary>,
+}
+
+impl<W: Write + Drop> Listener for Witness<'_, W> {
+    ghost use Rattle.scenario.specs.Printed.{Prints};
+
+    ghost hears = { λ old heard new. Prints W.contents old.output heard new.output };
+
+    fn begin_line(&mut self, number: u32, text: &str, more: bool) -> Result<(), Fault> {
+        self.outcome
+            .read(number, text)
+            .map_err(|_| Fault::NoMemory)?;
+        if let Some(summary) = &mut self.summary {
+            summary.begin_line(number);
+        }
+        self.output.begin_line(number, text, more)
+    }
+
+    fn keep_line(&mut self, number: u32, text: &str, more: bool) -> Result<(), Fault> {
+        self.outcome
+            .read(number, text)
+            .map_err(|_| Fault::NoMemory)?;
+        self.output.keep_line(number, text, more)
+    }
+
+    fn said(&mut self, names: &Names, name: Name, said: Said) -> Result<(), Fault> {
+        self.outcome
+            .hear(&name, &said)
+            .map_err(|_| Fault::NoMemory)?;
+        if let Some(summary) = &mut self.summary {
+            summary.hear(&name, &said);
+        }
+        self.output.said(names, name, said)
+    }
+
+    fn row(&mut self, names: &Names, row: Row) -> Result<(), Fault> {
+        self.outcome.hear_row(&row).map_err(|_| Fault::NoMemory)?;
+        self.output.row(names, row)
+    }
+
+    fn pen(&self) -> Option<Pen> {
+        self.output.pen()
+    }
+
+    fn picture(&mut self, names: &Names, picture: &Picture) -> Result<(), Fault> {
+        self.output.picture(names, picture)
+    }
+
+    fn last_pen(&self) -> Option<Pen> {
+        self.output.last_pen()
+    }
+
+    fn wants_waits(&self) -> bool {
+        self.summary.is_some()
+    }
+
+    fn blocked(&mut self, names: &Names, blocked: &Blocked) -> Result<(), Fault> {
+        if let Some(summary) = &mut self.summary {
+            summary
+                .begin_wait(names, blocked)
+                .map_err(|_| Fault::NoMemory)?;
+        }
+        self.output.blocked(names, blocked)
+    }
+
+    fn ended(&mut self, names: &Names, tells_left: bool) -> Result<(), Fault> {
+        match &self.summary {
+            Some(summary) => self.output.summarize(names, summary, !tells_left),
+            None => Ok(()),
+        }
+    }
+
+    fn tell(&mut self, text: &str) -> Result<(), Fault> {
+        self.output.tell(text)
+    }
+
+    fn end_line(&mut self) -> Result<(), Fault> {
+        self.output.end_line()
+    }
+
+    fn left(&mut self, waiting: &[Name], lines: u64) -> Result<(), Fault> {
+        self.output.left(waiting, lines)
+    }
+}

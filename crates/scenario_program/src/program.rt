@@ -1,0 +1,323 @@
+//! The program as a function of its words and its streams.
+ghost use Rattle.std.specs.Prelude.{◌≤◌, IfOk};
+ghost use Rattle.lock_hammer.specs.Sizes.{IsPlayable};
+ghost use Rattle.scenario.specs.Sizes.{IsForManager};
+
+use crate::arguments::{NoRun, Task, parse_arguments};
+use crate::man::man_page;
+use crate::modes::print_modes;
+use crate::options::RunOptions;
+use crate::orders::{OnManagers, bad_line_text, refused_session_text};
+use crate::outcome::{Outcome, Witness};
+use crate::shell::run_shell;
+use crate::timelines::draw_heard_script;
+use lock_hammer::{Hammer, OpenGate, ProgressLine, run_hammer, run_watched_hammer};
+use lock_manager::Config;
+use lock_script::{Defect, Fault};
+use scenario::{Output, Summary, run_in_turn};
+use script_orders::{OrdersFault, OrdersLine, OrdersOptions, run_orders};
+use sql_report::run_sql;
+use std::alloc::Global;
+use std::io::{self, BufWriter, Read, Write};
+use std::rt::Files;
+use std::sync::Wait;
+use std::thread::Threads;
+use std::time::Clock;
+
+/// The status of a script that ran to its end, and of a text that was asked for.
+const SUCCESS: u8 = 0;
+
+/// The status where the program's own words are refused.
+const REFUSED_WORDS: u8 = 2;
+
+/// The status of a run in which something came that its words name.
+const FAILED: u8 = 4;
+
+/// Where a script comes from.
+#[derive(Drop)]
+pub struct Source<R: Drop> {
+    pub reader: R,
+    /// Whether somebody types it.
+    pub is_terminal: bool,
+}
+
+/// Where the program says why it ends early, and somebody who waits what it does meanwhile.
+#[derive(Drop)]
+pub struct Errors<'a, E> {
+    pub writer: &'a mut E,
+    /// Whether somebody reads it at a terminal.
+    pub is_terminal: bool,
+}
+
+/// What ends the program early.
+#[derive(Drop)]
+struct Failure {
+    fault: Fault,
+    /// What is said of it, where that is more than the fault's own text.
+    text: Option<String>,
+}
+
+impl From<Fault> for Failure {
+    fn from(fault: Fault) -> Self {
+        Failure { fault, text: None }
+    }
+}
+
+impl Failure {
+    /// What `ended` the orders of a script, which were run against lock managers of the size `config`.
+    fn of_orders(alloc: Global, ended: OrdersFault, config: Config) -> Self {
+        match ended {
+            OrdersFault::Other(fault) => Failure::from(fault),
+            OrdersFault::Session(refused) => {
+                let fault = Fault::BadLine {
+                    line: refused.number,
+                    what: Defect::NoSuchSession,
+                };
+                let text = refused_session_text(alloc, refused, config).ok();
+                Failure { fault, text }
+            }
+            OrdersFault::Line(bad) => {
+                let fault = Fault::BadLine {
+                    line: bad.number,
+                    what: bad.what,
+                };
+                let text = bad_line_text(alloc, &bad).ok();
+                Failure { fault, text }
+            }
+        }
+    }
+}
+
+/// Runs the program, and answers its status: 0, 4 where a run or an SQL statement fails by `words`, 3 for a bad line of
+/// the script or a bad statement, 2 for refused words, and 1 for any other fault. The `words` are those of the command
+/// line, or the error of reading them. The script or the statements come from `input`, and a schema's file is read by
+/// `rt`. What it prints, and texts that are asked for, go to `output`. Why the program ends early goes to
+/// `errors`; at a terminal it also says there that it reads one, and how far a hammer is.
+pub fn run_program<
+    H: AllocGlobal + Clock + Files + Threads + Wait + Sync,
+    R: Read + Drop,
+    W: Write + Drop,
+    E: Write + Send,
+>(rt: &H, words: io::Result<Vec<String>>, input: Source<R>, output: W, errors: &mut Errors<E>) -> u8
+    ensures { result ≤ 4 }
+{
+    let ended = match words {
+        Ok(words) => run_words(rt, words.as_slice(), input, output, errors),
+        Err(error) if error.kind() == io::ErrorKind::OutOfMemory => {
+            Err(Failure::from(Fault::NoMemory))
+        }
+        Err(_) => Ok(refuse_words(errors.writer)),
+    };
+    match ended {
+        Ok(status) => status,
+        Err(failure) => fail(errors.writer, &failure),
+    }
+}
+
+/// Does what `words` ask for, with the script of `input`, and answers the status.
+fn run_words<
+    H: AllocGlobal + Clock + Files + Threads + Wait + Sync,
+    R: Read + Drop,
+    W: Write + Drop,
+    E: Write + Send,
+>(
+    rt: &H,
+    words: &[String],
+    input: Source<R>,
+    output: W,
+    errors: &mut Errors<E>,
+) -> Result<u8, Failure>
+    ensures { IfOk result (λ status. status ≤ 4) }
+{
+    let alloc = rt.alloc();
+    match parse_arguments(alloc, words) {
+        Ok(Task::Modes) => print_modes(output)?,
+        Ok(Task::Man) => print_man(alloc, output)?,
+        Ok(Task::Hammer(hammer)) => run_hammers(rt, hammer, output, errors)?,
+        Ok(Task::Run(config, options)) => {
+            return run_input(rt, config, options, input, output, errors);
+        }
+        Ok(Task::Sql) => return Ok(run_statements(rt, words, input, output, errors)),
+        Ok(Task::Shell(config)) => run_typed(rt, config, input, output)?,
+        Ok(Task::Orders(config, options)) => {
+            run_all_orders(rt, config, options, input, output, errors)?
+        }
+        Err(NoRun::Text(text)) => print_text(output, text.as_str())?,
+        Err(NoRun::Refused(text)) => {
+            // Where the errors can't be written, the status says it alone.
+            let _ = write!(errors.writer, "{text}");
+            return Ok(REFUSED_WORDS);
+        }
+        Err(NoRun::NoMemory) => return Err(Failure::from(Fault::NoMemory)),
+    }
+    Ok(SUCCESS)
+}
+
+/// Runs the script of `input` with these `options` against a lock manager of the size `config`, and answers the status.
+fn run_input<H: AllocGlobal + Wait, R: Read + Drop, W: Write + Drop, E: Write>(
+    rt: &H,
+    config: Config,
+    options: RunOptions,
+    input: Source<R>,
+    output: W,
+    errors: &mut Errors<E>,
+) -> Result<u8, Failure>
+    requires { IsForManager config }
+    ensures { IfOk result (λ status. status ≤ 4) }
+{
+    let alloc = rt.alloc();
+    let output = BufWriter::new(alloc, output).map_err(|_| Fault::NoMemory)?;
+    if input.is_terminal {
+        say_input_is_typed(errors.writer, TYPED_SCRIPT);
+    }
+    let mut outcome = Outcome::new(alloc);
+    let ended = match options.style.graph {
+        Some(drawing) if drawing.is_of_all_lines() => {
+            draw_heard_script(rt, input.reader, output, config, options, &mut outcome)
+        }
+        _ => {
+            let witness = Witness {
+                output: Output::styled(alloc, output, options.style),
+                outcome: &mut outcome,
+                summary: options.summary.then(|| Summary::new(alloc)),
+            };
+            run_in_turn(rt, input.reader, witness, config, options.keep)
+        }
+    };
+    match ended {
+        Ok(()) if outcome.fails(options.fail_on) => Ok(FAILED),
+        Ok(()) => Ok(SUCCESS),
+        Err(fault) => {
+            let text = outcome.correction(&fault);
+            Err(Failure { fault, text })
+        }
+    }
+}
+
+/// Has `hammer` run, and shows by `errors` to somebody at a terminal how far it is.
+fn run_hammers<H: AllocGlobal + Clock + Threads + Wait + Sync, W: Write + Drop, E: Write + Send>(
+    rt: &H,
+    hammer: Hammer,
+    output: W,
+    errors: &mut Errors<E>,
+) -> Result<(), Fault>
+    requires { IsPlayable hammer }
+{
+    let all = u64::from(hammer.sessions) * u64::from(hammer.rounds);
+    if errors.is_terminal {
+        if let Ok(line) = ProgressLine::new(rt, errors.writer, all) {
+            return run_watched_hammer(rt, &OpenGate, &line, output, hammer);
+        }
+    }
+    run_hammer(rt, &OpenGate, output, hammer.sessions, hammer.rounds)
+}
+
+/// Runs the lines of `input` in every order, as `options` say, and shows by `errors` to somebody at a terminal how many
+/// were run.
+fn run_all_orders<H: AllocGlobal + Wait, R: Read + Drop, W: Write + Drop, E: Write>(
+    rt: &H,
+    config: Config,
+    options: OrdersOptions,
+    input: Source<R>,
+    output: W,
+    errors: &mut Errors<E>,
+) -> Result<(), Failure>
+    requires { IsForManager config }
+{
+    let alloc = rt.alloc();
+    let output = BufWriter::new(alloc, output).map_err(|_| Fault::NoMemory)?;
+    if input.is_terminal {
+        say_input_is_typed(errors.writer, TYPED_SCRIPT);
+    }
+    let mut line = OrdersLine {
+        is_terminal: errors.is_terminal,
+        writer: errors.writer,
+    };
+    let player = OnManagers { config };
+    match run_orders(rt, &player, input.reader, output, &mut line, options) {
+        Ok(()) => Ok(()),
+        Err(fault) => Err(Failure::of_orders(alloc, fault, config)),
+    }
+}
+
+/// Runs the lines of `input` as they are typed, against a lock manager of the size `config`.
+fn run_typed<H: AllocGlobal + Wait, R: Read + Drop, W: Write + Drop>(
+    rt: &H,
+    config: Config,
+    input: Source<R>,
+    output: W,
+) -> Result<(), Fault>
+    requires { IsForManager config }
+{
+    let output = BufWriter::new(rt.alloc(), output).map_err(|_| Fault::NoMemory)?;
+    run_shell(rt, input.reader, output, config, input.is_terminal)
+}
+
+/// Prints the man page to `output`.
+fn print_man<W: Write + Drop>(alloc: Global, output: W) -> Result<(), Fault> {
+    match man_page(alloc) {
+        Ok(page) => print_text(output, page.as_str()),
+        Err(_) => Err(Fault::NoMemory),
+    }
+}
+
+/// Says what each SQL statement of `input` locks, as `words` ask for it, on `output`, and answers the status. Faults go to
+/// `errors`.
+fn run_statements<H: AllocGlobal + Files, R: Read + Drop, W: Write + Drop, E: Write>(
+    rt: &H,
+    words: &[String],
+    input: Source<R>,
+    output: W,
+    errors: &mut Errors<E>,
+) -> u8
+    ensures { result ≤ 4 }
+{
+    let (mut reader, mut output) = (input.reader, output);
+    if input.is_terminal {
+        say_input_is_typed(errors.writer, TYPED_SQL);
+    }
+    run_sql(rt, words, &mut reader, &mut output, errors.writer)
+}
+
+/// What somebody at a terminal is told who is to type a script.
+const TYPED_SCRIPT: &str =
+    "reading a script from the terminal, to its end (Ctrl-D); run --help shows its lines";
+
+/// What somebody at a terminal is told who is to type SQL.
+const TYPED_SQL: &str = "reading SQL statements from the terminal, to their end (Ctrl-D)";
+
+/// Says to somebody at a terminal, by `errors`, that the input is read from there, in the words `what`.
+fn say_input_is_typed<E: Write>(errors: &mut E, what: &str) {
+    // Where the errors can't be written, the input is read all the same.
+    let _ = writeln!(errors, "{what}");
+}
+
+/// Prints `text`, which the words ask for, to `output`.
+fn print_text<W: Write + Drop>(mut output: W, text: &str) -> Result<(), Fault> {
+    write!(output, "{text}").map_err(|_| Fault::WriteFailed)?;
+    output.flush().map_err(|_| Fault::WriteFailed)
+}
+
+/// Refuses words that are no text, by `errors`.
+fn refuse_words<E: Write>(errors: &mut E) -> u8
+    ensures { result ≤ 2 }
+{
+    // Where the errors can't be written, the status says it alone.
+    let _ = writeln!(
+        errors,
+        "error: invalid UTF-8 was detected in one or more arguments"
+    );
+    REFUSED_WORDS
+}
+
+/// Says by `errors` what ended the program, `failure`, and answers the status for it.
+fn fail<E: Write>(errors: &mut E, failure: &Failure) -> u8
+    ensures { result ≤ 3 }
+{
+    // Where the errors can't be written, the status says it alone.
+    let _ = match &failure.text {
+        Some(text) => write!(errors, "{text}"),
+        None => writeln!(errors, "{}", failure.fault),
+    };
+    failure.fault.status()
+}

@@ -1,0 +1,288 @@
+//! A shell: the lines of a script as somebody types them, with help, and with what is wrong with a bad one.
+ghost use Rattle.std.specs.Prelude.{◌≡◌, IfOk};
+ghost use Rattle.lock_manager.specs.Crews.{SeatsAre};
+ghost use Rattle.scenario.specs.Sizes.{IsForManager};
+
+use crate::forms::ends_shell;
+use crate::hints::{Reader, push_correction};
+use crate::topics::help;
+use lock_manager::{Config, Desk, Manager, ManagerDesk, OwnSession};
+use lock_script::{
+    Defect, Fault, LineReader, Name, NamedObject, ObjectNames, OpenSessions, parse, split_words,
+};
+use lock_table::PartTable;
+use scenario::{Listener, Output, Scene, Stage};
+use shared_rule::Board;
+use std::alloc::{AllocError, Global};
+use std::io::{Read, Write};
+use std::sync::Wait;
+
+/// What stands before each line at a terminal.
+const PROMPT: &str = "lock> ";
+
+/// What is said first at a terminal.
+const GREETING: &str = "help lists the commands, end closes all sessions and leaves\n";
+
+/// A shell, with the memory for what it tells.
+#[derive(Clone, Copy)]
+pub struct Shell {
+    pub alloc: Global,
+    /// Whether somebody types the lines at a terminal, and has a prompt.
+    pub is_terminal: bool,
+}
+
+/// What a line that somebody typed asks of a shell.
+enum Typed {
+    /// To end.
+    End,
+    /// For help: this text.
+    Help(String),
+    /// A line of a script.
+    Line,
+}
+
+impl Shell {
+    /// What `line` asks for.
+    fn understand(self, line: &str) -> Result<Typed, AllocError> {
+        let words = split_words(line);
+        match words.as_slice().split_first() {
+            Some((verb, [])) if ends_shell(*verb) => Ok(Typed::End),
+            Some((verb, _)) if ends_shell(*verb) => {
+                // Whoever means to close one session would lose them all.
+                let text = told(self.alloc, line, Defect::WrongNumberOfWords, &[], &[])?;
+                Ok(Typed::Help(text))
+            }
+            Some((verb, _)) if *verb == "help" => {
+                let words = words_behind_first(self.alloc, line)?;
+                Ok(Typed::Help(help(self.alloc, words.as_slice())?))
+            }
+            _ => Ok(Typed::Line),
+        }
+    }
+}
+
+/// The names of those of `sessions` that are open.
+fn names_of<S, W>(alloc: Global, sessions: &OpenSessions<S, W>) -> Result<Vec<Name>, AllocError> {
+    let mut names = Vec::new(alloc);
+    for place in 0..sessions.resting.len() {
+        names.push(sessions.resting.at(place).name)?;
+    }
+    for place in 0..sessions.waiting.len() {
+        names.push(sessions.waiting.at(place).name)?;
+    }
+    Ok(names)
+}
+
+/// All words of `line` after the first one, of which an SQL command may have more than a line of a script.
+fn words_behind_first(alloc: Global, line: &str) -> Result<Vec<&str>, AllocError> {
+    let mut words = Vec::new(alloc);
+    let mut is_first = true;
+    for part in line.split(' ') {
+        for word in part.split('\t') {
+            if word.is_empty() {
+                continue;
+            }
+            if !is_first {
+                words.push(word)?;
+            }
+            is_first = false;
+        }
+    }
+    Ok(words)
+}
+
+/// Runs the lines that `reader` gives as a shell does, against a lock manager of the size `config`: a bad line is told
+/// to `writer`, with the nearest good word, and the shell goes on. Where `is_terminal` it has a prompt. It ends with the
+/// line `end`, the input, or another fault, and then the sessions that are open are closed in silence.
+pub fn run_shell<H: AllocGlobal + Wait, R: Read + Drop, W: Write + Drop>(
+    rt: &H,
+    reader: R,
+    writer: W,
+    config: Config,
+    is_terminal: bool,
+) -> Result<(), Fault>
+    requires { IsForManager config }
+{
+    let alloc = rt.alloc();
+    let Ok((manager, opener)) = Manager::new(alloc, config) else {
+        return Err(Fault::NoMemory);
+    };
+    let desk = ManagerDesk::new(&manager, opener);
+    let shell = Shell { alloc, is_terminal };
+    let Ok((desk, ended)) = converse_at(rt, desk, reader, Output::new(writer), shell) else {
+        return Err(Fault::NoMemory);
+    };
+    let opener = desk.into_opener();
+    manager.finish(opener);
+    ended
+}
+
+/// Has `shell` answer the lines of `reader` before `listener`, with the sessions that `desk` opens, of which none is open after it. No line
+/// is read where there is no memory for the list of them.
+fn converse_at<
+    T: PartTable,
+    B: Board<T>,
+    D: Desk<OwnSession<T, B>> + Drop,
+    H: Wait,
+    R: Read + Drop,
+    L: Listener + Drop,
+>(
+    rt: &H,
+    desk: D,
+    reader: R,
+    listener: L,
+    shell: Shell,
+) -> Result<(D, Result<(), Fault>), AllocError>
+    requires seats { SeatsAre B.seat D.seat }
+    requires none_issued { D.issued desk ≡ 0 }
+    requires none_live { D.live desk ≡ 0 }
+    ensures manager { IfOk result (λ played. D.manager played.0 ≡ D.manager desk) }
+    ensures none_live { IfOk result (λ played. D.live played.0 ≡ 0) }
+{
+    let mut scene = Scene::new(shell.alloc, desk, listener)?;
+    let ended = converse(rt, &mut scene, reader, shell);
+    scene.stage.close_all(rt);
+    let Scene { stage, listener: _ } = scene;
+    let Stage {
+        desk,
+        names: _,
+        sessions,
+    } = stage;
+    sessions.finish();
+    Ok((desk, ended))
+}
+
+/// Runs the lines of `reader` in `scene` by `shell`, to the line that ends it, the end of the reader, or a fault that is no
+/// bad line's.
+fn converse<
+    T: PartTable,
+    B: Board<T>,
+    D: Desk<OwnSession<T, B>>,
+    L: Listener,
+    H: Wait,
+    R: Read + Drop,
+>(rt: &H, scene: &mut Scene<T, B, D, L>, reader: R, shell: Shell) -> Result<(), Fault>
+    requires seats { SeatsAre B.seat D.seat }
+    ensures manager { D.manager scene.new.stage.desk ≡ D.manager scene.old.stage.desk }
+{
+    let mut lines = LineReader::new(reader);
+    prompt(&mut scene.listener, shell, GREETING)?;
+    'lines: for _ in 0..u64::MAX {
+        prompt(&mut scene.listener, shell, PROMPT)?;
+        match lines.next_line() {
+            Ok(Some(line)) => {
+                if answer(rt, scene, line.as_str(), shell)? {
+                    return Ok(());
+                }
+            }
+            Ok(None) => return prompt(&mut scene.listener, shell, "\n"),
+            Err(fault) => pass_over(&mut scene.listener, fault)?,
+        }
+    }
+    Ok(())
+}
+
+/// Has `listener` say `text` at the terminal of `shell`, if it has one.
+fn prompt<L: Listener>(listener: &mut L, shell: Shell, text: &'static str) -> Result<(), Fault> {
+    if shell.is_terminal {
+        listener.tell(text)
+    } else {
+        Ok(())
+    }
+}
+
+/// Goes on after a line whose `fault` is that it isn't ASCII text, and which was read to its end. Other faults end
+/// the shell.
+fn pass_over<L: Listener>(listener: &mut L, fault: Fault) -> Result<(), Fault> {
+    match fault {
+        Fault::BadLine {
+            what: Defect::NotAsciiText,
+            ..
+        } => listener.tell("bad line: not ASCII text; a line has printable characters and tabs\n"),
+        _ => Err(fault),
+    }
+}
+
+/// Answers `line` in `scene` by `shell`, and says whether it ends that.
+fn answer<T: PartTable, B: Board<T>, D: Desk<OwnSession<T, B>>, L: Listener, H: Wait>(
+    rt: &H,
+    scene: &mut Scene<T, B, D, L>,
+    line: &str,
+    shell: Shell,
+) -> Result<bool, Fault>
+    requires seats { SeatsAre B.seat D.seat }
+    ensures manager { D.manager scene.new.stage.desk ≡ D.manager scene.old.stage.desk }
+{
+    match shell.understand(line) {
+        Ok(Typed::End) => Ok(true),
+        Ok(Typed::Help(text)) => {
+            scene.listener.tell(text.as_str())?;
+            Ok(false)
+        }
+        Ok(Typed::Line) => {
+            answer_line(rt, scene, line, shell)?;
+            Ok(false)
+        }
+        Err(_) => Err(Fault::NoMemory),
+    }
+}
+
+/// Runs `line`, one of a script, in `scene`, or tells by `shell` what is wrong with it.
+fn answer_line<T: PartTable, B: Board<T>, D: Desk<OwnSession<T, B>>, L: Listener, H: Wait>(
+    rt: &H,
+    scene: &mut Scene<T, B, D, L>,
+    line: &str,
+    shell: Shell,
+) -> Result<(), Fault>
+    requires seats { SeatsAre B.seat D.seat }
+    ensures manager { D.manager scene.new.stage.desk ≡ D.manager scene.old.stage.desk }
+{
+    let stage = &scene.stage;
+    match parse(line, &stage.sessions, &stage.names.objects) {
+        Ok(Some(command)) => scene.run(rt, command),
+        Ok(None) => Ok(()),
+        Err(what) => {
+            match correction(
+                shell.alloc,
+                line,
+                what,
+                &stage.sessions,
+                &stage.names.objects,
+            ) {
+                Ok(text) => scene.listener.tell(text.as_str()),
+                Err(_) => Err(Fault::NoMemory),
+            }
+        }
+    }
+}
+
+/// What is wrong with `line`, which has the defect `what`, where `sessions` are open and `objects` have names.
+fn correction<S, W>(
+    alloc: Global,
+    line: &str,
+    what: Defect,
+    sessions: &OpenSessions<S, W>,
+    objects: &ObjectNames,
+) -> Result<String, AllocError> {
+    let names = names_of(alloc, sessions)?;
+    told(alloc, line, what, names.as_slice(), objects.as_slice())
+}
+
+/// What a shell tells of `line`, which has the defect `what`, where sessions of these `names` are open and `objects`
+/// have names.
+fn told(
+    alloc: Global,
+    line: &str,
+    what: Defect,
+    names: &[Name],
+    objects: &[NamedObject],
+) -> Result<String, AllocError> {
+    let reader = Reader {
+        names,
+        objects,
+        is_in_shell: true,
+    };
+    let mut text = String::from_str(alloc, "bad line: ")?;
+    push_correction(alloc, &mut text, line, what, reader)?;
+    Ok(text)
+}

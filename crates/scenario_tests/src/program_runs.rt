@@ -1,0 +1,293 @@
+//! Runs of the program, by its words and its input: the status, and what is printed and told.
+
+use crate::help_texts::{HAMMER_HELP, HELP, MODES, MODES_HELP, RUN_HELP};
+use std::io::ErrorKind;
+
+/// What the errors take where the script is typed.
+pub const INVITATION: &str =
+    "reading a script from the terminal, to its end (Ctrl-D); run --help shows its lines\n";
+
+/// A script, and whether reading it fails at its end; the status of the program on it, and what it writes to its
+/// output and to its errors.
+pub type Run<'a> = (&'a str, bool, u8, &'a str, &'a str);
+
+pub const RUN: &str = "lock_scenario run";
+
+pub const OPENED: &str = "a: session 0 database 5\n";
+
+/// What is said of a table that is made and emptied.
+pub const TRUNCATED: &str = "\
+line 1: CREATE TABLE t (id int);
+  t: AccessExclusiveLock, made here and known to nobody else
+  works for a moment, and holds its locks until its own end
+line 1: TRUNCATE t;
+  t: AccessExclusiveLock
+  works for a moment, and holds its locks until its own end
+  keeps waiting: reads, row locks and foreign keys' checks, writes, VACUUM and DDL, index builds
+  waits behind: a long read, a transaction that locked rows, a busy writer, an autovacuum (which gives way after deadlock_timeout), an index build
+statements: 2
+keep reads waiting: 1, by line 1
+keep writes waiting: 1, by line 1
+";
+
+/// Words with a run of the program on them.
+pub static RUNS: [(&str, Run<'static>); 22] = [
+    ("lock_scenario modes", ("frob", false, 0, MODES, "")),
+    ("lock_scenario modes --help", ("", false, 0, MODES_HELP, "")),
+    (RUN, ("session a 5\n", false, 0, OPENED, "")),
+    (
+        "lock_scenario run --sessions 1 --max-local 2",
+        (
+            "session a 5\nsession b 5\n",
+            false,
+            0,
+            "a: session 0 database 5\nb: refused 12 no more sessions\n",
+            "",
+        ),
+    ),
+    (
+        RUN,
+        (
+            "session a 5\nfrob\n",
+            false,
+            3,
+            OPENED,
+            "line 2: unknown command \"frob\"; lock_scenario run --help lists the commands\n",
+        ),
+    ),
+    (RUN, ("session a 5\nses", true, 1, OPENED, "read failed\n")),
+    (
+        "lock_scenario --help",
+        ("session a 5\n", false, 0, HELP, ""),
+    ),
+    (
+        "lock_scenario sql --fail-on reads",
+        (
+            "CREATE TABLE t (id int); TRUNCATE t;",
+            false,
+            4,
+            TRUNCATED,
+            "",
+        ),
+    ),
+    (
+        "lock_scenario sql",
+        (
+            "SELECT 1;\nTRUNCATE t;",
+            false,
+            3,
+            "",
+            "line 2: no such relation: t\n",
+        ),
+    ),
+    (
+        "lock_scenario sql",
+        ("SELECT 1", true, 1, "", "read failed\n"),
+    ),
+    (
+        "lock_scenario sq",
+        (
+            "SELECT 1;",
+            false,
+            2,
+            "",
+            "error: unrecognized subcommand 'sq'\n\n  tip: a similar subcommand exists: 'sql'\n\n\
+             Usage: lock_scenario [OPTIONS] <COMMAND>\n\nFor more information, try '--help'.\n",
+        ),
+    ),
+    (
+        "lock_scenario run --help",
+        ("session a 5\n", false, 0, RUN_HELP, ""),
+    ),
+    (
+        "lock_scenario --version",
+        ("frob", false, 0, "lock_scenario 0.1.0\n", ""),
+    ),
+    (
+        "lock_scenario -V",
+        ("", false, 0, "lock_scenario 0.1.0\n", ""),
+    ),
+    (
+        "lock_scenario run --sessions 65",
+        (
+            "session a 5\n",
+            false,
+            2,
+            "",
+            "error: invalid value '65' for '--sessions <N>': 65 is not in 1..=64\n\n\
+             For more information, try '--help'.\n",
+        ),
+    ),
+    (
+        "lock_scenario run --slot-groups 2",
+        (
+            "session a 5\ntry a 5/16384 AccessShareLock\ntry a 5/16385 AccessShareLock\nlist a\n",
+            false,
+            0,
+            "a: session 0 database 5\na: granted\na: granted\n\
+             fast a 15 5/16384 AccessShareLock\nfast a 31 5/16385 AccessShareLock\nrows 2\n",
+            "",
+        ),
+    ),
+    (
+        "lock_scenario run --slot-groups 0",
+        (
+            "session a 5\n",
+            false,
+            2,
+            "",
+            "error: invalid value '0' for '--slot-groups <G>': 0 is not in 1..=8\n\n\
+             For more information, try '--help'.\n",
+        ),
+    ),
+    (
+        "lock_scenario run --slot-groups 9",
+        (
+            "session a 5\n",
+            false,
+            2,
+            "",
+            "error: invalid value '9' for '--slot-groups <G>': 9 is not in 1..=8\n\n\
+             For more information, try '--help'.\n",
+        ),
+    ),
+    (
+        "lock_scenario storm",
+        (
+            "",
+            false,
+            2,
+            "",
+            "error: unrecognized subcommand 'storm'\n\nUsage: lock_scenario [OPTIONS] <COMMAND>\n\n\
+             For more information, try '--help'.\n",
+        ),
+    ),
+    (
+        "lock_scenario hammer --help",
+        ("", false, 0, HAMMER_HELP, ""),
+    ),
+    (
+        "lock_scenario hammer --sessions 4 --rounds 1000",
+        (
+            "frob",
+            false,
+            0,
+            "audit fast 4 table 1 strong 1\nfinal fast 0 table 0 strong 0\n",
+            "",
+        ),
+    ),
+    (
+        "lock_scenario hammer --sessions 1 --rounds 1",
+        (
+            "",
+            false,
+            0,
+            "audit fast 1 table 1 strong 1\nfinal fast 0 table 0 strong 0\n",
+            "",
+        ),
+    ),
+];
+
+/// Words that say what a run shows, with a run of the program on them.
+pub static SHOWN: [(&str, Run<'static>); 4] = [
+    (
+        "lock_scenario run --echo",
+        (
+            "session a 5\nfrob",
+            false,
+            3,
+            "> session a 5\na: session 0 database 5\n> frob\n",
+            "line 2: unknown command \"frob\"; lock_scenario run --help lists the commands\n",
+        ),
+    ),
+    (
+        "lock_scenario run --json --graph=dot --echo",
+        (
+            "session a 5\n",
+            false,
+            0,
+            "{\"echo\":\"session a 5\",\"line\":1}\n\
+             {\"answer\":\"opened\",\"database\":5,\"line\":1,\"number\":0,\"session\":\"a\"}\n",
+            "",
+        ),
+    ),
+    (
+        "lock_scenario run --graph gantt --echo",
+        (
+            "session a 5\nlock a 5/1 ShareLock\n",
+            false,
+            0,
+            "gantt\n  dateFormat X\n  axisFormat %s\n  section a\n  5/1 ShareLock :done, 2, 3\n",
+            "",
+        ),
+    ),
+    (
+        "lock_scenario run --graph svg",
+        (
+            "session a 5\n",
+            false,
+            2,
+            "",
+            "error: invalid value 'svg' for '--graph <LANGUAGE>'\n  [possible values: mermaid, dot, timeline, gantt]\n\n\
+             For more information, try '--help'.\n",
+        ),
+    ),
+];
+
+/// Why words can't be read, with a run of the program then.
+pub static UNREAD: [(ErrorKind, Run<'static>); 2] = [
+    (
+        ErrorKind::InvalidData,
+        (
+            "session a 5\n",
+            false,
+            2,
+            "",
+            "error: invalid UTF-8 was detected in one or more arguments\n",
+        ),
+    ),
+    (
+        ErrorKind::OutOfMemory,
+        ("session a 5\n", false, 1, "", "no memory\n"),
+    ),
+];
+
+/// Words with a run of the program on them, where the script is typed and the errors are read at a terminal.
+pub static TYPED: [(&str, Run<'static>); 5] = [
+    // A hammer that is over before its line's time has come.
+    (
+        "lock_scenario hammer --sessions 1 --rounds 1",
+        (
+            "",
+            false,
+            0,
+            "audit fast 1 table 1 strong 1\nfinal fast 0 table 0 strong 0\n",
+            "",
+        ),
+    ),
+    (RUN, ("session a 5\n", false, 0, OPENED, INVITATION)),
+    (
+        "lock_scenario sql",
+        (
+            "",
+            false,
+            0,
+            "statements: 0\nkeep reads waiting: 0\nkeep writes waiting: 0\n",
+            "reading SQL statements from the terminal, to their end (Ctrl-D)\n",
+        ),
+    ),
+    (
+        RUN,
+        (
+            "",
+            true,
+            1,
+            "",
+            "reading a script from the terminal, to its end (Ctrl-D); run --help shows its lines\nread failed\n",
+        ),
+    ),
+    (
+        "lock_scenario --version",
+        ("", false, 0, "lock_scenario 0.1.0\n", ""),
+    ),
+];

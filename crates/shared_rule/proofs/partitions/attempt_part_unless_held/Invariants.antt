@@ -1,5 +1,0 @@
-use Rattle.shared_rule.specs.Acquires.{IsAsBefore}
-use Rattle.shared_rule.proofs.partitions.attempt_part_unless_held.Given as goal
-
-abbrev pub invariant-loop : goal.invariant-loop
-invariant-loop g l = IsAsBefore g.T.PartTable.content l.fn.place l.place

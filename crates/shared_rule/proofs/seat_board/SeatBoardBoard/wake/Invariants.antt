@@ -1,0 +1,5 @@
+use Rattle.shared_rule.specs.Marks.{CalledWaiter}
+use Rattle.shared_rule.proofs.seat_board.SeatBoardBoard.wake.Given as goal
+
+abbrev pub ghosts-call_waiter : goal.ghosts-call_waiter
+ghosts-call_waiter g a = record { mark = λ _. CalledWaiter a.other }

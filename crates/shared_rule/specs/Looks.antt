@@ -1,0 +1,40 @@
+use Rattle.std.specs.Prelude.{ℕ, List, [], ◌∷◌, Option, Some, None}
+use Rattle.lock_world.specs.Wakes.{Beside}
+use Rattle.shared_rule.specs.declared.history.Mark.{Mark}
+use Rattle.shared_rule.specs.declared.history.Mark.TheVariants.{SetWaiting, LeftQueue, OfWords}
+use Rattle.shared_rule.specs.declared.history.WordMark.{WordMark}
+use Rattle.shared_rule.specs.declared.history.WordMark.TheVariants.{LoadedWait, ClearedWait, LoadedSleep, JoinedList, LeftList}
+
+-- What a session's own words showed as the session loaded them last, where it has stored nothing there since: on that it parks. Its
+-- history tells.
+pub record OwnLooks : Type 0 where
+  pub on_wait : Option ℕ
+  pub on_sleep : Option ℕ
+
+abbrev pub no_looks : OwnLooks
+no_looks = record { on_wait = None; on_sleep = None }
+
+-- what a step makes of it
+abbrev pub looks_words : OwnLooks → WordMark → OwnLooks
+looks_words looks (LoadedWait shown) = record looks { on_wait = Some shown }
+looks_words looks ClearedWait = record looks { on_wait = None }
+looks_words looks (LoadedSleep shown) = record looks { on_sleep = Some shown }
+looks_words looks (JoinedList mode) = record looks { on_sleep = None }
+looks_words looks LeftList = record looks { on_sleep = None }
+looks_words looks mark = looks
+
+module _ {T : Type 0} where
+  abbrev pub looks_noted : OwnLooks → Mark T → OwnLooks
+  looks_noted looks (SetWaiting tag mode now) = record looks { on_wait = None }
+  looks_noted looks (LeftQueue woken now) = record looks { on_wait = None }
+  looks_noted looks (OfWords mark) = looks_words looks mark
+  looks_noted looks mark = looks
+
+  -- what these steps tell, the last one first
+  abbrev pub looks_told : List (Mark T) → OwnLooks
+  looks_told [] = no_looks
+  looks_told (mark ∷ marks) = looks_noted (looks_told marks) mark
+
+-- the same of one session, by what stands beside the World
+abbrev pub looks_of : Beside → ℕ → OwnLooks
+looks_of beside number = record { on_wait = beside.waits.looked number; on_sleep = beside.sleeps.looked number }

@@ -1,0 +1,76 @@
+use Rattle.std.specs.Prelude.{◌≡◌, ℕ, ◌∷◌, List, Option, None}
+use Rattle.atomic_table.specs.declared.shared.Seat.{Seat}
+use Rattle.atomic_table.specs.Seated.{TableId}
+use Rattle.atomic_table.specs.Table.{rest}
+use Rattle.lock_table.specs.declared.request.Request.{Request}
+use Rattle.lock_table.specs.declared.moves.Move.{Move}
+use Rattle.lock_table.specs.Content.{Content}
+use Rattle.lw_word.specs.declared.words.LwMode.{LwMode}
+use Rattle.lw_word.specs.LockState.{state_of, put_in}
+use Rattle.lock_world.specs.Account.{Account, InHand}
+use Rattle.lock_world.specs.AccountSteps.{account_putting}
+use Rattle.shared_rule.specs.declared.history.Mark.{Mark}
+use Rattle.shared_rule.specs.declared.history.View.{View}
+use Rattle.shared_rule.specs.declared.kept.Kept.{Kept}
+use Rattle.shared_rule.specs.declared.kept.Kept.TheVariants.{Nothing}
+use Rattle.shared_rule.specs.declared.lw_locks.LwLock.{LwLock}
+use Rattle.shared_rule.specs.declared.lw_locks.LwLock.TheVariants.{OfPart, OfSlots}
+use Rattle.shared_rule.specs.History.{taken_of}
+use Rattle.shared_rule.specs.Layout.{content_slot_of}
+use Rattle.shared_rule.specs.Lawful.{MayPutPart}
+use Rattle.shared_rule.specs.Led.{Led, LedTo}
+use Rattle.shared_rule.specs.LwLocks.{lock_number, LockExists, LockIsInTable, no_lists}
+use Rattle.shared_rule.specs.Marks.{PutPart}
+use Rattle.shared_rule.specs.Plays.{account_at, number_at, todo_at, FitsTable, HasSession}
+use Rattle.shared_rule.specs.Todos.{nothing_to_do, todo_putting}
+
+-- What a release of a lightweight lock leads to: the members of the lock's trait (`Held` of lw_lock).
+
+-- Of a lock of a table for so many sessions:
+module _ {T : Type 0} (content : T → Content) (limit : ℕ) (table : TableId) (lock : LwLock) where
+  -- A session may put it, as far as that is the same for all locks.
+  pub record MayPut (place : Seat (Kept T) (View T)) : Type 0 where
+    pub fits : FitsTable place table
+    pub exists : LockExists limit lock
+    pub there : LockIsInTable lock
+    pub session : HasSession place.me.0
+    pub idle : (account_at content place).lists ≡ no_lists
+    pub todo : todo_at place ≡ nothing_to_do
+
+  -- It has put the lock, which it had in this mode, and whose word showed a number then. This is its account since, and this is in hand.
+  -- It has to look at the lock's list, if anything.
+  pub record HasPut (mode : LwMode) (before after : Seat (Kept T) (View T)) (a : Account) (slots : List (ℕ × Kept T)) : Type 0 where
+    pub found : ℕ
+    pub led : LedTo content before after a (todo_putting (todo_at before) (lock_number lock) (put_in mode (state_of found)))
+    pub in_hand : after.me.1 ≡ slots
+    pub may : MayPut before
+    pub lists : a.lists ≡ (account_at content before).lists
+
+-- It has put a lock, and has done what there was to do for those who wait.
+pub record HasReleased {T : Type 0} (content : T → Content) (before after : Seat (Kept T) (View T)) (a : Account)
+    (slots : List (ℕ × Kept T)) : Type 0 where
+  pub led : Led content before after a
+  pub in_hand : after.me.1 ≡ slots
+
+-- A partition goes home with its content, after this move.
+module _ {T : Type 0} (content : T → Content) (part : ℕ) (done : Move) where
+  -- the account since
+  abbrev pub account_put : Seat (Kept T) (View T) → T → Account
+  account_put before taken =
+      account_putting (account_at content before) part (taken_of ((account_at content before).hand part)) (content taken) done
+
+  -- It may go home, under this mark.
+  pub record MayPutPartition (begun : T → Option Request) (limit : ℕ) (table : TableId) (mark : ℕ → Mark T)
+      (place : Seat (Kept T) (View T)) (taken : T) : Type 0 where
+    pub may : MayPut content limit table (OfPart part) place
+    pub in_hand : place.me.1 ≡ (content_slot_of part, Nothing) ∷ rest place.me.1
+    pub none_begun : begun taken ≡ None
+    pub lawful : (mine : InHand) × MayPutPart limit (number_at place) (account_at content place) part mine done (content taken)
+    pub mark_is : mark ≡ PutPart part done taken
+
+-- The lock of a session's slots is put, under this mark, where this is so of the account.
+pub record MayPutSlots {T : Type 0} (content : T → Content) (limit : ℕ) (table : TableId) (owner : ℕ)
+    (may_by : Account → Type 0) (mark its : ℕ → Mark T) (place : Seat (Kept T) (View T)) : Type 0 where
+  pub may : MayPut content limit table (OfSlots owner) place
+  pub lawful : may_by (account_at content place)
+  pub mark_is : mark ≡ its

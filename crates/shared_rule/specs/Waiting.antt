@@ -1,0 +1,76 @@
+use Rattle.std.specs.Prelude.{◌≡◌, ℕ}
+use Rattle.atomic_table.specs.declared.shared.Seat.{Seat}
+use Rattle.atomic_table.specs.Seated.{TableId}
+use Rattle.lock_table.specs.Content.{Content}
+use Rattle.lw_word.specs.declared.words.LwMode.{LwMode}
+use Rattle.lock_world.specs.Account.{Account}
+use Rattle.shared_rule.specs.declared.history.View.{View}
+use Rattle.shared_rule.specs.declared.kept.Kept.{Kept}
+use Rattle.shared_rule.specs.declared.lw_locks.LwLock.{LwLock}
+use Rattle.shared_rule.specs.declared.lw_locks.LwLock.TheVariants.{OfPart, OfSlots}
+use Rattle.shared_rule.specs.Acquires.{GotNothing, IsTrying, MayGetSlots}
+use Rattle.shared_rule.specs.Led.{LedTo}
+use Rattle.shared_rule.specs.LwLocks.{lock_number, LockExists, LockIsInTable, no_lists, queued_for}
+use Rattle.shared_rule.specs.Plays.{account_at, number_at, todo_at, FitsTable, HasSession}
+use Rattle.shared_rule.specs.Todos.{IsLatestBy, TriesAtMost, todo_attempted, todo_in_list}
+
+-- What has come since a session was first on its way to a lightweight lock: the members of the lock's trait (`Guarded` of lw_lock).
+
+-- Who comes for which lock of which table, for how many sessions, and in which mode.
+pub record Sought : Type 0 where
+  pub limit : ℕ
+  pub table : TableId
+  pub number : ℕ
+  pub lock : LwLock
+  pub mode : LwMode
+
+abbrev pub sought_of : ℕ → TableId → ℕ → LwLock → LwMode → Sought
+sought_of limit table number lock mode = record { limit = limit; table = table; number = number; lock = lock; mode = mode }
+
+-- It may get that lock: it doesn't share it yet.
+abbrev pub MayGet : LwLock → LwMode → Account → Type 0
+MayGet (OfPart part) mode a = Unit {0}
+MayGet (OfSlots owner) mode a = MayGetSlots mode a owner
+
+module _ {T : Type 0} (content : T → Content) (sought : Sought) where
+  -- The session may attempt the lock, and wait for it: it is in no list, has earlier locks alone, and at most this one to attempt.
+  pub record MayWait (place : Seat (Kept T) (View T)) : Type 0 where
+    pub fits : FitsTable place sought.table
+    pub exists : LockExists sought.limit sought.lock
+    pub there : LockIsInTable sought.lock
+    pub session : HasSession place.me.0
+    pub own : sought.number ≡ number_at place
+    pub may : MayGet sought.lock sought.mode (account_at content place)
+    pub idle : (account_at content place).lists ≡ no_lists
+    pub todo : TriesAtMost (lock_number sought.lock) (todo_at place)
+    pub latest : IsLatestBy (account_at content place) sought.lock
+
+  -- It has got nothing, and is in no list.
+  pub record IsOnWay (first now : Seat (Kept T) (View T)) : Type 0 where
+    pub began : MayWait first
+    pub still : MayWait now
+    pub nothing : GotNothing content first now (todo_at now)
+
+  -- It has joined the list, and got nothing.
+  pub record IsQueued (first now : Seat (Kept T) (View T)) : Type 0 where
+    pub began : MayWait first
+    pub joined : Seat (Kept T) (View T)
+    pub queues :
+        LedTo content first joined
+        (record (account_at content first) { lists = queued_for (lock_number sought.lock) })
+        (todo_in_list (lock_number sought.lock))
+    pub slots : joined.me.1 ≡ first.me.1
+    pub since : IsTrying content (lock_number sought.lock) joined now
+
+  -- It has joined the list, and saw somebody in the way then.
+  pub record HasSeenHeld (first now : Seat (Kept T) (View T)) : Type 0 where
+    pub at : Seat (Kept T) (View T)
+    pub waits : IsQueued first at
+    pub saw : GotNothing content at now (todo_attempted (todo_at at))
+
+  -- It has joined the list, and won then.
+  pub record HasWonQueued (wins : Seat (Kept T) (View T) → Seat (Kept T) (View T) → Type 0)
+      (first now : Seat (Kept T) (View T)) : Type 0 where
+    pub at : Seat (Kept T) (View T)
+    pub waits : IsQueued first at
+    pub won : wins at now

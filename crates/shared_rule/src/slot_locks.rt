@@ -1,0 +1,287 @@
+//! The lock of a session's fast-path slots, as a session comes for it, to write them or to read them, and as it puts it
+//! (`fpInfoLock` in proc.h).
+
+ghost use Rattle.std.specs.Prelude.{◌<◌, IfSome, IfNone};
+ghost use Rattle.lock_world.specs.WaitLists.{fast_lock};
+ghost use Rattle.lw_lock.specs.Since.{IsSince, TurnsInto};
+ghost use Rattle.shared_rule.specs.declared.lw_locks.LwLock.TheVariants.{OfSlots};
+ghost use Rattle.shared_rule.specs.Waiting.{sought_of, IsOnWay};
+ghost use Rattle.lock_world.specs.Wakes.Waking.{NoneOr};
+ghost use Rattle.shared_rule.specs.Acquires.{IsAsBefore, MayGetSlots, GetsSlots};
+ghost use Rattle.shared_rule.specs.Plays.{account_at, todo_at, FitsTable, HasSession};
+
+use crate::lists::look_at_lock;
+use crate::locks::{attempt_free_fast, pass_fast_home, put_fast_home};
+use crate::lw_locks::LwLock;
+use crate::plays::Marking;
+use crate::queues::{dequeue_self, queue_self, sleep_for};
+use crate::rule::{Place, Top};
+use crate::sharing::{attempt_free_share, unshare_fast_home};
+use crate::wakeups::wake_waiters;
+use lock_table::PartTable;
+use lw_lock::{Acquirable, Guarded, Held, acquire_held};
+use lw_word::{LwMode, shared, taken};
+use modes_core::{Mode, SessionId, Tag};
+use std::marker::PhantomData;
+use std::sync::Wait;
+
+/// The lock of the slots of `owner`, as the session `number` comes for it in `mode`: what they show is known with it.
+#[derive(Drop)]
+pub(crate) struct SlotsLock<'a, T: PartTable> {
+    pub(crate) top: &'a Top<T>,
+    pub(crate) number: SessionId,
+    pub(crate) owner: SessionId,
+    pub(crate) mode: LwMode,
+}
+
+impl<'a, T: PartTable> SlotsLock<'a, T> {
+    // One attempt, where the word shows that nobody is in the way.
+    #[inline(always)]
+    fn attempt_free(&self, place: &mut Place<T>) -> Option<()>
+        requires table { FitsTable place.old self.now.top.now.table_id }
+        requires exists { self.now.owner < self.now.top.now.key.sessions }
+        requires session { HasSession place.old.me.0 }
+        requires lawful { MayGetSlots self.now.mode (account_at T.content place.old) self.now.owner }
+        requires no_other_try { NoneOr (todo_at place.old).tries (fast_lock self.now.owner) }
+        requires no_other_list { NoneOr (account_at T.content place.old).lists.stands (fast_lock self.now.owner) }
+        ensures won { IfSome result (λ _. GetsSlots T.content self.now.top.now.key.groups self.now.mode self.now.owner
+            place.old place.new) }
+        ensures lost { IfNone result (IsAsBefore T.content place.old place.new) }
+    {
+        let won = match self.mode {
+            LwMode::Exclusive => attempt_free_fast(self.top, place, self.owner),
+            LwMode::Shared => attempt_free_share(self.top, place, self.owner),
+        };
+        if won { Some(()) } else { None }
+    }
+}
+
+impl<'a, T: PartTable> Guarded<Place<T>, ()> for SlotsLock<'a, T> {
+    ghost use Rattle.shared_rule.specs.declared.lw_locks.LwLock.TheVariants.{OfSlots};
+    ghost use Rattle.shared_rule.specs.Acquires.{GetsSlots};
+    ghost use Rattle.shared_rule.specs.Waiting.{sought_of, IsOnWay, IsQueued, HasSeenHeld, HasWonQueued};
+
+    ghost on_way = { λ it. IsOnWay T.content
+        (sought_of it.top.now.key.sessions it.top.now.table_id it.number (OfSlots it.owner) it.mode) };
+
+    ghost queued = { λ it. IsQueued T.content
+        (sought_of it.top.now.key.sessions it.top.now.table_id it.number (OfSlots it.owner) it.mode) };
+
+    ghost saw_held = { λ it. HasSeenHeld T.content
+        (sought_of it.top.now.key.sessions it.top.now.table_id it.number (OfSlots it.owner) it.mode) };
+
+    ghost won_queued = { λ it first now _. HasWonQueued T.content
+        (sought_of it.top.now.key.sessions it.top.now.table_id it.number (OfSlots it.owner) it.mode)
+        (GetsSlots T.content it.top.now.key.groups it.mode it.owner) first now };
+
+    ghost won = { λ it first now _. GetsSlots T.content it.top.now.key.groups it.mode it.owner first now };
+
+    #[inline(always)]
+    fn attempt(&self, place: &mut Place<T>) -> Option<()> {
+        self.attempt_free(place)
+    }
+
+    fn queue_self<R: Wait>(&self, rt: &R, place: &mut Place<T>) {
+        let lock = LwLock::OfSlots(self.owner);
+        queue_self(rt, self.top, place, self.number, &lock, self.mode);
+    }
+
+    fn attempt_again(&self, place: &mut Place<T>) -> Option<()> {
+        self.attempt_free(place)
+    }
+
+    fn is_held(&self, place: &mut Place<T>) -> bool {
+        let shown = look_at_lock(self.top, place, &LwLock::OfSlots(self.owner));
+        match self.mode {
+            LwMode::Exclusive => taken(shown).is_none(),
+            LwMode::Shared => shared(shown).is_none(),
+        }
+    }
+
+    fn dequeue_self<R: Wait>(&self, rt: &R, place: &mut Place<T>) {
+        let lock = LwLock::OfSlots(self.owner);
+        dequeue_self(rt, self.top, place, self.number, &lock);
+    }
+
+    fn sleep_until_told<R: Wait>(&self, rt: &R, place: &mut Place<T>) {
+        let lock = LwLock::OfSlots(self.owner);
+        sleep_for(rt, self.top, place, self.number, &lock);
+    }
+}
+
+impl<'a, T: PartTable> Acquirable<Place<T>, ()> for SlotsLock<'a, T> {
+    #[inline(always)]
+    fn acquire_held<R: Wait>(&self, rt: &R, place: &mut Place<T>) {
+        get_slots_held(rt, self.top, place, self.number, self.owner, self.mode);
+    }
+}
+
+// Gets the lock of a session's slots after an attempt that was lost.
+#[cold]
+#[inline(never)]
+fn get_slots_held<T: PartTable, R: Wait>(
+    rt: &R,
+    top: &Top<T>,
+    place: &mut Place<T>,
+    number: SessionId,
+    owner: SessionId,
+    mode: LwMode,
+)
+    requires { IsSince (IsOnWay T.content
+        (sought_of top.now.key.sessions top.now.table_id number (OfSlots owner) mode)) place.old }
+    ensures { TurnsInto (IsOnWay T.content
+        (sought_of top.now.key.sessions top.now.table_id number (OfSlots owner) mode))
+        (GetsSlots T.content top.now.key.groups mode owner) place.old place.new }
+{
+    acquire_held(
+        rt,
+        place,
+        &SlotsLock {
+            top,
+            number,
+            owner,
+            mode,
+        },
+    )
+}
+
+/// The lock of the slots of `owner`, which the session has to write them and puts.
+#[derive(Drop)]
+pub(crate) struct SlotsTaken<'a, T: PartTable, M: Marking<T>> {
+    pub(crate) top: &'a Top<T>,
+    pub(crate) owner: SessionId,
+    pub(crate) of: PhantomData<M>,
+}
+
+impl<'a, T: PartTable, M: Marking<T>> Held<Place<T>, ()> for SlotsTaken<'a, T, M> {
+    ghost use Rattle.lw_word.specs.declared.words.LwMode.TheVariants.{Exclusive};
+    ghost use Rattle.lock_world.specs.Account.{SlotsInHand};
+    ghost use Rattle.lock_world.specs.AccountLaw.{MayPutFastBy};
+    ghost use Rattle.lock_world.specs.AccountSteps.{account_putting_fast};
+    ghost use Rattle.shared_rule.specs.declared.lw_locks.LwLock.TheVariants.{OfSlots};
+    ghost use Rattle.shared_rule.specs.Marks.{PutFast};
+    ghost use Rattle.shared_rule.specs.Plays.{account_at, number_at};
+    ghost use Rattle.shared_rule.specs.Releases.{MayPutSlots, HasPut, HasReleased};
+
+    ghost in_mode = { λ _. Exclusive };
+
+    ghost may_put = { λ it place _. MayPutSlots T.content it.top.now.key.sessions it.top.now.table_id it.owner
+        (λ a. (slots : SlotsInHand) × MayPutFastBy a it.owner slots) M.mark (PutFast it.owner) place };
+
+    ghost due = { λ it before after _. HasPut T.content it.top.now.key.sessions it.top.now.table_id (OfSlots it.owner)
+        Exclusive before after (account_putting_fast (number_at before) (account_at T.content before) it.owner)
+        before.me.1 };
+
+    ghost released = { λ it before after _. HasReleased T.content before after
+        (account_putting_fast (number_at before) (account_at T.content before) it.owner) before.me.1 };
+
+    #[inline(always)]
+    fn mode(&self) -> LwMode {
+        LwMode::Exclusive
+    }
+
+    #[inline(always)]
+    fn put(&self, place: &mut Place<T>, _content: ()) -> u64 {
+        put_fast_home::<T, M>(self.top, place, self.owner)
+    }
+
+    #[inline(always)]
+    fn wake_waiters(&self, place: &mut Place<T>) {
+        wake_waiters(self.top, place, &LwLock::OfSlots(self.owner));
+    }
+}
+
+/// The lock of the slots of `owner`, which the session puts as it goes past `owner` with the strong lock of `mode` on
+/// `tag`.
+#[derive(Drop)]
+pub(crate) struct SlotsPassed<'a, T: PartTable, M: Marking<T>> {
+    pub(crate) top: &'a Top<T>,
+    pub(crate) owner: SessionId,
+    pub(crate) tag: &'a Tag,
+    pub(crate) mode: Mode,
+    pub(crate) of: PhantomData<M>,
+}
+
+impl<'a, T: PartTable, M: Marking<T>> Held<Place<T>, ()> for SlotsPassed<'a, T, M> {
+    ghost use Rattle.lw_word.specs.declared.words.LwMode.TheVariants.{Exclusive};
+    ghost use Rattle.lock_world.specs.Account.{SlotsInHand};
+    ghost use Rattle.lock_world.specs.AccountLaw.{MayPassBy};
+    ghost use Rattle.lock_world.specs.AccountSteps.{account_passing};
+    ghost use Rattle.shared_rule.specs.declared.lw_locks.LwLock.TheVariants.{OfSlots};
+    ghost use Rattle.shared_rule.specs.Marks.{Passed};
+    ghost use Rattle.shared_rule.specs.Plays.{account_at, number_at};
+    ghost use Rattle.shared_rule.specs.Releases.{MayPutSlots, HasPut, HasReleased};
+
+    ghost in_mode = { λ _. Exclusive };
+
+    ghost may_put = { λ it place _. MayPutSlots T.content it.top.now.key.sessions it.top.now.table_id it.owner
+        (λ a. (slots : SlotsInHand) × MayPassBy a it.owner slots it.tag.now it.mode) M.mark
+        (Passed it.owner it.tag.now it.mode) place };
+
+    ghost due = { λ it before after _. HasPut T.content it.top.now.key.sessions it.top.now.table_id (OfSlots it.owner)
+        Exclusive before after
+        (account_passing (number_at before) (account_at T.content before) it.owner it.tag.now it.mode) before.me.1 };
+
+    ghost released = { λ it before after _. HasReleased T.content before after
+        (account_passing (number_at before) (account_at T.content before) it.owner it.tag.now it.mode) before.me.1 };
+
+    #[inline(always)]
+    fn mode(&self) -> LwMode {
+        LwMode::Exclusive
+    }
+
+    #[inline(always)]
+    fn put(&self, place: &mut Place<T>, _content: ()) -> u64 {
+        pass_fast_home::<T, M>(self.top, place, self.owner, self.tag, self.mode)
+    }
+
+    #[inline(always)]
+    fn wake_waiters(&self, place: &mut Place<T>) {
+        wake_waiters(self.top, place, &LwLock::OfSlots(self.owner));
+    }
+}
+
+/// The lock of the slots of `owner`, which the session shares and gives back.
+#[derive(Drop)]
+pub(crate) struct SlotsShared<'a, T: PartTable, M: Marking<T>> {
+    pub(crate) top: &'a Top<T>,
+    pub(crate) owner: SessionId,
+    pub(crate) of: PhantomData<M>,
+}
+
+impl<'a, T: PartTable, M: Marking<T>> Held<Place<T>, ()> for SlotsShared<'a, T, M> {
+    ghost use Rattle.lw_word.specs.declared.words.LwMode.TheVariants.{Shared};
+    ghost use Rattle.lock_world.specs.Account.{SlotsInHand};
+    ghost use Rattle.lock_world.specs.AccountLaw.{MayUnshareFastBy};
+    ghost use Rattle.lock_world.specs.AccountSteps.{account_unsharing_fast};
+    ghost use Rattle.shared_rule.specs.declared.lw_locks.LwLock.TheVariants.{OfSlots};
+    ghost use Rattle.shared_rule.specs.Marks.{UnsharedFast};
+    ghost use Rattle.shared_rule.specs.Plays.{account_at};
+    ghost use Rattle.shared_rule.specs.Releases.{MayPutSlots, HasPut, HasReleased};
+
+    ghost in_mode = { λ _. Shared };
+
+    ghost may_put = { λ it place _. MayPutSlots T.content it.top.now.key.sessions it.top.now.table_id it.owner
+        (λ a. (slots : SlotsInHand) × MayUnshareFastBy a it.owner slots) M.mark (UnsharedFast it.owner) place };
+
+    ghost due = { λ it before after _. HasPut T.content it.top.now.key.sessions it.top.now.table_id (OfSlots it.owner)
+        Shared before after (account_unsharing_fast (account_at T.content before) it.owner) before.me.1 };
+
+    ghost released = { λ it before after _. HasReleased T.content before after
+        (account_unsharing_fast (account_at T.content before) it.owner) before.me.1 };
+
+    #[inline(always)]
+    fn mode(&self) -> LwMode {
+        LwMode::Shared
+    }
+
+    #[inline(always)]
+    fn put(&self, place: &mut Place<T>, _content: ()) -> u64 {
+        unshare_fast_home::<T, M>(self.top, place, self.owner)
+    }
+
+    #[inline(always)]
+    fn wake_waiters(&self, place: &mut Place<T>) {
+        wake_waiters(self.top, place, &LwLock::OfSlots(self.owner));
+    }
+}

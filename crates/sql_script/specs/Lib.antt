@@ -1,0 +1,4 @@
+pub mod Asked
+pub mod Awaited
+pub mod Steps
+pub mod Turns

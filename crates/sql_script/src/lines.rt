@@ -1,0 +1,188 @@
+//! The lines of a script that say SQL: those of a schema, and `do` lines.
+
+use crate::faults::{ScriptDefect, ScriptFault};
+use crate::script::SqlScript;
+use crate::turns::Turn;
+use std::alloc::{AllocError, Global};
+
+/// What a line of a script is.
+#[derive(Debug, Drop)]
+pub enum Heard {
+    /// The line says no SQL, and is played as it is.
+    Plain,
+    /// The line is one of a schema, for which nothing is played.
+    Schema,
+    /// A session plays what its statements come to.
+    Statements(Statements),
+}
+
+/// What a session plays for the statements of a line.
+#[derive(Debug, Drop)]
+pub struct Statements {
+    pub session: String,
+    /// One for each statement, in order.
+    pub turns: Vec<Turn>,
+}
+
+/// Why the SQL of a line can't be played.
+#[derive(Debug, Drop)]
+pub enum Unplayed {
+    /// The line is bad: this says which word of which line is, with a line feed at its end.
+    Told(String),
+    NoMemory,
+}
+
+impl From<AllocError> for Unplayed {
+    fn from(_: AllocError) -> Self {
+        Unplayed::NoMemory
+    }
+}
+
+impl Unplayed {
+    /// What is said of `fault`, one of `text`, whose first line is that of the number `first` in its script.
+    fn of(alloc: Global, first: u32, text: &[u8], fault: ScriptFault) -> Self {
+        match fault.told(alloc, first as usize, text) {
+            Ok(told) => Unplayed::Told(told),
+            Err(_) => Unplayed::NoMemory,
+        }
+    }
+}
+
+/// A schema that is read.
+#[derive(Debug, Drop)]
+pub struct Schema {
+    /// The number of the line that begins it.
+    line: u32,
+    /// Its lines so far, each with a line feed.
+    text: String,
+}
+
+impl SqlScript {
+    /// Takes in the line `line` of the number `number` of a script. Lines that open and close sessions are plain ones.
+    pub fn hear(&mut self, number: u32, line: &str) -> Result<Heard, Unplayed> {
+        let mut words = line.split_whitespace();
+        let verb = words.next().unwrap_or("");
+        if self.schema.is_some() {
+            self.hear_schema(line, verb == "end" && words.next().is_none())?;
+            return Ok(Heard::Schema);
+        }
+        match verb {
+            "schema" => {
+                self.schema = Some(Schema {
+                    line: number,
+                    text: String::new(self.alloc),
+                });
+                Ok(Heard::Schema)
+            }
+            "do" => self.hear_statements(number, line),
+            "session" => {
+                self.hear_opening(words.next(), words.next())?;
+                Ok(Heard::Plain)
+            }
+            "close" => {
+                if let Some(name) = words.next() {
+                    self.close(name);
+                }
+                Ok(Heard::Plain)
+            }
+            _ => Ok(Heard::Plain),
+        }
+    }
+
+    /// Says what is wrong where the script ends, if its schema doesn't.
+    pub fn finish(&self) -> Result<(), Unplayed> {
+        match &self.schema {
+            Some(schema) => {
+                let fault = ScriptFault::Word {
+                    line: 1,
+                    what: ScriptDefect::UnendedSchema,
+                    from: 0,
+                };
+                Err(Unplayed::of(self.alloc, schema.line, b"schema", fault))
+            }
+            None => Ok(()),
+        }
+    }
+
+    /// Takes in `line`, one of a schema, which ends the schema where `is_end`. The statements of one that has ended are run.
+    fn hear_schema(&mut self, line: &str, is_end: bool) -> Result<(), Unplayed> {
+        let Some(mut schema) = self.schema.take() else {
+            return Ok(());
+        };
+        if !is_end {
+            schema.text.push_str(line)?;
+            schema.text.push('\n')?;
+            self.schema = Some(schema);
+            return Ok(());
+        }
+        let alloc = self.alloc;
+        let text = schema.text.as_bytes();
+        match self.read_schema(text) {
+            Ok(()) => Ok(()),
+            Err(fault) => Err(Unplayed::of(alloc, schema.line.saturating_add(1), text, fault)),
+        }
+    }
+
+    /// Has the session of a line that opens it be known, where its words `name` and `database` are good ones.
+    fn hear_opening(
+        &mut self,
+        name: Option<&str>,
+        database: Option<&str>,
+    ) -> Result<(), AllocError> {
+        let (Some(name), Some(database)) = (name, database) else {
+            return Ok(());
+        };
+        match database.parse::<u32>() {
+            Ok(database) => self.open(name, database),
+            Err(_) => Ok(()),
+        }
+    }
+
+    /// What a session plays for the statements of the `do` line `line` of the number `number`.
+    fn hear_statements(&mut self, number: u32, line: &str) -> Result<Heard, Unplayed> {
+        let alloc = self.alloc;
+        let (name, text) = parts_of(line);
+        let Some(database) = self.database_of(name) else {
+            return Err(Unplayed::of(
+                alloc,
+                number,
+                name.as_bytes(),
+                whole(ScriptDefect::NoSession),
+            ));
+        };
+        if text.trim().is_empty() {
+            return Err(Unplayed::of(
+                alloc,
+                number,
+                line.as_bytes(),
+                whole(ScriptDefect::NoStatement),
+            ));
+        }
+        match self.turns_of(name, database, text.as_bytes()) {
+            Ok(turns) => Ok(Heard::Statements(Statements {
+                session: String::from_str(alloc, name)?,
+                turns,
+            })),
+            Err(fault) => Err(Unplayed::of(alloc, number, text.as_bytes(), fault)),
+        }
+    }
+}
+
+/// The fault of a text's first word that has the defect `what`.
+fn whole(what: ScriptDefect) -> ScriptFault {
+    ScriptFault::Word {
+        line: 1,
+        what,
+        from: 0,
+    }
+}
+
+/// The second word of `line`, and what stands behind it.
+fn parts_of(line: &str) -> (&str, &str) {
+    let behind = match line.trim_start().strip_prefix("do") {
+        Some(behind) => behind.trim_start(),
+        None => "",
+    };
+    let name = behind.split_whitespace().next().unwrap_or("");
+    (name, behind.strip_prefix(name).unwrap_or(""))
+}
