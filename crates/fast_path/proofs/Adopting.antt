@@ -24,11 +24,11 @@ use Rattle.fast_path.specs.Turns.{hand_moving}
 
 -- The slots and the content in hand, as they come.
 pub has-both :
-    (number : ℕ) (a b : Account) (owner place word p : ℕ) (tag : Tag) (taken : Content)
-    → HasSlots a owner place word tag → p ≡ partition_of tag
-    → b ≡ account_taking a p taken → KnowsContent number a p taken → HasSlotsAndPart b owner place word tag taken
-has-both number a b owner place word p tag taken has part is knows =
-    subst (λ (v : Account). HasSlotsAndPart v owner place word tag taken)
+    (number : ℕ) (a b : Account) (owner slot word p : ℕ) (tag : Tag) (taken : Content)
+    → HasSlots a owner slot word tag → p ≡ partition_of tag
+    → b ≡ account_taking a p taken → KnowsContent number a p taken → HasSlotsAndPart b owner slot word tag taken
+has-both number a b owner slot word p tag taken has part is knows =
+    subst (λ (v : Account). HasSlotsAndPart v owner slot word tag taken)
     (sym (is ∙ (λ i. account_taking a (part i) taken))) (record {
       slots = has.slots;
       in_hand = shown;
@@ -41,8 +41,8 @@ has-both number a b owner place word p tag taken has part is knows =
       shown : a.fast.slots owner ≡ Some has.slots
       shown = (λ i. has.in_hand i owner) ∙ set_at-here (λ _. None) owner (Some has.slots) owner refl
 
-module _ (b c : Account) (owner place word p below : ℕ) (tag : Tag) (taken now : Content) (part : p ≡ partition_of tag)
-    (moves : MovesBelow b owner place word tag taken below now c) where
+module _ (b c : Account) (owner slot word p below : ℕ) (tag : Tag) (taken now : Content) (part : p ≡ partition_of tag)
+    (moves : MovesBelow b owner slot word tag taken below now c) where
   moved_hand : c.hand p ≡ Some (hand_moving taken now moves.recorded)
   moved_hand =
       (λ i. (moves.account i).hand (part i)) ∙ set_at-here b.hand (partition_of tag)
@@ -51,7 +51,7 @@ module _ (b c : Account) (owner place word p below : ℕ) (tag : Tag) (taken now
   -- It may be put with the adopt recorded, or as it was where nothing was moved.
   may_put-below : (limit number : ℕ) → (mine : InHand) × MayPutPart limit number c p mine Keep now
   may_put-below limit number = (hand_moving taken now moves.recorded, at moves.recorded moved_hand moves.adopt) where
-    at : (recorded : Option Move) → c.hand p ≡ Some (hand_moving taken now recorded) → MayAdopt recorded owner place
+    at : (recorded : Option Move) → c.hand p ≡ Some (hand_moving taken now recorded) → MayAdopt recorded owner slot
         → MayPutPart limit number c p (hand_moving taken now recorded) Keep now
     at None in_hand may = inl (record {
       may_move = record {
@@ -66,7 +66,7 @@ module _ (b c : Account) (owner place word p below : ℕ) (tag : Tag) (taken now
       by_putting = tt;
     })
     at (Some done) in_hand may = inr (record {
-      made = Adopt owner place;
+      made = Adopt owner slot;
       may_put = record { in_hand = in_hand; recorded = ap Some may; all_marked = λ _. refl; wait_is_over = tt };
       keeps = refl;
       same = refl;
@@ -74,18 +74,18 @@ module _ (b c : Account) (owner place word p below : ℕ) (tag : Tag) (taken now
 
 -- Then it is one episode.
 adopts-put :
-    (a b c after : Account) (owner place word below : ℕ) (tag : Tag) (taken now : Content)
-    → HasSlots a owner place word tag
-    → b ≡ account_taking a (partition_of tag) taken → MovesBelow b owner place word tag taken below now c
+    (a b c after : Account) (owner slot word below : ℕ) (tag : Tag) (taken now : Content)
+    → HasSlots a owner slot word tag
+    → b ≡ account_taking a (partition_of tag) taken → MovesBelow b owner slot word tag taken below now c
     → after ≡ account_putting c (partition_of tag) (taken_of (c.hand (partition_of tag))) now Keep
     → AdoptsBelow a owner word tag below after
-adopts-put a b c after owner place word below tag taken now has took moves put = record {
+adopts-put a b c after owner slot word below tag taken now has took moves put = record {
   taken = taken;
   rest = moves.rest;
   without = λ slots is. moves.without slots ((λ i. (took i).fast.slots owner) ∙ is);
   account =
       put
-      ∙ (λ i. account_putting c p (taken_of (moved_hand b c owner place word p below tag taken now refl moves i)) now
+      ∙ (λ i. account_putting c p (taken_of (moved_hand b c owner slot word p below tag taken now refl moves i)) now
       Keep)
       ∙ (λ i. account_putting (moves.account i) p taken now Keep)
       ∙ (λ i. record (took i) {
@@ -119,27 +119,27 @@ adopts-put a b c after owner place word below tag taken now has took moves put =
 
 -- Both, by how far the moves came.
 pub may_put-moved :
-    (limit number : ℕ) (b c : Account) (owner place word p : ℕ) (tag : Tag) (taken now : Content)
+    (limit number : ℕ) (b c : Account) (owner slot word p : ℕ) (tag : Tag) (taken now : Content)
     (result : Result (Unit {0}) NoMemory) → p ≡ partition_of tag
-    → MovesOrNot b owner place word tag taken result now c → (mine : InHand) × MayPutPart limit number c p mine Keep now
-may_put-moved limit number b c owner place word p tag taken now (Ok done) part moves =
-    may_put-below b c owner place word p 4 tag taken now part moves limit number
-may_put-moved limit number b c owner place word p tag taken now (Err refusal) part some =
-    may_put-below b c owner place word p (number_of some.refused) tag taken now part some.moves limit number
+    → MovesOrNot b owner slot word tag taken result now c → (mine : InHand) × MayPutPart limit number c p mine Keep now
+may_put-moved limit number b c owner slot word p tag taken now (Ok done) part moves =
+    may_put-below b c owner slot word p 4 tag taken now part moves limit number
+may_put-moved limit number b c owner slot word p tag taken now (Err refusal) part some =
+    may_put-below b c owner slot word p (number_of some.refused) tag taken now part some.moves limit number
 
 pub adopts-moved :
-    (a b c after : Account) (owner place word p : ℕ) (tag : Tag) (taken now : Content)
+    (a b c after : Account) (owner slot word p : ℕ) (tag : Tag) (taken now : Content)
     (result : Result (Unit {0}) NoMemory) → p ≡ partition_of tag
-    → HasSlots a owner place word tag → b ≡ account_taking a p taken
-    → MovesOrNot b owner place word tag taken result now c
+    → HasSlots a owner slot word tag → b ≡ account_taking a p taken
+    → MovesOrNot b owner slot word tag taken result now c
     → after ≡ account_putting c p (taken_of (c.hand p)) now Keep → AdoptsOrNot a owner word tag result after
-adopts-moved a b c after owner place word p tag taken now (Ok done) part has took moves put =
-    adopts-put a b c after owner place word 4 tag taken now has (took ∙ (λ i. account_taking a (part i) taken)) moves
+adopts-moved a b c after owner slot word p tag taken now (Ok done) part has took moves put =
+    adopts-put a b c after owner slot word 4 tag taken now has (took ∙ (λ i. account_taking a (part i) taken)) moves
     (put ∙ (λ i. account_putting c (part i) (taken_of (c.hand (part i))) now Keep))
-adopts-moved a b c after owner place word p tag taken now (Err refusal) part has took some put = record {
+adopts-moved a b c after owner slot word p tag taken now (Err refusal) part has took some put = record {
   refused = some.refused;
   in_slot = some.in_slot;
-  adopts = adopts-put a b c after owner place word (number_of some.refused) tag taken now has
+  adopts = adopts-put a b c after owner slot word (number_of some.refused) tag taken now has
       (took ∙ (λ i. account_taking a (part i) taken)) some.moves
       (put ∙ (λ i. account_putting c (part i) (taken_of (c.hand (part i))) now Keep));
 }

@@ -24,7 +24,7 @@ use Rattle.shared_rule.specs.Slots.{TakesFast}
 use Rattle.fast_path.specs.declared.slot_words.SeenSlot.{SeenSlot}
 use Rattle.fast_path.specs.declared.slot_words.SightingForGrant.{SightingForGrant}
 use Rattle.fast_path.specs.declared.use_counts.UseCounts.{UseCounts}
-use Rattle.fast_path.specs.Slots.{group_of_tag, top_loads, place_from_top, account_loading, account_tried, IsReady}
+use Rattle.fast_path.specs.Slots.{group_of_tag, top_loads, slot_from_top, account_loading, account_tried, IsReady}
 use Rattle.fast_path.specs.Slots.{IsOfGroup, IsAllInUse, NoneInGroup, IsHighestUnused, IsSeenOf, IsSeenUnused, SightsForGrant}
 use Rattle.fast_path.specs.Slots.{count_in, one_more_in, AreCounted, AreUseCounts}
 use Rattle.fast_path.specs.Grants.{GrantsInSlot, HasOwnSlots, HasRoom, without_slots}
@@ -59,23 +59,23 @@ has_own_slots groups number a b uses own same ready takes = record {
 
 -- The slot that a grant takes: the one that the relation has,
 pub its-takes :
-    (groups : ℕ) (slot : ℕ → ℕ) (relation place : ℕ) → 0 < groups → groups ≤ most_groups
-    → IsOfGroup (group_of_relation groups relation) place → is_slot_of (slot place) relation ≡ true
-    → IsSlotToGrant groups slot relation place
-its-takes groups slot relation place some few of_group its = record {
-  within = within-of_group groups relation place some few of_group;
-  usable = eq-eqb (place / group_size) (group_of_relation groups relation) of_group;
+    (groups : ℕ) (words : ℕ → ℕ) (relation slot : ℕ) → 0 < groups → groups ≤ most_groups
+    → IsOfGroup (group_of_relation groups relation) slot → is_slot_of (words slot) relation ≡ true
+    → IsSlotToGrant groups words relation slot
+its-takes groups words relation slot some few of_group its = record {
+  within = within-of_group groups relation slot some few of_group;
+  usable = eq-eqb (slot / group_size) (group_of_relation groups relation) of_group;
   its_or_unused = inl its;
 }
 
 -- or one not in use, where its group has none for it.
 pub unused-takes :
-    (groups : ℕ) (slot : ℕ → ℕ) (relation place : ℕ) → 0 < groups → groups ≤ most_groups
-    → IsHighestUnused (group_of_relation groups relation) slot place
-    → NoneInGroup (group_of_relation groups relation) slot relation → IsSlotToGrant groups slot relation place
-unused-takes groups slot relation place some few highest none = record {
-  within = within-of_group groups relation place some few highest.within;
-  usable = eq-eqb (place / group_size) (group_of_relation groups relation) highest.within;
+    (groups : ℕ) (words : ℕ → ℕ) (relation slot : ℕ) → 0 < groups → groups ≤ most_groups
+    → IsHighestUnused (group_of_relation groups relation) words slot
+    → NoneInGroup (group_of_relation groups relation) words relation → IsSlotToGrant groups words relation slot
+unused-takes groups words relation slot some few highest none = record {
+  within = within-of_group groups relation slot some few highest.within;
+  usable = eq-eqb (slot / group_size) (group_of_relation groups relation) highest.within;
   its_or_unused = inr (
     highest.unused,
     λ other within usable.
@@ -84,18 +84,18 @@ unused-takes groups slot relation place some few highest none = record {
 }
 
 its_relation :
-    (groups : ℕ) (slot : ℕ → ℕ) (relation place : ℕ) → IsSlotToGrant groups slot relation place
-    → in_use (slot place) ≡ true → relation_in (slot place) ≡ relation
-its_relation groups slot relation place takes is =
+    (groups : ℕ) (words : ℕ → ℕ) (relation slot : ℕ) → IsSlotToGrant groups words relation slot
+    → in_use (words slot) ≡ true → relation_in (words slot) ≡ relation
+its_relation groups words relation slot takes is =
     elim takes.its_or_unused [
-      | inl its ↦ eqb-true (relation_in (slot place)) relation
-          (and_parts (in_use (slot place)) (nat_eq (relation_in (slot place)) relation) its).1
-      | inr unused ↦ absurd (both_ways (in_use (slot place)) unused.0 is)
+      | inl its ↦ eqb-true (relation_in (words slot)) relation
+          (and_parts (in_use (words slot)) (nat_eq (relation_in (words slot)) relation) its).1
+      | inr unused ↦ absurd (both_ways (in_use (words slot)) unused.0 is)
     ]
 
 -- With the mode set there one more of the group is in use, if that one was not.
-module _ (groups : ℕ) (slot : ℕ → ℕ) (relation place : ℕ) (mode : Mode) (uses : UseCounts) (fits : relation < 2 ^ 32)
-    (weak : number_of mode ≤ 3) (takes : IsSlotToGrant groups slot relation place) (few : groups ≤ most_groups)
+module _ (groups : ℕ) (words : ℕ → ℕ) (relation slot : ℕ) (mode : Mode) (uses : UseCounts) (fits : relation < 2 ^ 32)
+    (weak : number_of mode ≤ 3) (takes : IsSlotToGrant groups words relation slot) (few : groups ≤ most_groups)
     (some : 0 < groups) where
   -- the relation's group
   abbrev its_group : ℕ
@@ -103,50 +103,50 @@ module _ (groups : ℕ) (slot : ℕ → ℕ) (relation place : ℕ) (mode : Mode
 
   -- the use counts then
   abbrev pub counts_granted : ℕ → ℕ
-  counts_granted = if in_use (slot place) then count_in uses else one_more_in uses its_group
+  counts_granted = if in_use (words slot) then count_in uses else one_more_in uses its_group
 
   -- the words then
   abbrev slots_granted : ℕ → ℕ
-  slots_granted = set_at slot place (word_with (slot place) relation mode)
+  slots_granted = set_at words slot (word_with (words slot) relation mode)
 
-  is : in_use (word_with (slot place) relation mode) ≡ true
-  is = word_with-in_use (slot place) relation mode fits weak (its_relation groups slot relation place takes)
+  is : in_use (word_with (words slot) relation mode) ≡ true
+  is = word_with-in_use (words slot) relation mode fits weak (its_relation groups words relation slot takes)
 
-  of_group : place / group_size ≡ its_group
-  of_group = eqb-true (place / group_size) its_group takes.usable
+  of_group : slot / group_size ≡ its_group
+  of_group = eqb-true (slot / group_size) its_group takes.usable
 
   exists : its_group < most_groups
   exists = let its : its_group < groups = relation-group groups relation some in omega (arith, its, few)
 
-  more : in_use (slot place) ≡ false → used_in its_group slots_granted ≡ used_in its_group slot + 1
+  more : in_use (words slot) ≡ false → used_in its_group slots_granted ≡ used_in its_group words + 1
   more was =
-      let there = place-split its_group place of_group in
-      (λ i. used_in its_group (set_at slot (there.2 i) (word_with (slot place) relation mode)))
-      ∙ used-one_more its_group slot there.0 (word_with (slot place) relation mode) there.1
-      (ap (λ p. in_use (slot p)) (sym there.2) ∙ was) is
+      let there = place-split its_group slot of_group in
+      (λ i. used_in its_group (set_at words (there.2 i) (word_with (words slot) relation mode)))
+      ∙ used-one_more its_group words there.0 (word_with (words slot) relation mode) there.1
+      (ap (λ p. in_use (words p)) (sym there.2) ∙ was) is
 
-  pub counted-granted : AreCounted slot (count_in uses) → AreCounted slots_granted counts_granted
-  counted-granted enough group below = at (in_use (slot place)) refl where
-    at : (b : Bool) → in_use (slot place) ≡ b
+  pub counted-granted : AreCounted words (count_in uses) → AreCounted slots_granted counts_granted
+  counted-granted enough group below = at (in_use (words slot)) refl where
+    at : (b : Bool) → in_use (words slot) ≡ b
         → used_in group slots_granted ≤ (if b then count_in uses else one_more_in uses its_group) group
     at true was =
-        let same : used_in group slots_granted ≡ used_in group slot =
-        used-same group slot place (word_with (slot place) relation mode) (is ∙ sym was) in
-        let before : used_in group slot ≤ count_in uses group = enough group below in
+        let same : used_in group slots_granted ≡ used_in group words =
+        used-same group words slot (word_with (words slot) relation mode) (is ∙ sym was) in
+        let before : used_in group words ≤ count_in uses group = enough group below in
         omega (arith, same, before)
     at false was = elim (cases_eq group its_group) [
       | inl same ↦
-          let one : used_in its_group slots_granted ≡ used_in its_group slot + 1 = more was in
-          let before : used_in its_group slot ≤ count_in uses its_group = enough its_group exists in
+          let one : used_in its_group slots_granted ≡ used_in its_group words + 1 = more was in
+          let before : used_in its_group words ≤ count_in uses its_group = enough its_group exists in
           let now : one_more_in uses its_group its_group ≡ count_in uses its_group + 1 =
           set_at-here (count_in uses) its_group (count_in uses its_group + 1) its_group refl in
           subst (λ (g : ℕ). used_in g slots_granted ≤ one_more_in uses its_group g) (sym same)
           (omega (arith, one, before, now))
       | inr other ↦
-          let same : used_in group slots_granted ≡ used_in group slot =
-          used-elsewhere group slot place (word_with (slot place) relation mode)
+          let same : used_in group slots_granted ≡ used_in group words =
+          used-elsewhere group words slot (word_with (words slot) relation mode)
           (λ its. other (sym its ∙ of_group)) in
-          let before : used_in group slot ≤ count_in uses group = enough group below in
+          let before : used_in group words ≤ count_in uses group = enough group below in
           let now : one_more_in uses its_group group ≡ count_in uses group =
           set_at-else (count_in uses) its_group (count_in uses its_group + 1) group other in
           omega (arith, same, before, now)
@@ -154,7 +154,7 @@ module _ (groups : ℕ) (slot : ℕ → ℕ) (relation place : ℕ) (mode : Mode
 
   pub within-granted :
       count_in uses its_group ≢ group_size → AreUseCounts (count_in uses) → AreUseCounts counts_granted
-  within-granted room within group below = at (in_use (slot place)) where
+  within-granted room within group below = at (in_use (words slot)) where
     at : (b : Bool) → (if b then count_in uses else one_more_in uses its_group) group ≤ group_size
     at true = within group below
     at false = elim (cases_eq group its_group) [
@@ -172,16 +172,16 @@ module _ (groups : ℕ) (slot : ℕ → ℕ) (relation place : ℕ) (mode : Mode
     ]
 
   -- Each slot in use is still of its relation's group.
-  pub in_groups-granted : AreInGroups groups slot → AreInGroups groups slots_granted
-  in_groups-granted in_groups k below used = elim (cases_eq k place) [
+  pub in_groups-granted : AreInGroups groups words → AreInGroups groups slots_granted
+  in_groups-granted in_groups k below used = elim (cases_eq k slot) [
     | inl same ↦
-        let here : slots_granted k ≡ word_with (slot place) relation mode =
-        set_at-here slot place (word_with (slot place) relation mode) k same in
+        let here : slots_granted k ≡ word_with (words slot) relation mode =
+        set_at-here words slot (word_with (words slot) relation mode) k same in
         let its : relation_in (slots_granted k) ≡ relation =
-        ap relation_in here ∙ relation_in-word_with (slot place) relation mode fits weak in
+        ap relation_in here ∙ relation_in-word_with (words slot) relation mode fits weak in
         ap (λ r. may_use groups r k) its ∙ ap (may_use groups relation) same ∙ takes.usable
     | inr other ↦
-        let here : slots_granted k ≡ slot k = set_at-else slot place (word_with (slot place) relation mode) k other in
+        let here : slots_granted k ≡ words k = set_at-else words slot (word_with (words slot) relation mode) k other in
         ap (λ w. may_use groups (relation_in w) k) here ∙ in_groups k below (ap in_use (sym here) ∙ used)
   ]
 
@@ -205,7 +205,7 @@ module _ (groups number : ℕ) (a : Account) (tag : Tag) (mine : SlotsInHand)
   -- the account then
   abbrev pub account_looked : Account
   account_looked = account_loading (account_reading number a (index_of tag) 0) number
-      (place_from_top (group_of_tag groups tag)) mine.word loads
+      (slot_from_top (group_of_tag groups tag)) mine.word loads
 
   its_slots : a.fast.slots number ≡ Some mine
   its_slots = (λ i. in_hand i number) ∙ set_at-here (λ _. None) number (Some mine) number refl
@@ -217,12 +217,12 @@ module _ (groups number : ℕ) (a : Account) (tag : Tag) (mine : SlotsInHand)
 
     pub looked :
         (c : Account)
-        → c ≡ account_loading b own (place_from_top group) (slots_here (b.fast.slots own)).word loads
+        → c ≡ account_loading b own (slot_from_top group) (slots_here (b.fast.slots own)).word loads
         → c ≡ account_looked
     looked c loaded =
         loaded
-        ∙ (λ i. account_loading b (same i) (place_from_top (its_group i)) (slots_here (read_slots i)).word loads)
-        ∙ ap (λ (x : Account). account_loading x number (place_from_top (group_of_tag groups tag)) mine.word loads)
+        ∙ (λ i. account_loading b (same i) (slot_from_top (its_group i)) (slots_here (read_slots i)).word loads)
+        ∙ ap (λ (x : Account). account_loading x number (slot_from_top (group_of_tag groups tag)) mine.word loads)
         (read ∙ (λ i. account_reading number a (of_tag i) (is_zero i)))
 
     pub looked-sights :
@@ -243,10 +243,10 @@ module _ (groups number : ℕ) (a : Account) (tag : Tag) (mine : SlotsInHand)
         (subst (λ found. used_in group (slots_here found).word ≤ count_in uses group) (sym read_slots) (enough group exists))
 
   -- The mode set in a slot, and the lock put.
-  module _ (mode : Mode) (place : ℕ) where
+  module _ (mode : Mode) (slot : ℕ) where
     -- the words then
     abbrev pub words_granted : ℕ → ℕ
-    words_granted = set_at mine.word place (word_with (mine.word place) (relation_of tag) mode)
+    words_granted = set_at mine.word slot (word_with (mine.word slot) (relation_of tag) mode)
 
     -- the account then
     abbrev pub account_granted : Account
@@ -255,15 +255,15 @@ module _ (groups number : ℕ) (a : Account) (tag : Tag) (mine : SlotsInHand)
         { own = own_with a.own tag mode true }
 
     module _ (c d : Account) (by own : ℕ) (same_by : by ≡ number) (same : own ≡ number) (looked : c ≡ account_looked)
-        (set : d ≡ account_setting by c (slots_here (c.fast.slots by)) place tag mode) where
+        (set : d ≡ account_setting by c (slots_here (c.fast.slots by)) slot tag mode) where
       here : c.fast.slots by ≡ Some mine
       here = ap (λ (x : Account). x.fast.slots by) looked ∙ ap a.fast.slots same_by ∙ its_slots
 
-      is_set : d ≡ account_setting number account_looked mine place tag mode
+      is_set : d ≡ account_setting number account_looked mine slot tag mode
       is_set =
           set
-          ∙ (λ i. account_setting (same_by i) c (slots_here (here i)) place tag mode)
-          ∙ ap (λ (x : Account). account_setting number x mine place tag mode) looked
+          ∙ (λ i. account_setting (same_by i) c (slots_here (here i)) slot tag mode)
+          ∙ ap (λ (x : Account). account_setting number x mine slot tag mode) looked
 
       -- The lock may be put,
       pub may_put : (slots : SlotsInHand) × MayPutFastBy d own slots
@@ -288,7 +288,7 @@ module _ (groups number : ℕ) (a : Account) (tag : Tag) (mine : SlotsInHand)
                 (top_loads number (group_of_tag groups tag) mine.word loads) i;
           }) where
             its_account : Account
-            its_account = account_putting_fast number (account_setting number account_looked mine place tag mode) number
+            its_account = account_putting_fast number (account_setting number account_looked mine slot tag mode) number
 
             gone : its_account.fast.slots ≡ (λ _. None)
             gone =
@@ -303,13 +303,13 @@ module _ (groups number : ℕ) (a : Account) (tag : Tag) (mine : SlotsInHand)
       -- The mode is granted so,
       pub grants :
           (e : Account) (uses left : UseCounts) → a.fast.zero ≡ None → e ≡ account_putting_fast by d own
-          → IsSlotToGrant groups mine.word (relation_of tag) place
-          → (in_use (mine.word place) ≡ false → IsHighestUnused (group_of_tag groups tag) mine.word place)
-          → count_in left ≡ (if in_use (mine.word place) then count_in uses else one_more_in uses (group_of_tag groups tag))
+          → IsSlotToGrant groups mine.word (relation_of tag) slot
+          → (in_use (mine.word slot) ≡ false → IsHighestUnused (group_of_tag groups tag) mine.word slot)
+          → count_in left ≡ (if in_use (mine.word slot) then count_in uses else one_more_in uses (group_of_tag groups tag))
           → loads ≤ group_size → GrantsInSlot groups number (without_slots a) a.trace uses tag mode e left
       grants e uses left no_zero put takes highest raised few_loads = record {
         word = mine.word;
-        place = place;
+        slot = slot;
         takes = takes;
         highest = highest;
         raised = raised;
@@ -322,11 +322,11 @@ module _ (groups number : ℕ) (a : Account) (tag : Tag) (mine : SlotsInHand)
       pub ready :
           (e : Account) (uses left : UseCounts) → a.hand ≡ (λ _. None) → a.fast.zero ≡ None → a.fast.shared_slots ≡ (λ _. None)
           → e ≡ account_putting_fast by d own
-          → IsSlotToGrant groups mine.word (relation_of tag) place
+          → IsSlotToGrant groups mine.word (relation_of tag) slot
           → is_eligible_for a.fast.database tag mode ≡ true → relation_of tag < 2 ^ 32
           → 0 < groups → groups ≤ most_groups → AreInGroups groups mine.word
           → AreCounted mine.word (count_in uses) → AreUseCounts (count_in uses) → HasRoom groups uses tag
-          → count_in left ≡ (if in_use (mine.word place) then count_in uses else one_more_in uses (group_of_tag groups tag))
+          → count_in left ≡ (if in_use (mine.word slot) then count_in uses else one_more_in uses (group_of_tag groups tag))
           → IsReady groups e left
       ready e uses left no_content no_zero no_shared put takes eligible fits some few in_groups enough within room raised =
           let after = granted e no_zero put in
@@ -338,12 +338,12 @@ module _ (groups number : ℕ) (a : Account) (tag : Tag) (mine : SlotsInHand)
             no_shared_slots = ap (λ (x : Account). x.fast.shared_slots) after ∙ no_shared;
             no_zero = ap (λ (x : Account). x.fast.zero) after ∙ no_zero;
             in_groups = subst (λ word. AreInGroups groups word) remembered
-                (in_groups-granted groups mine.word (relation_of tag) place mode uses fits weak takes few some in_groups);
+                (in_groups-granted groups mine.word (relation_of tag) slot mode uses fits weak takes few some in_groups);
             enough = subst (λ word. AreCounted word (count_in left)) remembered
                 (subst (λ (n : ℕ → ℕ). AreCounted words_granted n) (sym raised)
-                (counted-granted groups mine.word (relation_of tag) place mode uses fits weak takes few some enough));
+                (counted-granted groups mine.word (relation_of tag) slot mode uses fits weak takes few some enough));
             within = subst (λ (n : ℕ → ℕ). AreUseCounts n) (sym raised)
-                (within-granted groups mine.word (relation_of tag) place mode uses fits weak takes few some room within);
+                (within-granted groups mine.word (relation_of tag) slot mode uses fits weak takes few some room within);
           }
 
 -- The same by what each step ensures.
@@ -352,15 +352,15 @@ module _ (groups number : ℕ) (a : Account) (uses : UseCounts) (tag : Tag) (mod
     (own index group shown by loads : ℕ) (slot : SeenSlot) (b c d : Account) (same : own ≡ number) (same_by : by ≡ number)
     (of_tag : index ≡ index_of tag) (its_group : group ≡ group_of_tag groups tag) (is_zero : shown ≡ 0)
     (read : b ≡ account_reading number a index shown)
-    (loaded : c ≡ account_loading b own (place_from_top group) (slots_here (b.fast.slots own)).word loads)
-    (set : d ≡ account_setting by c (slots_here (c.fast.slots by)) slot.place tag mode) where
+    (loaded : c ≡ account_loading b own (slot_from_top group) (slots_here (b.fast.slots own)).word loads)
+    (set : d ≡ account_setting by c (slots_here (c.fast.slots by)) slot.number tag mode) where
   is_looked : c ≡ account_looked groups number a tag has.slots has.in_hand loads
   is_looked = looked groups number a tag has.slots has.in_hand loads b own index group shown same of_tag its_group is_zero read c
       loaded
 
   pub may_put-granted : (slots : SlotsInHand) × MayPutFastBy d own slots
   may_put-granted =
-      may_put groups number a tag has.slots has.in_hand loads mode slot.place c d by own same_by same is_looked set
+      may_put groups number a tag has.slots has.in_hand loads mode slot.number c d by own same_by same is_looked set
 
   module _ (relation : ℕ) (its_relation : relation ≡ relation_of tag) (fits : relation < 2 ^ 32)
       (eligible : is_eligible_for a.fast.database tag mode ≡ true) (some : 0 < groups) (few : groups ≤ most_groups)
@@ -374,15 +374,15 @@ module _ (groups number : ℕ) (a : Account) (uses : UseCounts) (tag : Tag) (mod
     sights = looked-sights groups number a tag has.slots has.in_hand loads b own index group shown same of_tag its_group is_zero
         read relation seen its_relation sighted
 
-    done : (left : UseCounts) → IsSlotToGrant groups has.slots.word (relation_of tag) slot.place
-        → (in_use (has.slots.word slot.place) ≡ false
-        → IsHighestUnused (group_of_tag groups tag) has.slots.word slot.place)
-        → count_in left ≡ (if in_use (has.slots.word slot.place) then count_in uses else one_more_in uses (group_of_tag groups tag))
+    done : (left : UseCounts) → IsSlotToGrant groups has.slots.word (relation_of tag) slot.number
+        → (in_use (has.slots.word slot.number) ≡ false
+        → IsHighestUnused (group_of_tag groups tag) has.slots.word slot.number)
+        → count_in left ≡ (if in_use (has.slots.word slot.number) then count_in uses else one_more_in uses (group_of_tag groups tag))
         → GrantsInSlot groups number (without_slots a) a.trace uses tag mode e left × IsReady groups e left
     done left takes highest raised = (
-      grants groups number a tag has.slots has.in_hand loads mode slot.place c d by own same_by same is_looked set e uses left
+      grants groups number a tag has.slots has.in_hand loads mode slot.number c d by own same_by same is_looked set e uses left
           has.no_zero is_put takes highest raised few_loads,
-      ready groups number a tag has.slots has.in_hand loads mode slot.place c d by own same_by same is_looked set e uses left
+      ready groups number a tag has.slots has.in_hand loads mode slot.number c d by own same_by same is_looked set e uses left
           has.no_content has.no_zero has.no_shared_slots is_put takes eligible
           (subst (λ r. r < 2 ^ 32) its_relation fits) some few has.in_groups has.enough has.within room raised,
     )
@@ -395,13 +395,13 @@ module _ (groups number : ℕ) (a : Account) (uses : UseCounts) (tag : Tag) (mod
         let its : IsSeenOf (group_of_tag groups tag) has.slots.word (relation_of tag) slot =
         subst (λ found. IfSome found (IsSeenOf (group_of_tag groups tag) has.slots.word (relation_of tag))) is
         sights.found in
-        let its_word : is_slot_of (has.slots.word slot.place) (relation_of tag) ≡ true =
+        let its_word : is_slot_of (has.slots.word slot.number) (relation_of tag) ≡ true =
         ap (λ w. is_slot_of w (relation_of tag)) (sym its.shown) ∙ its.its in
-        let is_relation = nat_eq (relation_in (has.slots.word slot.place)) (relation_of tag) in
-        let used_by = (and_parts (in_use (has.slots.word slot.place)) is_relation its_word).0 in
-        done uses (its-takes groups has.slots.word (relation_of tag) slot.place some few its.within its_word)
-        (λ unused. absurd (both_ways (in_use (has.slots.word slot.place)) unused used_by))
-        (sym (cond-true (in_use (has.slots.word slot.place)) (count_in uses) (one_more_in uses (group_of_tag groups tag)) used_by))
+        let is_relation = nat_eq (relation_in (has.slots.word slot.number)) (relation_of tag) in
+        let used_by = (and_parts (in_use (has.slots.word slot.number)) is_relation its_word).0 in
+        done uses (its-takes groups has.slots.word (relation_of tag) slot.number some few its.within its_word)
+        (λ unused. absurd (both_ways (in_use (has.slots.word slot.number)) unused used_by))
+        (sym (cond-true (in_use (has.slots.word slot.number)) (count_in uses) (one_more_in uses (group_of_tag groups tag)) used_by))
 
     -- and in another one it is raised.
     pub done-unused :
@@ -415,7 +415,7 @@ module _ (groups number : ℕ) (a : Account) (uses : UseCounts) (tag : Tag) (mod
         subst (λ found. IfNone found (NoneInGroup (group_of_tag groups tag) has.slots.word (relation_of tag))) no_slot
         sights.none in
         done left
-        (unused-takes groups has.slots.word (relation_of tag) slot.place some few unused.highest none)
+        (unused-takes groups has.slots.word (relation_of tag) slot.number some few unused.highest none)
         (λ _. unused.highest)
-        (one ∙ sym (cond-false (in_use (has.slots.word slot.place)) (count_in uses) (one_more_in uses (group_of_tag groups tag))
+        (one ∙ sym (cond-false (in_use (has.slots.word slot.number)) (count_in uses) (one_more_in uses (group_of_tag groups tag))
         unused.highest.unused))

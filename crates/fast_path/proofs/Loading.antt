@@ -9,45 +9,45 @@ use Rattle.fast_path.specs.Slots.{slot_loads, account_loading}
 -- Loading slots one after another.
 
 -- None is loaded yet.
-pub loading-begun : (a : Account) (owner : ℕ) (places word : ℕ → ℕ) → a ≡ account_loading a owner places word 0
+pub loading-begun : (a : Account) (owner : ℕ) (which word : ℕ → ℕ) → a ≡ account_loading a owner which word 0
 unfolding slot_loads
-loading-begun a owner places word = λ i. record a { trace = sym (append-nil a.trace) i }
+loading-begun a owner which word = λ i. record a { trace = sym (append-nil a.trace) i }
 
 -- One more is loaded.
 pub loading-next :
-    (a b c : Account) (owner : ℕ) (places word : ℕ → ℕ) (k shown : ℕ) → b ≡ account_loading a owner places word k
-    → shown ≡ word (places k)
-    → c ≡ account_tracing b (Loaded (Slot owner (places k)) shown) → c ≡ account_loading a owner places word (k + 1)
+    (a b c : Account) (owner : ℕ) (which word : ℕ → ℕ) (k shown : ℕ) → b ≡ account_loading a owner which word k
+    → shown ≡ word (which k)
+    → c ≡ account_tracing b (Loaded (Slot owner (which k)) shown) → c ≡ account_loading a owner which word (k + 1)
 unfolding slot_loads
-loading-next a b c owner places word k shown so_far is one =
+loading-next a b c owner which word k shown so_far is one =
     one
-    ∙ ap (λ (x : Account). account_tracing x (Loaded (Slot owner (places k)) shown)) so_far
-    ∙ ap (λ (n : ℕ). account_tracing (account_loading a owner places word k) (Loaded (Slot owner (places k)) n)) is
+    ∙ ap (λ (x : Account). account_tracing x (Loaded (Slot owner (which k)) shown)) so_far
+    ∙ ap (λ (n : ℕ). account_tracing (account_loading a owner which word k) (Loaded (Slot owner (which k)) n)) is
     ∙ (λ i. record a {
-      trace = append_assoc a.trace (slot_loads owner places word k)
-          (Loaded (Slot owner (places k)) (word (places k)) ∷ []) i;
+      trace = append_assoc a.trace (slot_loads owner which word k)
+          (Loaded (Slot owner (which k)) (word (which k)) ∷ []) i;
     })
-    ∙ ap (λ (n : ℕ). account_loading a owner places word n) more where
+    ∙ ap (λ (n : ℕ). account_loading a owner which word n) more where
       more : suc k ≡ k + 1
       more = omega arith
 
 -- What a slot in hand shows, once others were loaded.
 pub loading-shows :
-    (a b : Account) (owner : ℕ) (places word : ℕ → ℕ) (count place shown : ℕ) (slots : SlotsInHand)
-    → b ≡ account_loading a owner places word count
-    → a.fast.slots owner ≡ Some slots → ((its : SlotsInHand) → b.fast.slots owner ≡ Some its → shown ≡ its.word place)
-    → shown ≡ (slots_here (a.fast.slots owner)).word place
-loading-shows a b owner places word count place shown slots so_far in_hand told =
+    (a b : Account) (owner : ℕ) (which word : ℕ → ℕ) (count slot shown : ℕ) (slots : SlotsInHand)
+    → b ≡ account_loading a owner which word count
+    → a.fast.slots owner ≡ Some slots → ((its : SlotsInHand) → b.fast.slots owner ≡ Some its → shown ≡ its.word slot)
+    → shown ≡ (slots_here (a.fast.slots owner)).word slot
+loading-shows a b owner which word count slot shown slots so_far in_hand told =
     told slots (ap (λ (x : Account). x.fast.slots owner) so_far ∙ in_hand)
-    ∙ sym (ap (λ found. (slots_here found).word place) in_hand)
+    ∙ sym (ap (λ found. (slots_here found).word slot) in_hand)
 
 -- So does a slot whose lock is shared.
 pub loading-shows_shared :
-    (a b : Account) (owner : ℕ) (places word : ℕ → ℕ) (count place shown : ℕ) (slots : SlotsInHand)
-    → b ≡ account_loading a owner places word count
+    (a b : Account) (owner : ℕ) (which word : ℕ → ℕ) (count slot shown : ℕ) (slots : SlotsInHand)
+    → b ≡ account_loading a owner which word count
     → a.fast.shared_slots owner ≡ Some slots
-    → ((its : SlotsInHand) → b.fast.shared_slots owner ≡ Some its → shown ≡ its.word place)
-    → shown ≡ (slots_here (a.fast.shared_slots owner)).word place
-loading-shows_shared a b owner places word count place shown slots so_far shared told =
+    → ((its : SlotsInHand) → b.fast.shared_slots owner ≡ Some its → shown ≡ its.word slot)
+    → shown ≡ (slots_here (a.fast.shared_slots owner)).word slot
+loading-shows_shared a b owner which word count slot shown slots so_far shared told =
     told slots (ap (λ (x : Account). x.fast.shared_slots owner) so_far ∙ shared)
-    ∙ sym (ap (λ found. (slots_here found).word place) shared)
+    ∙ sym (ap (λ found. (slots_here found).word slot) shared)

@@ -19,7 +19,7 @@ in_group group word k = word (place_in_group group k)
 pub record IsOfRelation (group : ℕ) (word : ℕ → ℕ) (relation limit : ℕ) (slot : SeenSlot) : Type 0 where
   pub index : ℕ
   pub within : index < limit
-  pub there : slot.place ≡ place_in_group group index
+  pub there : slot.number ≡ place_in_group group index
   pub shown : slot.word ≡ in_group group word index
   pub its : is_slot_of slot.word relation ≡ true
 
@@ -80,8 +80,8 @@ sights-same group word relation limit its its_now count count_now same_its same_
     (subst (λ (n : ℕ). SightsBelow group word relation limit its n) (sym same_count) sights)
 
 -- One more slot.
-module _ (group : ℕ) (word : ℕ → ℕ) (relation limit : ℕ) (its : Option SeenSlot) (count place shown : ℕ)
-    (so_far : SightsBelow group word relation limit its count) (at : place ≡ place_in_group group limit)
+module _ (group : ℕ) (word : ℕ → ℕ) (relation limit : ℕ) (its : Option SeenSlot) (count slot shown : ℕ)
+    (so_far : SightsBelow group word relation limit its count) (at : slot ≡ place_in_group group limit)
     (is : shown ≡ in_group group word limit) where
   -- What was found is still found,
   found-before : (slots : Option SeenSlot) → IfSome slots (IsOfRelation group word relation limit)
@@ -104,7 +104,7 @@ module _ (group : ℕ) (word : ℕ → ℕ) (relation limit : ℕ) (its : Option
   -- It is in use for the relation,
   pub sights-its :
       in_use shown ≡ true → relation_in shown ≡ relation
-      → SightsBelow group word relation (limit + 1) (Some (record { place = place; word = shown })) (count + 1)
+      → SightsBelow group word relation (limit + 1) (Some (record { number = slot; word = shown })) (count + 1)
   sights-its used same =
       let used_there : in_use (in_group group word limit) ≡ true = ap in_use (sym is) ∙ used in
       record {
@@ -146,18 +146,18 @@ module _ (group : ℕ) (word : ℕ → ℕ) (relation limit : ℕ) (its : Option
         counted = counted-same (λ k. in_use (in_group group word k)) limit count so_far.counted unused_there;
       }
 
--- A place of one of so many groups is below the number of their slots.
-pub place-below : (group groups place : ℕ) → IsOfGroup group place → group < groups → place < group_size * groups
-place-below group groups place its below = omega (arith, its, below)
+-- A slot of one of so many groups is below the number of their slots.
+pub place-below : (group groups slot : ℕ) → IsOfGroup group slot → group < groups → slot < group_size * groups
+place-below group groups slot its below = omega (arith, its, below)
 
 -- What is found among all slots of the group.
 module _ (group : ℕ) (word : ℕ → ℕ) (relation : ℕ) (its : Option SeenSlot) (count : ℕ)
     (all : SightsBelow group word relation group_size its count) where
   at_place : (test : ℕ → Bool) (value : Bool)
       → ((k : ℕ) → k < group_size → test (in_group group word k) ≡ value)
-      → (place : ℕ) → IsOfGroup group place → test (word place) ≡ value
-  at_place test value each place within =
-      let there = place-split group place within in
+      → (slot : ℕ) → IsOfGroup group slot → test (word slot) ≡ value
+  at_place test value each slot within =
+      let there = place-split group slot within in
       ap (λ p. test (word p)) there.2 ∙ each there.0 there.1
 
   found-all : (slots : Option SeenSlot) → IfSome slots (IsOfRelation group word relation group_size)

@@ -8,7 +8,7 @@ use Rattle.lock_table.proofs.Totals.{some_pass}
 use Rattle.lock_world.specs.SlotHolds.{group_size, place_in_group, is_slot_of, used_in}
 use Rattle.lock_world.proofs.Slots.Used.{place-split, place-group}
 use Rattle.fast_path.specs.declared.slot_words.SeenSlot.{SeenSlot}
-use Rattle.fast_path.specs.Slots.{IsAllInUse, NoneInGroup, IsSeenUnused, SightsForGrant, place_from_top}
+use Rattle.fast_path.specs.Slots.{IsAllInUse, NoneInGroup, IsSeenUnused, SightsForGrant, slot_from_top}
 use Rattle.fast_path.proofs.Looking.{below-more, counted-more, counted-same}
 
 -- Looking through a group's slots from the highest-numbered one down, as far as a grant does.
@@ -43,13 +43,13 @@ none-beyond limit test down same seen count most counted j below =
 
 -- the words of a group's slots from there down
 abbrev pub from_top : ℕ → (ℕ → ℕ) → ℕ → ℕ
-from_top group word k = word (place_from_top group k)
+from_top group word k = word (slot_from_top group k)
 
 -- The slot is the first of those seen that is not in use.
 pub record IsFirstUnused (group : ℕ) (word : ℕ → ℕ) (seen : ℕ) (slot : SeenSlot) : Type 0 where
   pub step : ℕ
   pub within : step < seen
-  pub there : slot.place ≡ place_from_top group step
+  pub there : slot.number ≡ slot_from_top group step
   pub shown : slot.word ≡ from_top group word step
   pub unused : in_use slot.word ≡ false
   pub before : (other : ℕ) → other < step → in_use (from_top group word other) ≡ true
@@ -81,8 +81,8 @@ sees-same group word relation seen highest highest_now count count_now same_high
     (subst (λ (n : ℕ). SeesFromTop group word relation seen highest n) (sym same_count) sees)
 
 -- One more slot.
-module _ (group : ℕ) (word : ℕ → ℕ) (relation seen : ℕ) (highest : Option SeenSlot) (count place shown : ℕ)
-    (so_far : SeesFromTop group word relation seen highest count) (at : place ≡ place_from_top group seen)
+module _ (group : ℕ) (word : ℕ → ℕ) (relation seen : ℕ) (highest : Option SeenSlot) (count slot shown : ℕ)
+    (so_far : SeesFromTop group word relation seen highest count) (at : slot ≡ slot_from_top group seen)
     (is : shown ≡ from_top group word seen) where
   none-more : is_slot_of (from_top group word seen) relation ≡ false
       → (k : ℕ) → k < seen + 1 → is_slot_of (from_top group word k) relation ≡ false
@@ -142,7 +142,7 @@ module _ (group : ℕ) (word : ℕ → ℕ) (relation seen : ℕ) (highest : Opt
 
     -- or the first one not in use,
     pub sees-first : is_some highest ≡ false
-        → SeesFromTop group word relation (seen + 1) (Some (record { place = place; word = shown })) count
+        → SeesFromTop group word relation (seen + 1) (Some (record { number = slot; word = shown })) count
     sees-first none = record {
       none = none-more not_its;
       unused = record {
@@ -166,8 +166,8 @@ module _ (group : ℕ) (word : ℕ → ℕ) (relation seen : ℕ) (highest : Opt
       counted = counted-same (λ k. in_use (from_top group word k)) seen count so_far.counted unused_there;
     }
 
--- A place as counted from the other end.
-from_bottom : (group j : ℕ) → j < group_size → place_in_group group j ≡ place_from_top group (group_size - 1 - j)
+-- A slot as counted from the other end.
+from_bottom : (group j : ℕ) → j < group_size → place_in_group group j ≡ slot_from_top group (group_size - 1 - j)
 from_bottom group j below = omega (arith, below)
 
 -- What is found once the look stops.
@@ -175,7 +175,7 @@ module _ (group : ℕ) (word : ℕ → ℕ) (relation seen : ℕ) (highest : Opt
     (so_far : SeesFromTop group word relation seen highest count) (few : seen ≤ group_size) where
   down : (k j : ℕ) → k + j + 1 ≡ group_size → in_use (from_top group word k) ≡ in_use (word (place_in_group group j))
   down k j both =
-      let there : place_from_top group k ≡ place_in_group group j = omega (arith, both) in
+      let there : slot_from_top group k ≡ place_in_group group j = omega (arith, both) in
       ap (λ (p : ℕ). in_use (word p)) there
 
   highest-all : (slots : Option SeenSlot) → IfSome slots (IsFirstUnused group word seen)
@@ -192,23 +192,23 @@ module _ (group : ℕ) (word : ℕ → ℕ) (relation seen : ℕ) (highest : Opt
               let there = place-split group other of_group in
               ap (λ p. in_use (word p)) (there.2 ∙ from_bottom group there.0 there.1)
               ∙ found.before (group_size - 1 - there.0)
-              (earlier slot.place other found.step there.0 found.there there.2 above within there.1);
+              (earlier slot.number other found.step there.0 found.there there.2 above within there.1);
         };
       } where
         below : (step : ℕ) → group_size - 1 - step < group_size
         below step = omega arith
 
-        earlier : (p q step j : ℕ) → p ≡ place_from_top group step → q ≡ place_in_group group j → p < q → step < group_size
+        earlier : (p q step j : ℕ) → p ≡ slot_from_top group step → q ≡ place_in_group group j → p < q → step < group_size
             → j < group_size → group_size - 1 - j < step
         earlier p q step j first second above few_steps few_places = omega (arith, first, second, above, few_steps, few_places)
   highest-all None found = tt
 
   -- The relation's slot ends it,
-  pub found-its : (place shown : ℕ) → seen < group_size → place ≡ place_from_top group seen → shown ≡ from_top group word seen
+  pub found-its : (slot shown : ℕ) → seen < group_size → slot ≡ slot_from_top group seen → shown ≡ from_top group word seen
       → in_use shown ≡ true → relation_in shown ≡ relation
       → SightsForGrant group word relation
-      (record { of_relation = Some (record { place = place; word = shown }); highest_unused = highest })
-  found-its place shown below at is used same = record {
+      (record { of_relation = Some (record { number = slot; word = shown }); highest_unused = highest })
+  found-its slot shown below at is used same = record {
     found = record {
       within = ap (λ p. p / group_size) at ∙ place-group group (group_size - 1 - seen) (omega arith);
       shown = is ∙ ap word (sym at);
@@ -236,8 +236,8 @@ module _ (group : ℕ) (word : ℕ → ℕ) (relation seen : ℕ) (highest : Opt
     ]
 
     none-all : NoneInGroup group word relation
-    none-all place within =
-        let there = place-split group place within in
+    none-all slot within =
+        let there = place-split group slot within in
         ap (λ p. is_slot_of (word p) relation) there.2 ∙ none-at there.0 there.1
 
     not-full-all : (slots : Option SeenSlot) → is_some slots ≡ true → IfNone slots (IsAllInUse group word)
@@ -267,8 +267,8 @@ module _ (group : ℕ) (word : ℕ → ℕ) (relation seen : ℕ) (highest : Opt
     full-all : (slots : Option SeenSlot)
         → IfNone slots ((k : ℕ) → k < seen → in_use (from_top group word k) ≡ true) → IfNone slots (IsAllInUse group word)
     full-all (Some slot) full = tt
-    full-all None full = λ place within.
-        let there = place-split group place within in
+    full-all None full = λ slot within.
+        let there = place-split group slot within in
         ap (λ p. in_use (word p)) (there.2 ∙ from_bottom group there.0 there.1)
         ∙ full (group_size - 1 - there.0) (seen-all there.0) where
           seen-all : (j : ℕ) → group_size - 1 - j < seen

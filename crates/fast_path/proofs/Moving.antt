@@ -188,28 +188,28 @@ gone-skips n m below b next none =
 
 -- How far the loop over the modes has come: those below this number are moved, and the slot shows the word that is
 -- left.
-pub record IsMoving (a : Account) (owner place word : ℕ) (tag : Tag) (taken : Content) (below left : ℕ)
+pub record IsMoving (a : Account) (owner slot word : ℕ) (tag : Tag) (taken : Content) (below left : ℕ)
     (now : Content) (b : Account) : Type 0 where
-  pub moves : MovesBelow a owner place word tag taken below now b
-  pub is_left : left ≡ moves.rest.word place
+  pub moves : MovesBelow a owner slot word tag taken below now b
+  pub is_left : left ≡ moves.rest.word slot
   pub still : ShowsFrom below word left
 
 -- Other names for what it came to.
 pub moving-same :
-    (a : Account) (owner place word : ℕ) (tag : Tag) (taken : Content) (below left left_too : ℕ)
+    (a : Account) (owner slot word : ℕ) (tag : Tag) (taken : Content) (below left left_too : ℕ)
     (now now_too : Content) (b b_too : Account)
     → left_too ≡ left → now_too ≡ now → b_too ≡ b
-    → IsMoving a owner place word tag taken below left now b
-    → IsMoving a owner place word tag taken below left_too now_too b_too
-moving-same a owner place word tag taken below left left_too now now_too b b_too same_left same_now same so_far =
-    subst (λ x. IsMoving a owner place word tag taken below left_too now_too x) (sym same)
-    (subst (λ x. IsMoving a owner place word tag taken below left_too x b) (sym same_now)
-    (subst (λ x. IsMoving a owner place word tag taken below x now b) (sym same_left) so_far))
+    → IsMoving a owner slot word tag taken below left now b
+    → IsMoving a owner slot word tag taken below left_too now_too b_too
+moving-same a owner slot word tag taken below left left_too now now_too b b_too same_left same_now same so_far =
+    subst (λ x. IsMoving a owner slot word tag taken below left_too now_too x) (sym same)
+    (subst (λ x. IsMoving a owner slot word tag taken below left_too x b) (sym same_now)
+    (subst (λ x. IsMoving a owner slot word tag taken below x now b) (sym same_left) so_far))
 
-module _ (a : Account) (owner place word : ℕ) (tag : Tag) (taken : Content)
-    (has : HasSlotsAndPart a owner place word tag taken) where
+module _ (a : Account) (owner slot word : ℕ) (tag : Tag) (taken : Content)
+    (has : HasSlotsAndPart a owner slot word tag taken) where
   -- It begins with nothing moved,
-  pub moving-begun : IsMoving a owner place word tag taken 1 word taken a
+  pub moving-begun : IsMoving a owner slot word tag taken 1 word taken a
   moving-begun = record {
     moves = record {
       rest = has.slots;
@@ -230,9 +230,9 @@ module _ (a : Account) (owner place word : ℕ) (tag : Tag) (taken : Content)
 
   module _ (below left : ℕ) (now : Content) (b : Account) (mode strong : Mode)
       (strong_is : is_strong_on tag strong ≡ true) (next : number_of mode ≡ below) (weak : below ≤ 3)
-      (so_far : IsMoving a owner place word tag taken below left now b) where
+      (so_far : IsMoving a owner slot word tag taken below left now b) where
     -- goes past a mode that the slot hasn't,
-    pub moving-skips : has_mode left mode ≡ false → IsMoving a owner place word tag taken (below + 1) left now b
+    pub moving-skips : has_mode left mode ≡ false → IsMoving a owner slot word tag taken (below + 1) left now b
     moving-skips hidden =
         let moves = so_far.moves in
         let none : has_mode word mode ≡ false = left-not below word left
@@ -244,7 +244,7 @@ module _ (a : Account) (owner place word : ℕ) (tag : Tag) (taken : Content)
                 moves.without slots is n
                 ∙ gone-skips n mode below (slots.holds tag) next
                 (ap (λ (its : SlotsInHand). its.holds tag mode) (same_Some slots has.slots (sym is ∙ has.in_hand))
-                ∙ held-shown has.slots place word tag mode strong has.has strong_is (omega (arith, next, weak)) ∙ none);
+                ∙ held-shown has.slots slot word tag mode strong has.has strong_is (omega (arith, next, weak)) ∙ none);
             content = moves.content ∙ sym (adopting-skips taken owner tag word below mode next none);
             recorded = moves.recorded;
             adopt = moves.adopt;
@@ -262,7 +262,7 @@ module _ (a : Account) (owner place word : ℕ) (tag : Tag) (taken : Content)
     not_there-yet shown =
         (λ i. (so_far.moves.content i).holds owner tag mode)
         ∙ adopting-not_yet taken owner tag word below owner tag mode next
-        ∙ has.not_there mode (held-shown has.slots place word tag mode strong has.has strong_is
+        ∙ has.not_there mode (held-shown has.slots slot word tag mode strong has.has strong_is
         (omega (arith, next, weak))
         ∙ left-was below word left (relation_of tag) mode has.has.its so_far.still shown)
 
@@ -270,15 +270,15 @@ module _ (a : Account) (owner place word : ℕ) (tag : Tag) (taken : Content)
     not_awaited-yet shown =
         (λ i. awaits_mode ((so_far.moves.content i).waits tag) owner mode)
         ∙ has.not_awaited mode
-        (held-shown has.slots place word tag mode strong has.has strong_is (omega (arith, next, weak))
+        (held-shown has.slots slot word tag mode strong has.has strong_is (omega (arith, next, weak))
         ∙ left-was below word left (relation_of tag) mode has.has.its so_far.still shown)
 
     -- stops there where memory runs out,
-    pub moving-stops : has_mode left mode ≡ true → MovesSome a owner place word tag taken now b
+    pub moving-stops : has_mode left mode ≡ true → MovesSome a owner slot word tag taken now b
     moving-stops shown = record {
       refused = mode;
       in_slot = left-was below word left (relation_of tag) mode has.has.its so_far.still shown;
-      moves = subst (λ k. MovesBelow a owner place word tag taken k now b) (sym next) so_far.moves;
+      moves = subst (λ k. MovesBelow a owner slot word tag taken k now b) (sym next) so_far.moves;
     }
 
     -- the slots and the content in hand by then
@@ -295,8 +295,8 @@ module _ (a : Account) (owner place word : ℕ) (tag : Tag) (taken : Content)
     pub may_transfer :
         (limit : ℕ) (later : Content) → owner < limit → is_at owner a.fast.counted tag strong ≡ true
         → has_mode left mode ≡ true → later ≡ add_hold now owner tag mode
-        → (its : SlotsInHand) × (mine : InHand) × MayTransferBy limit b owner place its mine tag mode strong
-        × (left ≡ its.word place) × (later ≡ add_hold mine.now owner tag mode)
+        → (its : SlotsInHand) × (mine : InHand) × MayTransferBy limit b owner slot its mine tag mode strong
+        × (left ≡ its.word slot) × (later ≡ add_hold mine.now owner tag mode)
     may_transfer limit later exists at shown is = (
       so_far.moves.rest,
       hand_moving taken now so_far.moves.recorded,
@@ -309,7 +309,7 @@ module _ (a : Account) (owner place word : ℕ) (tag : Tag) (taken : Content)
         held = so_far.moves.without has.slots has.in_hand mode
             ∙ and_from (not (nat_lt (number_of mode) below)) (has.slots.holds tag mode)
             (ap not (ap (nat_lt (number_of mode)) (sym next) ∙ not_below (number_of mode)))
-            (held-shown has.slots place word tag mode strong has.has strong_is (omega (arith, next, weak))
+            (held-shown has.slots slot word tag mode strong has.has strong_is (omega (arith, next, weak))
             ∙ left-was below word left (relation_of tag) mode has.has.its so_far.still shown);
         within = has.has.within;
         shown = ap (λ w. shows w (relation_of tag) mode) (sym so_far.is_left)
@@ -323,14 +323,14 @@ module _ (a : Account) (owner place word : ℕ) (tag : Tag) (taken : Content)
     pub moving-next :
         (later : Content) (after : Account) (word_left : ℕ) → has_mode left mode ≡ true
         → later ≡ add_hold now owner tag mode
-        → after ≡ account_transferring b owner place (slots_here (b.fast.slots owner))
+        → after ≡ account_transferring b owner slot (slots_here (b.fast.slots owner))
         (in_hand (b.hand (partition_of tag))) tag mode
-        → word_left ≡ word_without left mode → IsMoving a owner place word tag taken (below + 1) word_left later after
+        → word_left ≡ word_without left mode → IsMoving a owner slot word tag taken (below + 1) word_left later after
     moving-next later after word_left shown added moved cleared =
         let moves = so_far.moves in
         let rest : SlotsInHand =
         record {
-          word = set_at moves.rest.word place (word_without (moves.rest.word place) mode);
+          word = set_at moves.rest.word slot (word_without (moves.rest.word slot) mode);
           holds =
               own_with moves.rest.holds tag mode false;
         } in
@@ -338,7 +338,7 @@ module _ (a : Account) (owner place word : ℕ) (tag : Tag) (taken : Content)
         let was : has_mode word mode ≡ true = left-was below word left
         (relation_of tag) mode has.has.its so_far.still shown in
         let mine : InHand = hand_moving taken now moves.recorded in
-        let adopted : InHand = hand_recording mine (add_hold now owner tag mode) (Adopt owner place) mine.unmarked in
+        let adopted : InHand = hand_recording mine (add_hold now owner tag mode) (Adopt owner slot) mine.unmarked in
         record {
           moves = record {
             rest = rest;
@@ -348,12 +348,12 @@ module _ (a : Account) (owner place word : ℕ) (tag : Tag) (taken : Content)
                 ∙ gone-next n mode below (slots.holds tag n) next;
             content = added ∙ (λ i. add_hold (moves.content i) owner tag mode)
                 ∙ adopting-next taken owner tag word below mode next was;
-            recorded = Some (Adopt owner place);
+            recorded = Some (Adopt owner slot);
             adopt = refl;
             account = moved
-                ∙ (λ i. account_transferring b owner place (slots_here (moved_slots i))
+                ∙ (λ i. account_transferring b owner slot (slots_here (moved_slots i))
                 (in_hand (moved_hand i)) tag mode)
-                ∙ (λ i. account_transferring (moves.account i) owner place moves.rest mine tag mode)
+                ∙ (λ i. account_transferring (moves.account i) owner slot moves.rest mine tag mode)
                 ∙ (λ i. record a {
                   fast = record (a.fast) { slots = set_at-twice a.fast.slots owner (Some moves.rest) (Some rest) i };
                   hand = set_at-twice a.hand (partition_of tag) (Some mine) (Some adopted) i;
@@ -361,11 +361,11 @@ module _ (a : Account) (owner place word : ℕ) (tag : Tag) (taken : Content)
                 ∙ (λ i. record a {
                   fast = record (a.fast) { slots = set_at a.fast.slots owner (Some rest) };
                   hand = set_at a.hand (partition_of tag)
-                      (Some (hand_moving taken (sym added i) (Some (Adopt owner place))));
+                      (Some (hand_moving taken (sym added i) (Some (Adopt owner slot))));
                 });
           };
           is_left = cleared ∙ ap (λ w. word_without w mode) so_far.is_left
-              ∙ sym (set_at-here moves.rest.word place (word_without (moves.rest.word place) mode) place refl);
+              ∙ sym (set_at-here moves.rest.word slot (word_without (moves.rest.word slot) mode) slot refl);
           still = λ relation n.
               ap (λ w. shows w relation n) cleared
               ∙ shows-word_without left mode fewer relation n

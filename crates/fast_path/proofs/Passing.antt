@@ -43,7 +43,7 @@ remembered-no_more groups number a owner slots knows = at (owner == number)
       at : (own : Bool) → (own ≡ true → ShowsNoMore slots.word a.fast.remembered)
           → ShowsNoMore (if own then slots.word else a.fast.remembered) a.fast.remembered
       at true seen = seen refl
-      at false seen = λ place relation mode within shown. shown
+      at false seen = λ slot relation mode within shown. shown
 
 -- The lock of a session's slots is taken, and its database is loaded.
 pub looks :
@@ -144,19 +144,19 @@ its-found groups a b owner tag seen slot found is =
 
 pub group-found :
     (groups : ℕ) (a b : Account) (owner : ℕ) (tag : Tag) (seen : Sighting) (slot : SeenSlot)
-    → Finds groups a owner tag seen b → seen.of_relation ≡ Some slot → IsOfGroup (group_of_tag groups tag) slot.place
+    → Finds groups a owner tag seen b → seen.of_relation ≡ Some slot → IsOfGroup (group_of_tag groups tag) slot.number
 group-found groups a b owner tag seen slot found is = (its-found groups a b owner tag seen slot found is).within
 
 pub relation-found :
     (groups : ℕ) (a b : Account) (owner : ℕ) (tag : Tag) (seen : Sighting) (slot : SeenSlot)
     (found : Finds groups a owner tag seen b) → 0 < groups → groups ≤ most_groups
-    → seen.of_relation ≡ Some slot → HasRelation found.slots slot.place slot.word tag
+    → seen.of_relation ≡ Some slot → HasRelation found.slots slot.number slot.word tag
 relation-found groups a b owner tag seen slot found some few is =
     let its = its-found groups a b owner tag seen slot found is in
     record {
       holds = found.holds;
       one_each = found.one_each;
-      within = within-of_group groups (relation_of tag) slot.place some few its.within;
+      within = within-of_group groups (relation_of tag) slot.number some few its.within;
       is_word = its.shown;
       its = its.its;
     }
@@ -228,11 +228,11 @@ adopted-holding groups a b c owner word below tag seen found adopts =
           (adopting adopts.taken owner tag word below) ∷ []
 
 pub may_pass-adopted :
-    (groups : ℕ) (a b c : Account) (owner place word : ℕ) (tag : Tag) (mode : Mode) (seen : Sighting)
-    (found : Finds groups a owner tag seen b) → HasRelation found.slots place word tag
+    (groups : ℕ) (a b c : Account) (owner slot word : ℕ) (tag : Tag) (mode : Mode) (seen : Sighting)
+    (found : Finds groups a owner tag seen b) → HasRelation found.slots slot word tag
     → AdoptsBelow b owner word tag 4 c → is_at owner a.fast.counted tag mode ≡ true → (slots : SlotsInHand)
     × MayPassBy c owner slots tag mode
-may_pass-adopted groups a b c owner place word tag mode seen found has adopts at = (
+may_pass-adopted groups a b c owner slot word tag mode seen found has adopts at = (
   adopts.rest,
   may_pass a c owner adopts.rest found.remembered (adopting_steps groups owner tag found.slots.word word adopts.taken 4) tag
       mode
@@ -247,7 +247,7 @@ may_pass-adopted groups a b c owner place word tag mode seen found has adopts at
       elim (cases_Bool (nat_lt (number_of its) 4)) [
         | inl below ↦ ap (λ b. not b && found.slots.holds tag its) below
         | inr from ↦ ap (λ b. not b && found.slots.holds tag its) from
-            ∙ not_weak-none found.slots place word tag its has from
+            ∙ not_weak-none found.slots slot word tag its has from
       ]
 
 -- What a session remembers of its slots, named by the account that it comes to.
@@ -331,13 +331,13 @@ passes-nothing groups number a b c owner tag mode seen unlocked found none passe
 }
 
 adopts-found :
-    (groups : ℕ) (a b : Account) (owner place word below : ℕ) (tag : Tag) (seen : Sighting) (taken : Content)
+    (groups : ℕ) (a b : Account) (owner slot word below : ℕ) (tag : Tag) (seen : Sighting) (taken : Content)
     (found : Finds groups a owner tag seen b)
-    → HasRelation found.slots place word tag → IsOfGroup (group_of_tag groups tag) place → Adopts groups owner tag word below
+    → HasRelation found.slots slot word tag → IsOfGroup (group_of_tag groups tag) slot → Adopts groups owner tag word below
     (adopting_steps groups owner tag found.slots.word word taken below)
-adopts-found groups a b owner place word below tag seen taken found has its_group = record {
+adopts-found groups a b owner slot word below tag seen taken found has its_group = record {
   word = found.slots.word;
-  place = place;
+  slot = slot;
   within = has.within;
   its_group = its_group;
   is_shown = has.is_word;
@@ -348,14 +348,14 @@ adopts-found groups a b owner place word below tag seen taken found has its_grou
 
 -- A turn that adopts all its modes,
 pub passes-adopting :
-    (groups number : ℕ) (a b c d : Account) (owner place word : ℕ) (tag : Tag) (mode : Mode) (seen : Sighting) → IsUnlocked a
+    (groups number : ℕ) (a b c d : Account) (owner slot word : ℕ) (tag : Tag) (mode : Mode) (seen : Sighting) → IsUnlocked a
     → (found : Finds groups a owner tag seen b)
-    → HasRelation found.slots place word tag → IsOfGroup (group_of_tag groups tag) place
+    → HasRelation found.slots slot word tag → IsOfGroup (group_of_tag groups tag) slot
     → AdoptsBelow b owner word tag 4 c
     → d ≡ account_passing number c owner tag mode → Passes groups a owner tag mode d
-passes-adopting groups number a b c d owner place word tag mode seen unlocked found has its_group adopts passed = record {
+passes-adopting groups number a b c d owner slot word tag mode seen unlocked found has its_group adopts passed = record {
   steps = adopting_steps groups owner tag found.slots.word word adopts.taken 4;
-  turn = inr (inr (word, adopts-found groups a b owner place word 4 tag seen adopts.taken found has its_group));
+  turn = inr (inr (word, adopts-found groups a b owner slot word 4 tag seen adopts.taken found has its_group));
   after = after-pass number a c d owner adopts.rest found.remembered
       (adopting_steps groups owner tag found.slots.word word adopts.taken 4) tag mode
       unlocked found.no_more (adopted-holding groups a b c owner word 4 tag seen found adopts) passed;
@@ -363,12 +363,12 @@ passes-adopting groups number a b c d owner place word tag mode seen unlocked fo
 
 -- and one that is cut short.
 pub stops-adopting :
-    (groups number : ℕ) (a b c d : Account) (owner place word : ℕ) (tag : Tag) (seen : Sighting) → IsUnlocked a
+    (groups number : ℕ) (a b c d : Account) (owner slot word : ℕ) (tag : Tag) (seen : Sighting) → IsUnlocked a
     → (found : Finds groups a owner tag seen b)
-    → HasRelation found.slots place word tag → IsOfGroup (group_of_tag groups tag) place
+    → HasRelation found.slots slot word tag → IsOfGroup (group_of_tag groups tag) slot
     → AdoptsSome b owner word tag c → d ≡ account_putting_fast number c owner
     → StopsAt groups a owner tag d
-stops-adopting groups number a b c d owner place word tag seen unlocked found has its_group some put =
+stops-adopting groups number a b c d owner slot word tag seen unlocked found has its_group some put =
     let below : ℕ = number_of some.refused in
     record {
       steps = adopting_steps groups owner tag found.slots.word word some.adopts.taken below;
@@ -376,7 +376,7 @@ stops-adopting groups number a b c d owner place word tag seen unlocked found ha
         shown = word;
         refused = some.refused;
         in_slot = some.in_slot;
-        adopts = adopts-found groups a b owner place word below tag seen some.adopts.taken found has its_group;
+        adopts = adopts-found groups a b owner slot word below tag seen some.adopts.taken found has its_group;
       };
       after = after-put number a c d owner some.adopts.rest found.remembered
           (adopting_steps groups owner tag found.slots.word word some.adopts.taken below)

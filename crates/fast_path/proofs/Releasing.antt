@@ -45,16 +45,16 @@ none-used groups a uses tag mode some few ready none =
 
 -- Where the relation's slot has not the mode none has the hold.
 not_in_its :
-    (database : ℕ) (slot : ℕ → ℕ) (tag : Tag) (mode : Mode) (place : ℕ) → OneSlotEach slot → place < slot_count
-    → is_slot_of (slot place) (relation_of tag) ≡ true → has_mode (slot place) mode ≡ false
-    → slot_holds database slot tag mode ≡ false
-not_in_its database slot tag mode place one within its hasn't =
-    slot_holds-none database slot tag mode (λ k k_within.
-    false_from_ne_true (shows (slot k) (relation_of tag) mode) (λ shown.
-    let too = shown-in_use (slot k) (relation_of tag) mode shown in
-    let same : k ≡ place = one (relation_of tag) k place k_within within too its in
-    let has = (and_parts (has_mode (slot k) mode) (nat_eq (relation_in (slot k)) (relation_of tag)) shown).0 in
-    both_ways (has_mode (slot place) mode) hasn't (ap (λ j. has_mode (slot j) mode) (sym same) ∙ has)))
+    (database : ℕ) (words : ℕ → ℕ) (tag : Tag) (mode : Mode) (slot : ℕ) → OneSlotEach words → slot < slot_count
+    → is_slot_of (words slot) (relation_of tag) ≡ true → has_mode (words slot) mode ≡ false
+    → slot_holds database words tag mode ≡ false
+not_in_its database words tag mode slot one within its hasn't =
+    slot_holds-none database words tag mode (λ k k_within.
+    false_from_ne_true (shows (words k) (relation_of tag) mode) (λ shown.
+    let too = shown-in_use (words k) (relation_of tag) mode shown in
+    let same : k ≡ slot = one (relation_of tag) k slot k_within within too its in
+    let has = (and_parts (has_mode (words k) mode) (nat_eq (relation_in (words k)) (relation_of tag)) shown).0 in
+    both_ways (has_mode (words slot) mode) hasn't (ap (λ j. has_mode (words j) mode) (sym same) ∙ has)))
 
 -- What the slot of a relation with the mode shows.
 shown-there : (word relation : ℕ) (mode : Mode) → is_slot_of word relation ≡ true → has_mode word mode ≡ true
@@ -65,29 +65,29 @@ shown-there word relation mode its has =
 
 -- The use count of a group set to the number of its slots in use, where slots show no more than before.
 counted-set :
-    (group : ℕ) (slot before : ℕ → ℕ) (uses : UseCounts) (used : ℕ) (left : UseCounts)
-    → ShowsNoMore slot before → AreCounted before (count_in uses) → used ≡ used_in group slot
-    → count_in left ≡ counting uses group used → AreCounted slot (count_in left)
-counted-set group slot before uses used left fewer enough is set k below = elim (cases_eq k group) [
+    (group : ℕ) (words before : ℕ → ℕ) (uses : UseCounts) (used : ℕ) (left : UseCounts)
+    → ShowsNoMore words before → AreCounted before (count_in uses) → used ≡ used_in group words
+    → count_in left ≡ counting uses group used → AreCounted words (count_in left)
+counted-set group words before uses used left fewer enough is set k below = elim (cases_eq k group) [
   | inl same ↦
       let now : count_in left k ≡ used = (λ i. set i k) ∙ set_at-here (count_in uses) group used k same in
-      let here : used ≡ used_in k slot = is ∙ ap (λ j. used_in j slot) (sym same) in
+      let here : used ≡ used_in k words = is ∙ ap (λ j. used_in j words) (sym same) in
       omega (arith, now, here)
   | inr other ↦
       let now : count_in left k ≡ count_in uses k = (λ i. set i k) ∙ set_at-else (count_in uses) group used k other in
-      let most : used_in k slot ≤ count_in uses k =
-      counted-fewer slot before (count_in uses) fewer enough k below in
+      let most : used_in k words ≤ count_in uses k =
+      counted-fewer words before (count_in uses) fewer enough k below in
       omega (arith, now, most)
 ]
 
 within-set :
-    (group : ℕ) (slot : ℕ → ℕ) (uses : UseCounts) (used : ℕ) (left : UseCounts)
-    → AreUseCounts (count_in uses) → used ≡ used_in group slot
+    (group : ℕ) (words : ℕ → ℕ) (uses : UseCounts) (used : ℕ) (left : UseCounts)
+    → AreUseCounts (count_in uses) → used ≡ used_in group words
     → count_in left ≡ counting uses group used → AreUseCounts (count_in left)
-within-set group slot uses used left within is set k below = elim (cases_eq k group) [
+within-set group words uses used left within is set k below = elim (cases_eq k group) [
   | inl same ↦
       let now : count_in left k ≡ used = (λ i. set i k) ∙ set_at-here (count_in uses) group used k same in
-      let most : used_in group slot ≤ group_size = used-most group slot in
+      let most : used_in group words ≤ group_size = used-most group words in
       omega (arith, now, is, most)
   | inr other ↦
       let now : count_in left k ≡ count_in uses k = (λ i. set i k) ∙ set_at-else (count_in uses) group used k other in
@@ -97,16 +97,16 @@ within-set group slot uses used left within is set k below = elim (cases_eq k gr
 
 -- With a mode cleared slots show no more than before.
 cleared-fewer :
-    (slot : ℕ → ℕ) (place : ℕ) (mode : Mode) → number_of mode ≤ 3
-    → ShowsNoMore (set_at slot place (word_without (slot place) mode)) slot
-cleared-fewer slot place mode weak k relation its below shown = elim (cases_eq k place) [
+    (words : ℕ → ℕ) (slot : ℕ) (mode : Mode) → number_of mode ≤ 3
+    → ShowsNoMore (set_at words slot (word_without (words slot) mode)) words
+cleared-fewer words slot mode weak k relation its below shown = elim (cases_eq k slot) [
   | inl same ↦
-      ap (λ p. shows (slot p) relation its) same
-      ∙ (and_parts (not (mode_eq its mode)) (shows (slot place) relation its)
-      (sym (shows-word_without (slot place) mode weak relation its)
-      ∙ ap (λ w. shows w relation its) (sym (set_at-here slot place (word_without (slot place) mode) k same)) ∙ shown)).1
+      ap (λ p. shows (words p) relation its) same
+      ∙ (and_parts (not (mode_eq its mode)) (shows (words slot) relation its)
+      (sym (shows-word_without (words slot) mode weak relation its)
+      ∙ ap (λ w. shows w relation its) (sym (set_at-here words slot (word_without (words slot) mode) k same)) ∙ shown)).1
   | inr other ↦
-      ap (λ w. shows w relation its) (sym (set_at-else slot place (word_without (slot place) mode) k other)) ∙ shown
+      ap (λ w. shows w relation its) (sym (set_at-else words slot (word_without (words slot) mode) k other)) ∙ shown
 ]
 
 -- The lock taken, and all slots of a group loaded.
@@ -153,20 +153,20 @@ module _ (groups number : ℕ) (a : Account) (uses : UseCounts) (own : ℕ) (rea
     its : (slot : SeenSlot) → seen.of_relation ≡ Some slot → IsSeenOf group takes.slots.word (relation_of tag) slot
     its slot is = subst (λ found. IfSome found (IsSeenOf group takes.slots.word (relation_of tag))) is sights.found
 
-    of_its_group : (slot : SeenSlot) → seen.of_relation ≡ Some slot → IsOfGroup (group_of_tag groups tag) slot.place
-    of_its_group slot is = subst (λ (k : ℕ). IsOfGroup k slot.place) of_tag (its slot is).within
+    of_its_group : (slot : SeenSlot) → seen.of_relation ≡ Some slot → IsOfGroup (group_of_tag groups tag) slot.number
+    of_its_group slot is = subst (λ (k : ℕ). IsOfGroup k slot.number) of_tag (its slot is).within
 
-    its-within : (slot : SeenSlot) → seen.of_relation ≡ Some slot → slot.place < slot_count
-    its-within slot is = within-of_group groups (relation_of tag) slot.place some few (of_its_group slot is)
+    its-within : (slot : SeenSlot) → seen.of_relation ≡ Some slot → slot.number < slot_count
+    its-within slot is = within-of_group groups (relation_of tag) slot.number some few (of_its_group slot is)
 
     its-there : (slot : SeenSlot) → seen.of_relation ≡ Some slot
-        → is_slot_of (takes.slots.word slot.place) (relation_of tag) ≡ true
+        → is_slot_of (takes.slots.word slot.number) (relation_of tag) ≡ true
     its-there slot is = ap (λ w. is_slot_of w (relation_of tag)) (sym (its slot is).shown) ∙ (its slot is).its
 
-    its-used : (slot : SeenSlot) → seen.of_relation ≡ Some slot → in_use (takes.slots.word slot.place) ≡ true
+    its-used : (slot : SeenSlot) → seen.of_relation ≡ Some slot → in_use (takes.slots.word slot.number) ≡ true
     its-used slot is =
-        (and_parts (in_use (takes.slots.word slot.place))
-        (nat_eq (relation_in (takes.slots.word slot.place)) (relation_of tag)) (its-there slot is)).0
+        (and_parts (in_use (takes.slots.word slot.number))
+        (nat_eq (relation_in (takes.slots.word slot.number)) (relation_of tag)) (its-there slot is)).0
 
     -- No slot has the hold where none is the relation's,
     pub no-its : seen.of_relation ≡ None → slot_holds a.fast.database takes.slots.word tag mode ≡ false
@@ -180,13 +180,13 @@ module _ (groups number : ℕ) (a : Account) (uses : UseCounts) (own : ℕ) (rea
         (slot : SeenSlot) → seen.of_relation ≡ Some slot → has_mode slot.word mode ≡ false
         → slot_holds a.fast.database takes.slots.word tag mode ≡ false
     no-mode slot is hasn't =
-        not_in_its a.fast.database takes.slots.word tag mode slot.place takes.knows.one_each (its-within slot is)
+        not_in_its a.fast.database takes.slots.word tag mode slot.number takes.knows.one_each (its-within slot is)
         (its-there slot is) (ap (λ w. has_mode w mode) (sym (its slot is).shown) ∙ hasn't)
 
     -- Where one is the relation's some are in use.
     pub some-used : (slot : SeenSlot) → seen.of_relation ≡ Some slot → 0 < seen.used_count
     some-used slot is =
-        let there = place-split group slot.place (its slot is).within in
+        let there = place-split group slot.number (its slot is).within in
         let any : 0 < used_in group takes.slots.word =
         some_pass group_size (λ k. in_use (takes.slots.word (place_in_group group k))) there.0 there.1
         (ap (λ p. in_use (takes.slots.word p)) (sym there.2) ∙ its-used slot is) in
@@ -194,19 +194,19 @@ module _ (groups number : ℕ) (a : Account) (uses : UseCounts) (own : ℕ) (rea
 
     -- The mode cleared in a slot.
     module _ (d : Account) (by : ℕ) (slot : SeenSlot) (same_by : by ≡ number)
-        (cleared : d ≡ account_unsetting by c (slots_here (c.fast.slots by)) slot.place tag mode) where
+        (cleared : d ≡ account_unsetting by c (slots_here (c.fast.slots by)) slot.number tag mode) where
       abbrev pub words_left : ℕ → ℕ
-      words_left = set_at takes.slots.word slot.place (word_without (takes.slots.word slot.place) mode)
+      words_left = set_at takes.slots.word slot.number (word_without (takes.slots.word slot.number) mode)
 
       here : c.fast.slots by ≡ Some takes.slots
       here = ap (λ (x : Account). x.fast.slots by) (looked c group loaded)
           ∙ set_at-here a.fast.slots number (Some takes.slots) by same_by
 
-      is_cleared : d ≡ account_unsetting number (account_seen number group a takes.slots) takes.slots slot.place tag mode
+      is_cleared : d ≡ account_unsetting number (account_seen number group a takes.slots) takes.slots slot.number tag mode
       is_cleared =
           cleared
-          ∙ (λ i. account_unsetting (same_by i) c (slots_here (here i)) slot.place tag mode)
-          ∙ ap (λ (x : Account). account_unsetting number x takes.slots slot.place tag mode) (looked c group loaded)
+          ∙ (λ i. account_unsetting (same_by i) c (slots_here (here i)) slot.number tag mode)
+          ∙ ap (λ (x : Account). account_unsetting number x takes.slots slot.number tag mode) (looked c group loaded)
 
       -- Then the lock may be put,
       pub may_put-cleared : (slots : SlotsInHand) × MayPutFastBy d own slots
@@ -235,7 +235,7 @@ module _ (groups number : ℕ) (a : Account) (uses : UseCounts) (own : ℕ) (rea
             }) where
               its_account : Account
               its_account = account_putting_fast number (account_unsetting number (account_seen number group a takes.slots)
-                  takes.slots slot.place tag mode) number
+                  takes.slots slot.number tag mode) number
 
               gone : its_account.fast.slots ≡ a.fast.slots
               gone =
@@ -248,7 +248,7 @@ module _ (groups number : ℕ) (a : Account) (uses : UseCounts) (own : ℕ) (rea
 
         -- They show no more than before,
         fewer : is_eligible_for a.fast.database tag mode ≡ true → ShowsNoMore words_left takes.slots.word
-        fewer eligible = cleared-fewer takes.slots.word slot.place mode (eligible-is a.fast.database tag mode eligible).2
+        fewer eligible = cleared-fewer takes.slots.word slot.number mode (eligible-is a.fast.database tag mode eligible).2
 
         -- and the mode was cleared so.
         pub clears :
@@ -259,12 +259,12 @@ module _ (groups number : ℕ) (a : Account) (uses : UseCounts) (own : ℕ) (rea
         clears left used eligible is has recounted counted = (
           record {
             word = takes.slots.word;
-            place = slot.place;
+            slot = slot.number;
             its_group = of_its_group slot is;
             held_in = record {
               eligible = eligible;
               within = its-within slot is;
-              shown = shown-there (takes.slots.word slot.place) (relation_of tag) mode (its-there slot is)
+              shown = shown-there (takes.slots.word slot.number) (relation_of tag) mode (its-there slot is)
                   (ap (λ w. has_mode w mode) (sym (its slot is).shown) ∙ has);
             };
             account = after;
@@ -280,7 +280,7 @@ module _ (groups number : ℕ) (a : Account) (uses : UseCounts) (own : ℕ) (rea
             enough = subst (λ slots. AreCounted slots (count_in left))
                 (sym (ap (λ (x : Account). x.fast.remembered) after))
                 (counted-set group words_left a.fast.remembered uses used left
-                (λ place r m below shown. takes.knows.as_remembered same place r m below (fewer eligible place r m below shown))
+                (λ slot r m below shown. takes.knows.as_remembered same slot r m below (fewer eligible slot r m below shown))
                 ready.enough recounted counted);
             within = within-set group words_left uses used left ready.within recounted counted;
           },
@@ -292,7 +292,7 @@ module _ (groups number : ℕ) (a : Account) (uses : UseCounts) (own : ℕ) (rea
           → seen.used_count ≡ used_in group words_left
       recounted-kept is still =
           sights.counted
-          ∙ sym (used-same group takes.slots.word slot.place (word_without (takes.slots.word slot.place) mode)
+          ∙ sym (used-same group takes.slots.word slot.number (word_without (takes.slots.word slot.number) mode)
           (ap (λ w. in_use (word_without w mode)) (sym (its slot is).shown) ∙ still ∙ sym (its-used slot is)))
 
       -- and one fewer where it is not.
@@ -300,8 +300,8 @@ module _ (groups number : ℕ) (a : Account) (uses : UseCounts) (own : ℕ) (rea
           (left : ℕ) → seen.of_relation ≡ Some slot → in_use (word_without slot.word mode) ≡ false
           → left ≡ seen.used_count - 1 → left ≡ used_in group words_left
       recounted-less left is empty one =
-          let there = place-split group slot.place (its slot is).within in
-          let word : ℕ = word_without (takes.slots.word slot.place) mode in
+          let there = place-split group slot.number (its slot is).within in
+          let word : ℕ = word_without (takes.slots.word slot.number) mode in
           let less : used_in group (set_at takes.slots.word (place_in_group group there.0) word) + 1
           ≡ used_in group takes.slots.word =
           used-one_less group takes.slots.word there.0 word there.1

@@ -63,48 +63,48 @@ eligible-weak (Advisory s d k l) mode strong is weak = absurd (false≢true is)
 
 -- and in another's slots it is not.
 pub elsewhere-none :
-    (tag : Tag) (strong : Mode) (database : ℕ) (slot : ℕ → ℕ) (mode : Mode) → is_strong_on tag strong ≡ true
-    → database ≢ database_of tag → slot_holds database slot tag mode ≡ false
-elsewhere-none (Relation d r) strong database slot mode is other =
-    false_from_ne_true (slot_holds database slot (Relation d r) mode) (λ held.
-    let found = held-is_in database slot (Relation d r) mode held in
+    (tag : Tag) (strong : Mode) (database : ℕ) (words : ℕ → ℕ) (mode : Mode) → is_strong_on tag strong ≡ true
+    → database ≢ database_of tag → slot_holds database words tag mode ≡ false
+elsewhere-none (Relation d r) strong database words mode is other =
+    false_from_ne_true (slot_holds database words (Relation d r) mode) (λ held.
+    let found = held-is_in database words (Relation d r) mode held in
     let same : d ≡ database =
     eqb-true d database (and_parts (nat_eq d database) (not (nat_eq d 0) && nat_le (number_of mode) 3)
     found.1.eligible).0 in
     other (sym same))
-elsewhere-none (Object s d c o) strong database slot mode is other = absurd (false≢true is)
-elsewhere-none (Advisory s d k l) strong database slot mode is other = absurd (false≢true is)
+elsewhere-none (Object s d c o) strong database words mode is other = absurd (false≢true is)
+elsewhere-none (Advisory s d k l) strong database words mode is other = absurd (false≢true is)
 
--- A place of a relation's group is one of those that there are.
+-- A slot of a relation's group is one of those that there are.
 pub within-of_group :
-    (groups relation place : ℕ) → 0 < groups → groups ≤ most_groups → IsOfGroup (group_of_relation groups relation) place
-    → place < slot_count
-within-of_group groups relation place some few its = at (group_of_relation groups relation)
+    (groups relation slot : ℕ) → 0 < groups → groups ≤ most_groups → IsOfGroup (group_of_relation groups relation) slot
+    → slot < slot_count
+within-of_group groups relation slot some few its = at (group_of_relation groups relation)
     (relation-group groups relation some) its where
-      at : (group : ℕ) → group < groups → place / group_size ≡ group → place < slot_count
+      at : (group : ℕ) → group < groups → slot / group_size ≡ group → slot < slot_count
       at group below is = omega (arith, few, below, is)
 
 -- A slot in use for a relation is of its group.
 pub slot-of_group :
-    (groups : ℕ) (slot : ℕ → ℕ) (relation place : ℕ) → AreInGroups groups slot → place < slot_count
-    → is_slot_of (slot place) relation ≡ true → IsOfGroup (group_of_relation groups relation) place
-slot-of_group groups slot relation place in_groups within its =
-    let parts = and_parts (in_use (slot place)) (nat_eq (relation_in (slot place)) relation) its in
-    let same : relation_in (slot place) ≡ relation = eqb-true (relation_in (slot place)) relation parts.1 in
-    eqb-true (place / group_size) (group_of_relation groups relation)
-    (ap (λ r. may_use groups r place) (sym same) ∙ in_groups place within parts.0)
+    (groups : ℕ) (words : ℕ → ℕ) (relation slot : ℕ) → AreInGroups groups words → slot < slot_count
+    → is_slot_of (words slot) relation ≡ true → IsOfGroup (group_of_relation groups relation) slot
+slot-of_group groups words relation slot in_groups within its =
+    let parts = and_parts (in_use (words slot)) (nat_eq (relation_in (words slot)) relation) its in
+    let same : relation_in (words slot) ≡ relation = eqb-true (relation_in (words slot)) relation parts.1 in
+    eqb-true (slot / group_size) (group_of_relation groups relation)
+    (ap (λ r. may_use groups r slot) (sym same) ∙ in_groups slot within parts.0)
 
 -- Where no slot of its relation's group is in use for it no mode is held by one.
 pub no_slot-none :
-    (groups : ℕ) (tag : Tag) (database : ℕ) (slot : ℕ → ℕ) → AreInGroups groups slot
-    → NoneInGroup (group_of_tag groups tag) slot (relation_of tag)
-    → (mode : Mode) → slot_holds database slot tag mode ≡ false
-no_slot-none groups tag database slot in_groups none mode =
-    slot_holds-none database slot tag mode
-    (λ k within. false_from_ne_true (shows (slot k) (relation_of tag) mode) (λ shown.
-    let its = shown-in_use (slot k) (relation_of tag) mode shown in
-    both_ways (is_slot_of (slot k) (relation_of tag))
-    (none k (slot-of_group groups slot (relation_of tag) k in_groups within its)) its))
+    (groups : ℕ) (tag : Tag) (database : ℕ) (words : ℕ → ℕ) → AreInGroups groups words
+    → NoneInGroup (group_of_tag groups tag) words (relation_of tag)
+    → (mode : Mode) → slot_holds database words tag mode ≡ false
+no_slot-none groups tag database words in_groups none mode =
+    slot_holds-none database words tag mode
+    (λ k within. false_from_ne_true (shows (words k) (relation_of tag) mode) (λ shown.
+    let its = shown-in_use (words k) (relation_of tag) mode shown in
+    both_ways (is_slot_of (words k) (relation_of tag))
+    (none k (slot-of_group groups words (relation_of tag) k in_groups within its)) its))
 
 -- A slot that has the relation shows a mode of it where it has the mode,
 pub slot-shows : (word relation : ℕ) (mode : Mode) → is_slot_of word relation ≡ true
@@ -118,13 +118,13 @@ slot-shows word relation mode its =
 
 -- and then it is held.
 pub held-shown :
-    (slots : SlotsInHand) (place word : ℕ) (tag : Tag) (mode strong : Mode) → HasRelation slots place word tag
+    (slots : SlotsInHand) (slot word : ℕ) (tag : Tag) (mode strong : Mode) → HasRelation slots slot word tag
     → is_strong_on tag strong ≡ true → number_of mode ≤ 3
     → slots.holds tag mode ≡ has_mode word mode
-held-shown slots place word tag mode strong has is weak =
+held-shown slots slot word tag mode strong has is weak =
     (λ i. has.holds i tag mode) ∙ elim (cases_Bool (has_mode word mode)) [
       | inl shown ↦
-          is_in-held (database_of tag) slots.word tag mode place (record {
+          is_in-held (database_of tag) slots.word tag mode slot (record {
             eligible = eligible-weak tag mode strong is weak;
             within = has.within;
             shown = ap (λ w. shows w (relation_of tag) mode) (sym has.is_word)
@@ -136,7 +136,7 @@ held-shown slots place word tag mode strong has is weak =
           let found = held-is_in (database_of tag) slots.word tag mode held in
           let there : is_slot_of (slots.word found.0) (relation_of tag) ≡ true =
           shown-in_use (slots.word found.0) (relation_of tag) mode found.1.shown in
-          let here : found.0 ≡ place = has.one_each (relation_of tag) found.0 place found.1.within has.within there
+          let here : found.0 ≡ slot = has.one_each (relation_of tag) found.0 slot found.1.within has.within there
           (ap (λ w. is_slot_of w (relation_of tag)) (sym has.is_word) ∙ has.its) in
           both_ways (has_mode word mode) hidden
           (sym (slot-shows word (relation_of tag) mode has.its) ∙ ap (λ w. shows w (relation_of tag) mode) has.is_word
@@ -146,10 +146,10 @@ held-shown slots place word tag mode strong has is weak =
 
 -- No slot holds it in a mode of a number from 4 on.
 pub not_weak-none :
-    (slots : SlotsInHand) (place word : ℕ) (tag : Tag) (mode : Mode) → HasRelation slots place word tag
+    (slots : SlotsInHand) (slot word : ℕ) (tag : Tag) (mode : Mode) → HasRelation slots slot word tag
     → nat_lt (number_of mode) 4 ≡ false
     → slots.holds tag mode ≡ false
-not_weak-none slots place word tag mode has from =
+not_weak-none slots slot word tag mode has from =
     (λ i. has.holds i tag mode) ∙ false_from_ne_true (slot_holds (database_of tag) slots.word tag mode) (λ held.
     let weak = (eligible-is (database_of tag) tag mode
     (held-is_in (database_of tag) slots.word tag mode held).1.eligible).2 in

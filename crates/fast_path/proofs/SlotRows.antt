@@ -131,8 +131,8 @@ behind-cut xs ys zs n behind is cut = cut ∙ ap (take n) behind.1 ∙ take_at x
 -- ---- one session
 
 -- A slot that is not in use has no row.
-rows-unused : (session database place word : ℕ) → in_use word ≡ false → rows_of_slot session database place word ≡ []
-rows-unused session database place word unused =
+rows-unused : (session database slot word : ℕ) → in_use word ≡ false → rows_of_slot session database slot word ≡ []
+rows-unused session database slot word unused =
     (λ i. row_if AccessShare i ++ (row_if RowShare i ++ row_if RowExclusive i)) where
       none : (mode : Mode) → has_mode word mode ≡ false
       none mode = false_from_ne_true (has_mode word mode) (λ has.
@@ -140,7 +140,7 @@ rows-unused session database place word unused =
           (and_from (has_mode word mode) (relation_in word == relation_in word) has
           (eq-eqb (relation_in word) (relation_in word) refl))))
 
-      row_if : (mode : Mode) → mode_row session database place word mode ≡ []
+      row_if : (mode : Mode) → mode_row session database slot word mode ≡ []
       row_if mode = cond-false (has_mode word mode) _ [] (none mode)
 
 -- Lists past a limit that are empty add nothing.
@@ -160,16 +160,16 @@ rows_below-past limit (suc more) rows none =
 
 -- The rows of slots of so many groups are those of all slots, where each in use is of its relation's group.
 pub rows-of_groups :
-    (groups session database : ℕ) (slot : ℕ → ℕ) → 0 < groups → groups ≤ most_groups → AreInGroups groups slot
-    → rows_below (group_size * groups) (λ place. rows_of_slot session database place (slot place))
-    ≡ rows_of_session session database slot
-rows-of_groups groups session database slot some few in_groups =
+    (groups session database : ℕ) (words : ℕ → ℕ) → 0 < groups → groups ≤ most_groups → AreInGroups groups words
+    → rows_below (group_size * groups) (λ slot. rows_of_slot session database slot (words slot))
+    ≡ rows_of_session session database words
+rows-of_groups groups session database words some few in_groups =
     let all : slot_count ≡ group_size * groups + (slot_count - group_size * groups) = omega (arith, few) in
-    sym (ap (λ n. rows_below n (λ place. rows_of_slot session database place (slot place))) all
+    sym (ap (λ n. rows_below n (λ slot. rows_of_slot session database slot (words slot))) all
     ∙ rows_below-past (group_size * groups) (slot_count - group_size * groups)
-    (λ place. rows_of_slot session database place (slot place))
-    (λ k from below. rows-unused session database k (slot k)
-    (none_past-groups groups slot in_groups some k from (omega (arith, below, few)))))
+    (λ slot. rows_of_slot session database slot (words slot))
+    (λ k from below. rows-unused session database k (words k)
+    (none_past-groups groups words in_groups some k from (omega (arith, below, few)))))
 
 pub lists-session :
     (groups own : ℕ) (a b v c : Account) (owner shown database count : ℕ) (old new : List SlotRow)
@@ -180,7 +180,7 @@ pub lists-session :
     → c ≡ account_unsharing_fast v owner
     → database ≡ database_in shown
     → OnOk result (new ≡ old ++ rows_below count
-    (λ place. rows_of_slot owner database place ((slots_here (b.fast.shared_slots owner)).word place)))
+    (λ slot. rows_of_slot owner database slot ((slots_here (b.fast.shared_slots owner)).word slot)))
     → ListsSession groups own a owner old result new c
 lists-session groups own a b v c owner shown database count old new result unlocked some few all read loaded put
     same listed =
@@ -208,18 +208,18 @@ lists-session groups own a b v c owner shown database count old new result unloc
           (its_loads groups own a b owner shown read) (remembered-no_more groups own a owner read.slots read.knows) is
 
       its : ℕ → List SlotRow
-      its place = rows_of_slot owner database place ((slots_here (b.fast.shared_slots owner)).word place)
+      its slot = rows_of_slot owner database slot ((slots_here (b.fast.shared_slots owner)).word slot)
 
       rows : rows_below count its ≡ rows_of_session owner (database_in shown) read.slots.word
-      rows = rows_below-same count its (λ place. rows_of_slot owner (database_in shown) place (read.slots.word place))
-          (λ place within. (λ i. rows_of_slot owner (same i) place
-          ((slots_here (slots-shared groups own a b owner shown read i)).word place)))
-          ∙ ap (λ n. rows_below n (λ place. rows_of_slot owner (database_in shown) place (read.slots.word place))) all
+      rows = rows_below-same count its (λ slot. rows_of_slot owner (database_in shown) slot (read.slots.word slot))
+          (λ slot within. (λ i. rows_of_slot owner (same i) slot
+          ((slots_here (slots-shared groups own a b owner shown read i)).word slot)))
+          ∙ ap (λ n. rows_below n (λ slot. rows_of_slot owner (database_in shown) slot (read.slots.word slot))) all
           ∙ rows-of_groups groups owner (database_in shown) read.slots.word some few read.knows.in_groups
 
       at : (r : Result (Unit {0}) NoMemory)
           → OnOk r (new ≡ old ++ rows_below count
-          (λ place. rows_of_slot owner database place ((slots_here (b.fast.shared_slots owner)).word place)))
+          (λ slot. rows_of_slot owner database slot ((slots_here (b.fast.shared_slots owner)).word slot)))
           → OnOk r (new ≡ old ++ rows_of_session owner (database_in shown) read.slots.word)
       at (Ok done) is = is ∙ (λ i. old ++ rows i)
       at (Err refusal) is = tt
@@ -241,8 +241,8 @@ has-before groups own a b session database word same_own same_database no_more h
     in_use = has.knows.in_use;
     own_database = λ its. has.knows.own_database its ∙ same_database;
     own = λ its tag mode shown. ap (λ holds. holds tag mode) (sym same_own) ∙ has.knows.own its tag mode shown;
-    as_remembered = λ its place relation mode within shown.
-        no_more place relation mode within (has.knows.as_remembered its place relation mode within shown);
+    as_remembered = λ its slot relation mode within shown.
+        no_more slot relation mode within (has.knows.as_remembered its slot relation mode within shown);
   };
   words = has.words;
   holds = has.holds;
@@ -281,7 +281,7 @@ listing-begun groups own a old = record {
   all_loaded = refl;
   shared = λ session below. absurd (omega (arith, below));
   own = λ below. absurd (omega (arith, below));
-  no_more = λ place relation mode within shown. shown;
+  no_more = λ slot relation mode within shown. shown;
   account = (λ i. record a { trace = sym (append-nil a.trace) i });
 }
 
@@ -361,8 +361,8 @@ module _ (groups own k : ℕ) (a b c : Account) (old mid new : List SlotRow) (so
         all_loaded = refl;
         shared = has-so_far session.shown session.word session.shared;
         own = own-so_far session.word session.own session.of_another;
-        no_more = λ place relation mode within shown.
-            so_far.no_more place relation mode within (session.no_more place relation mode within shown);
+        no_more = λ slot relation mode within shown.
+            so_far.no_more slot relation mode within (session.no_more slot relation mode within shown);
         account = account-next session.shown session.word session.account;
       }
 
@@ -380,7 +380,7 @@ module _ (groups own k : ℕ) (a b c : Account) (old mid new : List SlotRow) (so
     all_loaded = tt;
     shared = has-so_far session.shown session.word session.shared;
     own = own-so_far session.word session.own session.of_another;
-    no_more = λ place relation mode within shown.
-        so_far.no_more place relation mode within (session.no_more place relation mode within shown);
+    no_more = λ slot relation mode within shown.
+        so_far.no_more slot relation mode within (session.no_more slot relation mode within shown);
     account = account-next session.shown session.word session.account;
   }

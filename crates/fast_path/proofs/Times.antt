@@ -86,10 +86,10 @@ module _ (session : ℕ) (tag : Tag) (mode : Mode) where
       times-both (rows_below limit rows) (rows limit) ∙ ap (λ n. n + times (rows limit)) (times-below limit rows)
 
   -- One row or none.
-  times-row : (owner place database word : ℕ) (its : Mode)
-      → times (mode_row owner database place word its)
+  times-row : (owner slot database word : ℕ) (its : Mode)
+      → times (mode_row owner database slot word its)
       ≡ (if has_mode word its && ((owner == session) && (tag_eq (Relation database (relation_in word)) tag && mode_eq its mode)) then 1 else 0)
-  times-row owner place database word its = elim (cases_Bool (has_mode word its)) [
+  times-row owner slot database word its = elim (cases_Bool (has_mode word its)) [
     | inl has ↦ rw has (one ((owner == session) && (tag_eq (Relation database (relation_in word)) tag && mode_eq its mode)))
     | inr none ↦ rw none refl
   ] where
@@ -98,10 +98,10 @@ module _ (session : ℕ) (tag : Tag) (mode : Mode) where
     one false = refl
 
   -- Another session's rows don't show it.
-  times-foreign_row : (owner place database word : ℕ) (its : Mode) → owner ≢ session
-      → times (mode_row owner database place word its) ≡ 0
-  times-foreign_row owner place database word its other =
-      times-row owner place database word its
+  times-foreign_row : (owner slot database word : ℕ) (its : Mode) → owner ≢ session
+      → times (mode_row owner database slot word its) ≡ 0
+  times-foreign_row owner slot database word its other =
+      times-row owner slot database word its
       ∙ (let foreign : (owner == session) ≡ false = ne_eqb owner session other in
       rw foreign (none (has_mode word its))) where
         none : (b : Bool) → ◌≡◌ {A = ℕ} (if b && false then 1 else 0) 0
@@ -110,18 +110,18 @@ module _ (session : ℕ) (tag : Tag) (mode : Mode) where
 
   times-foreign : (owner database : ℕ) (word : ℕ → ℕ) → owner ≢ session → times (rows_of_session owner database word) ≡ 0
   times-foreign owner database word other =
-      times-below slot_count (λ place. rows_of_slot owner database place (word place))
-      ∙ total-nothing slot_count (λ place. times (rows_of_slot owner database place (word place))) (λ place _. at place) where
-        at : (place : ℕ) → times (rows_of_slot owner database place (word place)) ≡ 0
-        at place =
-            let first = mode_row owner database place (word place) AccessShare in
-            let second = mode_row owner database place (word place) RowShare in
-            let third = mode_row owner database place (word place) RowExclusive in
+      times-below slot_count (λ slot. rows_of_slot owner database slot (word slot))
+      ∙ total-nothing slot_count (λ slot. times (rows_of_slot owner database slot (word slot))) (λ slot _. at slot) where
+        at : (slot : ℕ) → times (rows_of_slot owner database slot (word slot)) ≡ 0
+        at slot =
+            let first = mode_row owner database slot (word slot) AccessShare in
+            let second = mode_row owner database slot (word slot) RowShare in
+            let third = mode_row owner database slot (word slot) RowExclusive in
             let all = times-both first (second ++ third) in
             let later = times-both second third in
-            let a = times-foreign_row owner place database (word place) AccessShare other in
-            let b = times-foreign_row owner place database (word place) RowShare other in
-            let c = times-foreign_row owner place database (word place) RowExclusive other in
+            let a = times-foreign_row owner slot database (word slot) AccessShare other in
+            let b = times-foreign_row owner slot database (word slot) RowShare other in
+            let c = times-foreign_row owner slot database (word slot) RowExclusive other in
             omega (arith, all, later, a, b, c)
 
 -- whether a slot with this word shows the hold, by the database
@@ -144,18 +144,18 @@ shows-slot database tag mode word eligible shown =
 
 -- A slot's rows show it once, if the slot does.
 times-slot :
-    (session : ℕ) (tag : Tag) (mode : Mode) (database place word : ℕ)
-    → times_shown (rows_of_slot session database place word) session tag mode
+    (session : ℕ) (tag : Tag) (mode : Mode) (database slot word : ℕ)
+    → times_shown (rows_of_slot session database slot word) session tag mode
     ≡ (if slot_shows database tag mode word then 1 else 0)
-times-slot session tag mode database place word =
-    let first = mode_row session database place word AccessShare in
-    let second = mode_row session database place word RowShare in
-    let third = mode_row session database place word RowExclusive in
+times-slot session tag mode database slot word =
+    let first = mode_row session database slot word AccessShare in
+    let second = mode_row session database slot word RowShare in
+    let third = mode_row session database slot word RowExclusive in
     let all = times-both session tag mode first (second ++ third) in
     let later = times-both session tag mode second third in
-    let a = times-row session tag mode session place database word AccessShare in
-    let b = times-row session tag mode session place database word RowShare in
-    let c = times-row session tag mode session place database word RowExclusive in
+    let a = times-row session tag mode session slot database word AccessShare in
+    let b = times-row session tag mode session slot database word RowShare in
+    let c = times-row session tag mode session slot database word RowExclusive in
     let own : (session == session) ≡ true = eq-eqb session session refl in
     all ∙ ap (λ n. times_shown first session tag mode + n) later ∙ (λ i. a i + (b i + c i))
     ∙ rw own (by_mode mode (has_mode word) (tag_eq (Relation database (relation_in word)) tag)) where
@@ -221,27 +221,27 @@ times-session :
     → times_shown (rows_of_session session database word) session tag mode
     ≡ (if slot_holds database word tag mode then 1 else 0)
 times-session session database word tag mode one_each has_database =
-    times-below session tag mode slot_count (λ place. rows_of_slot session database place (word place))
-    ∙ total-same slot_count (λ place. times_shown (rows_of_slot session database place (word place)) session tag mode)
-    (λ place. if test place then 1 else 0) (λ place _. times-slot session tag mode database place (word place))
+    times-below session tag mode slot_count (λ slot. rows_of_slot session database slot (word slot))
+    ∙ total-same slot_count (λ slot. times_shown (rows_of_slot session database slot (word slot)) session tag mode)
+    (λ slot. if test slot then 1 else 0) (λ slot _. times-slot session tag mode database slot (word slot))
     ∙ how_many-once slot_count test once
     ∙ ap (λ (b : Bool). if b then 1 else 0) same where
       test : ℕ → Bool
-      test place = slot_shows database tag mode (word place)
+      test slot = slot_shows database tag mode (word slot)
 
       -- the slot is in use for the object's relation, in the mode
-      shown : (place : ℕ) → test place ≡ true
-          → (number_of mode ≤ 3) × (has_mode (word place) mode ≡ true) × (Relation database (relation_in (word place)) ≡ tag)
-      shown place passes =
-          let weak = and_parts (nat_le (number_of mode) 3) (has_mode (word place) mode && tag_eq (Relation database (relation_in (word place))) tag) passes in
-          let both = and_parts (has_mode (word place) mode) (tag_eq (Relation database (relation_in (word place))) tag) weak.1 in
-          (leb-true (number_of mode) 3 weak.0, both.0, tag_eq-same (Relation database (relation_in (word place))) tag both.1)
+      shown : (slot : ℕ) → test slot ≡ true
+          → (number_of mode ≤ 3) × (has_mode (word slot) mode ≡ true) × (Relation database (relation_in (word slot)) ≡ tag)
+      shown slot passes =
+          let weak = and_parts (nat_le (number_of mode) 3) (has_mode (word slot) mode && tag_eq (Relation database (relation_in (word slot))) tag) passes in
+          let both = and_parts (has_mode (word slot) mode) (tag_eq (Relation database (relation_in (word slot))) tag) weak.1 in
+          (leb-true (number_of mode) 3 weak.0, both.0, tag_eq-same (Relation database (relation_in (word slot))) tag both.1)
 
-      shows_it : (place : ℕ) → test place ≡ true → shows (word place) (relation_of tag) mode ≡ true
-      shows_it place passes =
-          let it = shown place passes in
-          and_from (has_mode (word place) mode) (relation_in (word place) == relation_of tag) it.1
-          (eq-eqb (relation_in (word place)) (relation_of tag) (ap relation_of it.2))
+      shows_it : (slot : ℕ) → test slot ≡ true → shows (word slot) (relation_of tag) mode ≡ true
+      shows_it slot passes =
+          let it = shown slot passes in
+          and_from (has_mode (word slot) mode) (relation_in (word slot) == relation_of tag) it.1
+          (eq-eqb (relation_in (word slot)) (relation_of tag) (ap relation_of it.2))
 
       once : (j k : ℕ) → j < slot_count → k < slot_count → test j ≡ true → test k ≡ true → j ≡ k
       once j k within too first second =
@@ -289,18 +289,18 @@ times-all limit database word session tag mode exists fits one_each has_database
 
 -- A hold that a slot shows has a row.
 pub times-some :
-    (limit : ℕ) (database : ℕ → ℕ) (word : ℕ → ℕ → ℕ) (session place : ℕ) (tag : Tag) (mode : Mode) → session < limit
-    → database session < 2 ^ 32 → place < slot_count → is_eligible_for (database session) tag mode ≡ true
-    → shows (word session place) (relation_of tag) mode ≡ true
+    (limit : ℕ) (database : ℕ → ℕ) (word : ℕ → ℕ → ℕ) (session slot : ℕ) (tag : Tag) (mode : Mode) → session < limit
+    → database session < 2 ^ 32 → slot < slot_count → is_eligible_for (database session) tag mode ≡ true
+    → shows (word session slot) (relation_of tag) mode ≡ true
     → 1 ≤ times_shown (rows_of_all limit database word) session tag mode
-times-some limit database word session place tag mode exists fits within eligible shown =
+times-some limit database word session slot tag mode exists fits within eligible shown =
     let its : database_in (database session) ≡ database session = omega (arith, fits) in
     let all = times-below session tag mode limit (λ k. rows_of_session k (database_in (database k)) (word k)) in
     let one = total-least limit (λ k. times_shown (rows_of_session k (database_in (database k)) (word k)) session tag mode) session exists in
     let own = ap (λ (d : ℕ). times_shown (rows_of_session session d (word session)) session tag mode) its in
     let slots = times-below session tag mode slot_count (λ i. rows_of_slot session (database session) i (word session i)) in
-    let slot = total-least slot_count (λ i. times_shown (rows_of_slot session (database session) i (word session i)) session tag mode) place within in
-    let row = times-slot session tag mode (database session) place (word session place)
-    ∙ cond-true (slot_shows (database session) tag mode (word session place)) 1 0
-    (shows-slot (database session) tag mode (word session place) eligible shown) in
-    omega (arith, all, one, own, slots, slot, row)
+    let once = total-least slot_count (λ i. times_shown (rows_of_slot session (database session) i (word session i)) session tag mode) slot within in
+    let row = times-slot session tag mode (database session) slot (word session slot)
+    ∙ cond-true (slot_shows (database session) tag mode (word session slot)) 1 0
+    (shows-slot (database session) tag mode (word session slot) eligible shown) in
+    omega (arith, all, one, own, slots, once, row)

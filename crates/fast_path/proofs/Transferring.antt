@@ -26,8 +26,8 @@ transfer-next groups position a b c tag mode new so_far passes =
       turns = subst (λ (k : ℕ). AreTurns groups k tag (so_far.steps ++ passes.steps)) (sym next)
           (so_far.steps, passes.steps, so_far.turns, passes.turn, refl);
       after = record {
-        no_more = λ place relation its within shown.
-            so_far.after.no_more place relation its within (passes.after.no_more place relation its within shown);
+        no_more = λ slot relation its within shown.
+            so_far.after.no_more slot relation its within (passes.after.no_more slot relation its within shown);
         account =
             passes.after.account
             ∙ ap (λ (x : Account). record x {
@@ -85,8 +85,8 @@ module _ (groups position : ℕ) (a b c : Account) (tag : Tag) (mode : Mode)
       joined = refl;
     };
     after = after-from a d c.fast.remembered a.fast.counted (so_far.steps ++ stops.steps)
-        (λ place relation its within shown. so_far.after.no_more place relation its within
-        (stops.after.no_more place relation its within shown))
+        (λ slot relation its within shown. so_far.after.no_more slot relation its within
+        (stops.after.no_more slot relation its within shown))
         (uncounted ∙ (λ i. account_uncounting (stopped i) tag mode) ∙ (λ i. record a {
           fast = record (a.fast)
               { remembered = c.fast.remembered; counted = uncounting-last a.fast.counted tag mode position new i };

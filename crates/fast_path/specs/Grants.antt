@@ -27,14 +27,14 @@ use Rattle.fast_path.specs.Slots.{count_in, one_more_in, AreCounted, AreUseCount
 pub record GrantsInSlot (groups number : ℕ) (a : Account) (before : List TraceEntry) (uses : UseCounts) (tag : Tag)
     (mode : Mode) (b : Account) (left : UseCounts) : Type 0 where
   pub word : ℕ → ℕ
-  pub place : ℕ
-  pub takes : IsSlotToGrant groups word (relation_of tag) place
-  pub highest : in_use (word place) ≡ false → IsHighestUnused (group_of_tag groups tag) word place
-  pub raised : count_in left ≡ (if in_use (word place) then count_in uses else one_more_in uses (group_of_tag groups tag))
+  pub slot : ℕ
+  pub takes : IsSlotToGrant groups word (relation_of tag) slot
+  pub highest : in_use (word slot) ≡ false → IsHighestUnused (group_of_tag groups tag) word slot
+  pub raised : count_in left ≡ (if in_use (word slot) then count_in uses else one_more_in uses (group_of_tag groups tag))
   pub seen : ℕ
   pub of_group : seen ≤ group_size
   pub account : b ≡ record (account_tried a
-      (set_at word place (word_with (word place) (relation_of tag) mode))
+      (set_at word slot (word_with (word slot) (relation_of tag) mode))
       (before ++ Loaded (Strong (index_of tag)) 0 ∷ top_loads number (group_of_tag groups tag) word seen))
       { own = own_with a.own tag mode true }
 

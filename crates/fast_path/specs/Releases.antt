@@ -16,13 +16,13 @@ use Rattle.fast_path.specs.Slots.{IsOfGroup, group_of_tag, group_loads, account_
 pub record ClearsSlot (groups number : ℕ) (a : Account) (uses : UseCounts) (tag : Tag) (mode : Mode) (b : Account)
     (left : UseCounts) : Type 0 where
   pub word : ℕ → ℕ
-  pub place : ℕ
-  pub its_group : IsOfGroup (group_of_tag groups tag) place
-  pub held_in : IsHeldIn a.fast.database word tag mode place
-  pub account : b ≡ record (account_tried a (set_at word place (word_without (word place) mode))
+  pub slot : ℕ
+  pub its_group : IsOfGroup (group_of_tag groups tag) slot
+  pub held_in : IsHeldIn a.fast.database word tag mode slot
+  pub account : b ≡ record (account_tried a (set_at word slot (word_without (word slot) mode))
       (a.trace ++ group_loads number (group_of_tag groups tag) word)) { own = own_with a.own tag mode false }
   pub recomputed : count_in left ≡ counting uses (group_of_tag groups tag)
-      (used_in (group_of_tag groups tag) (set_at word place (word_without (word place) mode)))
+      (used_in (group_of_tag groups tag) (set_at word slot (word_without (word slot) mode)))
 
 -- All slots of the relation's group are loaded, and no slot has it.
 pub record FindsNoSlot (groups number : ℕ) (a : Account) (uses : UseCounts) (tag : Tag) (mode : Mode) (b : Account)

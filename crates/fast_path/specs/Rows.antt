@@ -23,16 +23,16 @@ database_in shown = shown % 2 ^ 32
 
 -- the row of a mode, if the slot's word has it
 abbrev pub mode_row : ℕ → ℕ → ℕ → ℕ → Mode → List SlotRow
-mode_row session database place word mode =
+mode_row session database slot word mode =
     if has_mode word mode
-    then (record { session = session; slot = place; tag = Relation database (relation_in word); mode = mode }) ∷ []
+    then (record { session = session; slot = slot; tag = Relation database (relation_in word); mode = mode }) ∷ []
     else []
 
 -- the rows of a slot: there are bits for three modes
 abbrev pub rows_of_slot : ℕ → ℕ → ℕ → ℕ → List SlotRow
-rows_of_slot session database place word =
-    mode_row session database place word AccessShare
-    ++ (mode_row session database place word RowShare ++ mode_row session database place word RowExclusive)
+rows_of_slot session database slot word =
+    mode_row session database slot word AccessShare
+    ++ (mode_row session database slot word RowShare ++ mode_row session database slot word RowExclusive)
 
 -- so many lists of rows, one behind another
 unfoldable pub rows_below : ℕ → (ℕ → List SlotRow) → List SlotRow
@@ -42,7 +42,7 @@ rows_below (suc limit) rows = rows_below limit rows ++ rows limit
 -- the rows of a session's slots, with this database and these words: those past its groups are never in use
 abbrev pub rows_of_session : ℕ → ℕ → (ℕ → ℕ) → List SlotRow
 rows_of_session session database word =
-    rows_below slot_count (λ place. rows_of_slot session database place (word place))
+    rows_below slot_count (λ slot. rows_of_slot session database slot (word slot))
 
 -- the rows of all sessions below the limit, by what their words show
 abbrev pub rows_of_all : ℕ → (ℕ → ℕ) → (ℕ → ℕ → ℕ) → List SlotRow

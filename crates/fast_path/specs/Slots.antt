@@ -16,38 +16,38 @@ use Rattle.fast_path.specs.declared.use_counts.UseCounts.{UseCounts}
 
 -- A session's slots, as the fast path reads them.
 
--- The slot at this place is one of the group.
+-- This slot is one of the group.
 abbrev pub IsOfGroup : ℕ → ℕ → Type 0
-IsOfGroup group place = place / group_size ≡ group
+IsOfGroup group slot = slot / group_size ≡ group
 
 -- the group of the object's relation, of so many
 abbrev pub group_of_tag : ℕ → Tag → ℕ
 group_of_tag groups tag = group_of_relation groups (relation_of tag)
 
 -- The slot is the highest-numbered one of the group that is not in use.
-pub record IsHighestUnused (group : ℕ) (word : ℕ → ℕ) (place : ℕ) : Type 0 where
-  pub within : IsOfGroup group place
-  pub unused : in_use (word place) ≡ false
-  pub higher : (other : ℕ) → place < other → IsOfGroup group other → in_use (word other) ≡ true
+pub record IsHighestUnused (group : ℕ) (word : ℕ → ℕ) (slot : ℕ) : Type 0 where
+  pub within : IsOfGroup group slot
+  pub unused : in_use (word slot) ≡ false
+  pub higher : (other : ℕ) → slot < other → IsOfGroup group other → in_use (word other) ≡ true
 
 -- The slot was seen among those of the group with these words: it is in use for the relation,
 pub record IsSeenOf (group : ℕ) (word : ℕ → ℕ) (relation : ℕ) (slot : SeenSlot) : Type 0 where
-  pub within : IsOfGroup group slot.place
-  pub shown : slot.word ≡ word slot.place
+  pub within : IsOfGroup group slot.number
+  pub shown : slot.word ≡ word slot.number
   pub its : is_slot_of slot.word relation ≡ true
 
 -- or it is the highest-numbered one that is not in use.
 pub record IsSeenUnused (group : ℕ) (word : ℕ → ℕ) (slot : SeenSlot) : Type 0 where
-  pub shown : slot.word ≡ word slot.place
-  pub highest : IsHighestUnused group word slot.place
+  pub shown : slot.word ≡ word slot.number
+  pub highest : IsHighestUnused group word slot.number
 
 -- All slots of the group are in use.
 abbrev pub IsAllInUse : ℕ → (ℕ → ℕ) → Type 0
-IsAllInUse group word = (place : ℕ) → IsOfGroup group place → in_use (word place) ≡ true
+IsAllInUse group word = (slot : ℕ) → IsOfGroup group slot → in_use (word slot) ≡ true
 
 -- No slot of the group is in use for the relation.
 abbrev pub NoneInGroup : ℕ → (ℕ → ℕ) → ℕ → Type 0
-NoneInGroup group word relation = (place : ℕ) → IsOfGroup group place → is_slot_of (word place) relation ≡ false
+NoneInGroup group word relation = (slot : ℕ) → IsOfGroup group slot → is_slot_of (word slot) relation ≡ false
 
 -- What a look through all of a group's slots with these words finds for a relation,
 pub record Sights (group : ℕ) (word : ℕ → ℕ) (relation : ℕ) (seen : Sighting) : Type 0 where
@@ -62,19 +62,19 @@ pub record SightsForGrant (group : ℕ) (word : ℕ → ℕ) (relation : ℕ) (s
   pub unused : IfSome seen.highest_unused (IsSeenUnused group word)
   pub full : IfNone seen.of_relation (IfNone seen.highest_unused (IsAllInUse group word))
 
--- the loads of a session's slots at the first so many of these places, which show these words
+-- the loads of the first so many of these slots of a session, which show these words
 unfoldable pub slot_loads : ℕ → (ℕ → ℕ) → (ℕ → ℕ) → ℕ → List TraceEntry
-slot_loads owner places word zero = []
-slot_loads owner places word (suc k) =
-    slot_loads owner places word k ++ Loaded (Slot owner (places k)) (word (places k)) ∷ []
+slot_loads owner which word zero = []
+slot_loads owner which word (suc k) =
+    slot_loads owner which word k ++ Loaded (Slot owner (which k)) (word (which k)) ∷ []
 
--- the places of a group's slots from the highest-numbered one down
-abbrev pub place_from_top : ℕ → ℕ → ℕ
-place_from_top group step = place_in_group group (group_size - 1 - step)
+-- the slots of a group from the highest-numbered one down
+abbrev pub slot_from_top : ℕ → ℕ → ℕ
+slot_from_top group step = place_in_group group (group_size - 1 - step)
 
 -- the loads of so many of a group's slots from there down,
 abbrev pub top_loads : ℕ → ℕ → (ℕ → ℕ) → ℕ → List TraceEntry
-top_loads owner group word seen = slot_loads owner (place_from_top group) word seen
+top_loads owner group word seen = slot_loads owner (slot_from_top group) word seen
 
 -- those of all slots of a group,
 abbrev pub group_loads : ℕ → ℕ → (ℕ → ℕ) → List TraceEntry
@@ -82,11 +82,11 @@ group_loads owner group word = slot_loads owner (place_in_group group) word grou
 
 -- and those of all slots of so many groups
 abbrev pub all_loads : ℕ → ℕ → (ℕ → ℕ) → List TraceEntry
-all_loads groups owner word = slot_loads owner (λ place. place) word (group_size * groups)
+all_loads groups owner word = slot_loads owner (λ slot. slot) word (group_size * groups)
 
 -- the account after so many of them
 abbrev pub account_loading : Account → ℕ → (ℕ → ℕ) → (ℕ → ℕ) → ℕ → Account
-account_loading a owner places word count = record a { trace = a.trace ++ slot_loads owner places word count }
+account_loading a owner which word count = record a { trace = a.trace ++ slot_loads owner which word count }
 
 -- how many slots of the group are counted as in use
 abbrev pub count_in : UseCounts → ℕ → ℕ

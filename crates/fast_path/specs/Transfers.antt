@@ -46,10 +46,10 @@ pub record FindsNothing (groups owner : ℕ) (tag : Tag) (steps : List TraceEntr
 -- episode, as far as their numbers are below this one.
 pub record Adopts (groups owner : ℕ) (tag : Tag) (shown below : ℕ) (steps : List TraceEntry) : Type 0 where
   pub word : ℕ → ℕ
-  pub place : ℕ
-  pub within : place < slot_count
-  pub its_group : IsOfGroup (group_of_tag groups tag) place
-  pub is_shown : shown ≡ word place
+  pub slot : ℕ
+  pub within : slot < slot_count
+  pub its_group : IsOfGroup (group_of_tag groups tag) slot
+  pub is_shown : shown ≡ word slot
   pub its : is_slot_of shown (relation_of tag) ≡ true
   pub taken : Content
   pub joined :

@@ -48,31 +48,31 @@ pub record BeginsTurn (groups : ℕ) (a : Account) (owner : ℕ) (tag : Tag) (b 
   pub unlocked : IsUnlocked a
   pub looked : Looks groups a owner (database_of tag) b
 
--- In the tag's database these slots have the relation at this place, by this word.
-pub record HasRelation (slots : SlotsInHand) (place word : ℕ) (tag : Tag) : Type 0 where
+-- In the tag's database these slots have the relation in this one, by this word.
+pub record HasRelation (slots : SlotsInHand) (slot word : ℕ) (tag : Tag) : Type 0 where
   pub holds : slots.holds ≡ slot_holds (database_of tag) slots.word
   pub one_each : OneSlotEach slots.word
-  pub within : place < slot_count
-  pub is_word : word ≡ slots.word place
+  pub within : slot < slot_count
+  pub is_word : word ≡ slots.word slot
   pub its : is_slot_of word (relation_of tag) ≡ true
 
 -- The lock of the owner's slots is in hand, and no other one, and they have the relation.
-pub record HasSlots (a : Account) (owner place word : ℕ) (tag : Tag) : Type 0 where
+pub record HasSlots (a : Account) (owner slot word : ℕ) (tag : Tag) : Type 0 where
   pub no_content : a.hand ≡ (λ _. None)
   pub slots : SlotsInHand
   pub in_hand : a.fast.slots ≡ set_at (λ _. None) owner (Some slots)
-  pub has : HasRelation slots place word tag
+  pub has : HasRelation slots slot word tag
 
 -- a partition in hand, taken with the one content: it has the other now, and nobody is unmarked
 abbrev pub hand_moving : Content → Content → Option Move → InHand
 hand_moving taken now recorded = record { taken = taken; now = now; recorded = recorded; unmarked = λ _. false }
 
 -- With the object's partition in hand too: what the slots show of the object is neither there nor awaited there.
-pub record HasSlotsAndPart (a : Account) (owner place word : ℕ) (tag : Tag) (taken : Content) : Type 0 where
+pub record HasSlotsAndPart (a : Account) (owner slot word : ℕ) (tag : Tag) (taken : Content) : Type 0 where
   pub slots : SlotsInHand
   pub in_hand : a.fast.slots owner ≡ Some slots
   pub part_in_hand : a.hand (partition_of tag) ≡ Some (hand_moving taken taken None)
-  pub has : HasRelation slots place word tag
+  pub has : HasRelation slots slot word tag
   pub not_there : (mode : Mode) → slots.holds tag mode ≡ true → taken.holds owner tag mode ≡ false
   pub not_awaited :
       (mode : Mode) → slots.holds tag mode ≡ true → awaits_mode (taken.waits tag) owner mode ≡ false
@@ -84,29 +84,29 @@ IsWithout slots tag below rest =
 
 -- The modes with numbers below this one are moved, one per step: the content has them, and the adopt stands recorded, if
 -- there were any.
-pub record MovesBelow (a : Account) (owner place word : ℕ) (tag : Tag) (taken : Content) (below : ℕ) (now : Content)
+pub record MovesBelow (a : Account) (owner slot word : ℕ) (tag : Tag) (taken : Content) (below : ℕ) (now : Content)
     (b : Account) : Type 0 where
   pub rest : SlotsInHand
   pub without : (slots : SlotsInHand) → a.fast.slots owner ≡ Some slots → IsWithout slots tag below rest
   pub content : now ≡ adopting taken owner tag word below
   pub recorded : Option Move
-  pub adopt : MayAdopt recorded owner place
+  pub adopt : MayAdopt recorded owner slot
   pub account : b ≡ record a {
     fast = record (a.fast) { slots = set_at a.fast.slots owner (Some rest) };
     hand = set_at a.hand (partition_of tag) (Some (hand_moving taken now recorded));
   }
 
 -- They are moved as far as before the mode that there was no memory for.
-pub record MovesSome (a : Account) (owner place word : ℕ) (tag : Tag) (taken now : Content) (b : Account) :
+pub record MovesSome (a : Account) (owner slot word : ℕ) (tag : Tag) (taken now : Content) (b : Account) :
     Type 0 where
   pub refused : Mode
   pub in_slot : has_mode word refused ≡ true
-  pub moves : MovesBelow a owner place word tag taken (number_of refused) now b
+  pub moves : MovesBelow a owner slot word tag taken (number_of refused) now b
 
 abbrev pub MovesOrNot :
     Account → ℕ → ℕ → ℕ → Tag → Content → Result (Unit {0}) NoMemory → Content → Account → Type 0
-MovesOrNot a owner place word tag taken (Ok done) now b = MovesBelow a owner place word tag taken 4 now b
-MovesOrNot a owner place word tag taken (Err refusal) now b = MovesSome a owner place word tag taken now b
+MovesOrNot a owner slot word tag taken (Ok done) now b = MovesBelow a owner slot word tag taken 4 now b
+MovesOrNot a owner slot word tag taken (Err refusal) now b = MovesSome a owner slot word tag taken now b
 
 -- The episode in which they are moved.
 pub record AdoptsBelow (a : Account) (owner word : ℕ) (tag : Tag) (below : ℕ) (b : Account) : Type 0 where

@@ -114,12 +114,12 @@ fn grant_with_slots<T: PartTable, B: Board<T>>(
         highest_unused,
     } = look_for_grant(board, own, group, tag.relation_number(), use_count);
     if let Some(slot) = of_relation {
-        board.set_slot(slot.place, slot.word, tag, mode);
+        board.set_slot(slot.number, slot.word, tag, mode);
         board.put_fast(own);
         return Ok(());
     }
     let slot = highest_unused.unwrap();
-    board.set_slot(slot.place, slot.word, tag, mode);
+    board.set_slot(slot.number, slot.word, tag, mode);
     uses.set(group, use_count + 1);
     board.put_fast(own);
     Ok(())

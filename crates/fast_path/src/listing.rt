@@ -94,60 +94,60 @@ fn append_slots<T: PartTable, B: Board<T>>(
 ) -> Result<(), NoMemory>
     requires there { count ≤ group_size * (B.seat board.old).groups }
     requires shared { (slots : SlotsInHand) × ((B.view board.old).fast.shared_slots owner ≡ Some slots) }
-    ensures loaded { B.view board.new ≡ account_loading (B.view board.old) owner (λ place. place)
+    ensures loaded { B.view board.new ≡ account_loading (B.view board.old) owner (λ slot. slot)
         (slots_here ((B.view board.old).fast.shared_slots owner)).word count }
-    ensures listed { OnOk result (rows.new.items ≡ rows.old.items ++ rows_below count (λ place.
-        rows_of_slot owner database place ((slots_here ((B.view board.old).fast.shared_slots owner)).word place))) }
+    ensures listed { OnOk result (rows.new.items ≡ rows.old.items ++ rows_below count (λ slot.
+        rows_of_slot owner database slot ((slots_here ((B.view board.old).fast.shared_slots owner)).word slot))) }
     ensures behind { BeginsWith rows.old.items rows.new.items }
     ensures stack { B.stack board.new ≡ B.stack board.old }
     ensures quiet { B.quiet board.new ≡ B.quiet board.old }
     ensures seat { B.seat board.new ≡ B.seat board.old }
 {
     let mut listed = Ok(());
-    for place in 0..count {
-        let word = board.load_slot(owner, place);
+    for slot in 0..count {
+        let word = board.load_slot(owner, slot);
         if listed.is_ok() {
-            listed = append_slot(owner, database, place, word, rows);
+            listed = append_slot(owner, database, slot, word, rows);
         }
     }
     listed
 }
 
-/// Appends to `rows` those of the slot of `session` at `place`, by mode.
+/// Appends to `rows` those of the slot `slot` of `session`, by mode.
 fn append_slot(
     session: SessionId,
     database: u32,
-    place: u8,
+    slot: u8,
     word: SlotWord,
     rows: &mut Vec<SlotRow>,
 ) -> Result<(), NoMemory>
-    ensures listed { OnOk result (rows.new.items ≡ rows.old.items ++ rows_of_slot session database place word) }
+    ensures listed { OnOk result (rows.new.items ≡ rows.old.items ++ rows_of_slot session database slot word) }
     ensures behind { BeginsWith rows.old.items rows.new.items }
 {
     if !word.in_use() {
         return Ok(());
     }
-    append_mode(session, database, place, word, Mode::AccessShare, rows)?;
-    append_mode(session, database, place, word, Mode::RowShare, rows)?;
-    append_mode(session, database, place, word, Mode::RowExclusive, rows)
+    append_mode(session, database, slot, word, Mode::AccessShare, rows)?;
+    append_mode(session, database, slot, word, Mode::RowShare, rows)?;
+    append_mode(session, database, slot, word, Mode::RowExclusive, rows)
 }
 
 /// Appends to `rows` that of `mode`, if the slot with `word` shows it.
 fn append_mode(
     session: SessionId,
     database: u32,
-    place: u8,
+    slot: u8,
     word: SlotWord,
     mode: Mode,
     rows: &mut Vec<SlotRow>,
 ) -> Result<(), NoMemory>
-    ensures listed { OnOk result (rows.new.items ≡ rows.old.items ++ mode_row session database place word mode) }
+    ensures listed { OnOk result (rows.new.items ≡ rows.old.items ++ mode_row session database slot word mode) }
     ensures behind { BeginsWith rows.old.items rows.new.items }
 {
     if word.has(mode) {
         rows.push(SlotRow {
             session,
-            slot: place,
+            slot,
             tag: Tag::Relation {
                 database,
                 relation: word.relation(),

@@ -54,7 +54,7 @@ pub fn ungrant<T: PartTable, B: Board<T>, R: Wait>(
     } = look_through(board, own, group, relation);
     if let Some(slot) = of_relation {
         if slot.word.has(mode) {
-            board.clear_slot(slot.place, slot.word, tag, mode);
+            board.clear_slot(slot.number, slot.word, tag, mode);
             board.put_fast(own);
             let left = if slot.word.without(mode).in_use() {
                 used_count

@@ -4,7 +4,7 @@ ghost use Rattle.std.specs.Prelude.{◌≡◌, ℕ, ◌<◌, ◌≤◌, Some};
 ghost use Rattle.lock_world.specs.SlotHolds.{group_size, most_groups, place_in_group, used_in};
 ghost use Rattle.lock_world.specs.Account.{SlotsInHand};
 ghost use Rattle.shared_rule.specs.History.{slots_here};
-ghost use Rattle.fast_path.specs.Slots.{place_from_top, account_loading, Sights, SightsForGrant};
+ghost use Rattle.fast_path.specs.Slots.{slot_from_top, account_loading, Sights, SightsForGrant};
 
 use lock_table::PartTable;
 use lw_word::SlotWord;
@@ -15,10 +15,10 @@ use shared_rule::Board;
 /// `FP_LOCK_SLOTS_PER_GROUP`).
 pub const SLOTS: u8 = 16;
 
-/// A slot's place, and the word that it shows.
+/// A slot's number, and the word that it shows.
 #[derive(Clone, Copy)]
 pub(crate) struct SeenSlot {
-    pub(crate) place: u8,
+    pub(crate) number: u8,
     pub(crate) word: SlotWord,
 }
 
@@ -54,12 +54,12 @@ pub(crate) fn look_through<T: PartTable, B: Board<T>>(
     let mut of_relation = None;
     let mut used_count = 0;
     for index in 0..SLOTS {
-        let place = SLOTS * group + index;
-        let word = board.load_slot(owner, place);
+        let slot = SLOTS * group + index;
+        let word = board.load_slot(owner, slot);
         if word.in_use() {
             used_count += 1;
             if word.relation() == relation {
-                of_relation = Some(SeenSlot { place, word });
+                of_relation = Some(SeenSlot { number: slot, word });
             }
         }
     }
@@ -93,7 +93,7 @@ pub(crate) fn look_for_grant<T: PartTable, B: Board<T>>(
     requires in_hand { (slots : SlotsInHand) × ((B.view board.old).fast.slots owner ≡ Some slots) }
     requires enough { used_in group (slots_here ((B.view board.old).fast.slots owner)).word ≤ use_count }
     ensures loaded { (seen : ℕ) × (seen ≤ group_size) × (B.view board.new ≡
-        account_loading (B.view board.old) owner (place_from_top group)
+        account_loading (B.view board.old) owner (slot_from_top group)
         (slots_here ((B.view board.old).fast.slots owner)).word seen) }
     ensures sighted { SightsForGrant group (slots_here ((B.view board.old).fast.slots owner)).word relation result }
     ensures seat { B.seat board.new ≡ B.seat board.old }
@@ -123,7 +123,7 @@ fn look_from_top<T: PartTable, B: Board<T>>(
     requires in_hand { (slots : SlotsInHand) × ((B.view board.old).fast.slots owner ≡ Some slots) }
     requires enough { used_in group (slots_here ((B.view board.old).fast.slots owner)).word ≤ use_count }
     ensures loaded { (seen : ℕ) × (seen ≤ group_size) × (B.view board.new ≡
-        account_loading (B.view board.old) owner (place_from_top group)
+        account_loading (B.view board.old) owner (slot_from_top group)
         (slots_here ((B.view board.old).fast.slots owner)).word seen) }
     ensures sighted { SightsForGrant group (slots_here ((B.view board.old).fast.slots owner)).word relation result }
     ensures seat { B.seat board.new ≡ B.seat board.old }
@@ -133,19 +133,19 @@ fn look_from_top<T: PartTable, B: Board<T>>(
     let mut highest_unused = None;
     let mut used_count = 0;
     for step in 0..SLOTS {
-        let place = SLOTS * group + (SLOTS - 1 - step);
-        let word = board.load_slot(owner, place);
+        let slot = SLOTS * group + (SLOTS - 1 - step);
+        let word = board.load_slot(owner, slot);
         if word.in_use() {
             if word.relation() == relation {
                 return SightingForGrant {
-                    of_relation: Some(SeenSlot { place, word }),
+                    of_relation: Some(SeenSlot { number: slot, word }),
                     highest_unused,
                 };
             }
             used_count += 1;
         } else {
             if highest_unused.is_none() {
-                highest_unused = Some(SeenSlot { place, word });
+                highest_unused = Some(SeenSlot { number: slot, word });
             }
             if used_count == use_count {
                 return SightingForGrant {

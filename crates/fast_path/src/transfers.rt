@@ -114,7 +114,7 @@ fn pass_in_database<T: PartTable, B: Board<T>, R: Wait>(
         board.pass_fast(owner, tag, mode);
         return Ok(());
     };
-    match adopt(rt, board, owner, slot.place, slot.word, tag, mode) {
+    match adopt(rt, board, owner, slot.number, slot.word, tag, mode) {
         Ok(()) => {
             board.pass_fast(owner, tag, mode);
             Ok(())
@@ -126,22 +126,22 @@ fn pass_in_database<T: PartTable, B: Board<T>, R: Wait>(
     }
 }
 
-/// Moves the modes of the slot of `owner` at `place`, one after another in rising order, into the partition of `tag`
+/// Moves the modes of the slot `slot` of `owner`, one after another in rising order, into the partition of `tag`
 /// (the inner loop of `FastPathTransferRelationLocks` in lock.c).
 fn adopt<T: PartTable, B: Board<T>, R: Wait>(
     rt: &R,
     board: &mut B,
     owner: SessionId,
-    place: u8,
+    slot: u8,
     word: SlotWord,
     tag: &Tag,
     strong: Mode,
 ) -> Result<(), NoMemory>
     requires exists { owner < (B.seat board.old).limit }
-    requires there { place < group_size * (B.seat board.old).groups }
+    requires there { slot < group_size * (B.seat board.old).groups }
     requires strong { is_strong_on tag.now strong ≡ true }
     requires next { is_at owner (B.view board.old).fast.counted tag.now strong ≡ true }
-    requires in_hand { HasSlots (B.view board.old) owner place word tag.now }
+    requires in_hand { HasSlots (B.view board.old) owner slot word tag.now }
     requires nothing_due { B.stack board.old ≡ nothing_due }
     ensures adopted { AdoptsOrNot (B.view board.old) owner word tag.now result (B.view board.new) }
     ensures stack { B.stack board.new ≡ B.stack board.old }
@@ -150,29 +150,29 @@ fn adopt<T: PartTable, B: Board<T>, R: Wait>(
 {
     let part = tag.partition();
     let mut content = board.take_part(rt, part);
-    let moved = move_modes(board, &mut content, owner, place, word, tag, strong);
+    let moved = move_modes(board, &mut content, owner, slot, word, tag, strong);
     board.put_part(part, &Move::Keep, content);
     moved
 }
 
-/// Moves the modes of the slot of `owner` at `place` with the partition in hand, whose content is `content`, one per
+/// Moves the modes of the slot `slot` of `owner` with the partition in hand, whose content is `content`, one per
 /// step.
 fn move_modes<T: PartTable, B: Board<T>>(
     board: &mut B,
     content: &mut T,
     owner: SessionId,
-    place: u8,
+    slot: u8,
     word: SlotWord,
     tag: &Tag,
     strong: Mode,
 ) -> Result<(), NoMemory>
     requires exists { owner < (B.seat board.old).limit }
-    requires there { place < group_size * (B.seat board.old).groups }
+    requires there { slot < group_size * (B.seat board.old).groups }
     requires strong { is_strong_on tag.now strong ≡ true }
     requires next { is_at owner (B.view board.old).fast.counted tag.now strong ≡ true }
     requires none_begun { T.begun content.old ≡ None }
-    requires in_hand { HasSlotsAndPart (B.view board.old) owner place word tag.now (T.content content.old) }
-    ensures moved { MovesOrNot (B.view board.old) owner place word tag.now (T.content content.old) result
+    requires in_hand { HasSlotsAndPart (B.view board.old) owner slot word tag.now (T.content content.old) }
+    ensures moved { MovesOrNot (B.view board.old) owner slot word tag.now (T.content content.old) result
         (T.content content.new) (B.view board.new) }
     ensures none_begun { T.begun content.new ≡ None }
     ensures stack { B.stack board.new ≡ B.stack board.old }
@@ -187,7 +187,7 @@ fn move_modes<T: PartTable, B: Board<T>>(
                 return Err(NoMemory);
             }
             content.grant(owner, tag, mode);
-            board.transfer_slot(owner, place, left, tag, mode, strong, content);
+            board.transfer_slot(owner, slot, left, tag, mode, strong, content);
             left = left.without(mode);
         }
     }

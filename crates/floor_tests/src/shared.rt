@@ -7,11 +7,7 @@ ghost use Rattle.shared_rule.specs.Opening.{AreNew};
 
 use lock_table::{PartTable, PlainPart, empty_parts};
 use modes_core::SessionId;
-use shared_rule::{
-    Board, CONTENT_SLOTS, Kept, OneThread, Sizes, TABLE_SLOTS, TABLE_WORDS, content_slot,
-    database_word, fast_word, in_slots, partition_word, sleep_word, slot_word, strong_word,
-    table_words, wait_word,
-};
+use shared_rule::{Board, CONTENT_SHELVES, Kept, OneThread, TABLE_SHELVES, TABLE_WORDS, TableSizes, content_shelf, database_word, fast_word, in_shelves, partition_word, sleep_word, slot_word, strong_word, table_words, wait_word};
 use std::alloc::Global;
 use std::process::Abort;
 use std::test::Fail;
@@ -85,26 +81,26 @@ fn neighbours_are_128_bytes_apart(rt: HostRuntime) -> Result<(), Fail> {
 }
 
 #[test]
-fn each_content_has_eight_slots_to_itself(rt: HostRuntime) -> Result<(), Fail> {
-    assert_eq!(rt; content_slot(0), 0);
-    assert_eq!(rt; content_slot(1), 8);
-    assert_eq!(rt; content_slot(15), 120);
-    assert_eq!(rt; CONTENT_SLOTS, 128);
-    assert_eq!(rt; TABLE_SLOTS, 1152);
+fn each_content_has_eight_shelves_to_itself(rt: HostRuntime) -> Result<(), Fail> {
+    assert_eq!(rt; content_shelf(0), 0);
+    assert_eq!(rt; content_shelf(1), 8);
+    assert_eq!(rt; content_shelf(15), 120);
+    assert_eq!(rt; CONTENT_SHELVES, 128);
+    assert_eq!(rt; TABLE_SHELVES, 1152);
     Ok(())
 }
 
 /// Two sessions with one group of slots each.
-const SIZES: Sizes = Sizes {
+const SIZES: TableSizes = TableSizes {
     sessions: 2,
     groups: 1,
 };
 
-/// Sixteen empty partitions, which grow by `alloc`, each in its slot.
-fn empty_slots(alloc: Global) -> Result<Vec<Kept<PlainPart>>, Fail>
-    ensures new { let T = ⟦<PlainPart as PartTable>⟧ in IfOk result (λ slots. AreNew T.content T.begun slots.items) }
+/// Sixteen empty partitions, which grow by `alloc`, each on its shelf.
+fn empty_shelves(alloc: Global) -> Result<Vec<Kept<PlainPart>>, Fail>
+    ensures new { let T = ⟦<PlainPart as PartTable>⟧ in IfOk result (λ shelves. AreNew T.content T.begun shelves.items) }
 {
-    Ok(in_slots(alloc, empty_parts(alloc, PlainPart::new)?)?)
+    Ok(in_shelves(alloc, empty_parts(alloc, PlainPart::new)?)?)
 }
 
 /// A board for tests, of a table for two sessions that grows by `alloc`.
@@ -120,7 +116,7 @@ fn one_thread(alloc: Global) -> Result<OneThread<PlainPart>, Fail>
     ensures groups { let B = ⟦<OneThread<PlainPart> as Board<PlainPart>>⟧ in
         IfOk result (λ board. (B.seat board).groups ≡ 1) }
 {
-    match OneThread::new(alloc, &SIZES, empty_slots(alloc)?) {
+    match OneThread::new(alloc, &SIZES, empty_shelves(alloc)?) {
         Ok(board) => Ok(board),
         Err(_) => Err("out of memory".into()),
     }

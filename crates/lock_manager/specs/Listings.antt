@@ -104,9 +104,9 @@ abbrev pub MissesNone : ℕ → ℕ → ℕ → List TraceEntry → List TraceEn
 MissesNone groups limit number before after listing =
     (first : World) (events : List Event) (worlds : List World) → SafeWorld first → RunsThrough first events worlds
     → first.sessions.trace number ≡ before → (last_of first worlds).sessions.trace number ≡ after
-    → (session place : ℕ) (tag : Tag) (mode : Mode) → session < limit → place < slot_count
-    → place < group_size * groups → HasWords tag
-    → ((at : ℕ) (w : World) → slice_get (first ∷ worlds) at ≡ Some w → StandsThereOrInContent w session tag mode place)
+    → (session slot : ℕ) (tag : Tag) (mode : Mode) → session < limit → slot < slot_count
+    → slot < group_size * groups → HasWords tag
+    → ((at : ℕ) (w : World) → slice_get (first ∷ worlds) at ≡ Some w → StandsThereOrInContent w session tag mode slot)
     → 1 ≤ times_listed listing session tag mode
 
 -- A whole listing. The database and the slots of each session that there can be are loaded, in rising order, and the

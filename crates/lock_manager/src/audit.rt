@@ -14,7 +14,7 @@ use crate::manager::{Manager, Opener};
 use crate::sessions::{OwnSession, Session};
 use lock_table::{NoMemory, TableRow};
 use modes_core::Refusal;
-use shared_rule::{Absent, Audit, Board, Opener as NumberOpener, SeatBoard, Top};
+use shared_rule::{Absent, Audit, Board, Opener as NumberOpener, SeatBoard, SharedWords};
 use std::sync::Wait;
 
 impl Manager {
@@ -71,7 +71,7 @@ impl Manager {
 // Gathers these sessions, the last one first, counts, and sends them back.
 fn audit_all<'a, R: Wait>(
     rt: &R,
-    table: &Top<Part>,
+    table: &SharedWords<Part>,
     numbers: &mut NumberOpener<Part>,
     sessions: &mut Vec<Session<'a>>,
     rows: &mut Vec<TableRow>,
@@ -105,7 +105,7 @@ fn audit_all<'a, R: Wait>(
 
 // Gathers one more session, with these left.
 fn gather_next<'a>(
-    table: &Top<Part>,
+    table: &SharedWords<Part>,
     numbers: &mut NumberOpener<Part>,
     board: SeatBoard<'a, Part>,
     left: &Vec<Session<'a>>,
@@ -135,7 +135,7 @@ fn gather_next<'a>(
 // Gathers these sessions behind those that are, the last one first, counts, and sends them back.
 fn audit_others<'a, R: Wait>(
     rt: &R,
-    table: &Top<Part>,
+    table: &SharedWords<Part>,
     numbers: &mut NumberOpener<Part>,
     sessions: &mut Vec<Session<'a>>,
     rows: &mut Vec<TableRow>,

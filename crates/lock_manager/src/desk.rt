@@ -189,12 +189,12 @@ impl<'a> Desk<Session<'a>> for ManagerDesk<'a> {
       table = session.board.table.now.table_id;
     } };
 
-    ghost account = { λ session. first_account content_of session.board.place.me.0.sessions };
+    ghost account = { λ session. first_account content_of session.board.seat.me.0.sessions };
 
     ghost stack = { λ session.
-        record { parts = parts_in_hand session.board.place.me.1; owed = first_owed session.board.place.me.0.sessions } };
+        record { parts = parts_in_hand session.board.seat.me.1; owed = first_owed session.board.seat.me.0.sessions } };
 
-    ghost quiet = { λ session. first_quiet session.board.place.me.0.sessions };
+    ghost quiet = { λ session. first_quiet session.board.seat.me.0.sessions };
 
     ghost database_of = { λ session. session.database };
 

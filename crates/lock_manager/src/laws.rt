@@ -25,7 +25,7 @@ ghost use Rattle.shared_rule.specs.Layout.{content_slot_of};
 ghost use Rattle.lock_records.specs.declared.counts.Counts.{Counts};
 ghost use Rattle.lock_records.specs.Counts.{AreCountsOf, CountSessions, IsUntouched};
 ghost use Rattle.lock_records.specs.View.{RecordView, content_of};
-ghost use Rattle.shared_rule.specs.declared.rule.Sizes.{Sizes};
+ghost use Rattle.shared_rule.specs.declared.rule.TableSizes.{TableSizes};
 ghost use Rattle.fast_path.specs.declared.use_counts.UseCounts.{UseCounts};
 ghost use Rattle.lock_manager.specs.Requests.{Decides};
 ghost use Rattle.lock_manager.specs.Rest.{IsAtRest};
@@ -56,7 +56,7 @@ pub fn a_conflict_names_another_session_in_the_way()
 /// partition was the one that was taken. There the session named, another one, stood with the mode named on the object,
 /// or awaited it, and that mode conflicts with the one asked for.
 pub fn a_refusal_saw_what_it_names<T: PartTable>()
-    ensures { (sizes : Sizes) (state : State (Kept T) (View T)) (rule : Ruled T.content T.begun sizes state)
+    ensures { (sizes : TableSizes) (state : State (Kept T) (View T)) (rule : Ruled T.content T.begun sizes state)
         (at place : ℕ) (view : View T) (history : History T) → get_elem? state.views at ≡ some view →
         slice_get view.sessions place ≡ Some history → (seat : Seated) (a b : Account) (uses left : UseCounts)
         (tag : Tag) (mode its : Mode) (other : ℕ) (how : How) → seat.number ≡ history.number →
@@ -73,7 +73,7 @@ pub fn a_refusal_saw_what_it_names<T: PartTable>()
 /// `RecordPart::counts` says of an object of that part is how many sessions hold it in each mode in that content, and
 /// how many hold or await it so; where it has no counts, nobody does.
 pub fn the_counts_of_the_table_are_exact()
-    ensures { (sizes : Sizes) (state : State (Kept RecordView) (View RecordView))
+    ensures { (sizes : TableSizes) (state : State (Kept RecordView) (View RecordView))
         (rule : Ruled content_of (λ part. part.begun) sizes state) (partition : ℕ) → partition < 16 →
         rule.world.contents.hand partition ≡ None →
         (part : RecordView) × (get_elem? state.homes (content_slot_of partition) ≡ some (some (kept.Part part)))

@@ -13,7 +13,7 @@ use crate::keeper::Part;
 use crate::sessions::{Own, OwnSession, Session};
 use lock_table::empty_parts;
 use modes_core::Refusal;
-use shared_rule::{Board, Opener as NumberOpener, SeatBoard, SharedTable, Sizes, in_slots, open};
+use shared_rule::{Board, Opener as NumberOpener, SeatBoard, SharedTable, TableSizes, in_shelves, open};
 use std::alloc::Global;
 use std::marker::Model;
 
@@ -98,14 +98,14 @@ impl Manager {
         let Ok(parts) = empty_parts(alloc, Part::new) else {
             return Err(Refusal::NoMemory);
         };
-        let Ok(slots) = in_slots(alloc, parts) else {
+        let Ok(shelves) = in_shelves(alloc, parts) else {
             return Err(Refusal::NoMemory);
         };
-        let sizes = Sizes {
+        let sizes = TableSizes {
             sessions: config.sessions as u8,
             groups: config.slot_groups as u8,
         };
-        let Ok((table, numbers)) = open(alloc, &sizes, slots) else {
+        let Ok((table, numbers)) = open(alloc, &sizes, shelves) else {
             return Err(Refusal::NoMemory);
         };
         let manager = Manager {

@@ -12,7 +12,7 @@ use Rattle.shared_rule.specs.Marks.{TookFast, SharedFast}
 use Rattle.shared_rule.specs.declared.kept.Kept.{Kept}
 use Rattle.shared_rule.specs.declared.kept.Kept.TheVariants.{Nothing}
 use Rattle.shared_rule.specs.History.{slots_shown}
-use Rattle.shared_rule.specs.Layout.{content_slot_of}
+use Rattle.shared_rule.specs.Layout.{content_shelf_of}
 use Rattle.shared_rule.specs.Led.{LedBy, LedTo}
 use Rattle.shared_rule.specs.LwLocks.{no_lists, queued_for}
 use Rattle.shared_rule.specs.Acquires.{GotNothing, IsAsBefore, GetsSlots, account_getting, TakesPartition}
@@ -40,7 +40,7 @@ knows-content number a lists p content knows = record {
   tabled_holds = knows.tabled_holds;
   past = knows.past;
   own_stand = knows.own_stand;
-  in_slots = knows.in_slots;
+  in_shelves = knows.in_shelves;
   no_wait = knows.no_wait;
   once = knows.once;
   granted_hold = knows.granted_hold;
@@ -72,7 +72,7 @@ module _ {T : Type 0} (content : T → Content) where
     shown = slots_shown took.database took.words;
     knows = took.knows;
     led = led-noted content before after (TookFast owner took.database took.words) has same (ap (λ (side : Side T). side.0) took.side) (λ owed i. owed);
-    slots = ap (λ (side : Side T). side.1) took.side;
+    shelves = ap (λ (side : Side T). side.1) took.side;
   }
 
   -- or shared it.
@@ -82,7 +82,7 @@ module _ {T : Type 0} (content : T → Content) where
     shown = slots_shown shares.database shares.words;
     knows = shares.knows;
     led = led-noted content before after (SharedFast owner shares.database shares.words) has same (ap (λ (side : Side T). side.0) shares.side) (λ owed i. owed);
-    slots = ap (λ (side : Side T). side.1) shares.side;
+    shelves = ap (λ (side : Side T). side.1) shares.side;
   }
 
   -- A call that got nothing, with at most an attempt to make before and after it, and one more.
@@ -90,7 +90,7 @@ module _ {T : Type 0} (content : T → Content) where
     got-then : (does : Todo → Todo) → GotNothing content middle after (does (todo_at middle)) → GotNothing content before after (does todo)
     got-then does second = record {
       led = led_to-then content before middle after (account_at content before) todo (λ a. a) does first.led second.led;
-      slots = second.slots ∙ first.slots;
+      shelves = second.shelves ∙ first.shelves;
     }
 
     module _ (same : todo_attempted todo ≡ todo_attempted (todo_at before)) where
@@ -103,7 +103,7 @@ module _ {T : Type 0} (content : T → Content) where
             (subst (λ n. LedBy content before after (account_getting mode n (account_at content before) owner takes.shown) (quiet_getting mode owner (quiet_at before)) (todo_attempted todo)) first.led.number
             (led_by-then content before middle after (account_at content before) (quiet_at before) todo (λ a. account_getting mode (number_at middle) a owner takes.shown) (quiet_getting mode owner) todo_attempted first.led takes.led))
             same;
-        slots = takes.slots ∙ first.slots;
+        shelves = takes.shelves ∙ first.shelves;
       }
 
       pub tried-then_part : (begun : T → Option Request) (part : ℕ) (taken : T) → TakesPartition content begun part middle after taken → TakesPartition content begun part before after taken
@@ -111,7 +111,7 @@ module _ {T : Type 0} (content : T → Content) where
         led = led_by-todo content before after _ _ (todo_attempted todo) (todo_attempted (todo_at before))
             (led_to-then content before middle after (account_at content before) todo (λ a. account_taking a part (content taken)) todo_attempted first.led takes.led)
             same;
-        slots = takes.slots ∙ ap (λ slots. (content_slot_of part, Nothing) ∷ slots) first.slots;
+        shelves = takes.shelves ∙ ap (λ shelves. (content_shelf_of part, Nothing) ∷ shelves) first.shelves;
         none_begun = takes.none_begun;
         knows = subst (λ n. KnowsContent n (account_at content before) part (content taken)) first.led.number
             (subst (λ a. KnowsContent (number_at middle) a part (content taken)) first.led.account takes.knows);
@@ -143,7 +143,7 @@ module _ {T : Type 0} (content : T → Content) where
           led = led_by-todo content before after _ _ nothing_to_do (todo_attempted (todo_at before))
               (led_to-as content before after nothing_to_do (account_taking (with_lists a no_lists) part (content taken)) (account_taking a part (content taken)) thrice (ap (λ b. account_taking b part (content taken)) (idle-same a idle)))
               once-tried;
-          slots = rest ∙ takes.slots ∙ ap (λ slots. (content_slot_of part, Nothing) ∷ slots) same;
+          shelves = rest ∙ takes.shelves ∙ ap (λ shelves. (content_shelf_of part, Nothing) ∷ shelves) same;
           none_begun = takes.none_begun;
           knows = knows-content (number_at before) a (queued_for lock) part (content taken)
               (subst (λ n. KnowsContent n (with_lists a (queued_for lock)) part (content taken)) queues.number
@@ -171,5 +171,5 @@ module _ {T : Type 0} (content : T → Content) where
               (subst (λ b. KnowsSlots groups (number_at queued) b owner takes.shown) queues.account takes.knows));
           led = led_by-todo content before after _ _ nothing_to_do (todo_attempted (todo_at before))
               (subst (λ n. LedBy content before after (account_getting mode n a owner takes.shown) its nothing_to_do) queues.number fourth) once-tried;
-          slots = rest ∙ takes.slots ∙ same;
+          shelves = rest ∙ takes.shelves ∙ same;
         }

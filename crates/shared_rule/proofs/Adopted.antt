@@ -25,13 +25,13 @@ use Rattle.shared_rule.specs.WasSo.{WasInSlot}
 
 -- What an adopt adds to a content was in the slot that it names.
 
-module _ (p owner place : ℕ) (o : Tag) (m : Mode) (taken : Content) (had_not : taken.holds owner o m ≡ false) where
+module _ (p owner slot : ℕ) (o : Tag) (m : Mode) (taken : Content) (had_not : taken.holds owner o m ≡ false) where
   -- The partition is in hand with that content taken, no move is recorded or the adopt, and the content has the hold.
   record IsAdopted (hand : Option Hand) (now : Content) : Type 0 where
     mine : Hand
     in_hand : hand ≡ Some mine
     taken_is : mine.taken ≡ taken
-    may : MayAdopt mine.recorded owner place
+    may : MayAdopt mine.recorded owner slot
     has : now.holds owner o m ≡ true
 
   abbrev IsIn : World → Type 0
@@ -39,7 +39,7 @@ module _ (p owner place : ℕ) (o : Tag) (m : Mode) (taken : Content) (had_not :
 
   -- The slot shows it, with the partition in hand so.
   abbrev InSlot : World → Type 0
-  InSlot w = (mine : Hand) × (w.contents.hand p ≡ Some mine) × (mine.taken ≡ taken) × IsHeldIn (w.words.database owner) (w.words.slot owner) o m place
+  InSlot w = (mine : Hand) × (w.contents.hand p ≡ Some mine) × (mine.taken ≡ taken) × IsHeldIn (w.words.database owner) (w.words.slot owner) o m slot
 
   abbrev WasIn : World → Type 0
   WasIn w = IsIn w ⊎ InSlot w
@@ -74,12 +74,12 @@ module _ (p owner place : ℕ) (o : Tag) (m : Mode) (taken : Content) (had_not :
   at-home : (now : Content) → IsAdopted None now → ⊥
   at-home now there = let never : None ≡ Some there.mine = there.in_hand in cc (never)
 
-  recorded-else : (hand : Option Hand) (done : Move) (unmarked : ℕ → Bool) (now : Content) → (done ≡ Adopt owner place → ⊥) → IsAdopted (recording hand done unmarked) now → ⊥
+  recorded-else : (hand : Option Hand) (done : Move) (unmarked : ℕ → Bool) (now : Content) → (done ≡ Adopt owner slot → ⊥) → IsAdopted (recording hand done unmarked) now → ⊥
   recorded-else None done unmarked now never there = at-home now there
   recorded-else (Some hand) done unmarked now never there =
       let is : Some (record hand { recorded = Some done; unmarked = unmarked }) ≡ Some there.mine = there.in_hand in
       let same : record hand { recorded = Some done; unmarked = unmarked } ≡ there.mine = cc (is) in
-      never (subst (λ (h : Hand). MayAdopt h.recorded owner place) (sym same) there.may)
+      never (subst (λ (h : Hand). MayAdopt h.recorded owner slot) (sym same) there.may)
 
   taking : (w : World) (s : ℕ) (its : Word) (v : World) → HappensTaking w s its v → IsIn v → WasIn w
   taking w s (Partition q) v h there =
@@ -142,7 +142,7 @@ module _ (p owner place : ℕ) (o : Tag) (m : Mode) (taken : Content) (had_not :
   joining w s (Some j) v h there = keeps w _ v h.1 refl there
   joining w s None v h there = keeps w _ v h.1 refl there
 
-  marking-in : (w : World) (s marked q : ℕ) (done : Move) (v : World) → (done ≡ Adopt owner place → ⊥) → HappensMarkingIn w s marked q done v → IsIn v → WasIn w
+  marking-in : (w : World) (s marked q : ℕ) (done : Move) (v : World) → (done ≡ Adopt owner slot → ⊥) → HappensMarkingIn w s marked q done v → IsIn v → WasIn w
   marking-in w s marked q done v never (inl h) there =
       changes (WasIn w) w.contents.hand w.contents.now q _ h.1 (λ same its. absurd (recorded-else (w.contents.hand q) done _ h.1 never its)) inl
       (subst (λ (z : World). IsIn z) h.3 there)
@@ -214,7 +214,7 @@ module _ (p owner place : ℕ) (o : Tag) (m : Mode) (taken : Content) (had_not :
       → IsHeldIn (w.words.database q) (w.words.slot q) t n i → w.contents.hand k ≡ hand
       → IsAdopted (recording hand (Adopt q i) unmarked) (add_hold (w.contents.now k) q t n)
       → IsAdopted (w.contents.hand k) (w.contents.now k)
-      ⊎ ((mine : Hand) × (w.contents.hand k ≡ Some mine) × (mine.taken ≡ taken) × IsHeldIn (w.words.database owner) (w.words.slot owner) o m place)
+      ⊎ ((mine : Hand) × (w.contents.hand k ≡ Some mine) × (mine.taken ≡ taken) × IsHeldIn (w.words.database owner) (w.words.slot owner) o m slot)
   moved w q i k t n unmarked None may held had there = absurd (at-home (add_hold (w.contents.now k) q t n) there)
   moved w q i k t n unmarked (Some hand) may held had there = at (set_hold-at (w.contents.now k).holds q t n true owner o m) where
     is : Some (record hand { recorded = Some (Adopt q i); unmarked = unmarked }) ≡ Some there.mine
@@ -226,23 +226,23 @@ module _ (p owner place : ℕ) (o : Tag) (m : Mode) (taken : Content) (had_not :
     taken_so : hand.taken ≡ taken
     taken_so = ap (λ (x : Hand). x.taken) same ∙ there.taken_is
 
-    adopt : Adopt q i ≡ Adopt owner place
-    adopt = subst (λ (x : Hand). MayAdopt x.recorded owner place) (sym same) there.may
+    adopt : Adopt q i ≡ Adopt owner slot
+    adopt = subst (λ (x : Hand). MayAdopt x.recorded owner slot) (sym same) there.may
 
     whose : q ≡ owner
     whose = cc (adopt)
 
-    slot : i ≡ place
-    slot = cc (adopt)
+    same_slot : i ≡ slot
+    same_slot = cc (adopt)
 
     at : SetHoldAt (w.contents.now k).holds q t n true owner o m
         → IsAdopted (w.contents.hand k) (w.contents.now k)
-        ⊎ ((mine : Hand) × (w.contents.hand k ≡ Some mine) × (mine.taken ≡ taken) × IsHeldIn (w.words.database owner) (w.words.slot owner) o m place)
+        ⊎ ((mine : Hand) × (w.contents.hand k ≡ Some mine) × (mine.taken ≡ taken) × IsHeldIn (w.words.database owner) (w.words.slot owner) o m slot)
     at (here it e) = inr (
       hand,
       had,
       taken_so,
-      subst (λ at. IsHeldIn (w.words.database owner) (w.words.slot owner) o m at) slot
+      subst (λ at. IsHeldIn (w.words.database owner) (w.words.slot owner) o m at) same_slot
           (subst (λ mode. IsHeldIn (w.words.database owner) (w.words.slot owner) o mode i) (sym it.mode)
           (subst (λ tag. IsHeldIn (w.words.database owner) (w.words.slot owner) tag n i) (sym it.tag)
           (subst (λ (j : ℕ). IsHeldIn (w.words.database j) (w.words.slot j) t n i) whose held))),
@@ -251,7 +251,7 @@ module _ (p owner place : ℕ) (o : Tag) (m : Mode) (taken : Content) (had_not :
       mine = hand;
       in_hand = had;
       taken_is = taken_so;
-      may = subst (λ (at : ℕ). MayAdopt hand.recorded owner at) slot (subst (λ (j : ℕ). MayAdopt hand.recorded j i) whose may);
+      may = subst (λ (at : ℕ). MayAdopt hand.recorded owner at) same_slot (subst (λ (j : ℕ). MayAdopt hand.recorded j i) whose may);
       has = sym e ∙ there.has;
     })
 
@@ -259,7 +259,7 @@ module _ (p owner place : ℕ) (o : Tag) (m : Mode) (taken : Content) (had_not :
   moving w s q i t n strong v h there =
       changes (WasIn w) w.contents.hand w.contents.now (partition_of t) _ _
       (λ same its. subst (λ (k : ℕ). IsAdopted (w.contents.hand k) (w.contents.now k)
-      ⊎ ((mine : Hand) × (w.contents.hand k ≡ Some mine) × (mine.taken ≡ taken) × IsHeldIn (w.words.database owner) (w.words.slot owner) o m place)) same
+      ⊎ ((mine : Hand) × (w.contents.hand k ≡ Some mine) × (mine.taken ≡ taken) × IsHeldIn (w.words.database owner) (w.words.slot owner) o m slot)) same
       (moved w q i (partition_of t) t n _ (w.contents.hand (partition_of t)) h.0.may_adopt h.0.held_in refl its))
       inl
       (subst (λ (z : World). IsIn z) h.1 there)
@@ -297,7 +297,7 @@ module _ (p owner place : ℕ) (o : Tag) (m : Mode) (taken : Content) (had_not :
   step w s (SetHasWaiters its n) v h there = setting_has_waiters w s its n v h there
 
   -- So it was in the slot on the way, unless it was there so at first.
-  on-the-way : (w : World) (events : List Event) (v : World) → Leads w events v → IsIn v → IsIn w ⊎ WasInSlot w v events p owner place o m taken
+  on-the-way : (w : World) (events : List Event) (v : World) → Leads w events v → IsIn v → IsIn w ⊎ WasInSlot w v events p owner slot o m taken
   on-the-way w [] v run there = inl (subst (λ (z : World). IsIn z) run there)
   on-the-way w (event ∷ events) v run there = elim (on-the-way run.0 events v run.2 there) [
     | inl then ↦ elim (step w event.session event.step run.0 run.1 then) [
@@ -331,14 +331,14 @@ module _ (p owner place : ℕ) (o : Tag) (m : Mode) (taken : Content) (had_not :
 
   pub was-in_slot :
       (limit groups : ℕ) (events : List Event) (v : World) (hand : Hand) → Leads (opening limit groups) events v → v.contents.hand p ≡ Some hand
-      → hand.taken ≡ taken → hand.recorded ≡ Some (Adopt owner place) → (v.contents.now p).holds owner o m ≡ true
-      → WasInSlot (opening limit groups) v events p owner place o m taken
+      → hand.taken ≡ taken → hand.recorded ≡ Some (Adopt owner slot) → (v.contents.now p).holds owner o m ≡ true
+      → WasInSlot (opening limit groups) v events p owner slot o m taken
   was-in_slot limit groups events v hand run in_hand same recorded has =
       elim (on-the-way (opening limit groups) events v run (record {
         mine = hand;
         in_hand = in_hand;
         taken_is = same;
-        may = subst (λ done. MayAdopt done owner place) (sym recorded) refl;
+        may = subst (λ done. MayAdopt done owner slot) (sym recorded) refl;
         has = has;
       })) [
         | inl first ↦ absurd (at-home ((opening limit groups).contents.now p) first)

@@ -99,7 +99,7 @@ within-among limit (one ∷ others) distinct k tag mode own =
 -- Slots and rows,
 pub held-sum : (limit groups : ℕ) → 0 < groups → groups ≤ most_groups → (gathered : List Gathered) (contents : ℕ → Content) (word : ℕ → ℕ → ℕ) (rows : List TableRow) (many : List ℕ) → AreDistinct limit gathered
     → ((k : ℕ) → OwnStand groups k (account_among gathered k) contents)
-    → ((k place : ℕ) → k < limit → place < group_size * groups → ShowsLeft k (account_among gathered k) contents place (word k place))
+    → ((k slot : ℕ) → k < limit → slot < group_size * groups → ShowsLeft k (account_among gathered k) contents slot (word k slot))
     → HasEachRow (whole_of contents) rows → OwnSoMany gathered many
     → shown_in_slots limit groups word + count_by (λ (row : TableRow). row.granted) rows ≡ sum many
 held-sum limit groups some few gathered contents word rows many distinct stand left each own =

@@ -50,8 +50,8 @@ use Rattle.shared_rule.proofs.Episodes.{fresh_hand, taken-in_hand, kept-since}
 
 -- ---- steps at a seat
 
-pub same-seat : {T : Type 0} (place : Seat (Kept T) (View T)) → IsSameSeat place place
-same-seat place = record { table_id = refl; id = refl }
+pub same-seat : {T : Type 0} (seat : Seat (Kept T) (View T)) → IsSameSeat seat seat
+same-seat seat = record { table_id = refl; id = refl }
 
 pub same-seat_then : {T : Type 0} (a b c : Seat (Kept T) (View T)) → IsSameSeat a b → IsSameSeat b c → IsSameSeat a c
 same-seat_then a b c first second = record { table_id = second.table_id ∙ first.table_id; id = second.id ∙ first.id }
@@ -134,16 +134,16 @@ stand-as : (groups k : ℕ) (a b : Account) (contents : ℕ → Content) → a.o
 stand-as groups k a b contents own fast stand = record {
   one_each = subst (λ (f : FastAccount). OneSlotEach f.remembered) fast stand.one_each;
   in_groups = subst (λ (f : FastAccount). AreInGroups groups f.remembered) fast stand.in_groups;
-  in_slots = λ t m is.
+  in_shelves = λ t m is.
       subst (λ (f : FastAccount). slot_holds f.database f.remembered t m ≡ true) fast
-      (stand.in_slots t m (ap (λ (o : Tag → Mode → Bool). left_in_slots o contents k t m) own ∙ is));
+      (stand.in_shelves t m (ap (λ (o : Tag → Mode → Bool). left_in_slots o contents k t m) own ∙ is));
   in_contents = λ t m has. ap (λ (o : Tag → Mode → Bool). o t m) (sym own) ∙ stand.in_contents t m has;
 }
 
-left-as : (k : ℕ) (a b : Account) (contents : ℕ → Content) (place word : ℕ) → a.own ≡ b.own → a.fast ≡ b.fast → ShowsLeft k a contents place word → ShowsLeft k b contents place word
-left-as k a b contents place word own fast left relation mode =
+left-as : (k : ℕ) (a b : Account) (contents : ℕ → Content) (slot word : ℕ) → a.own ≡ b.own → a.fast ≡ b.fast → ShowsLeft k a contents slot word → ShowsLeft k b contents slot word
+left-as k a b contents slot word own fast left relation mode =
     left relation mode
-    ∙ (λ i. shows ((fast i).remembered place) relation mode && left_in_slots (own i) contents k (Relation (fast i).database relation) mode)
+    ∙ (λ i. shows ((fast i).remembered slot) relation mode && left_in_slots (own i) contents k (Relation (fast i).database relation) mode)
 
 -- the first of a list by two accounts
 among-as : (P : Account → Type 0) (n : ℕ) (a b : Account) (others : List Gathered) (k : ℕ) → (P a → P b)
@@ -194,12 +194,12 @@ module _ {T : Type 0} (content : T → Content) (a b : View T) (has : HasSession
       (among-as (λ c. OwnStand groups k c contents) number its mine rest k (stand-as groups k its mine contents own fast)
       (subst (λ xs. OwnStand groups k (account_among xs k) contents) after-is stand))
 
-  pub left-before : its.own ≡ mine.own → its.fast ≡ mine.fast → (k : ℕ) (contents : ℕ → Content) (place word : ℕ)
-      → ShowsLeft k (account_among (gathered_in content b.sessions) k) contents place word → ShowsLeft k (account_among (gathered_in content a.sessions) k) contents place word
-  left-before own fast k contents place word left =
-      subst (λ xs. ShowsLeft k (account_among xs k) contents place word) (sym before-is)
-      (among-as (λ c. ShowsLeft k c contents place word) number its mine rest k (left-as k its mine contents place word own fast)
-      (subst (λ xs. ShowsLeft k (account_among xs k) contents place word) after-is left))
+  pub left-before : its.own ≡ mine.own → its.fast ≡ mine.fast → (k : ℕ) (contents : ℕ → Content) (slot word : ℕ)
+      → ShowsLeft k (account_among (gathered_in content b.sessions) k) contents slot word → ShowsLeft k (account_among (gathered_in content a.sessions) k) contents slot word
+  left-before own fast k contents slot word left =
+      subst (λ xs. ShowsLeft k (account_among xs k) contents slot word) (sym before-is)
+      (among-as (λ c. ShowsLeft k c contents slot word) number its mine rest k (left-as k its mine contents slot word own fast)
+      (subst (λ xs. ShowsLeft k (account_among xs k) contents slot word) after-is left))
 
   pub counted-before : its.fast ≡ mine.fast → (index : ℕ) → counted_at index (gathered_in content b.sessions) ≡ counted_at index (gathered_in content a.sessions)
   counted-before fast index =
@@ -236,9 +236,9 @@ module _ {T : Type 0} (content : T → Content) where
   sees-none owner view has = record {
     word = λ _. 0;
     further = further-itself view has;
-    account = after-none (first_account content view.sessions) (slot_loads_of owner 0 (λ _. 0)) (joined-none (λ place. Loaded (Slot owner place) 0 ∷ []));
-    sum_ = sym (total-none (λ place. modes_shown 0));
-    left = λ issued are contents in_hand place below. absurd (omega (arith, below));
+    account = after-none (first_account content view.sessions) (slot_loads_of owner 0 (λ _. 0)) (joined-none (λ slot. Loaded (Slot owner slot) 0 ∷ []));
+    sum_ = sym (total-none (λ slot. modes_shown 0));
+    left = λ issued are contents in_hand slot below. absurd (omega (arith, below));
   }
 
   pub sees-more : (owner count : ℕ) (before mid after : View T) (sum more shown : ℕ) → HasSession before → SeesSlots content owner count before mid sum → IsFurther mid after
@@ -266,8 +266,8 @@ module _ {T : Type 0} (content : T → Content) where
             let last : modes_shown (word count) ≡ modes_shown shown = ap modes_shown here in
             let sum_before = so_far.sum_ in
             omega (arith, added, total_more, same, last, sum_before);
-        left = λ issued are contents in_hand place below.
-            elim (cases_eq place count) [
+        left = λ issued are contents in_hand slot below.
+            elim (cases_eq slot count) [
               | inl same ↦
                   subst (λ k. ShowsLeft owner (account_among (gathered_in content before.sessions) owner) contents k (word k)) (sym same)
                   (subst (ShowsLeft owner (account_among (gathered_in content before.sessions) owner) contents count) (sym here)
@@ -275,8 +275,8 @@ module _ {T : Type 0} (content : T → Content) where
                   (knows issued (further-all before mid issued has so_far.further are) contents
                   (subst (λ (a : Account). HasAllInHand a contents) (sym so_far.account) in_hand))))
               | inr other ↦
-                  let less : place < count = omega (arith, below, other) in
-                  subst (ShowsLeft owner (account_among (gathered_in content before.sessions) owner) contents place) (sym (old place less)) (so_far.left issued are contents in_hand place less)
+                  let less : slot < count = omega (arith, below, other) in
+                  subst (ShowsLeft owner (account_among (gathered_in content before.sessions) owner) contents slot) (sym (old slot less)) (so_far.left issued are contents in_hand slot less)
             ];
       }
 
@@ -295,8 +295,8 @@ module _ {T : Type 0} (content : T → Content) where
     word = λ _ _. 0;
     further = further-itself view has;
     account = after-none (first_account content view.sessions) (all_slot_loads 0 groups (λ _ _. 0)) (joined-none (λ owner. slot_loads_of owner (group_size * groups) (λ _. 0)));
-    sum_ = sym (total-none (λ owner. total (group_size * groups) (λ place. modes_shown 0)));
-    left = λ issued are contents in_hand owner place below within. absurd (omega (arith, below));
+    sum_ = sym (total-none (λ owner. total (group_size * groups) (λ slot. modes_shown 0)));
+    left = λ issued are contents in_hand owner slot below within. absurd (omega (arith, below));
   }
 
   pub sees-session : (groups count : ℕ) (before mid after : View T) (sum more one : ℕ) → HasSession before → SeesAllSlots content groups count before mid sum → SeesSlots content count (group_size * groups) mid after one
@@ -317,26 +317,26 @@ module _ {T : Type 0} (content : T → Content) where
             (λ k below. ap (slot_loads_of k (group_size * groups)) (sym (old k below))) i ++ slot_loads_of count (group_size * groups) (sym here i))
             ∙ sym (joined-more count (λ k. slot_loads_of k (group_size * groups) (word k))));
         sum_ =
-            let total_more = total-more count (λ k. total (group_size * groups) (λ place. modes_shown (word k place))) in
+            let total_more = total-more count (λ k. total (group_size * groups) (λ slot. modes_shown (word k slot))) in
             let same : shown_in_slots count groups word ≡ shown_in_slots count groups so_far.word =
-            total-same count _ _ (λ k below. ap (λ (row : ℕ → ℕ). total (group_size * groups) (λ place. modes_shown (row place))) (old k below)) in
-            let last : total (group_size * groups) (λ place. modes_shown (word count place)) ≡ total (group_size * groups) (λ place. modes_shown (sees.word place)) =
-            ap (λ (row : ℕ → ℕ). total (group_size * groups) (λ place. modes_shown (row place))) here in
+            total-same count _ _ (λ k below. ap (λ (row : ℕ → ℕ). total (group_size * groups) (λ slot. modes_shown (row slot))) (old k below)) in
+            let last : total (group_size * groups) (λ slot. modes_shown (word count slot)) ≡ total (group_size * groups) (λ slot. modes_shown (sees.word slot)) =
+            ap (λ (row : ℕ → ℕ). total (group_size * groups) (λ slot. modes_shown (row slot))) here in
             let sum_before = so_far.sum_ in
             let sum_here = sees.sum_ in
             omega (arith, added, total_more, same, last, sum_before, sum_here);
-        left = λ issued are contents in_hand owner place below within.
+        left = λ issued are contents in_hand owner slot below within.
             elim (cases_eq owner count) [
               | inl same ↦
-                  subst (λ k. ShowsLeft k (account_among (gathered_in content before.sessions) k) contents place (word k place)) (sym same)
-                  (subst (λ (row : ℕ → ℕ). ShowsLeft count (account_among (gathered_in content before.sessions) count) contents place (row place)) (sym here)
-                  (left-before content before mid has so_far.further (ap (λ (a : Account). a.own) so_far.account) (ap (λ (a : Account). a.fast) so_far.account) count contents place (sees.word place)
+                  subst (λ k. ShowsLeft k (account_among (gathered_in content before.sessions) k) contents slot (word k slot)) (sym same)
+                  (subst (λ (row : ℕ → ℕ). ShowsLeft count (account_among (gathered_in content before.sessions) count) contents slot (row slot)) (sym here)
+                  (left-before content before mid has so_far.further (ap (λ (a : Account). a.own) so_far.account) (ap (λ (a : Account). a.fast) so_far.account) count contents slot (sees.word slot)
                   (sees.left issued (further-all before mid issued has so_far.further are) contents
-                  (subst (λ (a : Account). HasAllInHand a contents) (sym so_far.account) in_hand) place within)))
+                  (subst (λ (a : Account). HasAllInHand a contents) (sym so_far.account) in_hand) slot within)))
               | inr other ↦
                   let less : owner < count = omega (arith, below, other) in
-                  subst (λ (row : ℕ → ℕ). ShowsLeft owner (account_among (gathered_in content before.sessions) owner) contents place (row place)) (sym (old owner less))
-                  (so_far.left issued are contents in_hand owner place less within)
+                  subst (λ (row : ℕ → ℕ). ShowsLeft owner (account_among (gathered_in content before.sessions) owner) contents slot (row slot)) (sym (old owner less))
+                  (so_far.left issued are contents in_hand owner slot less within)
             ];
       }
 
@@ -408,7 +408,7 @@ module _ {T : Type 0} (content : T → Content) where
   finds-all groups issued limit sum before after contents sees are known in_hand = record {
     distinct = known.distinct;
     stand = λ nobody number. known.stand contents nobody in_hand number;
-    left = λ owner place below within. sees.left issued are contents in_hand owner place below within;
+    left = λ owner slot below within. sees.left issued are contents in_hand owner slot below within;
   }
 
 -- What was found with one partition more in hand was found.
@@ -420,9 +420,9 @@ module _ {T : Type 0} (content : T → Content) (groups issued limit p : ℕ) (b
     stand = λ nobody number.
         stand-before content before mid has further (ap (λ (a : Account). a.own) took) (ap (λ (a : Account). a.fast) took) groups number all
         (found.stand (none_waits-after content before mid has further (sym (ap (λ (a : Account). a.awaited) took)) nobody) number);
-    left = λ owner place below within.
-        left-before content before mid has further (ap (λ (a : Account). a.own) took) (ap (λ (a : Account). a.fast) took) owner all place (word owner place)
-        (found.left owner place below within);
+    left = λ owner slot below within.
+        left-before content before mid has further (ap (λ (a : Account). a.own) took) (ap (λ (a : Account). a.fast) took) owner all slot (word owner slot)
+        (found.left owner slot below within);
   }
 
   -- Those in hand before are still, and this one with what was taken.
@@ -527,7 +527,7 @@ finds-traced {T} content groups issued limit before mid steps has further accoun
   stand = λ nobody number.
       stand-before content before mid has further (ap (λ (a : Account). a.own) account) (ap (λ (a : Account). a.fast) account) groups number contents
       (found.stand (none_waits-after content before mid has further (sym (ap (λ (a : Account). a.awaited) account)) nobody) number);
-  left = λ owner place below within.
-      left-before content before mid has further (ap (λ (a : Account). a.own) account) (ap (λ (a : Account). a.fast) account) owner contents place (word owner place)
-      (found.left owner place below within);
+  left = λ owner slot below within.
+      left-before content before mid has further (ap (λ (a : Account). a.own) account) (ap (λ (a : Account). a.fast) account) owner contents slot (word owner slot)
+      (found.left owner slot below within);
 }

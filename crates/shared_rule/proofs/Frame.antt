@@ -21,7 +21,7 @@ use Rattle.lock_world.proofs.SafeWorld.Runs.{event-safe}
 use Rattle.lock_world.proofs.Others.Events.{event-others}
 use Rattle.shared_rule.specs.declared.history.Mark.{Mark}
 use Rattle.shared_rule.specs.declared.history.History.{History}
-use Rattle.shared_rule.specs.declared.rule.Sizes.{Sizes}
+use Rattle.shared_rule.specs.declared.rule.TableSizes.{TableSizes}
 use Rattle.shared_rule.specs.declared.history.View.{View}
 use Rattle.shared_rule.specs.declared.kept.Kept.{Kept}
 use Rattle.shared_rule.specs.Shown.{WordsAreShown}
@@ -294,7 +294,7 @@ module _ {T : Type 0} (content : T → Content) (w v : World) (views : List (Vie
   ]
 
   -- So the run goes on by the turn that the mark tells, and what stands beside the World is as the histories tell then.
-  module _ (sizes : Sizes) (events later : List Event) (kept : WakesAreKept sizes views events w) (turn : Turn) (keeps : KeepsInOrder w kept.beside turn v)
+  module _ (sizes : TableSizes) (events later : List Event) (kept : WakesAreKept sizes views events w) (turn : Turn) (keeps : KeepsInOrder w kept.beside turn v)
       (its_events : events_of (kept.turns ++ turn ∷ []) ≡ later) (own_turn : is_turn_of x.number turn ≡ true) (tells : TellsTurn x.number mark turn)
       (other_turn : (k : ℕ) → k ≢ x.number → is_turn_of k turn ≡ false)
       (own_todo : todo_told_by x.number (mark ∷ x.marks) ≡ todo_of (beside_after w kept.beside turn) x.number)
@@ -358,7 +358,7 @@ module _ {T : Type 0} (content : T → Content) (w v : World) (views : List (Vie
   closed_so-noted first events event happens so y stands = closed_so-push content first w v events event y happens (so y (closed-stood y stands))
 
 -- What the session that goes on by itself at a seat knows of the World, and what holds there.
-pub record Stepper (sizes : Sizes) (w : World) (number : ℕ) (a : Account) : Type 0 where
+pub record Stepper (sizes : TableSizes) (w : World) (number : ℕ) (a : Account) : Type 0 where
   pub safe : SafeWorld w
   pub is_limit : w.numbers.limit ≡ sizes.sessions
   pub are_groups : w.numbers.groups ≡ sizes.groups
@@ -390,7 +390,7 @@ pub data IsSeen {T : Type 0} (w : World) (todo : Todo) (mark : Mark T) : Type 0 
   calls_one_waiting : (other : ℕ) → mark ≡ CalledWaiter other → IsSeen w todo mark
   calls_one_asleep : (other : ℕ) → mark ≡ CalledSleeper other → IsSeen w todo mark
 
-module _ {T : Type 0} (content : T → Content) (begun : T → Option Request) (sizes : Sizes) (s : State (Kept T) (View T)) (r : Ruled content begun sizes s)
+module _ {T : Type 0} (content : T → Content) (begun : T → Option Request) (sizes : TableSizes) (s : State (Kept T) (View T)) (r : Ruled content begun sizes s)
     (id : ℕ) (view : View T) (x : History T) (others : List (History T)) (at : get_elem? s.views id ≡ some view) (is : view.sessions ≡ x ∷ others) where
   pub history_of : HistoryIsShown content r.world r.seats.seat_of r.seats.place_in id 0 view.sessions x
   history_of = r.seats.history id 0 view x at (ap (λ sessions. slice_get sessions 0) is)

@@ -24,7 +24,7 @@ use Rattle.lock_world.specs.Counted.{count_at, counter}
 use Rattle.lock_world.specs.Tallies.{left_in_slots, OwnStand, ShowsLeft}
 use Rattle.lock_world.proofs.Remembered.{nothing-remembered, remembered-once, groups-of_run}
 use Rattle.lock_world.proofs.OwnStand.{own-stand, shows-left, spent-shows_nothing, spent-in_no_content}
-use Rattle.shared_rule.specs.declared.rule.Sizes.{Sizes}
+use Rattle.shared_rule.specs.declared.rule.TableSizes.{TableSizes}
 use Rattle.shared_rule.specs.declared.history.History.{History}
 use Rattle.shared_rule.specs.declared.history.View.{View}
 use Rattle.shared_rule.specs.History.{blank_account, told}
@@ -171,7 +171,7 @@ blank-stands : (groups k : ℕ) (contents : ℕ → Content) → ((t : Tag) (m :
 blank-stands groups k contents none = record {
   one_each = (nothing-remembered groups).0;
   in_groups = (nothing-remembered groups).1;
-  in_slots = λ t m is. absurd (cc (is));
+  in_shelves = λ t m is. absurd (cc (is));
   in_contents = λ t m has. absurd (both_ways ((contents (partition_of t)).holds k t m) (none t m) has);
 }
 
@@ -180,11 +180,11 @@ stands-as : (groups k : ℕ) (a : Account) (contents others : ℕ → Content) �
 stands-as groups k a contents others same stand = record {
   one_each = stand.one_each;
   in_groups = stand.in_groups;
-  in_slots = λ t m is. stand.in_slots t m (ap (λ (c : Content). a.own t m && not (c.holds k t m)) (same t) ∙ is);
+  in_shelves = λ t m is. stand.in_shelves t m (ap (λ (c : Content). a.own t m && not (c.holds k t m)) (same t) ∙ is);
   in_contents = λ t m has. stand.in_contents t m (ap (λ (c : Content). c.holds k t m) (same t) ∙ has);
 }
 
-module _ {T : Type 0} (content : T → Content) (w : World) (sizes : Sizes) (events : List Event) (few : sizes.sessions < 2 ^ 24) (run : Runs (opening sizes.sessions sizes.groups) events w) (safe : SafeWorld w) (views : List (View T)) (id issued : ℕ) (view : View T)
+module _ {T : Type 0} (content : T → Content) (w : World) (sizes : TableSizes) (events : List Event) (few : sizes.sessions < 2 ^ 24) (run : Runs (opening sizes.sessions sizes.groups) events w) (safe : SafeWorld w) (views : List (View T)) (id issued : ℕ) (view : View T)
     (at : get_elem? views id ≡ some view) (seats : SeatsAreShown content views w) (closed : OpenerHasClosed views w.numbers) (are : AreAll issued view) where
   abbrev gathered : List Gathered
   gathered = gathered_in content view.sessions
@@ -275,18 +275,18 @@ module _ {T : Type 0} (content : T → Content) (w : World) (sizes : Sizes) (eve
 
   -- and what the words of their slots show.
   pub slots-among : (first : History T) → slice_get view.sessions 0 ≡ Some first → (contents : ℕ → Content) → HasAllInHand (told content first.number first.marks) contents
-      → (k place : ℕ) → place < slot_count → ShowsLeft k (account_among gathered k) contents place (w.words.slot k place)
-  slots-among first get contents has k place within relation mode =
+      → (k slot : ℕ) → slot < slot_count → ShowsLeft k (account_among gathered k) contents slot (w.words.slot k slot)
+  slots-among first get contents has k slot within relation mode =
       elim (cases_Bool (w.numbers.live k)) [
         | inl alive ↦
-            subst (λ (a : Account). shows (w.words.slot k place) relation mode ≡ (shows (a.fast.remembered place) relation mode && left_in_slots a.own contents k (tag a) mode))
+            subst (λ (a : Account). shows (w.words.slot k slot) relation mode ≡ (shows (a.fast.remembered slot) relation mode && left_in_slots a.own contents k (tag a) mode))
             (sym (live-among k alive))
-            (shows-left w safe k (remembered-once sizes.sessions sizes.groups events w few run k).0 place within relation mode
-            ∙ ap (λ (c : Content). shows (w.sessions.remembered k place) relation mode && (w.sessions.own k (tag (account w k)) mode && not (c.holds k (tag (account w k)) mode)))
+            (shows-left w safe k (remembered-once sizes.sessions sizes.groups events w few run k).0 slot within relation mode
+            ∙ ap (λ (c : Content). shows (w.sessions.remembered k slot) relation mode && (w.sessions.own k (tag (account w k)) mode && not (c.holds k (tag (account w k)) mode)))
             (contents-now first get contents has (tag (account w k))))
         | inr dead ↦
-            spent-shows_nothing w safe k dead place relation mode within
-            ∙ sym (ap (λ (a : Account). shows (a.fast.remembered place) relation mode && left_in_slots a.own contents k (tag a) mode) (spent-among k dead)
+            spent-shows_nothing w safe k dead slot relation mode within
+            ∙ sym (ap (λ (a : Account). shows (a.fast.remembered slot) relation mode && left_in_slots a.own contents k (tag a) mode) (spent-among k dead)
             ∙ and_right (shows 0 relation mode) false refl)
       ] where
         tag : Account → Tag

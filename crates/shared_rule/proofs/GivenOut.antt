@@ -14,7 +14,7 @@ use Rattle.shared_rule.specs.declared.history.History.{History}
 use Rattle.shared_rule.specs.declared.history.Mark.{Mark}
 use Rattle.shared_rule.specs.declared.history.View.{View}
 use Rattle.shared_rule.specs.declared.kept.Kept.{Kept}
-use Rattle.shared_rule.specs.declared.rule.Sizes.{Sizes}
+use Rattle.shared_rule.specs.declared.rule.TableSizes.{TableSizes}
 use Rattle.shared_rule.specs.History.{lone, spent_view}
 use Rattle.shared_rule.specs.Gatherings.{AreDistinct, gathered_in}
 use Rattle.shared_rule.specs.Ruled.{IsClosed, ClosedAreCounted, OpenerHasClosed, HistoryIsShown, StandsClosed, HasSeat, HasClosedHistory, HasOpener, Ruled}
@@ -111,7 +111,7 @@ module _ {T : Type 0} (content : T → Content) where
   ]
 
 -- No seat vanishes.
-module _ {T : Type 0} (content : T → Content) (begun : T → Option Request) (sizes : Sizes) (s : State (Kept T) (View T)) (r : Ruled content begun sizes s)
+module _ {T : Type 0} (content : T → Content) (begun : T → Option Request) (sizes : TableSizes) (s : State (Kept T) (View T)) (r : Ruled content begun sizes s)
     (id k : ℕ) (marks : List (Mark T)) (at : get_elem? s.views id ≡ some (lone k marks)) where
   abbrev without_it : List (View T)
   without_it = slice_set s.views id spent_view
@@ -151,7 +151,7 @@ module _ {T : Type 0} (content : T → Content) (begun : T → Option Request) (
         | inr closed ↦ not-closed closed
       ]
 
-pub no-seat_vanishes : {T : Type 0} (content : T → Content) (begun : T → Option Request) (sizes : Sizes) (s : State (Kept T) (View T)) → Ruled content begun sizes s
+pub no-seat_vanishes : {T : Type 0} (content : T → Content) (begun : T → Option Request) (sizes : TableSizes) (s : State (Kept T) (View T)) → Ruled content begun sizes s
     → (id k : ℕ) (marks : List (Mark T)) → get_elem? s.views id ≡ some (lone k marks)
     → Ruled content begun sizes (record { words = s.words; homes = s.homes; views = slice_set s.views id spent_view }) → ⊥
 no-seat_vanishes content begun sizes s r id k marks at = vanishes content begun sizes s r id k marks at

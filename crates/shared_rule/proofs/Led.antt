@@ -129,9 +129,9 @@ module _ {T : Type 0} (content : T → Content) (before after : Seat (Kept T) (V
   }
 
 -- Nothing was done.
-pub led-self : {T : Type 0} (content : T → Content) (place : Seat (Kept T) (View T)) → HasSession place.me.0
-    → Led content place place (account_at content place)
-led-self content place has = led-none content place place has (record { table_id = refl; id = refl }) refl
+pub led-self : {T : Type 0} (content : T → Content) (seat : Seat (Kept T) (View T)) → HasSession seat.me.0
+    → Led content seat seat (account_at content seat)
+led-self content seat has = led-none content seat seat has (record { table_id = refl; id = refl }) refl
 
 -- What a load of its own sleep word makes of the account: where it shows 0 the session stands in no list, and else
 -- nothing is changed.

@@ -16,7 +16,7 @@ use Rattle.shared_rule.specs.declared.history.Mark.{Mark}
 use Rattle.shared_rule.specs.declared.history.History.{History}
 use Rattle.shared_rule.specs.declared.history.View.{View}
 use Rattle.shared_rule.specs.declared.kept.Kept.{Kept}
-use Rattle.shared_rule.specs.declared.rule.Sizes.{Sizes}
+use Rattle.shared_rule.specs.declared.rule.TableSizes.{TableSizes}
 use Rattle.shared_rule.specs.Layout.{index_of_word}
 use Rattle.shared_rule.specs.Marks.{LoadedStrong}
 use Rattle.shared_rule.specs.Tells.{is_of_seats, is_step_of, steps_of, AreTold, LooksOnly, at_list, at_lock, calls_waiter, calls_sleeper, Leads}
@@ -126,7 +126,7 @@ last-load k w (event ∷ events) v index shown before run none steps = elim (own
 ]
 
 -- Where nobody else has made a step, the load that its history has last shows the word of the World.
-module _ {T : Type 0} (content : T → Content) (begun : T → Option Request) (sizes : Sizes) (s : State (Kept T) (View T)) (r : Ruled content begun sizes s)
+module _ {T : Type 0} (content : T → Content) (begun : T → Option Request) (sizes : TableSizes) (s : State (Kept T) (View T)) (r : Ruled content begun sizes s)
     (number index shown : ℕ) (marks : List (Mark T)) (stands : StandsAtSeat s.views (record { number = number; marks = LoadedStrong index shown ∷ marks })) (within : index < 1024)
     (idle : NobodyElse s.views number) where
   none-told : (history : History T) → history.marks ≡ [] → AreTold history.number history.marks (steps_of history.number r.events) → steps_of history.number r.events ≡ []

@@ -12,11 +12,11 @@ use Rattle.lock_world.specs.World.{opening}
 use Rattle.lock_table.specs.Total.{total}
 use Rattle.lock_world.proofs.SafeWorld.Opening.{opening-safe}
 use Rattle.shared_rule.specs.declared.history.History.{History}
-use Rattle.shared_rule.specs.declared.rule.Sizes.{Sizes}
+use Rattle.shared_rule.specs.declared.rule.TableSizes.{TableSizes}
 use Rattle.shared_rule.specs.declared.history.View.{View}
 use Rattle.shared_rule.specs.declared.kept.Kept.{Kept}
 use Rattle.shared_rule.specs.declared.kept.Kept.TheVariants as kept
-use Rattle.shared_rule.specs.Layout.{content_slot_of, list_slot_of}
+use Rattle.shared_rule.specs.Layout.{content_shelf_of, list_shelf_of}
 use Rattle.shared_rule.specs.Shown.{WordsAreShown}
 use Rattle.shared_rule.specs.History.{opening_view}
 use Rattle.shared_rule.specs.Opening.{IsNew, AreNew}
@@ -32,7 +32,7 @@ get-there [] i a get = absurd (cc (get))
 get-there (x ∷ xs) zero a get = let same : x ≡ a = cc (get) in ap some same
 get-there (x ∷ xs) (suc i) a get = get-there xs i a get
 
-module _ {T : Type 0} (content : T → Content) (begun : T → Option Request) (sizes : Sizes) where
+module _ {T : Type 0} (content : T → Content) (begun : T → Option Request) (sizes : TableSizes) where
   -- the opener's seat is the only one
   only-one : (seat : ℕ) (view : View T) → get_elem? (opening_view ∷ []) seat ≡ some view → (seat ≡ 0) × (opening_view ≡ view)
   only-one zero view there = (refl, some-injective opening_view view there)
@@ -95,7 +95,7 @@ module _ {T : Type 0} (content : T → Content) (begun : T → Option Request) (
         let part = new.new p exists in
         record {
           part = part.part;
-          at_home = at_map some slots (content_slot_of p) (kept.Part part.part) (get-there slots (content_slot_of p) (kept.Part part.part) part.is_there);
+          at_home = at_map some slots (content_shelf_of p) (kept.Part part.part) (get-there slots (content_shelf_of p) (kept.Part part.part) part.is_there);
           is_content = part.blank.is_empty;
           none_begun = part.blank.none_begun;
         };
@@ -103,7 +103,7 @@ module _ {T : Type 0} (content : T → Content) (begun : T → Option Request) (
         let there = new.empty lock within in
         record {
           list = there.list;
-          at_home = at_map some slots (list_slot_of lock) (kept.List there.list) (get-there slots (list_slot_of lock) (kept.List there.list) there.is_there);
+          at_home = at_map some slots (list_shelf_of lock) (kept.List there.list) (get-there slots (list_shelf_of lock) (kept.List there.list) there.is_there);
           is_list = there.empty;
         };
     seats = opening-seats;

@@ -130,8 +130,8 @@ one_index (Slot k i) (Fast j) here there same = absurd (omega (arith, same, here
 one_index (Slot k i) (Database j) here there same = absurd (omega (arith, same, here.0, here.1, there.1))
 one_index (Slot k i) (Slot j l) here there same =
     let session : k ≡ j = omega (arith, same, here.0, there.0) in
-    let place : i ≡ l = omega (arith, same, here.0, there.0) in
-    λ x. Slot (session x) (place x)
+    let slot : i ≡ l = omega (arith, same, here.0, there.0) in
+    λ x. Slot (session x) (slot x)
 one_index (Slot k i) (Wait j) here there same = absurd (omega (arith, same, here.0, here.1, there.1))
 one_index (Slot k i) (Strong l) here there same = absurd (omega (arith, same, here.0, here.1, there.0))
 one_index (Slot k i) (Sleep j) here there same = absurd (omega (arith, same, here.0, here.1, there.1))

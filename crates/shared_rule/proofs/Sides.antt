@@ -10,9 +10,9 @@ use Rattle.shared_rule.specs.Seats.{DoNotConflict, behind_of}
 -- A seat's side of an exchange of the content that came last.
 
 module _ {S V : Type 0} where
-  -- the slot that came last, by another name of its number
-  pub last-slot : (side : Me S V) (view : V) (slot k : ℕ) (x : S) (others : List (ℕ × S)) → side ≡ (view, (k, x) ∷ others) → slot ≡ k → side.1 ≡ (slot, x) ∷ rest side.1
-  last-slot side view slot k x others is same =
+  -- the shelf that came last, by another name of its number
+  pub last-shelf : (side : Me S V) (view : V) (slot k : ℕ) (x : S) (others : List (ℕ × S)) → side ≡ (view, (k, x) ∷ others) → slot ≡ k → side.1 ≡ (slot, x) ∷ rest side.1
+  last-shelf side view slot k x others is same =
       let slots : side.1 ≡ (k, x) ∷ others = ap (λ (s : Me S V). s.1) is in
       slots ∙ (λ i. (sym same i, x) ∷ rest (sym slots i))
 
@@ -24,7 +24,7 @@ module _ {S V : Type 0} where
       let pair : ◌≡◌ {A = ℕ × S} (slot, came) (k, x) = cc (heads) in
       ap (λ (z : ℕ × S). z.1) pair
 
-  -- and the slot has the other value then.
+  -- and the shelf has the other value then.
   pub last-set : (side after : Me S V) (view : V) (slot k : ℕ) (x new : S) (others : List (ℕ × S)) → side ≡ (view, (k, x) ∷ others) → slot ≡ k
       → after ≡ (side.0, (slot, new) ∷ rest side.1) → after ≡ (view, (k, new) ∷ others)
   last-set side after view slot k x new others is same set = set ∙ (λ i. ((is i).0, (same i, new) ∷ rest (is i).1))

@@ -22,11 +22,11 @@ shown-weak word relation mode shown =
     ]
 
 -- The slot that a grant takes is the relation's, if it is in use.
-pub its-slot : (groups : ℕ) (word : ℕ → ℕ) (relation place shown : ℕ) → IsSlotToGrant groups word relation place → shown ≡ word place
+pub its-slot : (groups : ℕ) (word : ℕ → ℕ) (relation slot shown : ℕ) → IsSlotToGrant groups word relation slot → shown ≡ word slot
     → in_use shown ≡ true → relation_in shown ≡ relation
-its-slot groups word relation place shown takes is used = at takes.its_or_unused where
-  at : (is_slot_of (word place) relation ≡ true) ⊎ ((in_use (word place) ≡ false) × ((other : ℕ) → other < slot_count
+its-slot groups word relation slot shown takes is used = at takes.its_or_unused where
+  at : (is_slot_of (word slot) relation ≡ true) ⊎ ((in_use (word slot) ≡ false) × ((other : ℕ) → other < slot_count
       → may_use groups relation other ≡ true → is_slot_of (word other) relation ≡ false)) → relation_in shown ≡ relation
-  at (inl its) = ap relation_in is ∙ eqb-true (relation_in (word place)) relation
-      (and_parts (in_use (word place)) (nat_eq (relation_in (word place)) relation) its).1
+  at (inl its) = ap relation_in is ∙ eqb-true (relation_in (word slot)) relation
+      (and_parts (in_use (word slot)) (nat_eq (relation_in (word slot)) relation) its).1
   at (inr unused) = absurd (false≢true (sym unused.0 ∙ ap in_use (sym is) ∙ used))

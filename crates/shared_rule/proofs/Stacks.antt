@@ -3,7 +3,7 @@ use Rattle.std.specs.Prelude.{if◌then◌else◌}
 use Rattle.std.proofs.lemmas.Bool.{eq-eqb}
 use Rattle.atomic_table.specs.Table.{rest}
 use Rattle.shared_rule.specs.declared.kept.Kept.{Kept}
-use Rattle.shared_rule.specs.Boards.{parts_in_hand, slots_out, Stack, stack_taking}
+use Rattle.shared_rule.specs.Boards.{parts_in_hand, shelves_out, Stack, stack_taking}
 use Rattle.shared_rule.specs.Owed.{waking}
 
 -- What a session has to do yet, after a few calls.
@@ -20,7 +20,7 @@ with_owed s owed = record { parts = s.parts; owed = owed }
 pub waking-first : (other : ℕ) (rest : List ℕ) → waking (other ∷ rest) other ≡ rest
 waking-first other rest = ap (λ b. if b then rest else other ∷ waking rest other) (eq-eqb other other refl)
 
--- The slots that are out are those of contents still where the last one went home.
-pub rest-out : {T : Type 0} (slots : List (ℕ × Kept T)) → slots ≡ slots_out (parts_in_hand slots) → rest slots ≡ slots_out (parts_in_hand (rest slots))
+-- The empty shelves are those of contents still where the last one went home.
+pub rest-out : {T : Type 0} (slots : List (ℕ × Kept T)) → slots ≡ shelves_out (parts_in_hand slots) → rest slots ≡ shelves_out (parts_in_hand (rest slots))
 rest-out [] out = refl
 rest-out (last ∷ others) out = ap rest out

@@ -21,7 +21,7 @@ use Rattle.lock_world.specs.Happens.Seats.{MayClose, after_issuing, after_closin
 use Rattle.lock_world.proofs.Remembered.{groups-stay}
 use Rattle.shared_rule.specs.declared.history.Mark.{Mark}
 use Rattle.shared_rule.specs.declared.history.History.{History}
-use Rattle.shared_rule.specs.declared.rule.Sizes.{Sizes}
+use Rattle.shared_rule.specs.declared.rule.TableSizes.{TableSizes}
 use Rattle.shared_rule.specs.declared.history.View.{View}
 use Rattle.shared_rule.specs.declared.kept.Kept.{Kept}
 use Rattle.shared_rule.specs.History.{blank_account, told, keeper, lone, spent_view}
@@ -369,7 +369,7 @@ module _ {T : Type 0} (content : T → Content) (w : World) (views : List (View 
       (seats-with_closed content (after_closing w k) (slice_set views other spent_view) id opener closing
       (set_else views other id spent_view (λ e. apart (sym e)) ∙ stands) (order.live_is_issued k history-alone.live, set_at-here w.numbers.live k false k refl) left-closed)
 
-module _ {T : Type 0} (content : T → Content) (begun : T → Option Request) (sizes : Sizes) (s : State (Kept T) (View T)) (r : Ruled content begun sizes s) where
+module _ {T : Type 0} (content : T → Content) (begun : T → Option Request) (sizes : TableSizes) (s : State (Kept T) (View T)) (r : Ruled content begun sizes s) where
   -- The rule holds in the World with other numbers,
   pub ruled-numbered :
       (event : Event) (numbers : Numbers) (views : List (View T)) → Happens r.world event (with_numbers r.world numbers) → numbers.limit ≡ r.world.numbers.limit

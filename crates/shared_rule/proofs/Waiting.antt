@@ -22,7 +22,7 @@ module _ {T : Type 0} (content : T → Content) (sought : Sought) (first now las
       → TakesPartition content begun part first last taken
   part-left begun part taken has =
       let waits = has.waits in
-      took_part-between content (lock_number sought.lock) first waits.joined now last waits.began.idle waits.began.todo waits.queues waits.slots begun part taken
+      took_part-between content (lock_number sought.lock) first waits.joined now last waits.began.idle waits.began.todo waits.queues waits.shelves begun part taken
       (tried-then_part content waits.joined has.at now waits.since.todo waits.since.nothing waits.since.same begun part taken has.won) leaves slots
 
   pub slots-left :
@@ -30,5 +30,5 @@ module _ {T : Type 0} (content : T → Content) (sought : Sought) (first now las
       → GetsSlots content groups mode owner first last
   slots-left groups mode owner has =
       let waits = has.waits in
-      got_slots-between content (lock_number sought.lock) first waits.joined now last waits.began.idle waits.began.todo waits.queues waits.slots groups mode owner
+      got_slots-between content (lock_number sought.lock) first waits.joined now last waits.began.idle waits.began.todo waits.queues waits.shelves groups mode owner
       (tried-then_slots content waits.joined has.at now waits.since.todo waits.since.nothing waits.since.same groups mode owner has.won) leaves slots

@@ -7,7 +7,7 @@ use Rattle.lock_world.specs.Wakes.Owing.{Asks, AsksInOrder}
 use Rattle.lock_world.proofs.Wakes.Runs.{run-push}
 use Rattle.shared_rule.specs.declared.history.History.{History}
 use Rattle.shared_rule.specs.declared.history.View.{View}
-use Rattle.shared_rule.specs.declared.rule.Sizes.{Sizes}
+use Rattle.shared_rule.specs.declared.rule.TableSizes.{TableSizes}
 use Rattle.shared_rule.specs.Owed.{owed_told}
 use Rattle.shared_rule.specs.Ruled.{todo_of, OwesAsTold, StandsAtSeat, StandsClosed, WakesAreKept}
 use Rattle.shared_rule.specs.Tells.{AreTurnsTold, is_of_seats, turns_of}
@@ -25,17 +25,17 @@ pub record TellsSo {T : Type 0} (beside : Beside) (turns : List Turn) (history :
   pub turns_ : AreTurnsTold history.number history.marks (turns_of history.number turns)
 
 -- Each does so that has a seat,
-pub each-tells : {T : Type 0} (sizes : Sizes) (views : List (View T)) (events : List Event) (w : World) (kept : WakesAreKept sizes views events w)
+pub each-tells : {T : Type 0} (sizes : TableSizes) (views : List (View T)) (events : List Event) (w : World) (kept : WakesAreKept sizes views events w)
     (h : History T) → StandsAtSeat views h → TellsSo kept.beside kept.turns h
 each-tells sizes views events w kept h stands = record { todo = kept.todo h stands; flagged = kept.flagged h stands; owed = kept.owed h stands; turns_ = kept.told.at_seat h stands }
 
 -- and so does that of a number that was not given out, with no step.
-pub new-tells : {T : Type 0} (sizes : Sizes) (views : List (View T)) (events : List Event) (w : World) (kept : WakesAreKept sizes views events w) (number : ℕ) → w.numbers.issued ≤ number
+pub new-tells : {T : Type 0} (sizes : TableSizes) (views : List (View T)) (events : List Event) (w : World) (kept : WakesAreKept sizes views events w) (number : ℕ) → w.numbers.issued ≤ number
     → TellsSo {T = T} kept.beside kept.turns (record { number = number; marks = [] })
 new-tells sizes views events w kept number later =
     record { todo = kept.none_todo number later; flagged = kept.none_flagged number later; owed = kept.none_owed number later; turns_ = kept.told.none number later }
 
-module _ {T : Type 0} (sizes : Sizes) (views after : List (View T)) (events : List Event) (w v : World) (event : Event) (happens : Happens w event v) (kept : WakesAreKept sizes views events w)
+module _ {T : Type 0} (sizes : TableSizes) (views after : List (View T)) (events : List Event) (w v : World) (event : Event) (happens : Happens w event v) (kept : WakesAreKept sizes views events w)
     (asks : Asks w kept.beside.duties kept.beside.waits kept.beside.sleeps event.session event.step) (in_order : AsksInOrder w event.session event.step)
     (seats : is_of_seats event.step ≡ true) (same : beside_after w kept.beside (happened event) ≡ kept.beside) where
   still : (k : ℕ) → turns_of k (kept.turns ++ happened event ∷ []) ≡ turns_of k kept.turns
@@ -67,7 +67,7 @@ module _ {T : Type 0} (sizes : Sizes) (views after : List (View T)) (events : Li
   }
 
 -- Where nothing happened but that histories stand elsewhere.
-pub wakes-moved : {T : Type 0} (sizes : Sizes) (views after : List (View T)) (events : List Event) (w : World) (kept : WakesAreKept sizes views events w)
+pub wakes-moved : {T : Type 0} (sizes : TableSizes) (views after : List (View T)) (events : List Event) (w : World) (kept : WakesAreKept sizes views events w)
     → ((h : History T) → StandsAtSeat after h → TellsSo kept.beside kept.turns h) → ((h : History T) → StandsClosed after h → StandsClosed views h) → WakesAreKept sizes after events w
 wakes-moved sizes views after events w kept each closed = record {
   turns = kept.turns;

@@ -12,7 +12,7 @@ use Rattle.lock_world.specs.AccountFacts.{KnowsContent, KnowsSlots}
 use Rattle.shared_rule.specs.declared.history.View.{View}
 use Rattle.shared_rule.specs.declared.kept.Kept.{Kept}
 use Rattle.shared_rule.specs.declared.kept.Kept.TheVariants.{Nothing}
-use Rattle.shared_rule.specs.Layout.{content_slot_of}
+use Rattle.shared_rule.specs.Layout.{content_shelf_of}
 use Rattle.shared_rule.specs.Led.{LedBy, LedTo}
 use Rattle.shared_rule.specs.Plays.{account_at, number_at, quiet_at, todo_at}
 use Rattle.shared_rule.specs.Quiet.{quiet_getting}
@@ -34,7 +34,7 @@ module _ {T : Type 0} (content : T → Content) where
   -- It got nothing: the account, and what is in hand, are as before, and this is to do.
   pub record GotNothing (before after : Seat (Kept T) (View T)) (todo : Todo) : Type 0 where
     pub led : LedTo content before after (account_at content before) todo
-    pub slots : after.me.1 ≡ before.me.1
+    pub shelves : after.me.1 ≡ before.me.1
 
   abbrev pub IsAsBefore : Seat (Kept T) (View T) → Seat (Kept T) (View T) → Type 0
   IsAsBefore before after = GotNothing before after (todo_at before)
@@ -54,7 +54,7 @@ module _ {T : Type 0} (content : T → Content) where
         LedBy content before after
         (account_getting mode (number_at before) (account_at content before) owner shown)
         (quiet_getting mode owner (quiet_at before)) (todo_attempted (todo_at before))
-    pub slots : after.me.1 ≡ before.me.1
+    pub shelves : after.me.1 ≡ before.me.1
 
 module _ {T : Type 0} (content : T → Content) (begun : T → Option Request) where
   -- It got a partition, with this content.
@@ -62,6 +62,6 @@ module _ {T : Type 0} (content : T → Content) (begun : T → Option Request) w
     pub led :
         LedTo content before after (account_taking (account_at content before) part (content taken))
         (todo_attempted (todo_at before))
-    pub slots : after.me.1 ≡ (content_slot_of part, Nothing) ∷ before.me.1
+    pub shelves : after.me.1 ≡ (content_shelf_of part, Nothing) ∷ before.me.1
     pub none_begun : begun taken ≡ None
     pub knows : KnowsContent (number_at before) (account_at content before) part (content taken)

@@ -35,7 +35,7 @@ counter_loads count shown = joined count (λ index. Loaded (Strong index) (shown
 -- the loads of the first so many of a session's slots, which show these words, and of all slots of all sessions below the limit,
 -- each with so many groups of slots
 abbrev pub slot_loads_of : ℕ → ℕ → (ℕ → ℕ) → List TraceEntry
-slot_loads_of owner count word = joined count (λ place. Loaded (Slot owner place) (word place) ∷ [])
+slot_loads_of owner count word = joined count (λ slot. Loaded (Slot owner slot) (word slot) ∷ [])
 
 abbrev pub all_slot_loads : ℕ → ℕ → (ℕ → ℕ → ℕ) → List TraceEntry
 all_slot_loads limit groups word = joined limit (λ owner. slot_loads_of owner (group_size * groups) (word owner))
@@ -87,11 +87,11 @@ module _ {T : Type 0} (content : T → Content) where
     pub account :
         first_account content after.sessions
         ≡ account_after (first_account content before.sessions) (slot_loads_of owner count word)
-    pub sum_ : sum ≡ total count (λ place. modes_shown (word place))
+    pub sum_ : sum ≡ total count (λ slot. modes_shown (word slot))
     pub left :
         (issued : ℕ) → AreAll issued before → (contents : ℕ → Content) → HasAllInHand (first_account content before.sessions) contents
-        → (place : ℕ) → place < count
-        → ShowsLeft owner (account_among (gathered_in content before.sessions) owner) contents place (word place)
+        → (slot : ℕ) → slot < count
+        → ShowsLeft owner (account_among (gathered_in content before.sessions) owner) contents slot (word slot)
 
   -- The same of all slots of the sessions below a number.
   pub record SeesAllSlots (groups limit : ℕ) (before after : View T) (sum : ℕ) : Type 0 where
@@ -103,8 +103,8 @@ module _ {T : Type 0} (content : T → Content) where
     pub sum_ : sum ≡ shown_in_slots limit groups word
     pub left :
         (issued : ℕ) → AreAll issued before → (contents : ℕ → Content) → HasAllInHand (first_account content before.sessions) contents
-        → (owner place : ℕ) → owner < limit → place < group_size * groups
-        → ShowsLeft owner (account_among (gathered_in content before.sessions) owner) contents place (word owner place)
+        → (owner slot : ℕ) → owner < limit → slot < group_size * groups
+        → ShowsLeft owner (account_among (gathered_in content before.sessions) owner) contents slot (word owner slot)
 
   -- What was found of all, as the partitions have these contents.
   pub record Finds (groups issued limit : ℕ) (view : View T) (contents : ℕ → Content) (word : ℕ → ℕ → ℕ) : Type 0 where
@@ -113,8 +113,8 @@ module _ {T : Type 0} (content : T → Content) where
         NoneWaits (gathered_in content view.sessions) → (number : ℕ)
         → OwnStand groups number (account_among (gathered_in content view.sessions) number) contents
     pub left :
-        (owner place : ℕ) → owner < limit → place < group_size * groups
-        → ShowsLeft owner (account_among (gathered_in content view.sessions) owner) contents place (word owner place)
+        (owner slot : ℕ) → owner < limit → slot < group_size * groups
+        → ShowsLeft owner (account_among (gathered_in content view.sessions) owner) contents slot (word owner slot)
 
   -- The partitions from one on were taken and put back, and all slots were loaded with all in hand.
   pub record CountsFrom (groups partition limit : ℕ) (before : View T) (old : List TableRow)

@@ -6,7 +6,7 @@ use Rattle.shared_rule.specs.declared.history.Mark.{Mark}
 use Rattle.shared_rule.specs.declared.history.View.{View}
 use Rattle.shared_rule.specs.declared.kept.Kept.{Kept}
 use Rattle.shared_rule.specs.declared.kept.Kept.TheVariants.{Nothing}
-use Rattle.shared_rule.specs.Layout.{content_slot_of}
+use Rattle.shared_rule.specs.Layout.{content_shelf_of}
 use Rattle.shared_rule.specs.History.{lone, first_account}
 use Rattle.shared_rule.specs.LwLocks.{no_lists}
 use Rattle.shared_rule.specs.Owed.{owing, asking, waking, first_owed}
@@ -51,13 +51,13 @@ stack_asking stack other shown = record { parts = stack.parts; owed = asking sta
 abbrev pub stack_waking : Stack → ℕ → Stack
 stack_waking stack other = record { parts = stack.parts; owed = waking stack.owed other }
 
--- the partitions in hand, the last one taken first, by the slots that are out
+-- the partitions in hand, the last one taken first, by the shelves that are empty
 abbrev pub parts_in_hand : {T : Type 0} → List (ℕ × Kept T) → List ℕ
-parts_in_hand slots = map (λ slot. slot.0 / 8) slots
+parts_in_hand shelves = map (λ shelf. shelf.0 / 8) shelves
 
--- the slots that are out for these partitions: a content in hand is not in its slot
-abbrev pub slots_out : {T : Type 0} → List ℕ → List (ℕ × Kept T)
-slots_out parts = map (λ part. (content_slot_of part, Nothing)) parts
+-- the shelves that are empty for these partitions: a content in hand is not on its shelf
+abbrev pub shelves_out : {T : Type 0} → List ℕ → List (ℕ × Kept T)
+shelves_out parts = map (λ part. (content_shelf_of part, Nothing)) parts
 
 -- the steps of the first session of a view
 abbrev pub first_marks : {T : Type 0} → List (History T) → List (Mark T)

@@ -70,9 +70,9 @@ module _ {T : Type 0} (content : T → Content) where
   KnowsOfAll view (Partition partition) found = Unit {0}
   KnowsOfAll view (Fast owner) found = Unit {0}
   KnowsOfAll view (Database owner) found = Unit {0}
-  KnowsOfAll view (Slot owner place) found =
+  KnowsOfAll view (Slot owner slot) found =
       (contents : ℕ → Content) → HasAllInHand (first_account content view.sessions) contents
-      → ShowsLeft owner (account_among (gathered_in view.sessions) owner) contents place found
+      → ShowsLeft owner (account_among (gathered_in view.sessions) owner) contents slot found
   KnowsOfAll view (Wait owner) found = Unit {0}
   KnowsOfAll view (Strong index) found = (found ≡ counted_at index (gathered_in view.sessions)) × (found ≤ 4194304)
   KnowsOfAll view (Sleep owner) found = Unit {0}

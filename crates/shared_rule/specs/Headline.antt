@@ -10,7 +10,7 @@ use Rattle.lock_world.specs.Happens.{Runs}
 use Rattle.lock_world.specs.Headline.{Headline, RefusalsSawWhatTheyName}
 use Rattle.lock_world.specs.WaitWord.{wait_state}
 use Rattle.lock_world.specs.Wakes.Reasons.{HasReason}
-use Rattle.shared_rule.specs.declared.rule.Sizes.{Sizes}
+use Rattle.shared_rule.specs.declared.rule.TableSizes.{TableSizes}
 use Rattle.shared_rule.specs.declared.history.View.{View}
 use Rattle.shared_rule.specs.declared.kept.Kept.{Kept}
 use Rattle.shared_rule.specs.Shown.{WordsAreShown}
@@ -27,7 +27,7 @@ use Rattle.shared_rule.specs.Ruled.{ContentsAreHome, SeatsAreShown, StandsAtSeat
 
 -- The headline of the table: its words, its contents at home and the histories of all sessions show a World to which events have led
 -- from the opening one, and which has it. Whatever a conditional request was refused with was so in a World on the way.
-pub record ShowsHeadline {T : Type 0} (content : T → Content) (begun : T → Option Request) (sizes : Sizes)
+pub record ShowsHeadline {T : Type 0} (content : T → Content) (begun : T → Option Request) (sizes : TableSizes)
     (state : State (Kept T) (View T)) : Type 0 where
   pub world : World
   pub events : List Event
@@ -41,7 +41,7 @@ pub record ShowsHeadline {T : Type 0} (content : T → Content) (begun : T → O
 -- Why each session waits that awaits an object: the table shows such a World, and where the object's partition is at home, another session
 -- holds the object in a mode that conflicts with the one awaited, or one that waits before it awaits such a mode. Otherwise the wait word
 -- shows the grant.
-pub record ShowsReasons {T : Type 0} (content : T → Content) (begun : T → Option Request) (sizes : Sizes)
+pub record ShowsReasons {T : Type 0} (content : T → Content) (begun : T → Option Request) (sizes : TableSizes)
     (state : State (Kept T) (View T)) : Type 0 where
   pub world : World
   pub words : WordsAreShown sizes.groups state.words world.words
@@ -55,7 +55,7 @@ pub record ShowsReasons {T : Type 0} (content : T → Content) (begun : T → Op
 -- seat. Where the wait list of a lightweight lock has a waiter, a session has the lock or something to do for it. A session that sleeps
 -- stands in its list, and one that makes steps has that lock or something to do for it; or the sleeper was taken off, and one that
 -- makes steps has it to tell. Whoever makes no step has no lightweight lock, and nothing to do.
-pub record ShowsSleepers {T : Type 0} (content : T → Content) (begun : T → Option Request) (sizes : Sizes)
+pub record ShowsSleepers {T : Type 0} (content : T → Content) (begun : T → Option Request) (sizes : TableSizes)
     (state : State (Kept T) (View T)) : Type 0 where
   pub world : World
   pub words : WordsAreShown sizes.groups state.words world.words
@@ -71,7 +71,7 @@ pub record ShowsSleepers {T : Type 0} (content : T → Content) (begun : T → O
 -- No circle of sleepers comes: the table shows such a World, with what stands beside it as the histories of all sessions tell that have
 -- a seat. Nobody stands in the list of a lightweight lock while it has a later one. So where anybody sleeps, not all of those sleep who
 -- have a lightweight lock, or something to do for one, or somebody to tell.
-pub record ShowsNoCircle {T : Type 0} (content : T → Content) (begun : T → Option Request) (sizes : Sizes)
+pub record ShowsNoCircle {T : Type 0} (content : T → Content) (begun : T → Option Request) (sizes : TableSizes)
     (state : State (Kept T) (View T)) : Type 0 where
   pub world : World
   pub words : WordsAreShown sizes.groups state.words world.words
@@ -101,7 +101,7 @@ pub record IsOwedBy {T : Type 0} (Has : History T → ℕ → Type 0) (views : L
 -- are those that its history tells, one for each mark and in order. A session parks on its wait word, as it loaded it last by its history,
 -- where that shows that it waits, and on its sleep word where that does not show that it was told; a call since then wakes it. Whoever is parked on what its
 -- word no more shows has a session that makes steps and, as its history tells, has that one to wake.
-pub record ShowsCalls {T : Type 0} (content : T → Content) (begun : T → Option Request) (sizes : Sizes)
+pub record ShowsCalls {T : Type 0} (content : T → Content) (begun : T → Option Request) (sizes : TableSizes)
     (state : State (Kept T) (View T)) : Type 0 where
   pub world : World
   pub words : WordsAreShown sizes.groups state.words world.words

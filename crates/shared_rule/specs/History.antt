@@ -112,11 +112,11 @@ abbrev pub list_here : Option ListInHand → ListInHand
 list_here None = record { lock = 0; waiters = [] }
 list_here (Some mine) = mine
 
--- the slots of a session with this database whose words are these, place by place
+-- the slots of a session with this database whose words are these, slot by slot
 abbrev pub slots_shown : ℕ → List ℕ → SlotsInHand
 slots_shown database words = record {
-  word = λ place. slice_index_or words place 0;
-  holds = slot_holds database (λ place. slice_index_or words place 0);
+  word = λ slot. slice_index_or words slot 0;
+  holds = slot_holds database (λ slot. slice_index_or words slot 0);
 }
 
 -- what a step that tells of no content makes of the account of the session of this number
@@ -133,15 +133,15 @@ noted_words number a (LoadedWait shown) =
 noted_words number a (Asked other before) = account_tracing a (AskedToCancel other before)
 noted_words number a ClearedWait = account_cleared number a a.awaited
 noted_words number a (LoadedDatabase owner shown) = account_tracing a (Loaded (Database owner) shown)
-noted_words number a (LoadedSlot owner place shown) = account_tracing a (Loaded (Slot owner place) shown)
+noted_words number a (LoadedSlot owner slot shown) = account_tracing a (Loaded (Slot owner slot) shown)
 noted_words number a (LoadedFast shown) = account_tracing a (Loaded (Fast number) shown)
 noted_words number a (LoadedStrong index shown) = account_reading number a index shown
-noted_words number a (SetSlot place tag mode) =
-    account_setting number a (slots_here (a.fast.slots number)) place tag mode
-noted_words number a (ClearedSlot place tag mode) =
-    account_unsetting number a (slots_here (a.fast.slots number)) place tag mode
-noted_words number a (TransferredSlot owner place tag mode) =
-    account_transferring a owner place (slots_here (a.fast.slots owner))
+noted_words number a (SetSlot slot tag mode) =
+    account_setting number a (slots_here (a.fast.slots number)) slot tag mode
+noted_words number a (ClearedSlot slot tag mode) =
+    account_unsetting number a (slots_here (a.fast.slots number)) slot tag mode
+noted_words number a (TransferredSlot owner slot tag mode) =
+    account_transferring a owner slot (slots_here (a.fast.slots owner))
     (in_hand (a.hand (partition_of tag))) tag mode
 noted_words number a (StoredDatabase database) = account_storing a database
 noted_words number a (LockedList lock waiters) = account_locking_list a lock waiters

@@ -24,7 +24,7 @@ index_of_word (Partition p) = 16 * p
 index_of_word (Strong index) = 256 + index
 index_of_word (Fast session) = block_start session
 index_of_word (Database session) = block_start session + 1
-index_of_word (Slot session place) = block_start session + 2 + area_words * (place / group_size) + place % group_size
+index_of_word (Slot session slot) = block_start session + 2 + area_words * (slot / group_size) + slot % group_size
 index_of_word (Wait session) = block_start session + 18
 index_of_word (Sleep session) = block_start session + 19
 
@@ -34,7 +34,7 @@ SessionHasWords (Partition p) = Unit {0}
 SessionHasWords (Strong index) = Unit {0}
 SessionHasWords (Fast session) = session < 64
 SessionHasWords (Database session) = session < 64
-SessionHasWords (Slot session place) = session < 64
+SessionHasWords (Slot session slot) = session < 64
 SessionHasWords (Wait session) = session < 64
 SessionHasWords (Sleep session) = session < 64
 
@@ -57,7 +57,7 @@ group_of (Partition p) = p
 group_of (Strong index) = 16
 group_of (Fast session) = 17 + session
 group_of (Database session) = 17 + session
-group_of (Slot session place) = 17 + session
+group_of (Slot session slot) = 17 + session
 group_of (Wait session) = 17 + session
 group_of (Sleep session) = 17 + session
 
@@ -65,14 +65,14 @@ group_of (Sleep session) = 17 + session
 abbrev pub IsApart : ℕ → ℕ → Type 0
 IsApart index other = (index + 16 ≤ other) ⊎ (other + 16 ≤ index)
 
--- in which slot of the table a partition's content lies
-abbrev pub content_slot_of : ℕ → ℕ
-content_slot_of partition = 8 * partition
+-- on which shelf of the table a partition's content lies
+abbrev pub content_shelf_of : ℕ → ℕ
+content_shelf_of partition = 8 * partition
 
--- how many numbers of lightweight locks there are places for: two for each of 64 sessions
+-- how many numbers of lightweight locks there are shelves for: two for each of 64 sessions
 abbrev pub lock_count : ℕ
 lock_count = 128
 
--- in which slot the wait list of a lightweight lock lies, by the lock's number
-abbrev pub list_slot_of : ℕ → ℕ
-list_slot_of lock = 128 + 8 * lock
+-- on which shelf the wait list of a lightweight lock lies, by the lock's number
+abbrev pub list_shelf_of : ℕ → ℕ
+list_shelf_of lock = 128 + 8 * lock

@@ -21,7 +21,7 @@ abbrev pub LockExists : ℕ → LwLock → Type 0
 LockExists limit (OfPart partition) = partition < 16
 LockExists limit (OfSlots owner) = owner < limit
 
--- and it has its places in the table.
+-- and it has its word and its shelf in the table.
 abbrev pub LockIsInTable : LwLock → Type 0
 LockIsInTable (OfPart partition) = partition < 16
 LockIsInTable (OfSlots owner) = owner < 64

@@ -60,7 +60,7 @@ module _ {T : Type 0} where
   LoadedDatabase owner shown = mark.OfWords (word.LoadedDatabase owner shown)
 
   abbrev pub LoadedSlot : ℕ → ℕ → ℕ → Mark T
-  LoadedSlot owner place shown = mark.OfWords (word.LoadedSlot owner place shown)
+  LoadedSlot owner slot shown = mark.OfWords (word.LoadedSlot owner slot shown)
 
   abbrev pub LoadedFast : ℕ → Mark T
   LoadedFast shown = mark.OfWords (word.LoadedFast shown)
@@ -69,13 +69,13 @@ module _ {T : Type 0} where
   LoadedStrong index shown = mark.OfWords (word.LoadedStrong index shown)
 
   abbrev pub SetSlot : ℕ → Tag → Mode → Mark T
-  SetSlot place tag mode = mark.OfWords (word.SetSlot place tag mode)
+  SetSlot slot tag mode = mark.OfWords (word.SetSlot slot tag mode)
 
   abbrev pub ClearedSlot : ℕ → Tag → Mode → Mark T
-  ClearedSlot place tag mode = mark.OfWords (word.ClearedSlot place tag mode)
+  ClearedSlot slot tag mode = mark.OfWords (word.ClearedSlot slot tag mode)
 
   abbrev pub TransferredSlot : ℕ → ℕ → Tag → Mode → Mark T
-  TransferredSlot owner place tag mode = mark.OfWords (word.TransferredSlot owner place tag mode)
+  TransferredSlot owner slot tag mode = mark.OfWords (word.TransferredSlot owner slot tag mode)
 
   abbrev pub StoredDatabase : ℕ → Mark T
   StoredDatabase database = mark.OfWords (word.StoredDatabase database)

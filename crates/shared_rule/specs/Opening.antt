@@ -6,8 +6,8 @@ use Rattle.shared_rule.specs.declared.kept.Kept.{Kept}
 use Rattle.shared_rule.specs.declared.kept.Kept.TheVariants as kept
 use Rattle.lock_table.specs.Content.{Content}
 use Rattle.lock_table.specs.Parts.{IsBlank}
-use Rattle.shared_rule.specs.declared.layout.TheConstants.{TABLE_SLOTS}
-use Rattle.shared_rule.specs.Layout.{content_slot_of, list_slot_of, lock_count}
+use Rattle.shared_rule.specs.declared.layout.TheConstants.{TABLE_SHELVES}
+use Rattle.shared_rule.specs.Layout.{content_shelf_of, list_shelf_of, lock_count}
 
 -- The table before the first step.
 
@@ -25,8 +25,8 @@ module _ {T : Type 0} (content : T → Content) (begun : T → Option Request) w
     pub is_there : there ≡ Some (kept.Part part)
     pub blank : IsBlank content begun part
 
-  -- Each partition's part is in its slot, with nothing in it, and each lock's wait list in its own, with nobody in it.
-  pub record AreNew (slots : List (Kept T)) : Type 0 where
-    pub many : length slots ≡ TABLE_SLOTS
-    pub new : (p : ℕ) → p < 16 → IsNew (slice_get slots (content_slot_of p))
-    pub empty : (lock : ℕ) → lock < lock_count → IsEmptyList (slice_get slots (list_slot_of lock))
+  -- Each partition's part is on its shelf, with nothing in it, and each lock's wait list on its own, with nobody in it.
+  pub record AreNew (shelves : List (Kept T)) : Type 0 where
+    pub many : length shelves ≡ TABLE_SHELVES
+    pub new : (p : ℕ) → p < 16 → IsNew (slice_get shelves (content_shelf_of p))
+    pub empty : (lock : ℕ) → lock < lock_count → IsEmptyList (slice_get shelves (list_shelf_of lock))

@@ -22,23 +22,23 @@ use Rattle.shared_rule.specs.declared.kept.Kept.TheVariants.{Part}
 use Rattle.shared_rule.specs.declared.kept.Kept.TheVariants as kept
 use Rattle.shared_rule.specs.declared.lw_locks.LwLock.{LwLock}
 use Rattle.shared_rule.specs.LwLocks.{word_of_lock, lock_number, LockIsInTable}
-use Rattle.shared_rule.specs.declared.layout.TheConstants.{TABLE_WORDS, TABLE_SLOTS}
-use Rattle.shared_rule.specs.Layout.{index_of_word, content_slot_of, list_slot_of, words_of_groups, MayBeInTable}
+use Rattle.shared_rule.specs.declared.layout.TheConstants.{TABLE_WORDS, TABLE_SHELVES}
+use Rattle.shared_rule.specs.Layout.{index_of_word, content_shelf_of, list_shelf_of, words_of_groups, MayBeInTable}
 use Rattle.shared_rule.specs.History.{noting, first_account, first_number, slots_shown}
 use Rattle.shared_rule.specs.Quiet.{Quiet, first_quiet}
 use Rattle.shared_rule.specs.Owed.{first_owed}
 use Rattle.shared_rule.specs.Todos.{Todo, first_todo, first_flagged}
 use Rattle.shared_rule.specs.Slots.{KnowsWord}
 
--- What each step tells. A session's side of a step: its view, and the contents that it has in hand, each with its slot.
+-- What each step tells. A session's side of a step: its view, and the contents that it has in hand, each with its shelf.
 
 abbrev pub Side : Type 0 → Type 0
 Side T = Me (Kept T) (View T)
 
--- the table has a place for each word, those of further groups of slots aside, each content and each list
+-- the table has room for each word, those of further groups of slots aside, each content and each list
 pub record IsSized (table : TableId) : Type 0 where
   pub words : TABLE_WORDS ≤ table.words
-  pub slots : table.slots ≡ TABLE_SLOTS
+  pub shelves : table.slots ≡ TABLE_SHELVES
 
 -- It has all words for so many groups of slots, 1 to 8.
 pub record HasGroups (table : TableId) (groups : ℕ) : Type 0 where
@@ -49,29 +49,29 @@ pub record HasGroups (table : TableId) (groups : ℕ) : Type 0 where
 module _ {T : Type 0} where
   -- the number of the session that makes its steps with the seat, and its account
   abbrev pub number_at : Seat (Kept T) (View T) → ℕ
-  number_at place = first_number place.me.0.sessions
+  number_at seat = first_number seat.me.0.sessions
 
   abbrev pub account_at : (T → Content) → Seat (Kept T) (View T) → Account
-  account_at content place = first_account content place.me.0.sessions
+  account_at content seat = first_account content seat.me.0.sessions
 
   -- and its quiet steps
   abbrev pub quiet_at : Seat (Kept T) (View T) → List Quiet
-  quiet_at place = first_quiet place.me.0.sessions
+  quiet_at seat = first_quiet seat.me.0.sessions
 
   -- and what it has to do for those who wait; whether it has set has-waiters in the word of the list that it locked last
   abbrev pub todo_at : Seat (Kept T) (View T) → Todo
-  todo_at place = first_todo place.me.0.sessions
+  todo_at seat = first_todo seat.me.0.sessions
 
   abbrev pub flagged_at : Seat (Kept T) (View T) → Bool
-  flagged_at place = first_flagged place.me.0.sessions
+  flagged_at seat = first_flagged seat.me.0.sessions
 
   -- and whom it has to wake, of those who wait for a lock of the table
   abbrev pub owed_at : Seat (Kept T) (View T) → List ℕ
-  owed_at place = first_owed place.me.0.sessions
+  owed_at seat = first_owed seat.me.0.sessions
 
   -- the seat is at this table
-  pub record FitsTable (place : Seat (Kept T) (View T)) (table : TableId) : Type 0 where
-    pub at : place.table_id ≡ table
+  pub record FitsTable (seat : Seat (Kept T) (View T)) (table : TableId) : Type 0 where
+    pub at : seat.table_id ≡ table
     pub sized : IsSized table
 
   -- it is for a session, which makes its steps with it
@@ -140,7 +140,7 @@ module _ {T : Type 0} (content : T → Content) where
         after
         ≡ (
           noting before.0 (LockedList (lock_number lock) list.value),
-          (list_slot_of (lock_number lock), kept.List list) ∷ before.1,
+          (list_shelf_of (lock_number lock), kept.List list) ∷ before.1,
         )
     pub stands :
         stands_in (first_number before.0.sessions) list.value ≡ true
@@ -174,7 +174,7 @@ module _ {T : Type 0} (content : T → Content) (begun : T → Option Request) w
   -- request is begun.
   pub record TookContent (p : ℕ) (before after : Side T) : Type 0 where
     pub part : T
-    pub side : after ≡ (noting before.0 (TookPart p part), (content_slot_of p, Part part) ∷ before.1)
+    pub side : after ≡ (noting before.0 (TookPart p part), (content_shelf_of p, Part part) ∷ before.1)
     pub none_begun : begun part ≡ None
     pub knows : KnowsContent (first_number before.0.sessions) (first_account content before.0.sessions) p (content part)
 

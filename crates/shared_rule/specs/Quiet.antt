@@ -37,7 +37,7 @@ quiet_trying number (Err refusal) before = before
 abbrev pub quiet_words : List Quiet → WordMark → List Quiet
 quiet_words before (TookFast owner database words) = TakesSlots owner ∷ before
 quiet_words before (SharedFast owner database words) = SharesSlots owner ∷ before
-quiet_words before (SetSlot place tag mode) = SetsSlot tag mode ∷ before
+quiet_words before (SetSlot slot tag mode) = SetsSlot tag mode ∷ before
 quiet_words before (Counted tag mode) = CountsStrong tag mode ∷ before
 quiet_words before its = before
 
@@ -59,7 +59,7 @@ module _ {T : Type 0} where
 abbrev pub quiet_after : List Quiet → Step → List Quiet
 quiet_after before (step.TakeExclusive (Fast owner)) = TakesSlots owner ∷ before
 quiet_after before (step.TakeShared (Fast owner)) = SharesSlots owner ∷ before
-quiet_after before (step.SetSlot place tag mode) = SetsSlot tag mode ∷ before
+quiet_after before (step.SetSlot slot tag mode) = SetsSlot tag mode ∷ before
 quiet_after before (step.Count tag mode) = CountsStrong tag mode ∷ before
 quiet_after before its = before
 

@@ -16,7 +16,7 @@ use Rattle.shared_rule.specs.declared.kept.Kept.TheVariants.{Nothing}
 use Rattle.shared_rule.specs.declared.lw_locks.LwLock.{LwLock}
 use Rattle.shared_rule.specs.declared.lw_locks.LwLock.TheVariants.{OfPart, OfSlots}
 use Rattle.shared_rule.specs.History.{taken_of}
-use Rattle.shared_rule.specs.Layout.{content_slot_of}
+use Rattle.shared_rule.specs.Layout.{content_shelf_of}
 use Rattle.shared_rule.specs.Lawful.{MayPutPart}
 use Rattle.shared_rule.specs.Led.{Led, LedTo}
 use Rattle.shared_rule.specs.LwLocks.{lock_number, LockExists, LockIsInTable, no_lists}
@@ -29,28 +29,28 @@ use Rattle.shared_rule.specs.Todos.{nothing_to_do, todo_putting}
 -- Of a lock of a table for so many sessions:
 module _ {T : Type 0} (content : T → Content) (limit : ℕ) (table : TableId) (lock : LwLock) where
   -- A session may put it, as far as that is the same for all locks.
-  pub record MayPut (place : Seat (Kept T) (View T)) : Type 0 where
-    pub fits : FitsTable place table
+  pub record MayPut (seat : Seat (Kept T) (View T)) : Type 0 where
+    pub fits : FitsTable seat table
     pub exists : LockExists limit lock
     pub there : LockIsInTable lock
-    pub session : HasSession place.me.0
-    pub idle : (account_at content place).lists ≡ no_lists
-    pub todo : todo_at place ≡ nothing_to_do
+    pub session : HasSession seat.me.0
+    pub idle : (account_at content seat).lists ≡ no_lists
+    pub todo : todo_at seat ≡ nothing_to_do
 
   -- It has put the lock, which it had in this mode, and whose word showed a number then. This is its account since, and this is in hand.
   -- It has to look at the lock's list, if anything.
-  pub record HasPut (mode : LwMode) (before after : Seat (Kept T) (View T)) (a : Account) (slots : List (ℕ × Kept T)) : Type 0 where
+  pub record HasPut (mode : LwMode) (before after : Seat (Kept T) (View T)) (a : Account) (shelves : List (ℕ × Kept T)) : Type 0 where
     pub found : ℕ
     pub led : LedTo content before after a (todo_putting (todo_at before) (lock_number lock) (put_in mode (state_of found)))
-    pub in_hand : after.me.1 ≡ slots
+    pub in_hand : after.me.1 ≡ shelves
     pub may : MayPut before
     pub lists : a.lists ≡ (account_at content before).lists
 
 -- It has put a lock, and has done what there was to do for those who wait.
 pub record HasReleased {T : Type 0} (content : T → Content) (before after : Seat (Kept T) (View T)) (a : Account)
-    (slots : List (ℕ × Kept T)) : Type 0 where
+    (shelves : List (ℕ × Kept T)) : Type 0 where
   pub led : Led content before after a
-  pub in_hand : after.me.1 ≡ slots
+  pub in_hand : after.me.1 ≡ shelves
 
 -- A partition goes home with its content, after this move.
 module _ {T : Type 0} (content : T → Content) (part : ℕ) (done : Move) where
@@ -61,16 +61,16 @@ module _ {T : Type 0} (content : T → Content) (part : ℕ) (done : Move) where
 
   -- It may go home, under this mark.
   pub record MayPutPartition (begun : T → Option Request) (limit : ℕ) (table : TableId) (mark : ℕ → Mark T)
-      (place : Seat (Kept T) (View T)) (taken : T) : Type 0 where
-    pub may : MayPut content limit table (OfPart part) place
-    pub in_hand : place.me.1 ≡ (content_slot_of part, Nothing) ∷ rest place.me.1
+      (seat : Seat (Kept T) (View T)) (taken : T) : Type 0 where
+    pub may : MayPut content limit table (OfPart part) seat
+    pub in_hand : seat.me.1 ≡ (content_shelf_of part, Nothing) ∷ rest seat.me.1
     pub none_begun : begun taken ≡ None
-    pub lawful : (mine : InHand) × MayPutPart limit (number_at place) (account_at content place) part mine done (content taken)
+    pub lawful : (mine : InHand) × MayPutPart limit (number_at seat) (account_at content seat) part mine done (content taken)
     pub mark_is : mark ≡ PutPart part done taken
 
 -- The lock of a session's slots is put, under this mark, where this is so of the account.
 pub record MayPutSlots {T : Type 0} (content : T → Content) (limit : ℕ) (table : TableId) (owner : ℕ)
-    (may_by : Account → Type 0) (mark its : ℕ → Mark T) (place : Seat (Kept T) (View T)) : Type 0 where
-  pub may : MayPut content limit table (OfSlots owner) place
-  pub lawful : may_by (account_at content place)
+    (may_by : Account → Type 0) (mark its : ℕ → Mark T) (seat : Seat (Kept T) (View T)) : Type 0 where
+  pub may : MayPut content limit table (OfSlots owner) seat
+  pub lawful : may_by (account_at content seat)
   pub mark_is : mark ≡ its

@@ -15,12 +15,12 @@ use Rattle.lock_table.specs.Total.{how_many}
 use Rattle.lock_world.specs.SlotHolds.{group_size, most_groups}
 use Rattle.lock_world.specs.Account.{account}
 use Rattle.lock_world.specs.Happens.Counters.{most_counted}
-use Rattle.shared_rule.specs.declared.rule.Sizes.{Sizes}
+use Rattle.shared_rule.specs.declared.rule.TableSizes.{TableSizes}
 use Rattle.shared_rule.specs.declared.history.History.{History}
 use Rattle.shared_rule.specs.declared.history.View.{View}
 use Rattle.shared_rule.specs.declared.kept.Kept.{Kept}
 use Rattle.shared_rule.specs.declared.kept.Kept.TheVariants as kept
-use Rattle.shared_rule.specs.Layout.{content_slot_of, list_slot_of, lock_count}
+use Rattle.shared_rule.specs.Layout.{content_shelf_of, list_shelf_of, lock_count}
 use Rattle.shared_rule.specs.Shown.{WordsAreShown}
 use Rattle.shared_rule.specs.History.{blank_account, is_among, told, keeper}
 use Rattle.shared_rule.specs.Tells.{AreTold, AreTurnsTold, Leads, steps_of, events_of, turns_of}
@@ -34,9 +34,9 @@ use Rattle.shared_rule.specs.Owed.{owed_told}
 
 -- A session has the slots of so many groups: whatever stands beyond them shows 0.
 abbrev pub NoneBeyondSlots : ℕ → Words → Type 0
-NoneBeyondSlots groups words = (session place : ℕ) → group_size * groups ≤ place → words.slot session place ≡ 0
+NoneBeyondSlots groups words = (session slot : ℕ) → group_size * groups ≤ slot → words.slot session slot ≡ 0
 
--- What the slots of contents show.
+-- What the shelves of contents show.
 module _ {T : Type 0} (content : T → Content) (begun : T → Option Request) where
   -- A partition that is in nobody's hand has its content at home, and no request is begun in it.
   pub record IsAtHome (now : Content) (there : maybe.Option (maybe.Option (Kept T))) : Type 0 where
@@ -51,7 +51,7 @@ module _ {T : Type 0} (content : T → Content) (begun : T → Option Request) w
 
   abbrev pub ContentsAreHome : List (maybe.Option (Kept T)) → Contents → Type 0
   ContentsAreHome homes contents =
-      (p : ℕ) → p < 16 → IsHomeUnlessInHand (contents.hand p) (contents.now p) (get_elem? homes (content_slot_of p))
+      (p : ℕ) → p < 16 → IsHomeUnlessInHand (contents.hand p) (contents.now p) (get_elem? homes (content_shelf_of p))
 
 -- No session has the wait list of this lock in hand.
 abbrev pub IsInNoHand : ℕ → (ℕ → Option ℕ) → Type 0
@@ -67,7 +67,7 @@ module _ {T : Type 0} where
   abbrev pub ListsAreHome : List (maybe.Option (Kept T)) → (ℕ → Option ℕ) → (ℕ → List LwWaiter) → Type 0
   ListsAreHome homes has_list list =
       (lock : ℕ) → lock < lock_count → IsInNoHand lock has_list
-      → ListIsAtHome (list lock) (get_elem? homes (list_slot_of lock))
+      → ListIsAtHome (list lock) (get_elem? homes (list_shelf_of lock))
 
 -- The session of this number was opened, and has closed: the number was given out and is live no more.
 abbrev pub IsClosed : Numbers → ℕ → Type 0
@@ -226,7 +226,7 @@ module _ {T : Type 0} where
 -- first step to this one, and keeps to what is owed and to the order of lightweight locks. Its events are those of the rule, and each
 -- session's turns are those that its history tells. What stands beside the World then is what the histories at the seats tell: what
 -- each session has to do for those who wait for lightweight locks, and whom it has to wake.
-pub record WakesAreKept {T : Type 0} (sizes : Sizes) (views : List (View T)) (events : List Event) (w : World) : Type 0 where
+pub record WakesAreKept {T : Type 0} (sizes : TableSizes) (views : List (View T)) (events : List Event) (w : World) : Type 0 where
   pub turns : List Turn
   pub beside : Beside
   pub run : RunKeepsInOrder sizes.sessions sizes.groups turns w beside
@@ -244,7 +244,7 @@ pub record WakesAreKept {T : Type 0} (sizes : Sizes) (views : List (View T)) (ev
 
 -- The rule.
 module _ {T : Type 0} (content : T → Content) (begun : T → Option Request) where
-  pub record Ruled (sizes : Sizes) (state : State (Kept T) (View T)) : Type 0 where
+  pub record Ruled (sizes : TableSizes) (state : State (Kept T) (View T)) : Type 0 where
     pub world : World
     -- each step is its event: these lead here from the World before the first step,
     pub events : List Event

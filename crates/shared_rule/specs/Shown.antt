@@ -19,8 +19,8 @@ abbrev pub set_word : Words → Word → ℕ → Words
 set_word words (Partition p) n = record words { partition = set_at words.partition p n }
 set_word words (Fast session) n = record words { fast = set_at words.fast session n }
 set_word words (Database session) n = record words { database = set_at words.database session n }
-set_word words (Slot session place) n =
-    record words { slot = set_at words.slot session (set_at (words.slot session) place n) }
+set_word words (Slot session slot) n =
+    record words { slot = set_at words.slot session (set_at (words.slot session) slot n) }
 set_word words (Wait session) n = record words { wait = set_at words.wait session n }
 set_word words (Strong index) n = record words { strong = set_at words.strong index n }
 set_word words (Sleep session) n = record words { sleep = set_at words.sleep session n }

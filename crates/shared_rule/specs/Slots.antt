@@ -62,8 +62,8 @@ KnowsWord number a (Fast owner) found = Unit {0}
 KnowsWord number a (Database owner) found =
     ((slots : SlotsInHand) → HasOrShares a owner slots → slots.holds ≡ slot_holds found slots.word)
     × (owner ≡ number → found ≡ a.fast.database)
-KnowsWord number a (Slot owner place) found =
-    (slots : SlotsInHand) → HasOrShares a owner slots → found ≡ slots.word place
+KnowsWord number a (Slot owner slot) found =
+    (slots : SlotsInHand) → HasOrShares a owner slots → found ≡ slots.word slot
 KnowsWord number a (Wait owner) found = owner ≡ number → a.awaited ≡ None → wait_state found ≡ 0
 KnowsWord number a (Strong index) found = Unit {0}
 KnowsWord number a (Sleep owner) found = Unit {0}

@@ -41,13 +41,13 @@ WordsTell number (LoadedWait shown) its = its ≡ step.LoadWait shown
 WordsTell number (Asked other before) its = its ≡ step.AskCancel other
 WordsTell number ClearedWait its = its ≡ step.ClearWait false
 WordsTell number (LoadedDatabase owner shown) its = its ≡ step.LoadWord (Database owner) shown
-WordsTell number (LoadedSlot owner place shown) its = its ≡ step.LoadWord (Slot owner place) shown
+WordsTell number (LoadedSlot owner slot shown) its = its ≡ step.LoadWord (Slot owner slot) shown
 WordsTell number (LoadedFast shown) its = its ≡ step.LoadWord (Fast number) shown
 WordsTell number (LoadedStrong index shown) its = its ≡ step.LoadStrong index shown
-WordsTell number (SetSlot place tag mode) its = its ≡ step.SetSlot place tag mode
-WordsTell number (ClearedSlot place tag mode) its = its ≡ step.ClearSlot place tag mode
-WordsTell number (TransferredSlot owner place tag mode) its =
-    (strong : Mode) × (its ≡ step.TransferSlot owner place tag mode strong)
+WordsTell number (SetSlot slot tag mode) its = its ≡ step.SetSlot slot tag mode
+WordsTell number (ClearedSlot slot tag mode) its = its ≡ step.ClearSlot slot tag mode
+WordsTell number (TransferredSlot owner slot tag mode) its =
+    (strong : Mode) × (its ≡ step.TransferSlot owner slot tag mode strong)
 WordsTell number (StoredDatabase database) its = its ≡ step.StoreDatabase database
 WordsTell number (LockedList lock waiters) its = IsOnLock lock (λ l. step.LockList (word_of_lock l)) its
 WordsTell number UnlockedList its =

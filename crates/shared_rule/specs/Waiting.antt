@@ -34,16 +34,16 @@ MayGet (OfSlots owner) mode a = MayGetSlots mode a owner
 
 module _ {T : Type 0} (content : T → Content) (sought : Sought) where
   -- The session may attempt the lock, and wait for it: it is in no list, has earlier locks alone, and at most this one to attempt.
-  pub record MayWait (place : Seat (Kept T) (View T)) : Type 0 where
-    pub fits : FitsTable place sought.table
+  pub record MayWait (seat : Seat (Kept T) (View T)) : Type 0 where
+    pub fits : FitsTable seat sought.table
     pub exists : LockExists sought.limit sought.lock
     pub there : LockIsInTable sought.lock
-    pub session : HasSession place.me.0
-    pub own : sought.number ≡ number_at place
-    pub may : MayGet sought.lock sought.mode (account_at content place)
-    pub idle : (account_at content place).lists ≡ no_lists
-    pub todo : TriesAtMost (lock_number sought.lock) (todo_at place)
-    pub latest : IsLatestBy (account_at content place) sought.lock
+    pub session : HasSession seat.me.0
+    pub own : sought.number ≡ number_at seat
+    pub may : MayGet sought.lock sought.mode (account_at content seat)
+    pub idle : (account_at content seat).lists ≡ no_lists
+    pub todo : TriesAtMost (lock_number sought.lock) (todo_at seat)
+    pub latest : IsLatestBy (account_at content seat) sought.lock
 
   -- It has got nothing, and is in no list.
   pub record IsOnWay (first now : Seat (Kept T) (View T)) : Type 0 where
@@ -59,7 +59,7 @@ module _ {T : Type 0} (content : T → Content) (sought : Sought) where
         LedTo content first joined
         (record (account_at content first) { lists = queued_for (lock_number sought.lock) })
         (todo_in_list (lock_number sought.lock))
-    pub slots : joined.me.1 ≡ first.me.1
+    pub shelves : joined.me.1 ≡ first.me.1
     pub since : IsTrying content (lock_number sought.lock) joined now
 
   -- It has joined the list, and saw somebody in the way then.

@@ -7,12 +7,12 @@ use Rattle.lock_world.specs.World.{World, Hand, TraceEntry, opening}
 use Rattle.lock_world.specs.SlotHolds.{IsHeldIn}
 use Rattle.lock_world.specs.Happens.{RunsThrough, last_of}
 use Rattle.lock_world.specs.Telling.{TellsWhatIs}
-use Rattle.shared_rule.specs.declared.rule.Sizes.{Sizes}
+use Rattle.shared_rule.specs.declared.rule.TableSizes.{TableSizes}
 use Rattle.shared_rule.specs.Tells.{Leads}
 
 -- What an entry of a session's trace tells was so: events lead from the World before the first step to the World `now`, and
 -- a World on the way, in which the session's trace was just what stands before the entry, was as it tells, or the next one was.
-pub record WasSo (sizes : Sizes) (now : World) (session : ℕ) (before : List TraceEntry) (entry : TraceEntry) : Type 0 where
+pub record WasSo (sizes : TableSizes) (now : World) (session : ℕ) (before : List TraceEntry) (entry : TraceEntry) : Type 0 where
   pub events : List Event
   pub worlds : List World
   pub run : RunsThrough (opening sizes.sessions sizes.groups) events worlds
@@ -27,7 +27,7 @@ pub record WasSo (sizes : Sizes) (now : World) (session : ℕ) (before : List Tr
 
 -- On the way of these events there is a World in which the partition was in hand, with this content taken, and the owner's slot had the
 -- mode on the object.
-pub record WasInSlot (first now : World) (events : List Event) (partition owner place : ℕ) (tag : Tag) (mode : Mode) (taken : Content) :
+pub record WasInSlot (first now : World) (events : List Event) (partition owner slot : ℕ) (tag : Tag) (mode : Mode) (taken : Content) :
     Type 0 where
   pub before : List Event
   pub after : List Event
@@ -38,4 +38,4 @@ pub record WasInSlot (first now : World) (events : List Event) (partition owner 
   pub mine : Hand
   pub in_hand : world.contents.hand partition ≡ Some mine
   pub taken_so : mine.taken ≡ taken
-  pub shown : IsHeldIn (world.words.database owner) (world.words.slot owner) tag mode place
+  pub shown : IsHeldIn (world.words.database owner) (world.words.slot owner) tag mode slot

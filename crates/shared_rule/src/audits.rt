@@ -21,7 +21,7 @@ ghost use Rattle.shared_rule.specs.Audits.{CountersSeen, CountsAll, CountsFrom, 
 ghost use Rattle.shared_rule.specs.Gatherings.{AreAll, KnowsAll, KnowsOfAll, LookedOver, NoneWaits, gathered_in};
 ghost use Rattle.shared_rule.specs.declared.history.History.{History};
 ghost use Rattle.shared_rule.specs.History.{noting, first_account, taken_of};
-ghost use Rattle.shared_rule.specs.Layout.{content_slot_of, index_of_word, MayBeInTable};
+ghost use Rattle.shared_rule.specs.Layout.{content_shelf_of, index_of_word, MayBeInTable};
 ghost use Rattle.shared_rule.specs.Lawful.{IsAboveHand, MayPutPart};
 ghost use Rattle.shared_rule.specs.Plays.{account_at, number_at, todo_at, FitsTable, HasGroups, HasSession, IsSameSeat};
 ghost use Rattle.shared_rule.specs.Ruled.{Ruled};
@@ -31,7 +31,7 @@ use crate::layout::{SLOTS_PER_GROUP, slot_word, strong_word};
 use crate::opener::Opener;
 use crate::partitions::{put_part, take_part_alone};
 use crate::plays::{Grouping, LooksOver, Marking, TellsAll};
-use crate::rule::{Place, Sizes, Top};
+use crate::rule::{Seat, SharedWords, TableSizes};
 use lock_table::{Move, NoMemory, PartTable, TableRow};
 use lw_word::SlotWord;
 use modes_core::{Mode, PARTITIONS, STRONG_COUNTERS, SessionId};
@@ -51,81 +51,81 @@ pub struct Audit {
 }
 
 // A load that tells what a seat at which all sessions are knows of the number found.
-fn look_over_as<T: PartTable, M: Marking<T>>(top: &Top<T>, place: &mut Place<T>, word: usize) -> u64
-    requires table { FitsTable place.old top.now.table_id × (word < top.now.table_id.words) }
-    requires allowed { Allows (Ruled T.content T.begun top.now.key) top.now.table_id.slots
-        place.old.id place.old.me word (λ n. n)
-        (LookedOver T.content M.mark (step top.now.table_id.slots word 0 0 none) place.old.me) }
-    ensures seat { IsSameSeat place.old place.new }
-    ensures side { place.new.me ≡ (noting place.old.me.0 (M.mark result), place.old.me.1) }
+fn look_over_as<T: PartTable, M: Marking<T>>(words: &SharedWords<T>, seat: &mut Seat<T>, word: usize) -> u64
+    requires table { FitsTable seat.old words.now.table_id × (word < words.now.table_id.words) }
+    requires allowed { Allows (Ruled T.content T.begun words.now.key) words.now.table_id.slots
+        seat.old.id seat.old.me word (λ n. n)
+        (LookedOver T.content M.mark (step words.now.table_id.slots word 0 0 none) seat.old.me) }
+    ensures same_seat { IsSameSeat seat.old seat.new }
+    ensures side { seat.new.me ≡ (noting seat.old.me.0 (M.mark result), seat.old.me.1) }
     ensures knows { (which : Word) (issued : ℕ) → MayBeInTable which → word ≡ index_of_word which
-        → AreAll issued place.old.me.0 → KnowsOfAll T.content place.old.me.0 which result }
+        → AreAll issued seat.old.me.0 → KnowsOfAll T.content seat.old.me.0 which result }
 {
-    top.load::<LooksOver<M>>(place, word)
+    words.load::<LooksOver<M>>(seat, word)
 }
 
 // Loads a slot of a session.
 fn look_over_slot<T: PartTable, M: Marking<T>>(
-    top: &Top<T>,
-    place: &mut Place<T>,
+    words: &SharedWords<T>,
+    seat: &mut Seat<T>,
     owner: SessionId,
     slot: u8,
 ) -> SlotWord
-    requires table { FitsTable place.old top.now.table_id }
-    requires session { HasSession place.old.me.0 }
-    requires within { slot < group_size * top.now.key.groups }
-    requires grouped { HasGroups top.now.table_id top.now.key.groups }
+    requires table { FitsTable seat.old words.now.table_id }
+    requires session { HasSession seat.old.me.0 }
+    requires within { slot < group_size * words.now.key.groups }
+    requires grouped { HasGroups words.now.table_id words.now.key.groups }
     requires mark { M.mark ≡ LoadedSlot owner slot }
-    ensures seat { IsSameSeat place.old place.new }
-    ensures side { place.new.me ≡ (noting place.old.me.0 (LoadedSlot owner slot result), place.old.me.1) }
-    ensures knows { (issued : ℕ) → AreAll issued place.old.me.0
-        → KnowsOfAll T.content place.old.me.0 (Slot owner slot) result }
+    ensures same_seat { IsSameSeat seat.old seat.new }
+    ensures side { seat.new.me ≡ (noting seat.old.me.0 (LoadedSlot owner slot result), seat.old.me.1) }
+    ensures knows { (issued : ℕ) → AreAll issued seat.old.me.0
+        → KnowsOfAll T.content seat.old.me.0 (Slot owner slot) result }
 {
-    SlotWord::from_number(look_over_as::<T, M>(top, place, slot_word(owner, slot)))
+    SlotWord::from_number(look_over_as::<T, M>(words, seat, slot_word(owner, slot)))
 }
 
 // Loads a strong lock counter.
 fn look_over_strong<T: PartTable, M: Marking<T>>(
-    top: &Top<T>,
-    place: &mut Place<T>,
+    words: &SharedWords<T>,
+    seat: &mut Seat<T>,
     index: u16,
 ) -> u64
-    requires table { FitsTable place.old top.now.table_id }
-    requires session { HasSession place.old.me.0 }
+    requires table { FitsTable seat.old words.now.table_id }
+    requires session { HasSession seat.old.me.0 }
     requires within { index < 1024 }
     requires mark { M.mark ≡ LoadedStrong index }
-    ensures seat { IsSameSeat place.old place.new }
-    ensures side { place.new.me ≡ (noting place.old.me.0 (LoadedStrong index result), place.old.me.1) }
-    ensures knows { (issued : ℕ) → AreAll issued place.old.me.0
-        → KnowsOfAll T.content place.old.me.0 (Strong index) result }
+    ensures same_seat { IsSameSeat seat.old seat.new }
+    ensures side { seat.new.me ≡ (noting seat.old.me.0 (LoadedStrong index result), seat.old.me.1) }
+    ensures knows { (issued : ℕ) → AreAll issued seat.old.me.0
+        → KnowsOfAll T.content seat.old.me.0 (Strong index) result }
 {
-    look_over_as::<T, M>(top, place, strong_word(index))
+    look_over_as::<T, M>(words, seat, strong_word(index))
 }
 
 // Tells who is there, each with so many groups of slots, and where each one's own holds stand. It loads a word, and
 // ignores what it finds.
-fn tell_all_as<T: PartTable, G: Grouping>(top: &Top<T>, place: &mut Place<T>)
-    requires table { FitsTable place.old top.now.table_id }
-    requires session { HasSession place.old.me.0 }
-    requires groups { G.groups ≡ top.now.key.groups }
-    ensures seat { IsSameSeat place.old place.new }
-    ensures side { place.new.me ≡ place.old.me }
-    ensures knows { (issued : ℕ) → AreAll issued place.old.me.0
-        → KnowsAll T.content top.now.key.groups issued place.old.me.0 }
+fn tell_all_as<T: PartTable, G: Grouping>(words: &SharedWords<T>, seat: &mut Seat<T>)
+    requires table { FitsTable seat.old words.now.table_id }
+    requires session { HasSession seat.old.me.0 }
+    requires groups { G.groups ≡ words.now.key.groups }
+    ensures same_seat { IsSameSeat seat.old seat.new }
+    ensures side { seat.new.me ≡ seat.old.me }
+    ensures knows { (issued : ℕ) → AreAll issued seat.old.me.0
+        → KnowsAll T.content words.now.key.groups issued seat.old.me.0 }
 {
-    top.load::<TellsAll<G>>(place, 0);
+    words.load::<TellsAll<G>>(seat, 0);
 }
 
 // The same with as many groups as there are.
-fn tell_all<T: PartTable>(top: &Top<T>, place: &mut Place<T>)
-    requires table { FitsTable place.old top.now.table_id }
-    requires session { HasSession place.old.me.0 }
-    ensures seat { IsSameSeat place.old place.new }
-    ensures side { place.new.me ≡ place.old.me }
-    ensures knows { (issued : ℕ) → AreAll issued place.old.me.0
-        → KnowsAll T.content top.now.key.groups issued place.old.me.0 }
+fn tell_all<T: PartTable>(words: &SharedWords<T>, seat: &mut Seat<T>)
+    requires table { FitsTable seat.old words.now.table_id }
+    requires session { HasSession seat.old.me.0 }
+    ensures same_seat { IsSameSeat seat.old seat.new }
+    ensures side { seat.new.me ≡ seat.old.me }
+    ensures knows { (issued : ℕ) → AreAll issued seat.old.me.0
+        → KnowsAll T.content words.now.key.groups issued seat.old.me.0 }
 {
-    tell_all_as::<T, Brand>(top, place);
+    tell_all_as::<T, Brand>(words, seat);
 }
 
 // How many modes a slot's word shows.
@@ -138,101 +138,101 @@ fn modes_in(word: SlotWord) -> u64
 }
 
 /// The sum of all strong lock counters, each loaded once.
-pub(crate) fn count_counters<T: PartTable>(top: &Top<T>, place: &mut Place<T>) -> u64
-    requires table { FitsTable place.old top.now.table_id }
-    requires session { HasSession place.old.me.0 }
-    requires all { (issued : ℕ) × AreAll issued place.old.me.0 }
-    requires no_slots { (account_at T.content place.old).fast.slots (number_at place.old) ≡ None }
-    ensures seat { IsSameSeat place.old place.new }
-    ensures slots { place.new.me.1 ≡ place.old.me.1 }
-    ensures seen { CountersSeen T.content 1024 place.old.me.0 place.new.me.0 result }
+pub(crate) fn count_counters<T: PartTable>(words: &SharedWords<T>, seat: &mut Seat<T>) -> u64
+    requires table { FitsTable seat.old words.now.table_id }
+    requires session { HasSession seat.old.me.0 }
+    requires all { (issued : ℕ) × AreAll issued seat.old.me.0 }
+    requires no_slots { (account_at T.content seat.old).fast.slots (number_at seat.old) ≡ None }
+    ensures same_seat { IsSameSeat seat.old seat.new }
+    ensures shelves { seat.new.me.1 ≡ seat.old.me.1 }
+    ensures seen { CountersSeen T.content 1024 seat.old.me.0 seat.new.me.0 result }
 {
     let mut sum = 0;
     for index in 0..STRONG_COUNTERS as u16 {
-        sum += look_over_strong::<T, Brand>(top, place, index);
+        sum += look_over_strong::<T, Brand>(words, seat, index);
     }
     sum
 }
 
 // How many modes a session's slots show, those of so many groups, each loaded once.
 fn count_slots_of<T: PartTable>(
-    top: &Top<T>,
-    place: &mut Place<T>,
+    words: &SharedWords<T>,
+    seat: &mut Seat<T>,
     owner: SessionId,
     groups: u8,
 ) -> u64
-    requires table { FitsTable place.old top.now.table_id }
-    requires session { HasSession place.old.me.0 }
-    requires groups { groups ≡ top.now.key.groups }
-    requires grouped { HasGroups top.now.table_id top.now.key.groups }
-    ensures seat { IsSameSeat place.old place.new }
-    ensures slots { place.new.me.1 ≡ place.old.me.1 }
-    ensures sees { SeesSlots T.content owner (group_size * groups) place.old.me.0 place.new.me.0 result }
+    requires table { FitsTable seat.old words.now.table_id }
+    requires session { HasSession seat.old.me.0 }
+    requires groups { groups ≡ words.now.key.groups }
+    requires grouped { HasGroups words.now.table_id words.now.key.groups }
+    ensures same_seat { IsSameSeat seat.old seat.new }
+    ensures shelves { seat.new.me.1 ≡ seat.old.me.1 }
+    ensures sees { SeesSlots T.content owner (group_size * groups) seat.old.me.0 seat.new.me.0 result }
     ensures few { result ≤ 384 }
 {
     let mut sum = 0;
     for slot in 0..SLOTS_PER_GROUP * groups {
-        sum += modes_in(look_over_slot::<T, Brand>(top, place, owner, slot));
+        sum += modes_in(look_over_slot::<T, Brand>(words, seat, owner, slot));
     }
     sum
 }
 
 // How many modes all slots show, of the sessions that there can be.
-fn count_slots<T: PartTable>(top: &Top<T>, place: &mut Place<T>, sizes: &Sizes) -> u64
-    requires table { FitsTable place.old top.now.table_id }
-    requires session { HasSession place.old.me.0 }
-    requires sizes { sizes.now ≡ top.now.key }
-    requires grouped { HasGroups top.now.table_id top.now.key.groups }
+fn count_slots<T: PartTable>(words: &SharedWords<T>, seat: &mut Seat<T>, sizes: &TableSizes) -> u64
+    requires table { FitsTable seat.old words.now.table_id }
+    requires session { HasSession seat.old.me.0 }
+    requires sizes { sizes.now ≡ words.now.key }
+    requires grouped { HasGroups words.now.table_id words.now.key.groups }
     requires few { sizes.now.sessions ≤ 64 }
-    ensures seat { IsSameSeat place.old place.new }
-    ensures slots { place.new.me.1 ≡ place.old.me.1 }
-    ensures sees { SeesAllSlots T.content sizes.now.groups sizes.now.sessions place.old.me.0 place.new.me.0 result }
+    ensures same_seat { IsSameSeat seat.old seat.new }
+    ensures shelves { seat.new.me.1 ≡ seat.old.me.1 }
+    ensures sees { SeesAllSlots T.content sizes.now.groups sizes.now.sessions seat.old.me.0 seat.new.me.0 result }
 {
     let mut sum = 0;
     for number in 0..sizes.sessions {
         let owner = SessionId::new(number).unwrap();
-        sum += count_slots_of(top, place, owner, sizes.groups);
+        sum += count_slots_of(words, seat, owner, sizes.groups);
     }
     sum
 }
 
 // Takes the next partition in rising order, whose content comes in hand.
-fn take_next<T: PartTable, R: Wait>(rt: &R, top: &Top<T>, place: &mut Place<T>, part: u8) -> T
-    requires table { FitsTable place.old top.now.table_id }
-    requires session { HasSession place.old.me.0 }
+fn take_next<T: PartTable, R: Wait>(rt: &R, words: &SharedWords<T>, seat: &mut Seat<T>, part: u8) -> T
+    requires table { FitsTable seat.old words.now.table_id }
+    requires session { HasSession seat.old.me.0 }
     requires exists { part < 16 }
-    requires none_in_hand { IsAboveHand (account_at T.content place.old) part }
-    requires idle { (account_at T.content place.old).lists ≡ no_lists }
-    requires todo { todo_at place.old ≡ nothing_to_do }
-    ensures seat { IsSameSeat place.old place.new }
-    ensures side { place.new.me
-        ≡ (noting place.old.me.0 (TookPart part result), (content_slot_of part, Nothing) ∷ place.old.me.1) }
+    requires none_in_hand { IsAboveHand (account_at T.content seat.old) part }
+    requires idle { (account_at T.content seat.old).lists ≡ no_lists }
+    requires todo { todo_at seat.old ≡ nothing_to_do }
+    ensures same_seat { IsSameSeat seat.old seat.new }
+    ensures side { seat.new.me
+        ≡ (noting seat.old.me.0 (TookPart part result), (content_shelf_of part, Nothing) ∷ seat.old.me.1) }
     ensures none_begun { T.begun result ≡ None }
-    ensures knows { KnowsContent (number_at place.old) (account_at T.content place.old) part (T.content result) }
-    ensures session_there { HasSession place.new.me.0 }
-    ensures above { IsAboveHand (account_at T.content place.new) (part + 1) }
-    ensures lists { (account_at T.content place.new).lists ≡ (account_at T.content place.old).lists }
-    ensures todo { todo_at place.new ≡ nothing_to_do }
+    ensures knows { KnowsContent (number_at seat.old) (account_at T.content seat.old) part (T.content result) }
+    ensures session_there { HasSession seat.new.me.0 }
+    ensures above { IsAboveHand (account_at T.content seat.new) (part + 1) }
+    ensures lists { (account_at T.content seat.new).lists ≡ (account_at T.content seat.old).lists }
+    ensures todo { todo_at seat.new ≡ nothing_to_do }
 {
-    take_part_alone(rt, top, place, part)
+    take_part_alone(rt, words, seat, part)
 }
 
 // Puts a partition back as it was taken. Whoever is told to wait for its lock is woken, though all sessions are gathered.
-fn put_back<T: PartTable>(top: &Top<T>, place: &mut Place<T>, part: u8, content: T)
-    requires table { FitsTable place.old top.now.table_id }
+fn put_back<T: PartTable>(words: &SharedWords<T>, seat: &mut Seat<T>, part: u8, content: T)
+    requires table { FitsTable seat.old words.now.table_id }
     requires exists { part < 16 }
-    requires session { HasSession place.old.me.0 }
-    requires in_hand { place.old.me.1 ≡ (content_slot_of part, Nothing) ∷ rest place.old.me.1 }
+    requires session { HasSession seat.old.me.0 }
+    requires in_hand { seat.old.me.1 ≡ (content_shelf_of part, Nothing) ∷ rest seat.old.me.1 }
     requires none_begun { T.begun content ≡ None }
-    requires lawful { (mine : InHand) × MayPutPart top.now.key.sessions (number_at place.old)
-        (account_at T.content place.old) part mine Keep (T.content content) }
-    requires idle { (account_at T.content place.old).lists ≡ no_lists }
-    requires todo { todo_at place.old ≡ nothing_to_do }
-    ensures led { Led T.content place.old place.new (account_putting (account_at T.content place.old) part
-        (taken_of ((account_at T.content place.old).hand part)) (T.content content) Keep) }
-    ensures slots { place.new.me.1 ≡ rest place.old.me.1 }
+    requires lawful { (mine : InHand) × MayPutPart words.now.key.sessions (number_at seat.old)
+        (account_at T.content seat.old) part mine Keep (T.content content) }
+    requires idle { (account_at T.content seat.old).lists ≡ no_lists }
+    requires todo { todo_at seat.old ≡ nothing_to_do }
+    ensures led { Led T.content seat.old seat.new (account_putting (account_at T.content seat.old) part
+        (taken_of ((account_at T.content seat.old).hand part)) (T.content content) Keep) }
+    ensures shelves { seat.new.me.1 ≡ rest seat.old.me.1 }
 {
-    put_part::<T, Brand>(top, place, part, &Move::Keep, content);
+    put_part::<T, Brand>(words, seat, part, &Move::Keep, content);
 }
 
 /// Takes the partitions from `part` on, in rising order, counts in `fast` with all in hand what slots show, and puts
@@ -240,38 +240,38 @@ fn put_back<T: PartTable>(top: &Top<T>, place: &mut Place<T>, part: u8, content:
 /// these the call is refused, and all partitions are put back as well.
 pub(crate) fn count_from<T: PartTable, R: Wait>(
     rt: &R,
-    top: &Top<T>,
-    place: &mut Place<T>,
-    sizes: &Sizes,
+    words: &SharedWords<T>,
+    seat: &mut Seat<T>,
+    sizes: &TableSizes,
     part: u8,
     fast: &mut u64,
     rows: &mut Vec<TableRow>,
 ) -> Result<(), NoMemory>
-    requires table { FitsTable place.old top.now.table_id }
-    requires session { HasSession place.old.me.0 }
-    requires sizes { sizes.now ≡ top.now.key }
-    requires grouped { HasGroups top.now.table_id top.now.key.groups }
+    requires table { FitsTable seat.old words.now.table_id }
+    requires session { HasSession seat.old.me.0 }
+    requires sizes { sizes.now ≡ words.now.key }
+    requires grouped { HasGroups words.now.table_id words.now.key.groups }
     requires few { sizes.now.sessions ≤ 64 }
     requires exists { part ≤ 16 }
-    requires none_in_hand { IsAboveHand (account_at T.content place.old) part }
-    requires idle { (account_at T.content place.old).lists ≡ no_lists }
-    requires todo { todo_at place.old ≡ nothing_to_do }
-    ensures seat { IsSameSeat place.old place.new }
-    ensures slots { place.new.me.1 ≡ place.old.me.1 }
-    ensures counts { CountsFrom T.content sizes.now.groups part sizes.now.sessions place.old.me.0 rows.old.items result
-        fast.new place.new.me.0 rows.new.items }
+    requires none_in_hand { IsAboveHand (account_at T.content seat.old) part }
+    requires idle { (account_at T.content seat.old).lists ≡ no_lists }
+    requires todo { todo_at seat.old ≡ nothing_to_do }
+    ensures same_seat { IsSameSeat seat.old seat.new }
+    ensures shelves { seat.new.me.1 ≡ seat.old.me.1 }
+    ensures counts { CountsFrom T.content sizes.now.groups part sizes.now.sessions seat.old.me.0 rows.old.items result
+        fast.new seat.new.me.0 rows.new.items }
 {
     if u32::from(part) == PARTITIONS {
-        tell_all(top, place);
-        *fast = count_slots(top, place, sizes);
+        tell_all(words, seat);
+        *fast = count_slots(words, seat, sizes);
         return Ok(());
     }
-    let content = take_next(rt, top, place, part);
-    let mut counted = count_from(rt, top, place, sizes, part + 1, fast, rows);
+    let content = take_next(rt, words, seat, part);
+    let mut counted = count_from(rt, words, seat, sizes, part + 1, fast, rows);
     if counted.is_ok() {
         counted = content.rows(rows);
     }
-    put_back(top, place, part, content);
+    put_back(words, seat, part, content);
     counted
 }
 
@@ -290,7 +290,7 @@ impl<T: PartTable> Opener<T> {
     pub fn count<R: Wait>(
         &mut self,
         rt: &R,
-        table: &Top<T>,
+        table: &SharedWords<T>,
         rows: &mut Vec<TableRow>,
     ) -> Result<Audit, NoMemory>
         requires table { (self.old.table ≡ table.now.table_id) × (self.old.limit ≡ table.now.key.sessions)
@@ -302,10 +302,10 @@ impl<T: PartTable> Opener<T> {
         requires empty { rows.old.items ≡ [] }
         ensures { CountsAll T.content self.old self.new result }
     {
-        let strong = count_counters(table, &mut self.place);
+        let strong = count_counters(table, &mut self.seat);
         let mut fast = 0;
         let sizes = self.sizes;
-        count_from(rt, table, &mut self.place, &sizes, 0, &mut fast, rows)?;
+        count_from(rt, table, &mut self.seat, &sizes, 0, &mut fast, rows)?;
         Ok(Audit {
             fast,
             table: granted_in(rows.as_slice()),

@@ -209,18 +209,18 @@ pub trait Board<T: PartTable> {
         ensures stack { stack self.new ≡ stack self.old }
         ensures quiet { quiet self.new ≡ quiet self.old };
 
-    /// Loads the fast-path slot of `owner` at `place`, one of those of its groups (`fpRelId` and `fpLockBits` in
+    /// Loads the fast-path slot `slot` of `owner`, one of those of its groups (`fpRelId` and `fpLockBits` in
     /// proc.h).
-    fn load_slot(&mut self, owner: SessionId, place: u8) -> SlotWord
-        requires within { place < group_size * (seat self.old).groups }
+    fn load_slot(&mut self, owner: SessionId, slot: u8) -> SlotWord
+        requires within { slot < group_size * (seat self.old).groups }
         ensures seat { seat self.new ≡ seat self.old }
-        ensures view { view self.new ≡ account_tracing (view self.old) (Loaded (Slot owner place) result) }
+        ensures view { view self.new ≡ account_tracing (view self.old) (Loaded (Slot owner slot) result) }
         ensures stack { stack self.new ≡ stack self.old }
         ensures quiet { quiet self.new ≡ quiet self.old }
         ensures of_slots { (slots : SlotsInHand) → (view self.old).fast.slots owner ≡ Some slots
-            → result ≡ slots.word place }
+            → result ≡ slots.word slot }
         ensures of_shared_slots { (slots : SlotsInHand) → (view self.old).fast.shared_slots owner ≡ Some slots
-            → result ≡ slots.word place };
+            → result ≡ slots.word slot };
 
     /// Loads the strong lock counter at `index`. Where it shows 0 while the session has its own slots in hand, the
     /// session may set slots for objects of that index until it puts them (`FastPathStrongRelationLocks->count` in
@@ -232,39 +232,39 @@ pub trait Board<T: PartTable> {
         ensures stack { stack self.new ≡ stack self.old }
         ensures quiet { quiet self.new ≡ quiet self.old };
 
-    /// Sets `mode` on `tag` in the session's own slot at `place`, whose word shows `shown`
+    /// Sets `mode` on `tag` in the session's own slot `slot`, whose word shows `shown`
     /// (`FastPathGrantRelationLock` in lock.c).
-    fn set_slot(&mut self, place: u8, shown: SlotWord, tag: &Tag, mode: Mode)
-        requires within { place < group_size * (seat self.old).groups }
+    fn set_slot(&mut self, slot: u8, shown: SlotWord, tag: &Tag, mode: Mode)
+        requires within { slot < group_size * (seat self.old).groups }
         requires lawful { (mine : SlotsInHand)
-            × MaySetSlotBy (seat self.old).groups (seat self.old).number (view self.old) mine place tag.now mode
-            × (shown ≡ mine.word place) }
+            × MaySetSlotBy (seat self.old).groups (seat self.old).number (view self.old) mine slot tag.now mode
+            × (shown ≡ mine.word slot) }
         ensures seat { seat self.new ≡ seat self.old }
         ensures view { view self.new ≡ account_setting (seat self.old).number (view self.old)
-            (slots_here ((view self.old).fast.slots (seat self.old).number)) place tag.now mode }
+            (slots_here ((view self.old).fast.slots (seat self.old).number)) slot tag.now mode }
         ensures stack { stack self.new ≡ stack self.old }
         ensures quiet { quiet self.new ≡ SetsSlot tag.now mode ∷ quiet self.old };
 
-    /// Clears `mode` on `tag` in the session's own slot at `place`, whose word shows `shown`
+    /// Clears `mode` on `tag` in the session's own slot `slot`, whose word shows `shown`
     /// (`FastPathUnGrantRelationLock` in lock.c).
-    fn clear_slot(&mut self, place: u8, shown: SlotWord, tag: &Tag, mode: Mode)
-        requires within { place < group_size * (seat self.old).groups }
+    fn clear_slot(&mut self, slot: u8, shown: SlotWord, tag: &Tag, mode: Mode)
+        requires within { slot < group_size * (seat self.old).groups }
         requires lawful { (mine : SlotsInHand)
-            × MayClearSlotBy (seat self.old).number (view self.old) mine place tag.now mode
-            × (shown ≡ mine.word place) }
+            × MayClearSlotBy (seat self.old).number (view self.old) mine slot tag.now mode
+            × (shown ≡ mine.word slot) }
         ensures seat { seat self.new ≡ seat self.old }
         ensures view { view self.new ≡ account_unsetting (seat self.old).number (view self.old)
-            (slots_here ((view self.old).fast.slots (seat self.old).number)) place tag.now mode }
+            (slots_here ((view self.old).fast.slots (seat self.old).number)) slot tag.now mode }
         ensures stack { stack self.new ≡ stack self.old }
         ensures quiet { quiet self.new ≡ quiet self.old };
 
-    /// Moves `mode` on `tag` from the slot of `owner` at `place`, whose word shows `shown`, to `content` in hand,
+    /// Moves `mode` on `tag` from the slot `slot` of `owner`, whose word shows `shown`, to `content` in hand,
     /// which has it already, with the strong lock of the mode `strong` counted, which is to go past that session
     /// next (a mode of the inner loop of `FastPathTransferRelationLocks` in lock.c).
     fn transfer_slot(
         &mut self,
         owner: SessionId,
-        place: u8,
+        slot: u8,
         shown: SlotWord,
         tag: &Tag,
         mode: Mode,
@@ -272,12 +272,12 @@ pub trait Board<T: PartTable> {
         content: &T,
     )
         requires exists { owner < (seat self.old).limit }
-        requires within { place < group_size * (seat self.old).groups }
+        requires within { slot < group_size * (seat self.old).groups }
         requires lawful { (its : SlotsInHand) × (mine : InHand)
-            × MayTransferBy (seat self.old).limit (view self.old) owner place its mine tag.now mode strong
-            × (shown ≡ its.word place) × (T.content content.now ≡ add_hold mine.now owner tag.now mode) }
+            × MayTransferBy (seat self.old).limit (view self.old) owner slot its mine tag.now mode strong
+            × (shown ≡ its.word slot) × (T.content content.now ≡ add_hold mine.now owner tag.now mode) }
         ensures seat { seat self.new ≡ seat self.old }
-        ensures view { view self.new ≡ account_transferring (view self.old) owner place
+        ensures view { view self.new ≡ account_transferring (view self.old) owner slot
             (slots_here ((view self.old).fast.slots owner))
             (in_hand ((view self.old).hand (partition_of tag.now))) tag.now mode }
         ensures stack { stack self.new ≡ stack self.old }

@@ -8,59 +8,59 @@ ghost use Rattle.shared_rule.specs.Plays.{account_at, FitsTable, HasSession, IsS
 
 use crate::layout::strong_word;
 use crate::plays::Marking;
-use crate::rule::{Place, Top};
+use crate::rule::{Seat, SharedWords};
 use crate::words::{fetch_add_as, fetch_sub_as, load_as};
 use lock_table::PartTable;
 use modes_core::{Mode, Tag};
 
 /// Counts a strong lock of `mode` on `tag`, past nobody yet (`BeginStrongLockAcquire` in lock.c).
 pub(crate) fn add_strong<T: PartTable, M: Marking<T>>(
-    top: &Top<T>,
-    place: &mut Place<T>,
+    words: &SharedWords<T>,
+    seat: &mut Seat<T>,
     tag: &Tag,
     mode: Mode,
 )
-    requires table { FitsTable place.old top.now.table_id }
-    requires session { HasSession place.old.me.0 }
-    requires lawful { MayCountBy (account_at T.content place.old) tag.now mode }
+    requires table { FitsTable seat.old words.now.table_id }
+    requires session { HasSession seat.old.me.0 }
+    requires lawful { MayCountBy (account_at T.content seat.old) tag.now mode }
     requires mark { M.mark ≡ (λ _. Counted tag.now mode) }
-    ensures seat { IsSameSeat place.old place.new }
-    ensures side { place.new.me ≡ (noting place.old.me.0 (Counted tag.now mode), place.old.me.1) }
+    ensures same_seat { IsSameSeat seat.old seat.new }
+    ensures side { seat.new.me ≡ (noting seat.old.me.0 (Counted tag.now mode), seat.old.me.1) }
 {
-    fetch_add_as::<T, M>(top, place, strong_word(tag.strong_index()), 1);
+    fetch_add_as::<T, M>(words, seat, strong_word(tag.strong_index()), 1);
 }
 
 /// Takes the count of the strong lock of `mode` on `tag` back (`AbortStrongLockAcquire`, and `RemoveLocalLock` in
 /// lock.c).
 pub(crate) fn sub_strong<T: PartTable, M: Marking<T>>(
-    top: &Top<T>,
-    place: &mut Place<T>,
+    words: &SharedWords<T>,
+    seat: &mut Seat<T>,
     tag: &Tag,
     mode: Mode,
 )
-    requires table { FitsTable place.old top.now.table_id }
-    requires session { HasSession place.old.me.0 }
-    requires lawful { MayUncountBy (account_at T.content place.old) tag.now mode }
+    requires table { FitsTable seat.old words.now.table_id }
+    requires session { HasSession seat.old.me.0 }
+    requires lawful { MayUncountBy (account_at T.content seat.old) tag.now mode }
     requires mark { M.mark ≡ (λ _. Uncounted tag.now mode) }
-    ensures seat { IsSameSeat place.old place.new }
-    ensures side { place.new.me ≡ (noting place.old.me.0 (Uncounted tag.now mode), place.old.me.1) }
+    ensures same_seat { IsSameSeat seat.old seat.new }
+    ensures side { seat.new.me ≡ (noting seat.old.me.0 (Uncounted tag.now mode), seat.old.me.1) }
 {
-    fetch_sub_as::<T, M>(top, place, strong_word(tag.strong_index()), 1);
+    fetch_sub_as::<T, M>(words, seat, strong_word(tag.strong_index()), 1);
 }
 
 /// Loads the strong lock counter at `index` (`FastPathStrongRelationLocks->count` in `LockAcquireExtended` of
 /// lock.c).
 pub(crate) fn load_strong<T: PartTable, M: Marking<T>>(
-    top: &Top<T>,
-    place: &mut Place<T>,
+    words: &SharedWords<T>,
+    seat: &mut Seat<T>,
     index: u16,
 ) -> u64
-    requires table { FitsTable place.old top.now.table_id }
-    requires session { HasSession place.old.me.0 }
+    requires table { FitsTable seat.old words.now.table_id }
+    requires session { HasSession seat.old.me.0 }
     requires within { index < 1024 }
     requires mark { M.mark ≡ LoadedStrong index }
-    ensures seat { IsSameSeat place.old place.new }
-    ensures side { place.new.me ≡ (noting place.old.me.0 (LoadedStrong index result), place.old.me.1) }
+    ensures same_seat { IsSameSeat seat.old seat.new }
+    ensures side { seat.new.me ≡ (noting seat.old.me.0 (LoadedStrong index result), seat.old.me.1) }
 {
-    load_as::<T, M>(top, place, strong_word(index))
+    load_as::<T, M>(words, seat, strong_word(index))
 }

@@ -11,7 +11,7 @@ ghost use Rattle.shared_rule.specs.Seats.{MayBeKeptApartBy};
 
 use crate::board::Board;
 use crate::opener::Opener;
-use crate::rule::{Sizes, Top};
+use crate::rule::{SharedWords, TableSizes};
 use crate::seat_board::SeatBoard;
 use crate::seats;
 use lock_table::PartTable;
@@ -21,9 +21,9 @@ use std::marker::Model;
 /// A session whose seat is gathered at the opener's: what is left of its board. It is not `Drop`, so that nobody
 /// lets one go, which would leave its session there for ever. Contracts see whose board it was, and at which table.
 pub struct Absent<'a, T: PartTable> {
-    table: &'a Top<T>,
+    table: &'a SharedWords<T>,
     number: SessionId,
-    sizes: Sizes,
+    sizes: TableSizes,
 }
 
 impl<'a, T: PartTable> Model for Absent<'a, T> {
@@ -58,8 +58,8 @@ impl<T: PartTable> Opener<T> {
     {
         let number = board.number();
         let sizes = board.sizes();
-        let (table, place) = board.into_place();
-        seats::keep_apart(table, &mut self.place, place);
+        let (table, seat) = board.into_seat();
+        seats::keep_apart(table, &mut self.seat, seat);
         Absent {
             table,
             number,
@@ -84,7 +84,7 @@ impl<T: PartTable> Opener<T> {
             number,
             sizes,
         } = absent;
-        let place = seats::hand_back(table, &mut self.place);
-        SeatBoard::at(table, place, number, sizes)
+        let seat = seats::hand_back(table, &mut self.seat);
+        SeatBoard::at(table, seat, number, sizes)
     }
 }

@@ -93,8 +93,8 @@ pub enum WordMark {
     LoadedSlot {
         /// The session whose slots they are.
         owner: u8,
-        /// The place of the slot.
-        place: u8,
+        /// The number of the slot.
+        slot: u8,
         /// What was shown.
         shown: u64,
     },
@@ -112,8 +112,8 @@ pub enum WordMark {
     },
     /// The session set a mode in a slot of its own.
     SetSlot {
-        /// The place of the slot.
-        place: u8,
+        /// The number of the slot.
+        slot: u8,
         /// The object.
         tag: Tag,
         /// The mode.
@@ -121,8 +121,8 @@ pub enum WordMark {
     },
     /// The session cleared a mode in a slot of its own.
     ClearedSlot {
-        /// The place of the slot.
-        place: u8,
+        /// The number of the slot.
+        slot: u8,
         /// The object.
         tag: Tag,
         /// The mode.
@@ -132,8 +132,8 @@ pub enum WordMark {
     TransferredSlot {
         /// The session whose slots they are.
         owner: u8,
-        /// The place of the slot.
-        place: u8,
+        /// The number of the slot.
+        slot: u8,
         /// The object.
         tag: Tag,
         /// The mode.

@@ -1,9 +1,9 @@
-//! What the slots of the table keep.
+//! What the shelves of the table keep.
 
 use lw_word::WaitList;
 
-/// What a slot keeps: a partition's content, or the wait list of a lightweight lock, each in a slot of its own. A list
-/// lies behind a pointer, so that a slot is two words wide; all lists are made before the first step, and then nothing
+/// What a shelf keeps: a partition's content, or the wait list of a lightweight lock, each on a shelf of its own. A list
+/// lies behind a pointer, so that a shelf is two words wide; all lists are made before the first step, and then nothing
 /// takes memory.
 #[derive(Drop)]
 pub enum Kept<T> {

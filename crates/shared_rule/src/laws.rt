@@ -6,7 +6,7 @@ ghost use lib.ListN.{get_elem?};
 ghost use Rattle.atomic_table.specs.Table.{State};
 ghost use Rattle.lock_world.specs.SlotHolds.{most_groups};
 ghost use Rattle.lock_world.specs.World.{World, Hand, TraceEntry, opening};
-ghost use Rattle.shared_rule.specs.declared.rule.Sizes.{Sizes};
+ghost use Rattle.shared_rule.specs.declared.rule.TableSizes.{TableSizes};
 ghost use Rattle.shared_rule.specs.declared.history.History.{History};
 ghost use Rattle.shared_rule.specs.declared.history.Mark.{Mark};
 ghost use Rattle.shared_rule.specs.History.{told, lone, spent_view};
@@ -35,7 +35,7 @@ use lock_table::PartTable;
 /// what goes with that. Whoever a conditional request was refused for stood with the mode named on the object, or
 /// awaited it, in the World in which the session that asked took the content of the object's partition.
 pub fn the_table_shows_no_two_sessions_in_conflict<T: PartTable>()
-    ensures { (sizes : Sizes) (state : State (Kept T) (View T)) → Ruled T.content T.begun sizes state
+    ensures { (sizes : TableSizes) (state : State (Kept T) (View T)) → Ruled T.content T.begun sizes state
         → ShowsHeadline T.content T.begun sizes state }
 {}
 
@@ -43,7 +43,7 @@ pub fn the_table_shows_no_two_sessions_in_conflict<T: PartTable>()
 /// is at home, another session holds the object in a mode that conflicts with the one awaited, or one that waits before it
 /// awaits such a mode; otherwise its wait word shows the grant.
 pub fn the_table_shows_why_each_session_waits<T: PartTable>()
-    ensures { (sizes : Sizes) (state : State (Kept T) (View T)) → Ruled T.content T.begun sizes state
+    ensures { (sizes : TableSizes) (state : State (Kept T) (View T)) → Ruled T.content T.begun sizes state
         → ShowsReasons T.content T.begun sizes state }
 {}
 
@@ -53,7 +53,7 @@ pub fn the_table_shows_why_each_session_waits<T: PartTable>()
 /// a list, and a session that makes steps has that lock or something to do for it; or the sleeper was taken off, and a session
 /// that makes steps has it to tell.
 pub fn the_table_forgets_no_sleeper<T: PartTable>()
-    ensures { (sizes : Sizes) (state : State (Kept T) (View T)) → Ruled T.content T.begun sizes state
+    ensures { (sizes : TableSizes) (state : State (Kept T) (View T)) → Ruled T.content T.begun sizes state
         → ShowsSleepers T.content T.begun sizes state }
 {}
 
@@ -63,7 +63,7 @@ pub fn the_table_forgets_no_sleeper<T: PartTable>()
 /// since it loaded the word wakes it. Whoever is parked on what its word no more shows is owed a call: a session that makes steps
 /// has it to wake, as its history tells.
 pub fn the_table_loses_no_call<T: PartTable>()
-    ensures { (sizes : Sizes) (state : State (Kept T) (View T)) → Ruled T.content T.begun sizes state
+    ensures { (sizes : TableSizes) (state : State (Kept T) (View T)) → Ruled T.content T.begun sizes state
         → ShowsCalls T.content T.begun sizes state }
 {}
 
@@ -72,7 +72,7 @@ pub fn the_table_loses_no_call<T: PartTable>()
 /// sleeps, not all of those sleep who have a lightweight lock, or something to do for one, or somebody to tell: a chain of waiting
 /// ends at a session that runs.
 pub fn the_table_lets_no_circle_of_sleepers_come<T: PartTable>()
-    ensures { (sizes : Sizes) (state : State (Kept T) (View T)) → Ruled T.content T.begun sizes state
+    ensures { (sizes : TableSizes) (state : State (Kept T) (View T)) → Ruled T.content T.begun sizes state
         → ShowsNoCircle T.content T.begun sizes state }
 {}
 
@@ -107,12 +107,12 @@ pub fn a_word_is_set_alone()
 /// tells of a World on the way of events that lead from the World before the first step to the one that the table
 /// shows now. It is so of the sessions that seats are for, and of those that have closed.
 pub fn what_an_account_tells_was_so<T: PartTable>()
-    ensures at_seat { (sizes : Sizes) (state : State (Kept T) (View T)) (rule : Ruled T.content T.begun sizes state)
+    ensures at_seat { (sizes : TableSizes) (state : State (Kept T) (View T)) (rule : Ruled T.content T.begun sizes state)
         (history : History T) → StandsAtSeat state.views history →
         (before after : List TraceEntry) (entry : TraceEntry) →
         (told T.content history.number history.marks).trace ≡ before ++ entry ∷ after →
         WasSo sizes rule.world history.number before entry }
-    ensures closed { (sizes : Sizes) (state : State (Kept T) (View T)) (rule : Ruled T.content T.begun sizes state)
+    ensures closed { (sizes : TableSizes) (state : State (Kept T) (View T)) (rule : Ruled T.content T.begun sizes state)
         (history : History T) → StandsClosed state.views history →
         (before after : List TraceEntry) (entry : TraceEntry) →
         (told T.content history.number history.marks).trace ≡ before ++ entry ∷ after →
@@ -124,16 +124,16 @@ pub fn what_an_account_tells_was_so<T: PartTable>()
 /// order, and no other: of the sessions that seats are for, of those that have closed, and of a number not given out,
 /// which has made none. Whoever is live has a seat, where its history stands.
 pub fn no_step_was_made_but_those_told<T: PartTable>()
-    ensures run { (sizes : Sizes) (state : State (Kept T) (View T)) (rule : Ruled T.content T.begun sizes state) →
+    ensures run { (sizes : TableSizes) (state : State (Kept T) (View T)) (rule : Ruled T.content T.begun sizes state) →
         Leads (opening sizes.sessions sizes.groups) rule.events rule.world }
-    ensures steps { (sizes : Sizes) (state : State (Kept T) (View T)) (rule : Ruled T.content T.begun sizes state) →
+    ensures steps { (sizes : TableSizes) (state : State (Kept T) (View T)) (rule : Ruled T.content T.begun sizes state) →
         StepsAreTold state.views rule.world.numbers rule.events }
 {}
 
 /// Where the rule holds, each number that was given out has its history: at a seat, where its session is live, or with
 /// the opener, where it has closed. So no session's steps are told by nobody.
 pub fn each_number_given_out_has_its_history<T: PartTable>()
-    ensures { (sizes : Sizes) (state : State (Kept T) (View T)) (rule : Ruled T.content T.begun sizes state)
+    ensures { (sizes : TableSizes) (state : State (Kept T) (View T)) (rule : Ruled T.content T.begun sizes state)
         (number : ℕ) → number < rule.world.numbers.issued →
         HasSeat state.views number ⊎ HasClosedHistory state.views number }
 {}
@@ -142,7 +142,7 @@ pub fn each_number_given_out_has_its_history<T: PartTable>()
 /// step, it shows what the counter's word shows. Where others make steps too, it shows what the word showed in a World on
 /// the way, by `what_an_account_tells_was_so`, and no step but those that histories tell led there.
 pub fn no_load_of_a_counter_lies<T: PartTable>()
-    ensures { (sizes : Sizes) (state : State (Kept T) (View T)) → Ruled T.content T.begun sizes state →
+    ensures { (sizes : TableSizes) (state : State (Kept T) (View T)) → Ruled T.content T.begun sizes state →
         (number index shown : ℕ) (marks : List (Mark T)) →
         StandsAtSeat state.views (record { number = number; marks = LoadedStrong index shown ∷ marks }) →
         index < 1024 → NobodyElse state.views number →
@@ -153,10 +153,10 @@ pub fn no_load_of_a_counter_lies<T: PartTable>()
 /// it made, of each session that seats are for and of each that has closed. So no lock of slots is taken or shared, no mode set in
 /// a slot and no strong lock counted that isn't told, whatever undoes it later.
 pub fn the_quiet_steps_are_those_of_the_run<T: PartTable>()
-    ensures at_seat { (sizes : Sizes) (state : State (Kept T) (View T)) (rule : Ruled T.content T.begun sizes state)
+    ensures at_seat { (sizes : TableSizes) (state : State (Kept T) (View T)) (rule : Ruled T.content T.begun sizes state)
         (history : History T) → StandsAtSeat state.views history →
         quiet_told history.marks ≡ quiet_of [] (steps_of history.number rule.events) }
-    ensures closed { (sizes : Sizes) (state : State (Kept T) (View T)) (rule : Ruled T.content T.begun sizes state)
+    ensures closed { (sizes : TableSizes) (state : State (Kept T) (View T)) (rule : Ruled T.content T.begun sizes state)
         (history : History T) → StandsClosed state.views history →
         quiet_told history.marks ≡ quiet_of [] (steps_of history.number rule.events) }
 {}
@@ -165,23 +165,23 @@ pub fn the_quiet_steps_are_those_of_the_run<T: PartTable>()
 /// that its content has of that session, and that the content taken had not, was in that slot, with the partition in hand with
 /// that content taken, in a World on the way of the events that led there.
 pub fn an_adopt_moves_what_its_slot_had<T: PartTable>()
-    ensures { (sizes : Sizes) (state : State (Kept T) (View T)) (rule : Ruled T.content T.begun sizes state)
-        (partition owner place : ℕ) (tag : Tag) (mode : Mode) (hand : Hand) →
-        rule.world.contents.hand partition ≡ Some hand → hand.recorded ≡ Some (Adopt owner place) →
+    ensures { (sizes : TableSizes) (state : State (Kept T) (View T)) (rule : Ruled T.content T.begun sizes state)
+        (partition owner slot : ℕ) (tag : Tag) (mode : Mode) (hand : Hand) →
+        rule.world.contents.hand partition ≡ Some hand → hand.recorded ≡ Some (Adopt owner slot) →
         hand.taken.holds owner tag mode ≡ false → (rule.world.contents.now partition).holds owner tag mode ≡ true →
-        WasInSlot (opening sizes.sessions sizes.groups) rule.world rule.events partition owner place tag mode hand.taken }
+        WasInSlot (opening sizes.sessions sizes.groups) rule.world rule.events partition owner slot tag mode hand.taken }
 {}
 
 /// Nobody writes where no word stands: where the rule holds, each gap of the table shows what it opened with.
 pub fn gaps_are_never_written<T: PartTable>()
-    ensures { (sizes : Sizes) (state : State (Kept T) (View T)) → Ruled T.content T.begun sizes state →
+    ensures { (sizes : TableSizes) (state : State (Kept T) (View T)) → Ruled T.content T.begun sizes state →
         (index : ℕ) → IsGap index → slice_index state.words index ≡ 0 }
 {}
 
 /// No seat vanishes: where the rule holds and a seat is one session's, it doesn't hold with that session's view gone and all
 /// else the same.
 pub fn no_seat_vanishes<T: PartTable>()
-    ensures { (sizes : Sizes) (state : State (Kept T) (View T)) → Ruled T.content T.begun sizes state →
+    ensures { (sizes : TableSizes) (state : State (Kept T) (View T)) → Ruled T.content T.begun sizes state →
         (seat number : ℕ) (marks : List (Mark T)) → get_elem? state.views seat ≡ some (lone number marks) →
         Ruled T.content T.begun sizes (record {
           words = state.words;

@@ -13,7 +13,7 @@ ghost use Rattle.lock_world.specs.SlotHolds.{group_size, slot_count};
 ghost use Rattle.lock_world.specs.declared.events.Word.TheVariants.{Partition, Fast, Database, Slot};
 ghost use Rattle.lock_world.specs.declared.events.Word.TheVariants.{Wait, Strong, Sleep};
 ghost use Rattle.shared_rule.specs.Layout.{index_of_word, block_start, words_of_groups};
-ghost use Rattle.shared_rule.specs.Layout.{content_slot_of, list_slot_of, lock_count};
+ghost use Rattle.shared_rule.specs.Layout.{content_shelf_of, list_shelf_of, lock_count};
 
 use modes_core::{PARTITIONS, SESSIONS, STRONG_COUNTERS, SessionId};
 
@@ -46,19 +46,19 @@ pub fn table_words(groups: u8) -> usize
     SESSIONS_START + AREA * groups as usize
 }
 
-/// How far apart the contents of two partitions lie, in slots: with a content behind one pointer a slot has
+/// How far apart the contents of two partitions lie, in shelves: with a content behind one pointer a shelf has
 /// 16 bytes, so that is 128 bytes.
 pub(crate) const CONTENT_GAP: usize = 8;
 
-/// How many slots the table has for contents. The wait lists of lightweight locks come after them.
-pub const CONTENT_SLOTS: usize = PARTITIONS as usize * CONTENT_GAP;
+/// How many shelves the table has for contents. The wait lists of lightweight locks come after them.
+pub const CONTENT_SHELVES: usize = PARTITIONS as usize * CONTENT_GAP;
 
-/// How many wait lists there are places for: those of the locks of 64 sessions' slots, and as many others, of which
-/// partitions have the first 16. So a list's place follows from its lock's number alone.
+/// How many wait lists there are shelves for: those of the locks of 64 sessions' slots, and as many others, of which
+/// partitions have the first 16. So a list's shelf follows from its lock's number alone.
 pub(crate) const LISTS: usize = 2 * SESSIONS as usize;
 
-/// How many slots the table has. Two lists lie on different lines too.
-pub const TABLE_SLOTS: usize = CONTENT_SLOTS + LISTS * CONTENT_GAP;
+/// How many shelves the table has. Two lists lie on different lines too.
+pub const TABLE_SHELVES: usize = CONTENT_SHELVES + LISTS * CONTENT_GAP;
 
 /// The index of the lightweight lock of `partition`. Each is on a line of its own, as `LWLockPadded` in lwlock.h has
 /// it: sessions that work on different partitions don't wait for each other.
@@ -129,24 +129,24 @@ pub fn sleep_word(session: SessionId) -> usize
     block(session) + 19
 }
 
-/// The slot of the table in which the content of `partition` lies while nobody has it in hand. Two partitions'
-/// contents lie on different lines, as their words do; the slots between stay unused.
-pub fn content_slot(partition: u8) -> usize
+/// The shelf of the table on which the content of `partition` lies while nobody has it in hand. Two partitions'
+/// contents lie on different lines, as their words do; the shelves between stay unused.
+pub fn content_shelf(partition: u8) -> usize
     requires exists { partition < 16 }
-    ensures slot { result ≡ content_slot_of partition }
-    ensures within { result < CONTENT_SLOTS }
+    ensures shelf { result ≡ content_shelf_of partition }
+    ensures within { result < CONTENT_SHELVES }
 {
     CONTENT_GAP * partition as usize
 }
 
-/// The slot of the table in which the wait list of the lightweight lock numbered `lock` lies while nobody has it in
+/// The shelf of the table on which the wait list of the lightweight lock numbered `lock` lies while nobody has it in
 /// hand (`waiters` of an `LWLock` in lwlock.h). Partitions have the even numbers and sessions' slots the odd ones.
-pub(crate) fn list_slot(lock: u8) -> usize
+pub(crate) fn list_shelf(lock: u8) -> usize
     requires exists { lock < lock_count }
-    ensures slot { result ≡ list_slot_of lock }
-    ensures within { result < TABLE_SLOTS }
+    ensures shelf { result ≡ list_shelf_of lock }
+    ensures within { result < TABLE_SHELVES }
 {
-    CONTENT_SLOTS + CONTENT_GAP * lock as usize
+    CONTENT_SHELVES + CONTENT_GAP * lock as usize
 }
 
 // Where a session's block begins.

@@ -38,11 +38,11 @@ pub use gatherings::Absent;
 pub use history::{History, Mark, View, WordMark};
 pub use kept::Kept;
 pub use layout::{
-    CONTENT_SLOTS, TABLE_SLOTS, TABLE_WORDS, content_slot, database_word, fast_word,
+    CONTENT_SHELVES, TABLE_SHELVES, TABLE_WORDS, content_shelf, database_word, fast_word,
     partition_word, sleep_word, slot_word, strong_word, table_words, wait_word,
 };
 pub use one_thread::OneThread;
 pub use opener::Opener;
-pub use rule::{Law, Place, Sizes, Top};
+pub use rule::{LockTableRule, Seat, SharedWords, TableSizes};
 pub use seat_board::SeatBoard;
-pub use table::{SharedTable, in_slots, open};
+pub use table::{SharedTable, in_shelves, open};

@@ -14,7 +14,7 @@ ghost use Rattle.shared_rule.specs.Marks.{JoinedList, TookOff, Told, CalledSleep
 ghost use Rattle.shared_rule.specs.Marks.{SetReleaseOk, SetHasWaiters};
 ghost use Rattle.shared_rule.specs.declared.kept.Kept.TheVariants.{Nothing};
 ghost use Rattle.shared_rule.specs.History.{list_here, noting};
-ghost use Rattle.shared_rule.specs.Layout.{list_slot_of};
+ghost use Rattle.shared_rule.specs.Layout.{list_shelf_of};
 ghost use Rattle.shared_rule.specs.Acquires.{GotNothing, IsAsBefore};
 ghost use Rattle.shared_rule.specs.Led.{Led, LedTo};
 ghost use Rattle.shared_rule.specs.Todos.{IsLeftWellBy, JoinsLatest, TellsNobodyBy, todo_looked, todo_queueing, todo_leaving};
@@ -29,7 +29,7 @@ use crate::kept::Kept;
 use crate::layout::sleep_word;
 use crate::lw_locks::LwLock;
 use crate::plays::{LocksList, Marking, SeesHeld};
-use crate::rule::{Place, Top};
+use crate::rule::{Seat, SharedWords};
 use crate::words::{fetch_or_as, load_as, store_as, unlock_as};
 use lock_table::PartTable;
 use lw_word::{LwMode, LwWord, WaitList, has_locked_list};
@@ -40,30 +40,30 @@ use std::marker::Brand;
 /// told that it stands there only if it knows that it waits for that lock. Whoever has put the lock so that it must
 /// wake has done its part then: it has the list in hand, or another session has.
 pub(crate) fn try_lock_list<T: PartTable>(
-    top: &Top<T>,
-    place: &mut Place<T>,
+    words: &SharedWords<T>,
+    seat: &mut Seat<T>,
     lock: &LwLock,
 ) -> Option<Box<WaitList>>
-    requires table { FitsTable place.old top.now.table_id }
-    requires exists { LockExists top.now.key.sessions lock.now }
+    requires table { FitsTable seat.old words.now.table_id }
+    requires exists { LockExists words.now.key.sessions lock.now }
     requires there { LockIsInTable lock.now }
-    requires session { HasSession place.old.me.0 }
-    requires no_list { (account_at T.content place.old).lists.in_hand ≡ None }
-    requires no_other_look { NoneOr (todo_at place.old).due (lock_number lock.now) }
-    requires tells_nobody { TellsNobodyBy (account_at T.content place.old) }
-    ensures seat { IsSameSeat place.old place.new }
-    ensures led { IfSome result (λ list. LedTo T.content place.old place.new
-        (account_locking_list (account_at T.content place.old) (lock_number lock.now) list.value)
-        (todo_looked (todo_at place.old))) }
-    ensures slots { IfSome result (λ list. place.new.me.1
-        ≡ (list_slot_of (lock_number lock.now), Nothing) ∷ place.old.me.1) }
-    ensures stands { IfSome result (λ list. stands_in (number_at place.old) list.value ≡ true
-        → (account_at T.content place.old).lists.stands ≡ Some (lock_number lock.now)) }
-    ensures none { IfNone result (GotNothing T.content place.old place.new (todo_looked (todo_at place.old))) }
+    requires session { HasSession seat.old.me.0 }
+    requires no_list { (account_at T.content seat.old).lists.in_hand ≡ None }
+    requires no_other_look { NoneOr (todo_at seat.old).due (lock_number lock.now) }
+    requires tells_nobody { TellsNobodyBy (account_at T.content seat.old) }
+    ensures same_seat { IsSameSeat seat.old seat.new }
+    ensures led { IfSome result (λ list. LedTo T.content seat.old seat.new
+        (account_locking_list (account_at T.content seat.old) (lock_number lock.now) list.value)
+        (todo_looked (todo_at seat.old))) }
+    ensures shelves { IfSome result (λ list. seat.new.me.1
+        ≡ (list_shelf_of (lock_number lock.now), Nothing) ∷ seat.old.me.1) }
+    ensures stands { IfSome result (λ list. stands_in (number_at seat.old) list.value ≡ true
+        → (account_at T.content seat.old).lists.stands ≡ Some (lock_number lock.now)) }
+    ensures none { IfNone result (GotNothing T.content seat.old seat.new (todo_looked (todo_at seat.old))) }
 {
-    let found = top.fetch_or::<LocksList>(place, lock.word(), LwWord::LIST_LOCKED);
+    let found = words.fetch_or::<LocksList>(seat, lock.word(), LwWord::LIST_LOCKED);
     if has_locked_list(found) {
-        let kept = top.exchange(place, lock.list_slot(), Kept::Nothing);
+        let kept = words.exchange(seat, lock.list_shelf(), Kept::Nothing);
         Some(kept.into_list())
     } else {
         None
@@ -76,30 +76,30 @@ pub(crate) fn try_lock_list<T: PartTable>(
 /// leave a list so that its waiters are forgotten: where some are left, the session has taken one off, has the lock, or
 /// attempts it next.
 pub(crate) fn unlock_list<T: PartTable>(
-    top: &Top<T>,
-    place: &mut Place<T>,
+    words: &SharedWords<T>,
+    seat: &mut Seat<T>,
     lock: &LwLock,
     list: Box<WaitList>,
     has_waiters: bool,
     release_ok: bool,
 )
-    requires table { FitsTable place.old top.now.table_id }
+    requires table { FitsTable seat.old words.now.table_id }
     requires there { LockIsInTable lock.now }
-    requires session { HasSession place.old.me.0 }
-    requires out { place.old.me.1 ≡ (list_slot_of (lock_number lock.now), Nothing) ∷ rest place.old.me.1 }
-    requires in_hand { (account_at T.content place.old).lists.in_hand
+    requires session { HasSession seat.old.me.0 }
+    requires out { seat.old.me.1 ≡ (list_shelf_of (lock_number lock.now), Nothing) ∷ rest seat.old.me.1 }
+    requires in_hand { (account_at T.content seat.old).lists.in_hand
         ≡ Some (record { lock = lock_number lock.now; waiters = list.value }) }
     requires waiters_stay { has_waiters ≡ false → list.value ≡ [] }
     requires release_stays { release_ok ≡ false
-        → (other : ℕ) × ((account_at T.content place.old).lists.off other ≡ true) }
-    requires left_well { IsLeftWellBy (account_at T.content place.old) (todo_at place.old) lock.now list.value }
-    ensures led { Led T.content place.old place.new (account_unlocking_list (account_at T.content place.old)) }
-    ensures slots { place.new.me.1 ≡ rest place.old.me.1 }
+        → (other : ℕ) × ((account_at T.content seat.old).lists.off other ≡ true) }
+    requires left_well { IsLeftWellBy (account_at T.content seat.old) (todo_at seat.old) lock.now list.value }
+    ensures led { Led T.content seat.old seat.new (account_unlocking_list (account_at T.content seat.old)) }
+    ensures shelves { seat.new.me.1 ≡ rest seat.old.me.1 }
 {
-    match top.exchange(place, lock.list_slot(), Kept::List(list)) {
+    match words.exchange(seat, lock.list_shelf(), Kept::List(list)) {
         Kept::Nothing => unlock_as::<T, Brand>(
-            top,
-            place,
+            words,
+            seat,
             lock.word(),
             LwWord::kept_bits(has_waiters, release_ok),
         ),
@@ -110,167 +110,167 @@ pub(crate) fn unlock_list<T: PartTable>(
 /// Stores in the sleep word of the session `number`, its own, that it waits for `mode` in the list in hand
 /// (`LWLockQueueSelf` in lwlock.c sets `lwWaiting`).
 pub(crate) fn join_list<T: PartTable, M: Marking<T>>(
-    top: &Top<T>,
-    place: &mut Place<T>,
+    words: &SharedWords<T>,
+    seat: &mut Seat<T>,
     number: SessionId,
     mode: LwMode,
 )
-    requires table { FitsTable place.old top.now.table_id }
-    requires session { HasSession place.old.me.0 }
-    requires own { number ≡ number_at place.old }
-    requires lawful { (mine : ListInHand) × MayJoinListBy (account_at T.content place.old) mine }
-    requires flagged { flagged_at place.old ≡ true }
-    requires owes_no_ok { (todo_at place.old).owes_release_ok ≡ None }
-    requires no_other { (mine : ListInHand) → (account_at T.content place.old).lists.in_hand ≡ Some mine
-        → NoneOr (todo_at place.old).tries mine.lock }
-    requires latest { JoinsLatest (account_at T.content place.old) }
+    requires table { FitsTable seat.old words.now.table_id }
+    requires session { HasSession seat.old.me.0 }
+    requires own { number ≡ number_at seat.old }
+    requires lawful { (mine : ListInHand) × MayJoinListBy (account_at T.content seat.old) mine }
+    requires flagged { flagged_at seat.old ≡ true }
+    requires owes_no_ok { (todo_at seat.old).owes_release_ok ≡ None }
+    requires no_other { (mine : ListInHand) → (account_at T.content seat.old).lists.in_hand ≡ Some mine
+        → NoneOr (todo_at seat.old).tries mine.lock }
+    requires latest { JoinsLatest (account_at T.content seat.old) }
     requires mark { M.mark ≡ (λ _. JoinedList mode) }
-    ensures led { LedTo T.content place.old place.new (account_joining_list (account_at T.content place.old)
-        (list_here (account_at T.content place.old).lists.in_hand) (record { session = number; mode = mode }))
-        (todo_queueing (todo_at place.old) (lock_of_list (account_at T.content place.old).lists.in_hand)) }
-    ensures slots { place.new.me.1 ≡ place.old.me.1 }
+    ensures led { LedTo T.content seat.old seat.new (account_joining_list (account_at T.content seat.old)
+        (list_here (account_at T.content seat.old).lists.in_hand) (record { session = number; mode = mode }))
+        (todo_queueing (todo_at seat.old) (lock_of_list (account_at T.content seat.old).lists.in_hand)) }
+    ensures shelves { seat.new.me.1 ≡ seat.old.me.1 }
 {
-    store_as::<T, M>(top, place, sleep_word(number), 1);
+    store_as::<T, M>(words, seat, sleep_word(number), 1);
 }
 
 /// Stores in the sleep word of the session `number`, its own, that it no longer waits, with itself in the list in
 /// hand (`LWLockDequeueSelf` in lwlock.c).
-pub(crate) fn leave_list<T: PartTable>(top: &Top<T>, place: &mut Place<T>, number: SessionId)
-    requires table { FitsTable place.old top.now.table_id }
-    requires session { HasSession place.old.me.0 }
-    requires own { number ≡ number_at place.old }
+pub(crate) fn leave_list<T: PartTable>(words: &SharedWords<T>, seat: &mut Seat<T>, number: SessionId)
+    requires table { FitsTable seat.old words.now.table_id }
+    requires session { HasSession seat.old.me.0 }
+    requires own { number ≡ number_at seat.old }
     requires lawful { (mine : ListInHand)
-        × MayLeaveListBy (number_at place.old) (account_at T.content place.old) mine }
-    ensures led { LedTo T.content place.old place.new (account_leaving_list (account_at T.content place.old)
-        (list_here (account_at T.content place.old).lists.in_hand) number) (todo_leaving (todo_at place.old)) }
-    ensures slots { place.new.me.1 ≡ place.old.me.1 }
+        × MayLeaveListBy (number_at seat.old) (account_at T.content seat.old) mine }
+    ensures led { LedTo T.content seat.old seat.new (account_leaving_list (account_at T.content seat.old)
+        (list_here (account_at T.content seat.old).lists.in_hand) number) (todo_leaving (todo_at seat.old)) }
+    ensures shelves { seat.new.me.1 ≡ seat.old.me.1 }
 {
-    store_as::<T, Brand>(top, place, sleep_word(number), 0);
+    store_as::<T, Brand>(words, seat, sleep_word(number), 0);
 }
 
 /// Takes `other` off the list in hand: its sleep word shows that it is to be told, and it is owed a call (the first loop of `LWLockWakeup`
 /// in lwlock.c, and `LW_WS_PENDING_WAKEUP`).
 pub(crate) fn take_off<T: PartTable, M: Marking<T>>(
-    top: &Top<T>,
-    place: &mut Place<T>,
+    words: &SharedWords<T>,
+    seat: &mut Seat<T>,
     other: SessionId,
 )
-    requires table { FitsTable place.old top.now.table_id }
-    requires session { HasSession place.old.me.0 }
+    requires table { FitsTable seat.old words.now.table_id }
+    requires session { HasSession seat.old.me.0 }
     requires lawful { (mine : ListInHand)
-        × MayTakeOffBy (number_at place.old) (account_at T.content place.old) mine other }
+        × MayTakeOffBy (number_at seat.old) (account_at T.content seat.old) mine other }
     requires mark { M.mark ≡ (λ _. TookOff other) }
-    ensures led { LedTo T.content place.old place.new (account_taking_off (account_at T.content place.old)
-        (list_here (account_at T.content place.old).lists.in_hand) other) (todo_owing (todo_at place.old) other) }
-    ensures slots { place.new.me.1 ≡ place.old.me.1 }
+    ensures led { LedTo T.content seat.old seat.new (account_taking_off (account_at T.content seat.old)
+        (list_here (account_at T.content seat.old).lists.in_hand) other) (todo_owing (todo_at seat.old) other) }
+    ensures shelves { seat.new.me.1 ≡ seat.old.me.1 }
 {
-    store_as::<T, M>(top, place, sleep_word(other), 2);
+    store_as::<T, M>(words, seat, sleep_word(other), 2);
 }
 
 /// Tells `other`, which was taken off a list, that it may go on (the second loop of `LWLockWakeup` in lwlock.c).
 pub(crate) fn tell<T: PartTable, M: Marking<T>>(
-    top: &Top<T>,
-    place: &mut Place<T>,
+    words: &SharedWords<T>,
+    seat: &mut Seat<T>,
     other: SessionId,
 )
-    requires table { FitsTable place.old top.now.table_id }
-    requires session { HasSession place.old.me.0 }
-    requires lawful { MayTellBy (account_at T.content place.old) other }
+    requires table { FitsTable seat.old words.now.table_id }
+    requires session { HasSession seat.old.me.0 }
+    requires lawful { MayTellBy (account_at T.content seat.old) other }
     requires mark { M.mark ≡ (λ _. Told other) }
-    ensures led { LedTo T.content place.old place.new (account_telling (account_at T.content place.old) other)
-        (todo_owing (todo_at place.old) other) }
-    ensures slots { place.new.me.1 ≡ place.old.me.1 }
+    ensures led { LedTo T.content seat.old seat.new (account_telling (account_at T.content seat.old) other)
+        (todo_owing (todo_at seat.old) other) }
+    ensures shelves { seat.new.me.1 ≡ seat.old.me.1 }
 {
-    store_as::<T, M>(top, place, sleep_word(other), 0);
+    store_as::<T, M>(words, seat, sleep_word(other), 0);
 }
 
 /// Calls `other`, which may be parked on its sleep word (`PGSemaphoreUnlock` in `LWLockWakeup` of lwlock.c). The session looks at
 /// that word right before the call, so that its history tells of it.
 pub(crate) fn call_sleeper<T: PartTable, M: Marking<T>>(
-    top: &Top<T>,
-    place: &mut Place<T>,
+    words: &SharedWords<T>,
+    seat: &mut Seat<T>,
     other: SessionId,
 )
-    requires table { FitsTable place.old top.now.table_id }
-    requires session { HasSession place.old.me.0 }
+    requires table { FitsTable seat.old words.now.table_id }
+    requires session { HasSession seat.old.me.0 }
     requires mark { M.mark ≡ (λ _. CalledSleeper other) }
-    ensures led { LedTo T.content place.old place.new (account_at T.content place.old)
-        (todo_calling (todo_at place.old) other) }
-    ensures slots { place.new.me.1 ≡ place.old.me.1 }
+    ensures led { LedTo T.content seat.old seat.new (account_at T.content seat.old)
+        (todo_calling (todo_at seat.old) other) }
+    ensures shelves { seat.new.me.1 ≡ seat.old.me.1 }
 {
-    load_as::<T, M>(top, place, sleep_word(other));
-    top.wake_one(sleep_word(other));
+    load_as::<T, M>(words, seat, sleep_word(other));
+    words.wake_one(sleep_word(other));
 }
 
 /// Loads the sleep word of the session `number`, its own (`lwWaiting` in proc.h, as the sleep of `LWLockAcquire` in
 /// lwlock.c reads it).
-pub(crate) fn load_sleep<T: PartTable>(top: &Top<T>, place: &mut Place<T>, number: SessionId) -> u64
-    requires table { FitsTable place.old top.now.table_id }
-    requires session { HasSession place.old.me.0 }
-    requires own { number ≡ number_at place.old }
-    ensures led { Led T.content place.old place.new
-        (account_loading_sleep (account_at T.content place.old) result) }
-    ensures slots { place.new.me.1 ≡ place.old.me.1 }
+pub(crate) fn load_sleep<T: PartTable>(words: &SharedWords<T>, seat: &mut Seat<T>, number: SessionId) -> u64
+    requires table { FitsTable seat.old words.now.table_id }
+    requires session { HasSession seat.old.me.0 }
+    requires own { number ≡ number_at seat.old }
+    ensures led { Led T.content seat.old seat.new
+        (account_loading_sleep (account_at T.content seat.old) result) }
+    ensures shelves { seat.new.me.1 ≡ seat.old.me.1 }
 {
-    load_as::<T, Brand>(top, place, sleep_word(number))
+    load_as::<T, Brand>(words, seat, sleep_word(number))
 }
 
 /// Sets release-ok in the word of `lock`: releases may wake waiters again (`LW_FLAG_RELEASE_OK` in lwlock.c).
 pub(crate) fn set_release_ok<T: PartTable, M: Marking<T>>(
-    top: &Top<T>,
-    place: &mut Place<T>,
+    words: &SharedWords<T>,
+    seat: &mut Seat<T>,
     lock: &LwLock,
 )
-    requires table { FitsTable place.old top.now.table_id }
-    requires exists { LockExists top.now.key.sessions lock.now }
+    requires table { FitsTable seat.old words.now.table_id }
+    requires exists { LockExists words.now.key.sessions lock.now }
     requires there { LockIsInTable lock.now }
-    requires session { HasSession place.old.me.0 }
-    requires no_other { (todo_at place.old).owes_release_ok ≡ Some (lock_number lock.now)
-        → (account_at T.content place.old).lists.stands ≡ None
-        → NoneOr (todo_at place.old).tries (lock_number lock.now) }
-    requires tells_nobody { (todo_at place.old).owes_release_ok ≡ Some (lock_number lock.now)
-        → (account_at T.content place.old).lists.in_hand ≢ None → TellsNobodyBy (account_at T.content place.old) }
+    requires session { HasSession seat.old.me.0 }
+    requires no_other { (todo_at seat.old).owes_release_ok ≡ Some (lock_number lock.now)
+        → (account_at T.content seat.old).lists.stands ≡ None
+        → NoneOr (todo_at seat.old).tries (lock_number lock.now) }
+    requires tells_nobody { (todo_at seat.old).owes_release_ok ≡ Some (lock_number lock.now)
+        → (account_at T.content seat.old).lists.in_hand ≢ None → TellsNobodyBy (account_at T.content seat.old) }
     requires mark { M.mark ≡ (λ _. SetReleaseOk (lock_number lock.now)) }
-    ensures led { LedTo T.content place.old place.new (account_at T.content place.old)
-        (todo_setting_ok (number_at place.old) (account_at T.content place.old).lists (todo_at place.old)
+    ensures led { LedTo T.content seat.old seat.new (account_at T.content seat.old)
+        (todo_setting_ok (number_at seat.old) (account_at T.content seat.old).lists (todo_at seat.old)
         (lock_number lock.now)) }
-    ensures side { place.new.me ≡ (noting place.old.me.0 (SetReleaseOk (lock_number lock.now)), place.old.me.1) }
-    ensures slots { place.new.me.1 ≡ place.old.me.1 }
+    ensures side { seat.new.me ≡ (noting seat.old.me.0 (SetReleaseOk (lock_number lock.now)), seat.old.me.1) }
+    ensures shelves { seat.new.me.1 ≡ seat.old.me.1 }
 {
-    fetch_or_as::<T, M>(top, place, lock.word(), LwWord::RELEASE_OK);
+    fetch_or_as::<T, M>(words, seat, lock.word(), LwWord::RELEASE_OK);
 }
 
 /// Sets has-waiters in the word of `lock`, with its list in hand (`LWLockQueueSelf` in lwlock.c).
 pub(crate) fn set_has_waiters<T: PartTable, M: Marking<T>>(
-    top: &Top<T>,
-    place: &mut Place<T>,
+    words: &SharedWords<T>,
+    seat: &mut Seat<T>,
     lock: &LwLock,
 )
-    requires table { FitsTable place.old top.now.table_id }
-    requires exists { LockExists top.now.key.sessions lock.now }
+    requires table { FitsTable seat.old words.now.table_id }
+    requires exists { LockExists words.now.key.sessions lock.now }
     requires there { LockIsInTable lock.now }
-    requires session { HasSession place.old.me.0 }
-    requires lawful { (mine : ListInHand) × ((account_at T.content place.old).lists.in_hand ≡ Some mine)
+    requires session { HasSession seat.old.me.0 }
+    requires lawful { (mine : ListInHand) × ((account_at T.content seat.old).lists.in_hand ≡ Some mine)
         × (mine.lock ≡ lock_number lock.now) }
     requires mark { M.mark ≡ (λ _. SetHasWaiters (lock_number lock.now)) }
-    ensures led { Led T.content place.old place.new (account_at T.content place.old) }
-    ensures flagged { flagged_at place.new ≡ true }
-    ensures slots { place.new.me.1 ≡ place.old.me.1 }
+    ensures led { Led T.content seat.old seat.new (account_at T.content seat.old) }
+    ensures flagged { flagged_at seat.new ≡ true }
+    ensures shelves { seat.new.me.1 ≡ seat.old.me.1 }
 {
-    fetch_or_as::<T, M>(top, place, lock.word(), LwWord::HAS_WAITERS);
+    fetch_or_as::<T, M>(words, seat, lock.word(), LwWord::HAS_WAITERS);
 }
 
 /// Loads the word of `lock`, which the session is to attempt (the loop of `LWLockAttemptLock` in lwlock.c). Where it shows
 /// that somebody holds the lock that is noted, and the attempt is done: whoever holds it sees has-waiters as it puts it.
-pub(crate) fn look_at_lock<T: PartTable>(top: &Top<T>, place: &mut Place<T>, lock: &LwLock) -> u64
-    requires table { FitsTable place.old top.now.table_id }
+pub(crate) fn look_at_lock<T: PartTable>(words: &SharedWords<T>, seat: &mut Seat<T>, lock: &LwLock) -> u64
+    requires table { FitsTable seat.old words.now.table_id }
     requires there { LockIsInTable lock.now }
-    requires session { HasSession place.old.me.0 }
-    requires no_other_try { NoneOr (todo_at place.old).tries (lock_number lock.now) }
-    ensures seat { IsSameSeat place.old place.new }
+    requires session { HasSession seat.old.me.0 }
+    requires no_other_try { NoneOr (todo_at seat.old).tries (lock_number lock.now) }
+    ensures same_seat { IsSameSeat seat.old seat.new }
     ensures held { (IsHeldByNobody result → ⊥)
-        → GotNothing T.content place.old place.new (todo_attempted (todo_at place.old)) }
-    ensures free { IsHeldByNobody result → IsAsBefore T.content place.old place.new }
+        → GotNothing T.content seat.old seat.new (todo_attempted (todo_at seat.old)) }
+    ensures free { IsHeldByNobody result → IsAsBefore T.content seat.old seat.new }
 {
-    top.load::<SeesHeld>(place, lock.word())
+    words.load::<SeesHeld>(seat, lock.word())
 }

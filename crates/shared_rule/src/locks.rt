@@ -25,7 +25,7 @@ ghost use Rattle.shared_rule.specs.Boards.{StaysLone};
 use crate::busy::Busy;
 use crate::layout::fast_word;
 use crate::plays::{Grouping, Marking, TakesSlots, TriesSlots};
-use crate::rule::{Place, Top};
+use crate::rule::{Seat, SharedWords};
 use crate::slot_locks::{SlotsLock, SlotsPassed, SlotsTaken};
 use crate::words::{fetch_sub_as, load_as};
 use lock_table::PartTable;
@@ -38,24 +38,24 @@ use std::sync::Wait;
 // One attempt to take the lock of a session's slots, of so many groups, by the number that its word may show.
 #[inline(always)]
 fn attempt_fast<T: PartTable, G: Grouping>(
-    top: &Top<T>,
-    place: &mut Place<T>,
+    words: &SharedWords<T>,
+    seat: &mut Seat<T>,
     owner: SessionId,
     shown: u64,
     taken: u64,
 ) -> bool
-    requires table { FitsTable place.old top.now.table_id }
-    requires exists { owner < top.now.key.sessions }
-    requires session { HasSession place.old.me.0 }
+    requires table { FitsTable seat.old words.now.table_id }
+    requires exists { owner < words.now.key.sessions }
+    requires session { HasSession seat.old.me.0 }
     requires free { IsHeldByNobody shown × (taken ≡ taken_word shown) }
-    requires no_other_try { NoneOr (todo_at place.old).tries (fast_lock owner) }
-    requires no_other_list { NoneOr (account_at T.content place.old).lists.stands (fast_lock owner) }
-    requires groups { G.groups ≡ top.now.key.groups }
-    ensures seat { IsSameSeat place.old place.new }
-    ensures won { OnTrue result (GetsSlots T.content top.now.key.groups Exclusive owner place.old place.new) }
-    ensures lost { OnFalse result (IsAsBefore T.content place.old place.new) }
+    requires no_other_try { NoneOr (todo_at seat.old).tries (fast_lock owner) }
+    requires no_other_list { NoneOr (account_at T.content seat.old).lists.stands (fast_lock owner) }
+    requires groups { G.groups ≡ words.now.key.groups }
+    ensures same_seat { IsSameSeat seat.old seat.new }
+    ensures won { OnTrue result (GetsSlots T.content words.now.key.groups Exclusive owner seat.old seat.new) }
+    ensures lost { OnFalse result (IsAsBefore T.content seat.old seat.new) }
 {
-    if top.compare_exchange::<TakesSlots<G>>(place, fast_word(owner), shown, taken) != shown {
+    if words.compare_exchange::<TakesSlots<G>>(seat, fast_word(owner), shown, taken) != shown {
         return false;
     }
     true
@@ -64,22 +64,22 @@ fn attempt_fast<T: PartTable, G: Grouping>(
 // The same, where the word shows that nobody holds the lock, and else no attempt.
 #[inline(always)]
 pub(crate) fn attempt_free_fast<T: PartTable>(
-    top: &Top<T>,
-    place: &mut Place<T>,
+    words: &SharedWords<T>,
+    seat: &mut Seat<T>,
     owner: SessionId,
 ) -> bool
-    requires table { FitsTable place.old top.now.table_id }
-    requires exists { owner < top.now.key.sessions }
-    requires session { HasSession place.old.me.0 }
-    requires no_other_try { NoneOr (todo_at place.old).tries (fast_lock owner) }
-    requires no_other_list { NoneOr (account_at T.content place.old).lists.stands (fast_lock owner) }
-    ensures seat { IsSameSeat place.old place.new }
-    ensures won { OnTrue result (GetsSlots T.content top.now.key.groups Exclusive owner place.old place.new) }
-    ensures lost { OnFalse result (IsAsBefore T.content place.old place.new) }
+    requires table { FitsTable seat.old words.now.table_id }
+    requires exists { owner < words.now.key.sessions }
+    requires session { HasSession seat.old.me.0 }
+    requires no_other_try { NoneOr (todo_at seat.old).tries (fast_lock owner) }
+    requires no_other_list { NoneOr (account_at T.content seat.old).lists.stands (fast_lock owner) }
+    ensures same_seat { IsSameSeat seat.old seat.new }
+    ensures won { OnTrue result (GetsSlots T.content words.now.key.groups Exclusive owner seat.old seat.new) }
+    ensures lost { OnFalse result (IsAsBefore T.content seat.old seat.new) }
 {
-    let shown = top.peek(fast_word(owner));
+    let shown = words.peek(fast_word(owner));
     match taken(shown) {
-        Some(taken) => attempt_fast::<T, Brand>(top, place, owner, shown, taken),
+        Some(taken) => attempt_fast::<T, Brand>(words, seat, owner, shown, taken),
         None => false,
     }
 }
@@ -89,26 +89,26 @@ pub(crate) fn attempt_free_fast<T: PartTable>(
 #[inline]
 pub(crate) fn take_fast<T: PartTable, R: Wait>(
     rt: &R,
-    top: &Top<T>,
-    place: &mut Place<T>,
+    words: &SharedWords<T>,
+    seat: &mut Seat<T>,
     number: SessionId,
     owner: SessionId,
 )
-    requires table { FitsTable place.old top.now.table_id }
-    requires exists { owner < top.now.key.sessions }
-    requires session { HasSession place.old.me.0 }
-    requires own { number ≡ number_at place.old }
-    requires idle { (account_at T.content place.old).lists ≡ no_lists }
-    requires todo { todo_at place.old ≡ nothing_to_do }
-    requires latest { IsLatestBy (account_at T.content place.old) (OfSlots owner) }
-    ensures { GetsSlots T.content top.now.key.groups Exclusive owner place.old place.new }
+    requires table { FitsTable seat.old words.now.table_id }
+    requires exists { owner < words.now.key.sessions }
+    requires session { HasSession seat.old.me.0 }
+    requires own { number ≡ number_at seat.old }
+    requires idle { (account_at T.content seat.old).lists ≡ no_lists }
+    requires todo { todo_at seat.old ≡ nothing_to_do }
+    requires latest { IsLatestBy (account_at T.content seat.old) (OfSlots owner) }
+    ensures { GetsSlots T.content words.now.key.groups Exclusive owner seat.old seat.new }
 {
     let mode = LwMode::Exclusive;
     acquire(
         rt,
-        place,
+        seat,
         &SlotsLock {
-            top,
+            words,
             number,
             owner,
             mode,
@@ -118,69 +118,69 @@ pub(crate) fn take_fast<T: PartTable, R: Wait>(
 
 // Loads the word of the lock of its own slots.
 fn load_fast<T: PartTable, M: Marking<T>>(
-    top: &Top<T>,
-    place: &mut Place<T>,
+    words: &SharedWords<T>,
+    seat: &mut Seat<T>,
     number: SessionId,
 ) -> u64
-    requires table { FitsTable place.old top.now.table_id }
-    requires session { HasSession place.old.me.0 }
-    requires own { number ≡ number_at place.old }
+    requires table { FitsTable seat.old words.now.table_id }
+    requires session { HasSession seat.old.me.0 }
+    requires own { number ≡ number_at seat.old }
     requires mark { M.mark ≡ LoadedFast }
-    ensures seat { IsSameSeat place.old place.new }
-    ensures side { place.new.me ≡ (noting place.old.me.0 (LoadedFast result), place.old.me.1) }
+    ensures same_seat { IsSameSeat seat.old seat.new }
+    ensures side { seat.new.me ≡ (noting seat.old.me.0 (LoadedFast result), seat.old.me.1) }
 {
-    load_as::<T, M>(top, place, fast_word(number))
+    load_as::<T, M>(words, seat, fast_word(number))
 }
 
 // Takes the lock of its own slots where its word still shows this number, and tells the number that it showed.
 #[inline(always)]
 fn take_own_fast<T: PartTable, G: Grouping>(
-    top: &Top<T>,
-    place: &mut Place<T>,
+    words: &SharedWords<T>,
+    seat: &mut Seat<T>,
     number: SessionId,
     shown: u64,
     taken: u64,
 ) -> u64
-    requires table { FitsTable place.old top.now.table_id }
-    requires session { HasSession place.old.me.0 }
-    requires own { number ≡ number_at place.old }
+    requires table { FitsTable seat.old words.now.table_id }
+    requires session { HasSession seat.old.me.0 }
+    requires own { number ≡ number_at seat.old }
     requires free { IsHeldByNobody shown × (taken ≡ taken_word shown) }
-    requires no_other_try { NoneOr (todo_at place.old).tries (fast_lock number) }
-    requires no_other_list { NoneOr (account_at T.content place.old).lists.stands (fast_lock number) }
-    requires groups { G.groups ≡ top.now.key.groups }
-    ensures seat { IsSameSeat place.old place.new }
-    ensures won { result ≡ shown → TookSlots T.content top.now.key.groups number place.old.me place.new.me }
-    ensures lost { result ≢ shown → place.new.me ≡ (noting place.old.me.0 (LoadedFast result), place.old.me.1) }
+    requires no_other_try { NoneOr (todo_at seat.old).tries (fast_lock number) }
+    requires no_other_list { NoneOr (account_at T.content seat.old).lists.stands (fast_lock number) }
+    requires groups { G.groups ≡ words.now.key.groups }
+    ensures same_seat { IsSameSeat seat.old seat.new }
+    ensures won { result ≡ shown → TookSlots T.content words.now.key.groups number seat.old.me seat.new.me }
+    ensures lost { result ≢ shown → seat.new.me ≡ (noting seat.old.me.0 (LoadedFast result), seat.old.me.1) }
 {
-    top.compare_exchange::<TriesSlots<G>>(place, fast_word(number), shown, taken)
+    words.compare_exchange::<TriesSlots<G>>(seat, fast_word(number), shown, taken)
 }
 
 /// Takes the lock of the slots of the session `number`, its own, if nobody holds it, by a load and one exchange that
 /// expects the very number loaded (`LWLockConditionalAcquire` in lwlock.c).
 pub(crate) fn try_take_fast<T: PartTable>(
-    top: &Top<T>,
-    place: &mut Place<T>,
+    words: &SharedWords<T>,
+    seat: &mut Seat<T>,
     number: SessionId,
 ) -> Result<(), Busy>
-    requires table { FitsTable place.old top.now.table_id }
-    requires session { HasSession place.old.me.0 }
-    requires own { number ≡ number_at place.old }
-    requires idle { (account_at T.content place.old).lists ≡ no_lists }
-    requires todo { todo_at place.old ≡ nothing_to_do }
-    ensures seat { IsSameSeat place.old place.new }
-    ensures tried { TriesFast top.now.key.groups (number_at place.old) (account_at T.content place.old) result
-        (account_at T.content place.new) }
-    ensures quiet { quiet_at place.new ≡ quiet_trying number result (quiet_at place.old) }
-    ensures todo { todo_at place.new ≡ nothing_to_do }
-    ensures owed { owed_at place.new ≡ owed_at place.old }
-    ensures lone { StaysLone place.old.me.0 place.new.me.0 }
-    ensures slots { place.new.me.1 ≡ place.old.me.1 }
+    requires table { FitsTable seat.old words.now.table_id }
+    requires session { HasSession seat.old.me.0 }
+    requires own { number ≡ number_at seat.old }
+    requires idle { (account_at T.content seat.old).lists ≡ no_lists }
+    requires todo { todo_at seat.old ≡ nothing_to_do }
+    ensures same_seat { IsSameSeat seat.old seat.new }
+    ensures tried { TriesFast words.now.key.groups (number_at seat.old) (account_at T.content seat.old) result
+        (account_at T.content seat.new) }
+    ensures quiet { quiet_at seat.new ≡ quiet_trying number result (quiet_at seat.old) }
+    ensures todo { todo_at seat.new ≡ nothing_to_do }
+    ensures owed { owed_at seat.new ≡ owed_at seat.old }
+    ensures lone { StaysLone seat.old.me.0 seat.new.me.0 }
+    ensures shelves { seat.new.me.1 ≡ seat.old.me.1 }
 {
-    let shown = load_fast::<T, Brand>(top, place, number);
+    let shown = load_fast::<T, Brand>(words, seat, number);
     let Some(taken) = taken(shown) else {
         return Err(Busy);
     };
-    if take_own_fast::<T, Brand>(top, place, number, shown, taken) == shown {
+    if take_own_fast::<T, Brand>(words, seat, number, shown, taken) == shown {
         Ok(())
     } else {
         Err(Busy)
@@ -189,94 +189,94 @@ pub(crate) fn try_take_fast<T: PartTable>(
 
 // Puts the lock of a session's fast-path slots, and tells what its word showed.
 pub(crate) fn put_fast_home<T: PartTable, M: Marking<T>>(
-    top: &Top<T>,
-    place: &mut Place<T>,
+    words: &SharedWords<T>,
+    seat: &mut Seat<T>,
     owner: SessionId,
 ) -> u64
-    requires table { FitsTable place.old top.now.table_id }
-    requires exists { owner < top.now.key.sessions }
-    requires session { HasSession place.old.me.0 }
-    requires lawful { (slots : SlotsInHand) × MayPutFastBy (account_at T.content place.old) owner slots }
-    requires no_look { (todo_at place.old).due ≡ None }
+    requires table { FitsTable seat.old words.now.table_id }
+    requires exists { owner < words.now.key.sessions }
+    requires session { HasSession seat.old.me.0 }
+    requires lawful { (slots : SlotsInHand) × MayPutFastBy (account_at T.content seat.old) owner slots }
+    requires no_look { (todo_at seat.old).due ≡ None }
     requires mark { M.mark ≡ PutFast owner }
-    ensures led { LedTo T.content place.old place.new
-        (account_putting_fast (number_at place.old) (account_at T.content place.old) owner)
-        (todo_putting (todo_at place.old) (fast_lock owner) (put_in Exclusive (state_of result))) }
-    ensures slots { place.new.me.1 ≡ place.old.me.1 }
+    ensures led { LedTo T.content seat.old seat.new
+        (account_putting_fast (number_at seat.old) (account_at T.content seat.old) owner)
+        (todo_putting (todo_at seat.old) (fast_lock owner) (put_in Exclusive (state_of result))) }
+    ensures shelves { seat.new.me.1 ≡ seat.old.me.1 }
 {
-    fetch_sub_as::<T, M>(top, place, fast_word(owner), LwMode::Exclusive.amount())
+    fetch_sub_as::<T, M>(words, seat, fast_word(owner), LwMode::Exclusive.amount())
 }
 
 /// Puts the lock of the fast-path slots of `owner` (`LWLockRelease` of `fpInfoLock` in lwlock.c). Where the word
 /// says so the call wakes those who wait for it.
 pub(crate) fn put_fast<T: PartTable, M: Marking<T>>(
-    top: &Top<T>,
-    place: &mut Place<T>,
+    words: &SharedWords<T>,
+    seat: &mut Seat<T>,
     owner: SessionId,
 )
-    requires table { FitsTable place.old top.now.table_id }
-    requires exists { owner < top.now.key.sessions }
-    requires session { HasSession place.old.me.0 }
-    requires lawful { (slots : SlotsInHand) × MayPutFastBy (account_at T.content place.old) owner slots }
-    requires idle { (account_at T.content place.old).lists ≡ no_lists }
-    requires todo { todo_at place.old ≡ nothing_to_do }
+    requires table { FitsTable seat.old words.now.table_id }
+    requires exists { owner < words.now.key.sessions }
+    requires session { HasSession seat.old.me.0 }
+    requires lawful { (slots : SlotsInHand) × MayPutFastBy (account_at T.content seat.old) owner slots }
+    requires idle { (account_at T.content seat.old).lists ≡ no_lists }
+    requires todo { todo_at seat.old ≡ nothing_to_do }
     requires mark { M.mark ≡ PutFast owner }
-    ensures led { Led T.content place.old place.new
-        (account_putting_fast (number_at place.old) (account_at T.content place.old) owner) }
-    ensures slots { place.new.me.1 ≡ place.old.me.1 }
+    ensures led { Led T.content seat.old seat.new
+        (account_putting_fast (number_at seat.old) (account_at T.content seat.old) owner) }
+    ensures shelves { seat.new.me.1 ≡ seat.old.me.1 }
 {
     let of = PhantomData::<M>;
-    release(place, &SlotsTaken { top, owner, of }, ());
+    release(seat, &SlotsTaken { words, owner, of }, ());
 }
 
 // Puts that lock and goes past its session, and tells what its word showed.
 pub(crate) fn pass_fast_home<T: PartTable, M: Marking<T>>(
-    top: &Top<T>,
-    place: &mut Place<T>,
+    words: &SharedWords<T>,
+    seat: &mut Seat<T>,
     owner: SessionId,
     tag: &Tag,
     mode: Mode,
 ) -> u64
-    requires table { FitsTable place.old top.now.table_id }
-    requires exists { owner < top.now.key.sessions }
-    requires session { HasSession place.old.me.0 }
-    requires lawful { (slots : SlotsInHand) × MayPassBy (account_at T.content place.old) owner slots tag.now mode }
-    requires no_look { (todo_at place.old).due ≡ None }
+    requires table { FitsTable seat.old words.now.table_id }
+    requires exists { owner < words.now.key.sessions }
+    requires session { HasSession seat.old.me.0 }
+    requires lawful { (slots : SlotsInHand) × MayPassBy (account_at T.content seat.old) owner slots tag.now mode }
+    requires no_look { (todo_at seat.old).due ≡ None }
     requires mark { M.mark ≡ Passed owner tag.now mode }
-    ensures led { LedTo T.content place.old place.new
-        (account_passing (number_at place.old) (account_at T.content place.old) owner tag.now mode)
-        (todo_putting (todo_at place.old) (fast_lock owner) (put_in Exclusive (state_of result))) }
-    ensures slots { place.new.me.1 ≡ place.old.me.1 }
+    ensures led { LedTo T.content seat.old seat.new
+        (account_passing (number_at seat.old) (account_at T.content seat.old) owner tag.now mode)
+        (todo_putting (todo_at seat.old) (fast_lock owner) (put_in Exclusive (state_of result))) }
+    ensures shelves { seat.new.me.1 ≡ seat.old.me.1 }
 {
-    fetch_sub_as::<T, M>(top, place, fast_word(owner), LwMode::Exclusive.amount())
+    fetch_sub_as::<T, M>(words, seat, fast_word(owner), LwMode::Exclusive.amount())
 }
 
 /// Puts the lock of the slots of `owner`, and goes past that session with the strong lock of `mode` on `tag`, which
 /// is counted (the end of a turn of the loop in `FastPathTransferRelationLocks` in lock.c): the session has no slot
 /// on the object. Where the word says so the call wakes those who wait for the lock.
 pub(crate) fn pass_fast<T: PartTable, M: Marking<T>>(
-    top: &Top<T>,
-    place: &mut Place<T>,
+    words: &SharedWords<T>,
+    seat: &mut Seat<T>,
     owner: SessionId,
     tag: &Tag,
     mode: Mode,
 )
-    requires table { FitsTable place.old top.now.table_id }
-    requires exists { owner < top.now.key.sessions }
-    requires session { HasSession place.old.me.0 }
-    requires lawful { (slots : SlotsInHand) × MayPassBy (account_at T.content place.old) owner slots tag.now mode }
-    requires idle { (account_at T.content place.old).lists ≡ no_lists }
-    requires todo { todo_at place.old ≡ nothing_to_do }
+    requires table { FitsTable seat.old words.now.table_id }
+    requires exists { owner < words.now.key.sessions }
+    requires session { HasSession seat.old.me.0 }
+    requires lawful { (slots : SlotsInHand) × MayPassBy (account_at T.content seat.old) owner slots tag.now mode }
+    requires idle { (account_at T.content seat.old).lists ≡ no_lists }
+    requires todo { todo_at seat.old ≡ nothing_to_do }
     requires mark { M.mark ≡ Passed owner tag.now mode }
-    ensures led { Led T.content place.old place.new
-        (account_passing (number_at place.old) (account_at T.content place.old) owner tag.now mode) }
-    ensures slots { place.new.me.1 ≡ place.old.me.1 }
+    ensures led { Led T.content seat.old seat.new
+        (account_passing (number_at seat.old) (account_at T.content seat.old) owner tag.now mode) }
+    ensures shelves { seat.new.me.1 ≡ seat.old.me.1 }
 {
     let of = PhantomData::<M>;
     release(
-        place,
+        seat,
         &SlotsPassed {
-            top,
+            words,
             owner,
             tag,
             mode,

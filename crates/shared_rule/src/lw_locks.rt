@@ -2,10 +2,10 @@
 
 ghost use Rattle.std.specs.Prelude.{◌≡◌, ◌<◌};
 ghost use Rattle.shared_rule.specs.declared.layout.TheConstants.{TABLE_WORDS};
-ghost use Rattle.shared_rule.specs.Layout.{index_of_word, list_slot_of};
+ghost use Rattle.shared_rule.specs.Layout.{index_of_word, list_shelf_of};
 ghost use Rattle.shared_rule.specs.LwLocks.{word_of_lock, lock_number, LockIsInTable};
 
-use crate::layout::{fast_word, list_slot, partition_word};
+use crate::layout::{fast_word, list_shelf, partition_word};
 use modes_core::SessionId;
 
 /// A lightweight lock, with a word and a wait list of its own (`LWLock` in lwlock.h).
@@ -30,14 +30,14 @@ impl LwLock {
         }
     }
 
-    /// The slot in which its wait list lies while nobody has it in hand.
-    pub(crate) fn list_slot(&self) -> usize
+    /// The shelf on which its wait list lies while nobody has it in hand.
+    pub(crate) fn list_shelf(&self) -> usize
         requires there { LockIsInTable self.now }
-        ensures slot { result ≡ list_slot_of (lock_number self.now) }
+        ensures shelf { result ≡ list_shelf_of (lock_number self.now) }
     {
         match self {
-            LwLock::OfPart(part) => list_slot(2 * *part),
-            LwLock::OfSlots(owner) => list_slot(2 * owner.number() + 1),
+            LwLock::OfPart(part) => list_shelf(2 * *part),
+            LwLock::OfSlots(owner) => list_shelf(2 * owner.number() + 1),
         }
     }
 }

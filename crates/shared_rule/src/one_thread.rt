@@ -3,10 +3,10 @@
 ghost use Rattle.std.specs.Prelude.{◌≡◌, ◌<◌, ◌≤◌, ℕ, List, [], ◌∷◌, None, IfOk, IfErr};
 ghost use Rattle.lock_world.specs.SlotHolds.{most_groups};
 ghost use Rattle.shared_rule.specs.Layout.{words_of_groups};
-ghost use Rattle.shared_rule.specs.declared.layout.TheConstants.{TABLE_WORDS, TABLE_SLOTS};
+ghost use Rattle.shared_rule.specs.declared.layout.TheConstants.{TABLE_WORDS, TABLE_SHELVES};
 ghost use Rattle.shared_rule.specs.History.{blank_account, first_account, lone};
 ghost use Rattle.shared_rule.specs.Opening.{AreNew};
-ghost use Rattle.shared_rule.specs.Boards.{Seated, nothing_due, parts_in_hand, slots_out, first_marks};
+ghost use Rattle.shared_rule.specs.Boards.{Seated, nothing_due, parts_in_hand, shelves_out, first_marks};
 ghost use Rattle.shared_rule.specs.Boards.{IsIdle};
 ghost use Rattle.shared_rule.specs.Owed.{first_owed};
 ghost use Rattle.shared_rule.specs.Quiet.{first_quiet};
@@ -15,7 +15,7 @@ use crate::board::Board;
 use crate::busy::Busy;
 use crate::kept::Kept;
 use crate::layout::wait_word;
-use crate::rule::{Place, Sizes};
+use crate::rule::{Seat, TableSizes};
 use crate::table::{SharedTable, open};
 use crate::{counters, locks, partitions, sharing, slots, waits};
 use atomic_table::Refused;
@@ -30,28 +30,28 @@ use std::sync::Wait;
 #[derive(Drop)]
 pub struct OneThread<T: PartTable> {
     table: SharedTable<T>,
-    place: Place<T>,
+    seat: Seat<T>,
     number: SessionId,
-    sizes: Sizes,
-    ghost at: { place.table_id ≡ table.shared.table_id },
+    sizes: TableSizes,
+    ghost at: { seat.table_id ≡ table.shared.table_id },
     ghost words: { TABLE_WORDS ≤ table.shared.table_id.words },
     ghost all_words: { table.shared.table_id.words ≡ words_of_groups sizes.groups },
-    ghost slots: { table.shared.table_id.slots ≡ TABLE_SLOTS },
+    ghost shelves: { table.shared.table_id.slots ≡ TABLE_SHELVES },
     ghost sized: { sizes ≡ table.shared.key },
     ghost some: { 0 < sizes.groups },
     ghost few: { sizes.groups ≤ most_groups },
     ghost exists: { number < sizes.sessions },
-    ghost lone: { place.me.0 ≡ lone number (first_marks place.me.0.sessions) },
-    ghost out: { place.me.1 ≡ slots_out (parts_in_hand place.me.1) },
-    ghost idle: { IsIdle place.me.0.sessions },
+    ghost lone: { seat.me.0 ≡ lone number (first_marks seat.me.0.sessions) },
+    ghost out: { seat.me.1 ≡ shelves_out (parts_in_hand seat.me.1) },
+    ghost idle: { IsIdle seat.me.0.sessions },
 }
 
 impl<T: PartTable> OneThread<T> {
-    /// Session 0 at a new table of `sizes`, with `parts` in its slots. Without memory, by `alloc`, the parts come
+    /// Session 0 at a new table of `sizes`, with `parts` on its shelves. Without memory, by `alloc`, the parts come
     /// back.
     pub fn new(
         alloc: Global,
-        sizes: &Sizes,
+        sizes: &TableSizes,
         parts: Vec<Kept<T>>,
     ) -> Result<OneThread<T>, Refused<Kept<T>, Global>>
         requires some { 0 < sizes.now.sessions }
@@ -69,10 +69,10 @@ impl<T: PartTable> OneThread<T> {
     {
         let number = SessionId::new(0).unwrap();
         let (table, opener) = open(alloc, sizes, parts)?;
-        let place = opener.into_first(&table.shared);
+        let seat = opener.into_first(&table.shared);
         Ok(OneThread {
             table,
-            place,
+            seat,
             number,
             sizes: *sizes,
         })
@@ -88,12 +88,12 @@ impl<T: PartTable> Board<T> for OneThread<T> {
           table = board.table.shared.table_id;
         } };
 
-    ghost view = { λ board. first_account T.content board.place.me.0.sessions };
+    ghost view = { λ board. first_account T.content board.seat.me.0.sessions };
 
     ghost stack = { λ board.
-        record { parts = parts_in_hand board.place.me.1; owed = first_owed board.place.me.0.sessions } };
+        record { parts = parts_in_hand board.seat.me.1; owed = first_owed board.seat.me.0.sessions } };
 
-    ghost quiet = { λ board. first_quiet board.place.me.0.sessions };
+    ghost quiet = { λ board. first_quiet board.seat.me.0.sessions };
 
     fn number(&self) -> SessionId {
         self.number
@@ -109,94 +109,94 @@ impl<T: PartTable> Board<T> for OneThread<T> {
 
     fn take_part<R: Wait>(&mut self, rt: &R, part: u8) -> T {
         let table = &self.table;
-        partitions::take_part(rt, &table.shared, &mut self.place, self.number, part)
+        partitions::take_part(rt, &table.shared, &mut self.seat, self.number, part)
     }
 
     fn put_part(&mut self, part: u8, done: &Move, content: T) {
         let table = &self.table;
-        partitions::put_part::<T, Brand>(&table.shared, &mut self.place, part, done, content);
+        partitions::put_part::<T, Brand>(&table.shared, &mut self.seat, part, done, content);
     }
 
     fn take_fast<R: Wait>(&mut self, rt: &R, owner: SessionId) {
         let table = &self.table;
-        locks::take_fast(rt, &table.shared, &mut self.place, self.number, owner);
+        locks::take_fast(rt, &table.shared, &mut self.seat, self.number, owner);
     }
 
     fn try_take_fast(&mut self) -> Result<(), Busy> {
         let table = &self.table;
-        locks::try_take_fast(&table.shared, &mut self.place, self.number)
+        locks::try_take_fast(&table.shared, &mut self.seat, self.number)
     }
 
     fn put_fast(&mut self, owner: SessionId) {
         let table = &self.table;
-        locks::put_fast::<T, Brand>(&table.shared, &mut self.place, owner);
+        locks::put_fast::<T, Brand>(&table.shared, &mut self.seat, owner);
     }
 
     fn share_fast<R: Wait>(&mut self, rt: &R, owner: SessionId) {
         let table = &self.table;
-        sharing::share_fast(rt, &table.shared, &mut self.place, self.number, owner);
+        sharing::share_fast(rt, &table.shared, &mut self.seat, self.number, owner);
     }
 
     fn unshare_fast(&mut self, owner: SessionId) {
         let table = &self.table;
-        sharing::unshare_fast::<T, Brand>(&table.shared, &mut self.place, owner);
+        sharing::unshare_fast::<T, Brand>(&table.shared, &mut self.seat, owner);
     }
 
     fn pass_fast(&mut self, owner: SessionId, tag: &Tag, mode: Mode) {
         let table = &self.table;
-        locks::pass_fast::<T, Brand>(&table.shared, &mut self.place, owner, tag, mode);
+        locks::pass_fast::<T, Brand>(&table.shared, &mut self.seat, owner, tag, mode);
     }
 
     fn add_strong(&mut self, tag: &Tag, mode: Mode) {
         let table = &self.table;
-        counters::add_strong::<T, Brand>(&table.shared, &mut self.place, tag, mode);
+        counters::add_strong::<T, Brand>(&table.shared, &mut self.seat, tag, mode);
     }
 
     fn sub_strong(&mut self, tag: &Tag, mode: Mode) {
         let table = &self.table;
-        counters::sub_strong::<T, Brand>(&table.shared, &mut self.place, tag, mode);
+        counters::sub_strong::<T, Brand>(&table.shared, &mut self.seat, tag, mode);
     }
 
     fn load_database(&mut self, owner: SessionId) -> u64 {
         let table = &self.table;
-        slots::load_database::<T, Brand>(&table.shared, &mut self.place, owner)
+        slots::load_database::<T, Brand>(&table.shared, &mut self.seat, owner)
     }
 
     fn store_database(&mut self, database: u32) {
         let table = &self.table;
-        slots::store_database::<T, Brand>(&table.shared, &mut self.place, self.number, database);
+        slots::store_database::<T, Brand>(&table.shared, &mut self.seat, self.number, database);
     }
 
-    fn load_slot(&mut self, owner: SessionId, place: u8) -> SlotWord {
+    fn load_slot(&mut self, owner: SessionId, slot: u8) -> SlotWord {
         let table = &self.table;
-        slots::load_slot::<T, Brand>(&table.shared, &mut self.place, owner, place)
+        slots::load_slot::<T, Brand>(&table.shared, &mut self.seat, owner, slot)
     }
 
     fn load_strong(&mut self, index: u16) -> u64 {
         let table = &self.table;
-        counters::load_strong::<T, Brand>(&table.shared, &mut self.place, index)
+        counters::load_strong::<T, Brand>(&table.shared, &mut self.seat, index)
     }
 
-    fn set_slot(&mut self, place: u8, shown: SlotWord, tag: &Tag, mode: Mode) {
+    fn set_slot(&mut self, slot: u8, shown: SlotWord, tag: &Tag, mode: Mode) {
         let table = &self.table;
         slots::set_slot::<T, Brand>(
             &table.shared,
-            &mut self.place,
+            &mut self.seat,
             self.number,
-            place,
+            slot,
             shown,
             tag,
             mode,
         );
     }
 
-    fn clear_slot(&mut self, place: u8, shown: SlotWord, tag: &Tag, mode: Mode) {
+    fn clear_slot(&mut self, slot: u8, shown: SlotWord, tag: &Tag, mode: Mode) {
         let table = &self.table;
         slots::clear_slot::<T, Brand>(
             &table.shared,
-            &mut self.place,
+            &mut self.seat,
             self.number,
-            place,
+            slot,
             shown,
             tag,
             mode,
@@ -206,7 +206,7 @@ impl<T: PartTable> Board<T> for OneThread<T> {
     fn transfer_slot(
         &mut self,
         owner: SessionId,
-        place: u8,
+        slot: u8,
         shown: SlotWord,
         tag: &Tag,
         mode: Mode,
@@ -216,9 +216,9 @@ impl<T: PartTable> Board<T> for OneThread<T> {
         let table = &self.table;
         slots::transfer_slot::<T, Brand>(
             &table.shared,
-            &mut self.place,
+            &mut self.seat,
             owner,
-            place,
+            slot,
             shown,
             tag,
             mode,
@@ -231,7 +231,7 @@ impl<T: PartTable> Board<T> for OneThread<T> {
         let table = &self.table;
         waits::set_waiting::<T, Brand>(
             &table.shared,
-            &mut self.place,
+            &mut self.seat,
             self.number,
             tag,
             mode,
@@ -250,7 +250,7 @@ impl<T: PartTable> Board<T> for OneThread<T> {
         let table = &self.table;
         waits::mark_granted::<T, Brand>(
             &table.shared,
-            &mut self.place,
+            &mut self.seat,
             part,
             other,
             done,
@@ -261,22 +261,22 @@ impl<T: PartTable> Board<T> for OneThread<T> {
 
     fn load_wait(&mut self) -> u64 {
         let table = &self.table;
-        waits::load_wait::<T, Brand>(&table.shared, &mut self.place, self.number)
+        waits::load_wait::<T, Brand>(&table.shared, &mut self.seat, self.number)
     }
 
     fn ask_cancel(&mut self, other: SessionId) -> u64 {
         let table = &self.table;
-        waits::ask_cancel::<T, Brand>(&table.shared, &mut self.place, other)
+        waits::ask_cancel::<T, Brand>(&table.shared, &mut self.seat, other)
     }
 
     fn clear_wait(&mut self) {
         let table = &self.table;
-        waits::clear_wait::<T, Brand>(&table.shared, &mut self.place, self.number);
+        waits::clear_wait::<T, Brand>(&table.shared, &mut self.seat, self.number);
     }
 
     fn leave_queue(&mut self, woken: &Woken, content: &T) {
         let table = &self.table;
-        waits::leave_queue::<T, Brand>(&table.shared, &mut self.place, self.number, woken, content);
+        waits::leave_queue::<T, Brand>(&table.shared, &mut self.seat, self.number, woken, content);
     }
 
     fn sleep<R: Wait>(&self, rt: &R, shown: u64) {
@@ -286,6 +286,6 @@ impl<T: PartTable> Board<T> for OneThread<T> {
 
     fn wake(&mut self, other: SessionId) {
         let table = &self.table;
-        waits::call_waiter::<T, Brand>(&table.shared, &mut self.place, other);
+        waits::call_waiter::<T, Brand>(&table.shared, &mut self.seat, other);
     }
 }

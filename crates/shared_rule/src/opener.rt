@@ -10,7 +10,7 @@ ghost use Rattle.shared_rule.specs.declared.history.History.{History};
 ghost use Rattle.shared_rule.specs.Quiet.{quiet_told};
 
 use crate::board::Board;
-use crate::rule::{Place, Sizes, Top};
+use crate::rule::{Seat, SharedWords, TableSizes};
 use crate::seat_board::SeatBoard;
 use crate::seats;
 use lock_table::PartTable;
@@ -22,9 +22,9 @@ use std::marker::Model;
 /// sessions are gathered at its seat.
 #[derive(Drop)]
 pub struct Opener<T: PartTable> {
-    pub(crate) place: Place<T>,
+    pub(crate) seat: Seat<T>,
     issued: u8,
-    pub(crate) sizes: Sizes,
+    pub(crate) sizes: TableSizes,
 }
 
 impl<T: PartTable> Model for Opener<T> {
@@ -36,29 +36,29 @@ impl<T: PartTable> Model for Opener<T> {
     ghost Value = { OpenerState T };
 
     ghost view = { λ opener. record {
-      table = opener.place.table_id;
+      table = opener.seat.table_id;
       issued = opener.issued;
       limit = opener.sizes.sessions;
       groups = opener.sizes.groups;
-      closed = opener.place.me.0.closed;
-      gathered = opener.place.me.0.sessions;
+      closed = opener.seat.me.0.closed;
+      gathered = opener.seat.me.0.sessions;
     } };
 
     ghost invariant = { λ opener.
-        (opener.place.me.0.next ≡ Some opener.issued) × (opener.issued ≤ opener.sizes.sessions)
-        × (opener.sizes.sessions ≤ 64) × IsSized opener.place.table_id × AreFree opener.place.me.0.sessions
-        × HasGroups opener.place.table_id opener.sizes.groups };
+        (opener.seat.me.0.next ≡ Some opener.issued) × (opener.issued ≤ opener.sizes.sessions)
+        × (opener.sizes.sessions ≤ 64) × IsSized opener.seat.table_id × AreFree opener.seat.me.0.sessions
+        × HasGroups opener.seat.table_id opener.sizes.groups };
 }
 
 impl<T: PartTable> Opener<T> {
     // The opener at its seat, who has given no number out.
-    pub(crate) fn at(place: Place<T>, sizes: &Sizes) -> Opener<T>
-        requires first { place.me ≡ (opening_view, []) }
-        requires sized { IsSized place.table_id }
-        requires grouped { HasGroups place.table_id sizes.now.groups }
+    pub(crate) fn at(seat: Seat<T>, sizes: &TableSizes) -> Opener<T>
+        requires first { seat.me ≡ (opening_view, []) }
+        requires sized { IsSized seat.table_id }
+        requires grouped { HasGroups seat.table_id sizes.now.groups }
         requires few { sizes.now.sessions ≤ 64 }
         ensures { result ≡ record {
-          table = place.table_id;
+          table = seat.table_id;
           issued = 0;
           limit = sizes.now.sessions;
           groups = sizes.now.groups;
@@ -67,14 +67,14 @@ impl<T: PartTable> Opener<T> {
         } }
     {
         Opener {
-            place,
+            seat,
             issued: 0,
             sizes: *sizes,
         }
     }
 
     // The first session's seat, after which no other number is given out.
-    pub(crate) fn into_first(self, table: &Top<T>) -> Place<T>
+    pub(crate) fn into_first(self, table: &SharedWords<T>) -> Seat<T>
         requires table { (self.table ≡ table.now.table_id) × (self.limit ≡ table.now.key.sessions)
             × (self.groups ≡ table.now.key.groups) }
         requires first { self.issued ≡ 0 }
@@ -83,16 +83,16 @@ impl<T: PartTable> Opener<T> {
         ensures side { result.me ≡ (lone 0 [], []) }
     {
         let Opener {
-            mut place,
+            mut seat,
             issued: _,
             sizes: _,
         } = self;
-        seats::open(table, &mut place)
+        seats::open(table, &mut seat)
     }
 
     /// The next session's board at `table`, whose account has nothing in it, or `None` where all numbers are given
     /// out.
-    pub fn session<'a>(&mut self, table: &'a Top<T>) -> Option<SeatBoard<'a, T>>
+    pub fn session<'a>(&mut self, table: &'a SharedWords<T>) -> Option<SeatBoard<'a, T>>
         requires table { (self.old.table ≡ table.now.table_id) × (self.old.limit ≡ table.now.key.sessions)
             × (self.old.groups ≡ table.now.key.groups) }
         ensures none { IsNone result ↔ (self.old.issued ≡ self.old.limit) }
@@ -116,9 +116,9 @@ impl<T: PartTable> Opener<T> {
             return None;
         }
         let number = SessionId::new(self.issued)?;
-        let place = seats::open(table, &mut self.place);
+        let seat = seats::open(table, &mut self.seat);
         self.issued += 1;
-        Some(SeatBoard::at(table, place, number, self.sizes))
+        Some(SeatBoard::at(table, seat, number, self.sizes))
     }
 
     /// Takes back `board`, that of a session which has nothing any more (`ProcKill` in proc.c). Its number is that
@@ -134,8 +134,8 @@ impl<T: PartTable> Opener<T> {
             self.new.closed ≡ last ∷ others → quiet_told last.marks ≡ B.quiet board.entry }
         ensures have_closed { HaveClosed self.new.issued self.new.closed }
     {
-        let (table, place) = board.into_place();
-        seats::close(table, &mut self.place, place);
-        seats::tell_closed(table, &mut self.place);
+        let (table, seat) = board.into_seat();
+        seats::close(table, &mut self.seat, seat);
+        seats::tell_closed(table, &mut self.seat);
     }
 }

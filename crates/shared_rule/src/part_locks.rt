@@ -11,7 +11,7 @@ use crate::lw_locks::LwLock;
 use crate::partitions::{attempt_free_part, put_part_home};
 use crate::plays::Marking;
 use crate::queues::{dequeue_self, queue_self, sleep_for};
-use crate::rule::{Place, Top};
+use crate::rule::{Seat, SharedWords};
 use crate::wakeups::wake_waiters;
 use lock_table::{Move, PartTable};
 use lw_lock::{Acquirable, Guarded, Held, acquire_held};
@@ -23,65 +23,65 @@ use std::sync::Wait;
 /// The lock of partition `part`, as the session `number` comes for it: the content comes in hand with it.
 #[derive(Drop)]
 pub(crate) struct PartLock<'a, T: PartTable> {
-    pub(crate) top: &'a Top<T>,
+    pub(crate) words: &'a SharedWords<T>,
     pub(crate) number: SessionId,
     pub(crate) part: u8,
 }
 
-impl<'a, T: PartTable> Guarded<Place<T>, T> for PartLock<'a, T> {
+impl<'a, T: PartTable> Guarded<Seat<T>, T> for PartLock<'a, T> {
     ghost use Rattle.lw_word.specs.declared.words.LwMode.TheVariants.{Exclusive};
     ghost use Rattle.shared_rule.specs.declared.lw_locks.LwLock.TheVariants.{OfPart};
     ghost use Rattle.shared_rule.specs.Acquires.{TakesPartition};
     ghost use Rattle.shared_rule.specs.Waiting.{sought_of, IsOnWay, IsQueued, HasSeenHeld, HasWonQueued};
 
     ghost on_way = { λ it. IsOnWay T.content
-        (sought_of it.top.now.key.sessions it.top.now.table_id it.number (OfPart it.part) Exclusive) };
+        (sought_of it.words.now.key.sessions it.words.now.table_id it.number (OfPart it.part) Exclusive) };
 
     ghost queued = { λ it. IsQueued T.content
-        (sought_of it.top.now.key.sessions it.top.now.table_id it.number (OfPart it.part) Exclusive) };
+        (sought_of it.words.now.key.sessions it.words.now.table_id it.number (OfPart it.part) Exclusive) };
 
     ghost saw_held = { λ it. HasSeenHeld T.content
-        (sought_of it.top.now.key.sessions it.top.now.table_id it.number (OfPart it.part) Exclusive) };
+        (sought_of it.words.now.key.sessions it.words.now.table_id it.number (OfPart it.part) Exclusive) };
 
     ghost won_queued = { λ it first now content. HasWonQueued T.content
-        (sought_of it.top.now.key.sessions it.top.now.table_id it.number (OfPart it.part) Exclusive)
+        (sought_of it.words.now.key.sessions it.words.now.table_id it.number (OfPart it.part) Exclusive)
         (λ at after. TakesPartition T.content T.begun it.part at after content) first now };
 
     ghost won = { λ it. TakesPartition T.content T.begun it.part };
 
     #[inline(always)]
-    fn attempt(&self, place: &mut Place<T>) -> Option<T> {
-        attempt_free_part(self.top, place, self.part)
+    fn attempt(&self, seat: &mut Seat<T>) -> Option<T> {
+        attempt_free_part(self.words, seat, self.part)
     }
 
-    fn queue_self<R: Wait>(&self, rt: &R, place: &mut Place<T>) {
+    fn queue_self<R: Wait>(&self, rt: &R, seat: &mut Seat<T>) {
         let lock = LwLock::OfPart(self.part);
-        queue_self(rt, self.top, place, self.number, &lock, LwMode::Exclusive);
+        queue_self(rt, self.words, seat, self.number, &lock, LwMode::Exclusive);
     }
 
-    fn attempt_again(&self, place: &mut Place<T>) -> Option<T> {
-        attempt_free_part(self.top, place, self.part)
+    fn attempt_again(&self, seat: &mut Seat<T>) -> Option<T> {
+        attempt_free_part(self.words, seat, self.part)
     }
 
-    fn is_held(&self, place: &mut Place<T>) -> bool {
-        taken(look_at_lock(self.top, place, &LwLock::OfPart(self.part))).is_none()
+    fn is_held(&self, seat: &mut Seat<T>) -> bool {
+        taken(look_at_lock(self.words, seat, &LwLock::OfPart(self.part))).is_none()
     }
 
-    fn dequeue_self<R: Wait>(&self, rt: &R, place: &mut Place<T>) {
+    fn dequeue_self<R: Wait>(&self, rt: &R, seat: &mut Seat<T>) {
         let lock = LwLock::OfPart(self.part);
-        dequeue_self(rt, self.top, place, self.number, &lock);
+        dequeue_self(rt, self.words, seat, self.number, &lock);
     }
 
-    fn sleep_until_told<R: Wait>(&self, rt: &R, place: &mut Place<T>) {
+    fn sleep_until_told<R: Wait>(&self, rt: &R, seat: &mut Seat<T>) {
         let lock = LwLock::OfPart(self.part);
-        sleep_for(rt, self.top, place, self.number, &lock);
+        sleep_for(rt, self.words, seat, self.number, &lock);
     }
 }
 
-impl<'a, T: PartTable> Acquirable<Place<T>, T> for PartLock<'a, T> {
+impl<'a, T: PartTable> Acquirable<Seat<T>, T> for PartLock<'a, T> {
     #[inline(always)]
-    fn acquire_held<R: Wait>(&self, rt: &R, place: &mut Place<T>) -> T {
-        take_part_held(rt, self.top, place, self.number, self.part)
+    fn acquire_held<R: Wait>(&self, rt: &R, seat: &mut Seat<T>) -> T {
+        take_part_held(rt, self.words, seat, self.number, self.part)
     }
 }
 
@@ -90,30 +90,30 @@ impl<'a, T: PartTable> Acquirable<Place<T>, T> for PartLock<'a, T> {
 #[inline(never)]
 fn take_part_held<T: PartTable, R: Wait>(
     rt: &R,
-    top: &Top<T>,
-    place: &mut Place<T>,
+    words: &SharedWords<T>,
+    seat: &mut Seat<T>,
     number: SessionId,
     part: u8,
 ) -> T
     requires { IsSince (IsOnWay T.content
-        (sought_of top.now.key.sessions top.now.table_id number (OfPart part) Exclusive)) place.old }
+        (sought_of words.now.key.sessions words.now.table_id number (OfPart part) Exclusive)) seat.old }
     ensures { Gains (IsOnWay T.content
-        (sought_of top.now.key.sessions top.now.table_id number (OfPart part) Exclusive))
-        (TakesPartition T.content T.begun part) place.old place.new result }
+        (sought_of words.now.key.sessions words.now.table_id number (OfPart part) Exclusive))
+        (TakesPartition T.content T.begun part) seat.old seat.new result }
 {
-    acquire_held(rt, place, &PartLock { top, number, part })
+    acquire_held(rt, seat, &PartLock { words, number, part })
 }
 
 /// The lock of partition `part`, which goes home after the move `done`, with its content.
 #[derive(Drop)]
 pub(crate) struct PartInHand<'a, T: PartTable, M: Marking<T>> {
-    pub(crate) top: &'a Top<T>,
+    pub(crate) words: &'a SharedWords<T>,
     pub(crate) part: u8,
     pub(crate) done: &'a Move,
     pub(crate) of: PhantomData<M>,
 }
 
-impl<'a, T: PartTable, M: Marking<T>> Held<Place<T>, T> for PartInHand<'a, T, M> {
+impl<'a, T: PartTable, M: Marking<T>> Held<Seat<T>, T> for PartInHand<'a, T, M> {
     ghost use Rattle.lw_word.specs.declared.words.LwMode.TheVariants.{Exclusive};
     ghost use Rattle.atomic_table.specs.Table.{rest};
     ghost use Rattle.shared_rule.specs.declared.lw_locks.LwLock.TheVariants.{OfPart};
@@ -121,10 +121,10 @@ impl<'a, T: PartTable, M: Marking<T>> Held<Place<T>, T> for PartInHand<'a, T, M>
 
     ghost in_mode = { λ _. Exclusive };
 
-    ghost may_put = { λ it. MayPutPartition T.content it.part it.done.now T.begun it.top.now.key.sessions
-        it.top.now.table_id M.mark };
+    ghost may_put = { λ it. MayPutPartition T.content it.part it.done.now T.begun it.words.now.key.sessions
+        it.words.now.table_id M.mark };
 
-    ghost due = { λ it before after content. HasPut T.content it.top.now.key.sessions it.top.now.table_id
+    ghost due = { λ it before after content. HasPut T.content it.words.now.key.sessions it.words.now.table_id
         (OfPart it.part) Exclusive before after (account_put T.content it.part it.done.now before content)
         (rest before.me.1) };
 
@@ -137,12 +137,12 @@ impl<'a, T: PartTable, M: Marking<T>> Held<Place<T>, T> for PartInHand<'a, T, M>
     }
 
     #[inline(always)]
-    fn put(&self, place: &mut Place<T>, content: T) -> u64 {
-        put_part_home::<T, M>(self.top, place, self.part, self.done, content)
+    fn put(&self, seat: &mut Seat<T>, content: T) -> u64 {
+        put_part_home::<T, M>(self.words, seat, self.part, self.done, content)
     }
 
     #[inline(always)]
-    fn wake_waiters(&self, place: &mut Place<T>) {
-        wake_waiters(self.top, place, &LwLock::OfPart(self.part));
+    fn wake_waiters(&self, seat: &mut Seat<T>) {
+        wake_waiters(self.words, seat, &LwLock::OfPart(self.part));
     }
 }

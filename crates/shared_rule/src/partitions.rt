@@ -16,17 +16,17 @@ ghost use Rattle.lock_world.specs.Wakes.Waking.{NoneOr};
 ghost use Rattle.lw_word.specs.declared.words.LwMode.TheVariants.{Exclusive};
 ghost use Rattle.lw_word.specs.LockState.{state_of, put_in};
 ghost use Rattle.shared_rule.specs.History.{noting, taken_of};
-ghost use Rattle.shared_rule.specs.Layout.{content_slot_of};
+ghost use Rattle.shared_rule.specs.Layout.{content_shelf_of};
 ghost use Rattle.shared_rule.specs.Lawful.{MayPutPart};
 ghost use Rattle.shared_rule.specs.Led.{Led, LedTo};
 ghost use Rattle.shared_rule.specs.LwLocks.{no_lists};
 ghost use Rattle.shared_rule.specs.Plays.{account_at, number_at, todo_at, FitsTable, HasSession, IsSameSeat};
 
 use crate::kept::Kept;
-use crate::layout::{content_slot, partition_word};
+use crate::layout::{content_shelf, partition_word};
 use crate::part_locks::{PartInHand, PartLock};
 use crate::plays::{Marking, TakesPart};
-use crate::rule::{Place, Top};
+use crate::rule::{Seat, SharedWords};
 use crate::words::put_home_as;
 use lock_table::{Move, PartTable};
 use lw_lock::{acquire, release};
@@ -37,30 +37,30 @@ use std::sync::Wait;
 
 // One attempt to take a partition in hand, by the number that its word may show.
 fn attempt_part<T: PartTable>(
-    top: &Top<T>,
-    place: &mut Place<T>,
+    words: &SharedWords<T>,
+    seat: &mut Seat<T>,
     part: u8,
     shown: u64,
     taken: u64,
 ) -> Option<T>
-    requires table { FitsTable place.old top.now.table_id }
+    requires table { FitsTable seat.old words.now.table_id }
     requires exists { part < 16 }
-    requires session { HasSession place.old.me.0 }
+    requires session { HasSession seat.old.me.0 }
     requires free { IsHeldByNobody shown × (taken ≡ taken_word shown) }
-    requires no_other_try { NoneOr (todo_at place.old).tries (partition_lock part) }
-    requires no_other_list { NoneOr (account_at T.content place.old).lists.stands (partition_lock part) }
-    ensures seat { IsSameSeat place.old place.new }
-    ensures lost { IfNone result (IsAsBefore T.content place.old place.new) }
-    ensures won { IfSome result (TakesPartition T.content T.begun part place.old place.new) }
-    ensures side { IfSome result (λ content. place.new.me
-        ≡ (noting place.old.me.0 (TookPart part content), (content_slot_of part, Nothing) ∷ place.old.me.1)) }
-    ensures unmoved { IfNone result (place.new.me ≡ place.old.me) }
+    requires no_other_try { NoneOr (todo_at seat.old).tries (partition_lock part) }
+    requires no_other_list { NoneOr (account_at T.content seat.old).lists.stands (partition_lock part) }
+    ensures same_seat { IsSameSeat seat.old seat.new }
+    ensures lost { IfNone result (IsAsBefore T.content seat.old seat.new) }
+    ensures won { IfSome result (TakesPartition T.content T.begun part seat.old seat.new) }
+    ensures side { IfSome result (λ content. seat.new.me
+        ≡ (noting seat.old.me.0 (TookPart part content), (content_shelf_of part, Nothing) ∷ seat.old.me.1)) }
+    ensures unmoved { IfNone result (seat.new.me ≡ seat.old.me) }
 {
-    if top.compare_exchange::<TakesPart>(place, partition_word(part), shown, taken) != shown {
+    if words.compare_exchange::<TakesPart>(seat, partition_word(part), shown, taken) != shown {
         return None;
     }
     Some(
-        top.exchange(place, content_slot(part), Kept::Nothing)
+        words.exchange(seat, content_shelf(part), Kept::Nothing)
             .into_part(),
     )
 }
@@ -68,25 +68,25 @@ fn attempt_part<T: PartTable>(
 // The same, where the word shows that nobody holds the lock, and else no attempt.
 #[inline(always)]
 pub(crate) fn attempt_free_part<T: PartTable>(
-    top: &Top<T>,
-    place: &mut Place<T>,
+    words: &SharedWords<T>,
+    seat: &mut Seat<T>,
     part: u8,
 ) -> Option<T>
-    requires table { FitsTable place.old top.now.table_id }
+    requires table { FitsTable seat.old words.now.table_id }
     requires exists { part < 16 }
-    requires session { HasSession place.old.me.0 }
-    requires no_other_try { NoneOr (todo_at place.old).tries (partition_lock part) }
-    requires no_other_list { NoneOr (account_at T.content place.old).lists.stands (partition_lock part) }
-    ensures seat { IsSameSeat place.old place.new }
-    ensures lost { IfNone result (IsAsBefore T.content place.old place.new) }
-    ensures won { IfSome result (TakesPartition T.content T.begun part place.old place.new) }
-    ensures side { IfSome result (λ content. place.new.me
-        ≡ (noting place.old.me.0 (TookPart part content), (content_slot_of part, Nothing) ∷ place.old.me.1)) }
-    ensures unmoved { IfNone result (place.new.me ≡ place.old.me) }
+    requires session { HasSession seat.old.me.0 }
+    requires no_other_try { NoneOr (todo_at seat.old).tries (partition_lock part) }
+    requires no_other_list { NoneOr (account_at T.content seat.old).lists.stands (partition_lock part) }
+    ensures same_seat { IsSameSeat seat.old seat.new }
+    ensures lost { IfNone result (IsAsBefore T.content seat.old seat.new) }
+    ensures won { IfSome result (TakesPartition T.content T.begun part seat.old seat.new) }
+    ensures side { IfSome result (λ content. seat.new.me
+        ≡ (noting seat.old.me.0 (TookPart part content), (content_shelf_of part, Nothing) ∷ seat.old.me.1)) }
+    ensures unmoved { IfNone result (seat.new.me ≡ seat.old.me) }
 {
-    let shown = top.peek(partition_word(part));
+    let shown = words.peek(partition_word(part));
     match taken(shown) {
-        Some(taken) => attempt_part(top, place, part, shown, taken),
+        Some(taken) => attempt_part(words, seat, part, shown, taken),
         None => None,
     }
 }
@@ -95,23 +95,23 @@ pub(crate) fn attempt_free_part<T: PartTable>(
 /// the attempt is repeated only where its exchange is lost to a flag of the word.
 pub(crate) fn take_part_alone<T: PartTable, R: Wait>(
     rt: &R,
-    top: &Top<T>,
-    place: &mut Place<T>,
+    words: &SharedWords<T>,
+    seat: &mut Seat<T>,
     part: u8,
 ) -> T
-    requires table { FitsTable place.old top.now.table_id }
+    requires table { FitsTable seat.old words.now.table_id }
     requires exists { part < 16 }
-    requires session { HasSession place.old.me.0 }
-    requires no_other_try { NoneOr (todo_at place.old).tries (partition_lock part) }
-    requires no_other_list { NoneOr (account_at T.content place.old).lists.stands (partition_lock part) }
-    ensures seat { IsSameSeat place.old place.new }
-    ensures side { place.new.me
-        ≡ (noting place.old.me.0 (TookPart part result), (content_slot_of part, Nothing) ∷ place.old.me.1) }
+    requires session { HasSession seat.old.me.0 }
+    requires no_other_try { NoneOr (todo_at seat.old).tries (partition_lock part) }
+    requires no_other_list { NoneOr (account_at T.content seat.old).lists.stands (partition_lock part) }
+    ensures same_seat { IsSameSeat seat.old seat.new }
+    ensures side { seat.new.me
+        ≡ (noting seat.old.me.0 (TookPart part result), (content_shelf_of part, Nothing) ∷ seat.old.me.1) }
     ensures none_begun { T.begun result ≡ None }
-    ensures knows { KnowsContent (number_at place.old) (account_at T.content place.old) part (T.content result) }
+    ensures knows { KnowsContent (number_at seat.old) (account_at T.content seat.old) part (T.content result) }
 {
     for _ in rt.forever() {
-        if let Some(content) = attempt_free_part(top, place, part) {
+        if let Some(content) = attempt_free_part(words, seat, part) {
             return content;
         }
     }
@@ -124,48 +124,48 @@ pub(crate) fn take_part_alone<T: PartTable, R: Wait>(
 #[inline]
 pub(crate) fn take_part<T: PartTable, R: Wait>(
     rt: &R,
-    top: &Top<T>,
-    place: &mut Place<T>,
+    words: &SharedWords<T>,
+    seat: &mut Seat<T>,
     number: SessionId,
     part: u8,
 ) -> T
-    requires table { FitsTable place.old top.now.table_id }
+    requires table { FitsTable seat.old words.now.table_id }
     requires exists { part < 16 }
-    requires session { HasSession place.old.me.0 }
-    requires own { number ≡ number_at place.old }
-    requires idle { (account_at T.content place.old).lists ≡ no_lists }
-    requires todo { todo_at place.old ≡ nothing_to_do }
-    requires latest { IsLatestBy (account_at T.content place.old) (OfPart part) }
-    ensures { TakesPartition T.content T.begun part place.old place.new result }
+    requires session { HasSession seat.old.me.0 }
+    requires own { number ≡ number_at seat.old }
+    requires idle { (account_at T.content seat.old).lists ≡ no_lists }
+    requires todo { todo_at seat.old ≡ nothing_to_do }
+    requires latest { IsLatestBy (account_at T.content seat.old) (OfPart part) }
+    ensures { TakesPartition T.content T.begun part seat.old seat.new result }
 {
-    acquire(rt, place, &PartLock { top, number, part })
+    acquire(rt, seat, &PartLock { words, number, part })
 }
 
 /// Puts `content` home to partition `part`, after the move `done`, and its lightweight lock, and answers what the
 /// lock's word showed. Nobody is woken.
 pub(crate) fn put_part_home<T: PartTable, M: Marking<T>>(
-    top: &Top<T>,
-    place: &mut Place<T>,
+    words: &SharedWords<T>,
+    seat: &mut Seat<T>,
     part: u8,
     done: &Move,
     content: T,
 ) -> u64
-    requires table { FitsTable place.old top.now.table_id }
+    requires table { FitsTable seat.old words.now.table_id }
     requires exists { part < 16 }
-    requires session { HasSession place.old.me.0 }
-    requires in_hand { place.old.me.1 ≡ (content_slot_of part, Nothing) ∷ rest place.old.me.1 }
+    requires session { HasSession seat.old.me.0 }
+    requires in_hand { seat.old.me.1 ≡ (content_shelf_of part, Nothing) ∷ rest seat.old.me.1 }
     requires none_begun { T.begun content ≡ None }
-    requires lawful { (mine : InHand) × MayPutPart top.now.key.sessions (number_at place.old)
-        (account_at T.content place.old) part mine done.now (T.content content) }
-    requires no_look { (todo_at place.old).due ≡ None }
+    requires lawful { (mine : InHand) × MayPutPart words.now.key.sessions (number_at seat.old)
+        (account_at T.content seat.old) part mine done.now (T.content content) }
+    requires no_look { (todo_at seat.old).due ≡ None }
     requires mark { M.mark ≡ PutPart part done.now content }
-    ensures led { LedTo T.content place.old place.new (account_putting (account_at T.content place.old) part
-        (taken_of ((account_at T.content place.old).hand part)) (T.content content) done.now)
-        (todo_putting (todo_at place.old) (partition_lock part) (put_in Exclusive (state_of result))) }
-    ensures slots { place.new.me.1 ≡ rest place.old.me.1 }
+    ensures led { LedTo T.content seat.old seat.new (account_putting (account_at T.content seat.old) part
+        (taken_of ((account_at T.content seat.old).hand part)) (T.content content) done.now)
+        (todo_putting (todo_at seat.old) (partition_lock part) (put_in Exclusive (state_of result))) }
+    ensures shelves { seat.new.me.1 ≡ rest seat.old.me.1 }
 {
-    match top.exchange(place, content_slot(part), Kept::Part(content)) {
-        Kept::Nothing => put_home_as::<T, M>(top, place, partition_word(part)),
+    match words.exchange(seat, content_shelf(part), Kept::Part(content)) {
+        Kept::Nothing => put_home_as::<T, M>(words, seat, partition_word(part)),
         Kept::Part(_) | Kept::List(_) => unreachable!(),
     }
 }
@@ -173,30 +173,30 @@ pub(crate) fn put_part_home<T: PartTable, M: Marking<T>>(
 /// Puts `content` home to partition `part`, after the move `done`, and its lightweight lock (`LWLockRelease` in
 /// lwlock.c). Where the word says so the call wakes those who wait for the lock.
 pub(crate) fn put_part<T: PartTable, M: Marking<T>>(
-    top: &Top<T>,
-    place: &mut Place<T>,
+    words: &SharedWords<T>,
+    seat: &mut Seat<T>,
     part: u8,
     done: &Move,
     content: T,
 )
-    requires table { FitsTable place.old top.now.table_id }
+    requires table { FitsTable seat.old words.now.table_id }
     requires exists { part < 16 }
-    requires session { HasSession place.old.me.0 }
-    requires in_hand { place.old.me.1 ≡ (content_slot_of part, Nothing) ∷ rest place.old.me.1 }
+    requires session { HasSession seat.old.me.0 }
+    requires in_hand { seat.old.me.1 ≡ (content_shelf_of part, Nothing) ∷ rest seat.old.me.1 }
     requires none_begun { T.begun content ≡ None }
-    requires lawful { (mine : InHand) × MayPutPart top.now.key.sessions (number_at place.old)
-        (account_at T.content place.old) part mine done.now (T.content content) }
-    requires idle { (account_at T.content place.old).lists ≡ no_lists }
-    requires todo { todo_at place.old ≡ nothing_to_do }
+    requires lawful { (mine : InHand) × MayPutPart words.now.key.sessions (number_at seat.old)
+        (account_at T.content seat.old) part mine done.now (T.content content) }
+    requires idle { (account_at T.content seat.old).lists ≡ no_lists }
+    requires todo { todo_at seat.old ≡ nothing_to_do }
     requires mark { M.mark ≡ PutPart part done.now content }
-    ensures led { Led T.content place.old place.new (account_putting (account_at T.content place.old) part
-        (taken_of ((account_at T.content place.old).hand part)) (T.content content) done.now) }
-    ensures slots { place.new.me.1 ≡ rest place.old.me.1 }
+    ensures led { Led T.content seat.old seat.new (account_putting (account_at T.content seat.old) part
+        (taken_of ((account_at T.content seat.old).hand part)) (T.content content) done.now) }
+    ensures shelves { seat.new.me.1 ≡ rest seat.old.me.1 }
 {
     release(
-        place,
+        seat,
         &PartInHand {
-            top,
+            words,
             part,
             done,
             of: PhantomData::<M>,

@@ -17,7 +17,7 @@ ghost use Rattle.std.specs.Prelude.{◌≡◌, ◌∷◌, true, None, Some};
 ghost use Rattle.lw_word.specs.WaitList.{stands_in};
 ghost use Rattle.lock_world.specs.AccountSteps.{account_locking_list};
 ghost use Rattle.shared_rule.specs.declared.kept.Kept.TheVariants.{Nothing};
-ghost use Rattle.shared_rule.specs.Layout.{list_slot_of};
+ghost use Rattle.shared_rule.specs.Layout.{list_shelf_of};
 ghost use Rattle.shared_rule.specs.Led.{Led, LedTo};
 ghost use Rattle.shared_rule.specs.Todos.{HasBy, IsLatestBy, MaySleepBy, TellsNobodyBy, TriesAtMost};
 ghost use Rattle.shared_rule.specs.Todos.{nothing_to_do, todo_in_list, todo_got, todo_back};
@@ -29,7 +29,7 @@ use crate::lists::{
     join_list, leave_list, load_sleep, set_has_waiters, set_release_ok, try_lock_list, unlock_list,
 };
 use crate::lw_locks::LwLock;
-use crate::rule::{Place, Top};
+use crate::rule::{Seat, SharedWords};
 use crossbeam_utils::Backoff;
 use lock_table::PartTable;
 use lw_word::{LwMode, WaitList};
@@ -41,26 +41,26 @@ use std::sync::Wait;
 /// lwlock.c). A list is in hand for a few steps only.
 fn lock_list<T: PartTable, R: Wait>(
     rt: &R,
-    top: &Top<T>,
-    place: &mut Place<T>,
+    words: &SharedWords<T>,
+    seat: &mut Seat<T>,
     lock: &LwLock,
 ) -> Box<WaitList>
-    requires table { FitsTable place.old top.now.table_id }
-    requires exists { LockExists top.now.key.sessions lock.now }
+    requires table { FitsTable seat.old words.now.table_id }
+    requires exists { LockExists words.now.key.sessions lock.now }
     requires there { LockIsInTable lock.now }
-    requires session { HasSession place.old.me.0 }
-    requires no_list { (account_at T.content place.old).lists.in_hand ≡ None }
-    requires no_look { (todo_at place.old).due ≡ None }
-    requires tells_nobody { TellsNobodyBy (account_at T.content place.old) }
-    ensures led { Led T.content place.old place.new
-        (account_locking_list (account_at T.content place.old) (lock_number lock.now) result.value) }
-    ensures slots { place.new.me.1 ≡ (list_slot_of (lock_number lock.now), Nothing) ∷ place.old.me.1 }
-    ensures stands { stands_in (number_at place.old) result.value ≡ true
-        → (account_at T.content place.old).lists.stands ≡ Some (lock_number lock.now) }
+    requires session { HasSession seat.old.me.0 }
+    requires no_list { (account_at T.content seat.old).lists.in_hand ≡ None }
+    requires no_look { (todo_at seat.old).due ≡ None }
+    requires tells_nobody { TellsNobodyBy (account_at T.content seat.old) }
+    ensures led { Led T.content seat.old seat.new
+        (account_locking_list (account_at T.content seat.old) (lock_number lock.now) result.value) }
+    ensures shelves { seat.new.me.1 ≡ (list_shelf_of (lock_number lock.now), Nothing) ∷ seat.old.me.1 }
+    ensures stands { stands_in (number_at seat.old) result.value ≡ true
+        → (account_at T.content seat.old).lists.stands ≡ Some (lock_number lock.now) }
 {
     let backoff = Backoff::new();
     for _ in rt.forever() {
-        if let Some(list) = try_lock_list(top, place, lock) {
+        if let Some(list) = try_lock_list(words, seat, lock) {
             return list;
         }
         backoff.snooze();
@@ -73,30 +73,30 @@ fn lock_list<T: PartTable, R: Wait>(
 /// The caller attempts the lock once more after it.
 pub(crate) fn queue_self<T: PartTable, R: Wait>(
     rt: &R,
-    top: &Top<T>,
-    place: &mut Place<T>,
+    words: &SharedWords<T>,
+    seat: &mut Seat<T>,
     number: SessionId,
     lock: &LwLock,
     mode: LwMode,
 )
-    requires table { FitsTable place.old top.now.table_id }
-    requires exists { LockExists top.now.key.sessions lock.now }
+    requires table { FitsTable seat.old words.now.table_id }
+    requires exists { LockExists words.now.key.sessions lock.now }
     requires there { LockIsInTable lock.now }
-    requires session { HasSession place.old.me.0 }
-    requires own { number ≡ number_at place.old }
-    requires idle { (account_at T.content place.old).lists ≡ no_lists }
-    requires todo { TriesAtMost (lock_number lock.now) (todo_at place.old) }
-    requires latest { IsLatestBy (account_at T.content place.old) lock.now }
-    ensures led { LedTo T.content place.old place.new
-        (record (account_at T.content place.old) { lists = queued_for (lock_number lock.now) })
+    requires session { HasSession seat.old.me.0 }
+    requires own { number ≡ number_at seat.old }
+    requires idle { (account_at T.content seat.old).lists ≡ no_lists }
+    requires todo { TriesAtMost (lock_number lock.now) (todo_at seat.old) }
+    requires latest { IsLatestBy (account_at T.content seat.old) lock.now }
+    ensures led { LedTo T.content seat.old seat.new
+        (record (account_at T.content seat.old) { lists = queued_for (lock_number lock.now) })
         (todo_in_list (lock_number lock.now)) }
-    ensures slots { place.new.me.1 ≡ place.old.me.1 }
+    ensures shelves { seat.new.me.1 ≡ seat.old.me.1 }
 {
-    let mut list = lock_list(rt, top, place, lock);
-    set_has_waiters::<T, Brand>(top, place, lock);
-    join_list::<T, Brand>(top, place, number, mode);
+    let mut list = lock_list(rt, words, seat, lock);
+    set_has_waiters::<T, Brand>(words, seat, lock);
+    join_list::<T, Brand>(words, seat, number, mode);
     list.join(number, mode);
-    unlock_list(top, place, lock, list, true, true);
+    unlock_list(words, seat, lock, list, true, true);
 }
 
 /// Sleeps until the sleep word of the session `number`, its own, shows 0: the session that took it off its list has
@@ -104,26 +104,26 @@ pub(crate) fn queue_self<T: PartTable, R: Wait>(
 /// thread sleeps, so nothing that is told meanwhile is slept through.
 pub(crate) fn sleep_until_told<T: PartTable, R: Wait>(
     rt: &R,
-    top: &Top<T>,
-    place: &mut Place<T>,
+    words: &SharedWords<T>,
+    seat: &mut Seat<T>,
     number: SessionId,
 )
-    requires table { FitsTable place.old top.now.table_id }
-    requires session { HasSession place.old.me.0 }
-    requires own { number ≡ number_at place.old }
-    requires may { MaySleepBy (account_at T.content place.old) (todo_at place.old) }
-    ensures led { Led T.content place.old place.new (record (account_at T.content place.old) {
-      lists = record ((account_at T.content place.old).lists) { stands = None };
+    requires table { FitsTable seat.old words.now.table_id }
+    requires session { HasSession seat.old.me.0 }
+    requires own { number ≡ number_at seat.old }
+    requires may { MaySleepBy (account_at T.content seat.old) (todo_at seat.old) }
+    ensures led { Led T.content seat.old seat.new (record (account_at T.content seat.old) {
+      lists = record ((account_at T.content seat.old).lists) { stands = None };
     }) }
-    ensures slots { place.new.me.1 ≡ place.old.me.1 }
+    ensures shelves { seat.new.me.1 ≡ seat.old.me.1 }
 {
     for _ in rt.forever() {
-        let shown = load_sleep(top, place, number);
+        let shown = load_sleep(words, seat, number);
         if shown == 0 {
             return;
         }
         let low_bits = (shown & u64::from(u32::MAX)) as u32;
-        top.park(rt, sleep_word(number), low_bits);
+        words.park(rt, sleep_word(number), low_bits);
     }
     unreachable!()
 }
@@ -134,32 +134,32 @@ pub(crate) fn sleep_until_told<T: PartTable, R: Wait>(
 /// the list).
 pub(crate) fn dequeue_self<T: PartTable, R: Wait>(
     rt: &R,
-    top: &Top<T>,
-    place: &mut Place<T>,
+    words: &SharedWords<T>,
+    seat: &mut Seat<T>,
     number: SessionId,
     lock: &LwLock,
 )
-    requires table { FitsTable place.old top.now.table_id }
-    requires exists { LockExists top.now.key.sessions lock.now }
+    requires table { FitsTable seat.old words.now.table_id }
+    requires exists { LockExists words.now.key.sessions lock.now }
     requires there { LockIsInTable lock.now }
-    requires session { HasSession place.old.me.0 }
-    requires own { number ≡ number_at place.old }
-    requires queued { (account_at T.content place.old).lists ≡ queued_for (lock_number lock.now) }
-    requires got { HasBy (account_at T.content place.old) lock.now }
-    requires todo { todo_at place.old ≡ todo_got (lock_number lock.now) }
-    ensures led { LedTo T.content place.old place.new
-        (record (account_at T.content place.old) { lists = no_lists }) nothing_to_do }
-    ensures slots { place.new.me.1 ≡ place.old.me.1 }
+    requires session { HasSession seat.old.me.0 }
+    requires own { number ≡ number_at seat.old }
+    requires queued { (account_at T.content seat.old).lists ≡ queued_for (lock_number lock.now) }
+    requires got { HasBy (account_at T.content seat.old) lock.now }
+    requires todo { todo_at seat.old ≡ todo_got (lock_number lock.now) }
+    ensures led { LedTo T.content seat.old seat.new
+        (record (account_at T.content seat.old) { lists = no_lists }) nothing_to_do }
+    ensures shelves { seat.new.me.1 ≡ seat.old.me.1 }
 {
-    let mut list = lock_list(rt, top, place, lock);
+    let mut list = lock_list(rt, words, seat, lock);
     if list.leave(number) {
-        leave_list(top, place, number);
+        leave_list(words, seat, number);
         let some_left = !list.is_empty();
-        unlock_list(top, place, lock, list, some_left, true);
+        unlock_list(words, seat, lock, list, some_left, true);
     } else {
-        set_release_ok::<T, Brand>(top, place, lock);
-        unlock_list(top, place, lock, list, true, true);
-        sleep_until_told(rt, top, place, number);
+        set_release_ok::<T, Brand>(words, seat, lock);
+        unlock_list(words, seat, lock, list, true, true);
+        sleep_until_told(rt, words, seat, number);
     }
 }
 
@@ -167,22 +167,22 @@ pub(crate) fn dequeue_self<T: PartTable, R: Wait>(
 /// releases wake others again (the end of the loop in `LWLockAcquire` in lwlock.c).
 pub(crate) fn sleep_for<T: PartTable, R: Wait>(
     rt: &R,
-    top: &Top<T>,
-    place: &mut Place<T>,
+    words: &SharedWords<T>,
+    seat: &mut Seat<T>,
     number: SessionId,
     lock: &LwLock,
 )
-    requires table { FitsTable place.old top.now.table_id }
-    requires exists { LockExists top.now.key.sessions lock.now }
+    requires table { FitsTable seat.old words.now.table_id }
+    requires exists { LockExists words.now.key.sessions lock.now }
     requires there { LockIsInTable lock.now }
-    requires session { HasSession place.old.me.0 }
-    requires own { number ≡ number_at place.old }
-    requires queued { (account_at T.content place.old).lists ≡ queued_for (lock_number lock.now) }
-    requires todo { todo_at place.old ≡ todo_got (lock_number lock.now) }
-    ensures led { LedTo T.content place.old place.new
-        (record (account_at T.content place.old) { lists = no_lists }) (todo_back (lock_number lock.now)) }
-    ensures slots { place.new.me.1 ≡ place.old.me.1 }
+    requires session { HasSession seat.old.me.0 }
+    requires own { number ≡ number_at seat.old }
+    requires queued { (account_at T.content seat.old).lists ≡ queued_for (lock_number lock.now) }
+    requires todo { todo_at seat.old ≡ todo_got (lock_number lock.now) }
+    ensures led { LedTo T.content seat.old seat.new
+        (record (account_at T.content seat.old) { lists = no_lists }) (todo_back (lock_number lock.now)) }
+    ensures shelves { seat.new.me.1 ≡ seat.old.me.1 }
 {
-    sleep_until_told(rt, top, place, number);
-    set_release_ok::<T, Brand>(top, place, lock);
+    sleep_until_told(rt, words, seat, number);
+    set_release_ok::<T, Brand>(words, seat, lock);
 }

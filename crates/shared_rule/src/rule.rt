@@ -2,13 +2,13 @@
 
 use crate::history::View;
 use crate::kept::Kept;
-use atomic_table::{Seat, Shared, TableRule};
+use atomic_table::{Shared, TableRule};
 use lock_table::PartTable;
 
 /// What the table is told once: how many sessions there can be, and how many groups of fast-path slots each has
 /// (`MaxBackends` and, in version 18, `FastPathLockGroupsPerBackend`).
 #[derive(Clone, Copy, Debug, PartialEq, Eq)]
-pub struct Sizes {
+pub struct TableSizes {
     /// How many sessions there can be.
     pub sessions: u8,
     /// How many groups of fast-path slots each has.
@@ -16,11 +16,11 @@ pub struct Sizes {
 }
 
 /// The rule.
-pub struct Law;
+pub struct LockTableRule;
 
-/// Each partition's content, and each lightweight lock's wait list, has a slot of its own, and lies there while nobody
-/// has it in hand. The slots between stay unused.
-impl<T: PartTable> TableRule<Kept<T>, View<T>, Sizes> for Law {
+/// Each partition's content, and each lightweight lock's wait list, has a shelf of its own, and lies there while nobody
+/// has it in hand. The shelves between stay unused.
+impl<T: PartTable> TableRule<Kept<T>, View<T>, TableSizes> for LockTableRule {
     ghost use Rattle.shared_rule.specs.Ruled.{Ruled};
     ghost use Rattle.shared_rule.specs.History.{opening_view};
 
@@ -29,8 +29,8 @@ impl<T: PartTable> TableRule<Kept<T>, View<T>, Sizes> for Law {
     ghost first = { λ sizes. opening_view };
 }
 
-/// The table as sessions share it.
-pub type Top<T> = Shared<Kept<T>, View<T>, Sizes, Law>;
+/// The table as sessions share it: its words, with the shelves for contents and wait lists.
+pub type SharedWords<T> = Shared<Kept<T>, View<T>, TableSizes, LockTableRule>;
 
 /// A seat at it: one session's, or the opener's.
-pub type Place<T> = Seat<Kept<T>, View<T>>;
+pub type Seat<T> = atomic_table::Seat<Kept<T>, View<T>>;

@@ -4,10 +4,10 @@ ghost use Rattle.std.specs.Prelude.{◌≡◌, ◌<◌, ◌≤◌, ℕ, List, []
 ghost use Rattle.lock_world.specs.SlotHolds.{most_groups};
 ghost use Rattle.shared_rule.specs.Layout.{words_of_groups};
 ghost use Rattle.shared_rule.specs.History.{first_account, lone};
-ghost use Rattle.shared_rule.specs.declared.layout.TheConstants.{TABLE_WORDS, TABLE_SLOTS};
+ghost use Rattle.shared_rule.specs.declared.layout.TheConstants.{TABLE_WORDS, TABLE_SHELVES};
 ghost use Rattle.shared_rule.specs.Plays.{FitsTable};
 ghost use Rattle.shared_rule.specs.Seats.{DoNotConflict, MayBeKeptApartBy};
-ghost use Rattle.shared_rule.specs.Boards.{Seated, nothing_due, parts_in_hand, slots_out, first_marks};
+ghost use Rattle.shared_rule.specs.Boards.{Seated, nothing_due, parts_in_hand, shelves_out, first_marks};
 ghost use Rattle.shared_rule.specs.Boards.{IsIdle};
 ghost use Rattle.shared_rule.specs.Owed.{first_owed};
 ghost use Rattle.shared_rule.specs.Quiet.{first_quiet};
@@ -15,7 +15,7 @@ ghost use Rattle.shared_rule.specs.Quiet.{first_quiet};
 use crate::board::Board;
 use crate::busy::Busy;
 use crate::layout::wait_word;
-use crate::rule::{Place, Sizes, Top};
+use crate::rule::{Seat, SharedWords, TableSizes};
 use crate::{counters, locks, partitions, seats, sharing, slots, waits};
 use lock_table::{Move, PartTable, Woken};
 use lw_word::SlotWord;
@@ -26,46 +26,46 @@ use std::sync::Wait;
 /// A session's seat at the table that all sessions share. It is not `Drop`, so that nobody lets one go, which would
 /// leave its session open for ever.
 pub struct SeatBoard<'a, T: PartTable> {
-    table: &'a Top<T>,
-    place: Place<T>,
+    table: &'a SharedWords<T>,
+    seat: Seat<T>,
     number: SessionId,
-    sizes: Sizes,
-    ghost at: { place.table_id ≡ table.now.table_id },
+    sizes: TableSizes,
+    ghost at: { seat.table_id ≡ table.now.table_id },
     ghost words: { TABLE_WORDS ≤ table.now.table_id.words },
     ghost all_words: { table.now.table_id.words ≡ words_of_groups sizes.groups },
-    ghost slots: { table.now.table_id.slots ≡ TABLE_SLOTS },
+    ghost shelves: { table.now.table_id.slots ≡ TABLE_SHELVES },
     ghost sized: { sizes ≡ table.now.key },
     ghost some: { 0 < sizes.groups },
     ghost few: { sizes.groups ≤ most_groups },
     ghost exists: { number < sizes.sessions },
-    ghost lone: { place.me.0 ≡ lone number (first_marks place.me.0.sessions) },
-    ghost out: { place.me.1 ≡ slots_out (parts_in_hand place.me.1) },
-    ghost idle: { IsIdle place.me.0.sessions },
+    ghost lone: { seat.me.0 ≡ lone number (first_marks seat.me.0.sessions) },
+    ghost out: { seat.me.1 ≡ shelves_out (parts_in_hand seat.me.1) },
+    ghost idle: { IsIdle seat.me.0.sessions },
 }
 
 impl<'a, T: PartTable> SeatBoard<'a, T> {
     // The board of the session with this number, at its seat.
     pub(crate) fn at(
-        table: &'a Top<T>,
-        place: Place<T>,
+        table: &'a SharedWords<T>,
+        seat: Seat<T>,
         number: SessionId,
-        sizes: Sizes,
+        sizes: TableSizes,
     ) -> SeatBoard<'a, T>
-        requires table { FitsTable place table.now.table_id }
+        requires table { FitsTable seat table.now.table_id }
         requires all_words { table.now.table_id.words ≡ words_of_groups sizes.groups }
         requires sized { sizes ≡ table.now.key }
         requires some { 0 < sizes.groups }
         requires few { sizes.groups ≤ most_groups }
         requires exists { number < sizes.sessions }
-        requires lone { place.me.0 ≡ lone number (first_marks place.me.0.sessions) }
-        requires out { place.me.1 ≡ [] }
-        requires idle { IsIdle place.me.0.sessions }
-        ensures { (result.table.now ≡ table.now) × (result.place ≡ place) × (result.number ≡ number)
+        requires lone { seat.me.0 ≡ lone number (first_marks seat.me.0.sessions) }
+        requires out { seat.me.1 ≡ [] }
+        requires idle { IsIdle seat.me.0.sessions }
+        ensures { (result.table.now ≡ table.now) × (result.seat ≡ seat) × (result.number ≡ number)
             × (result.sizes ≡ sizes) }
     {
         SeatBoard {
             table,
-            place,
+            seat,
             number,
             sizes,
         }
@@ -98,39 +98,39 @@ impl<'a, T: PartTable> SeatBoard<'a, T> {
     {
         let SeatBoard {
             table,
-            place,
+            seat,
             number,
             sizes,
         } = other;
-        seats::keep_apart(self.table, &mut self.place, place);
-        seats::tell_apart(self.table, &mut self.place);
-        let place = seats::hand_back(self.table, &mut self.place);
+        seats::keep_apart(self.table, &mut self.seat, seat);
+        seats::tell_apart(self.table, &mut self.seat);
+        let seat = seats::hand_back(self.table, &mut self.seat);
         SeatBoard {
             table,
-            place,
+            seat,
             number,
             sizes,
         }
     }
 
     // For how many sessions its table is, and how many groups of slots each has.
-    pub(crate) fn sizes(&self) -> Sizes
+    pub(crate) fn sizes(&self) -> TableSizes
         ensures { result ≡ self.now.sizes }
     {
         self.sizes
     }
 
     // Its table and its seat.
-    pub(crate) fn into_place(self) -> (&'a Top<T>, Place<T>)
-        ensures { (result.0.now ≡ self.entry.table.now) × (result.1 ≡ self.entry.place) }
+    pub(crate) fn into_seat(self) -> (&'a SharedWords<T>, Seat<T>)
+        ensures { (result.0.now ≡ self.entry.table.now) × (result.1 ≡ self.entry.seat) }
     {
         let SeatBoard {
             table,
-            place,
+            seat,
             number: _,
             sizes: _,
         } = self;
-        (table, place)
+        (table, seat)
     }
 }
 
@@ -143,12 +143,12 @@ impl<'a, T: PartTable> Board<T> for SeatBoard<'a, T> {
           table = board.table.now.table_id;
         } };
 
-    ghost view = { λ board. first_account T.content board.place.me.0.sessions };
+    ghost view = { λ board. first_account T.content board.seat.me.0.sessions };
 
     ghost stack = { λ board.
-        record { parts = parts_in_hand board.place.me.1; owed = first_owed board.place.me.0.sessions } };
+        record { parts = parts_in_hand board.seat.me.1; owed = first_owed board.seat.me.0.sessions } };
 
-    ghost quiet = { λ board. first_quiet board.place.me.0.sessions };
+    ghost quiet = { λ board. first_quiet board.seat.me.0.sessions };
 
     fn number(&self) -> SessionId {
         self.number
@@ -163,79 +163,79 @@ impl<'a, T: PartTable> Board<T> for SeatBoard<'a, T> {
     }
 
     fn take_part<R: Wait>(&mut self, rt: &R, part: u8) -> T {
-        partitions::take_part(rt, self.table, &mut self.place, self.number, part)
+        partitions::take_part(rt, self.table, &mut self.seat, self.number, part)
     }
 
     fn put_part(&mut self, part: u8, done: &Move, content: T) {
-        partitions::put_part::<T, Brand>(self.table, &mut self.place, part, done, content);
+        partitions::put_part::<T, Brand>(self.table, &mut self.seat, part, done, content);
     }
 
     fn take_fast<R: Wait>(&mut self, rt: &R, owner: SessionId) {
-        locks::take_fast(rt, self.table, &mut self.place, self.number, owner);
+        locks::take_fast(rt, self.table, &mut self.seat, self.number, owner);
     }
 
     fn try_take_fast(&mut self) -> Result<(), Busy> {
-        locks::try_take_fast(self.table, &mut self.place, self.number)
+        locks::try_take_fast(self.table, &mut self.seat, self.number)
     }
 
     fn put_fast(&mut self, owner: SessionId) {
-        locks::put_fast::<T, Brand>(self.table, &mut self.place, owner);
+        locks::put_fast::<T, Brand>(self.table, &mut self.seat, owner);
     }
 
     fn share_fast<R: Wait>(&mut self, rt: &R, owner: SessionId) {
-        sharing::share_fast(rt, self.table, &mut self.place, self.number, owner);
+        sharing::share_fast(rt, self.table, &mut self.seat, self.number, owner);
     }
 
     fn unshare_fast(&mut self, owner: SessionId) {
-        sharing::unshare_fast::<T, Brand>(self.table, &mut self.place, owner);
+        sharing::unshare_fast::<T, Brand>(self.table, &mut self.seat, owner);
     }
 
     fn pass_fast(&mut self, owner: SessionId, tag: &Tag, mode: Mode) {
-        locks::pass_fast::<T, Brand>(self.table, &mut self.place, owner, tag, mode);
+        locks::pass_fast::<T, Brand>(self.table, &mut self.seat, owner, tag, mode);
     }
 
     fn add_strong(&mut self, tag: &Tag, mode: Mode) {
-        counters::add_strong::<T, Brand>(self.table, &mut self.place, tag, mode);
+        counters::add_strong::<T, Brand>(self.table, &mut self.seat, tag, mode);
     }
 
     fn sub_strong(&mut self, tag: &Tag, mode: Mode) {
-        counters::sub_strong::<T, Brand>(self.table, &mut self.place, tag, mode);
+        counters::sub_strong::<T, Brand>(self.table, &mut self.seat, tag, mode);
     }
 
     fn load_database(&mut self, owner: SessionId) -> u64 {
-        slots::load_database::<T, Brand>(self.table, &mut self.place, owner)
+        slots::load_database::<T, Brand>(self.table, &mut self.seat, owner)
     }
 
     fn store_database(&mut self, database: u32) {
-        slots::store_database::<T, Brand>(self.table, &mut self.place, self.number, database);
+        slots::store_database::<T, Brand>(self.table, &mut self.seat, self.number, database);
     }
 
-    fn load_slot(&mut self, owner: SessionId, place: u8) -> SlotWord {
-        slots::load_slot::<T, Brand>(self.table, &mut self.place, owner, place)
+    fn load_slot(&mut self, owner: SessionId, slot: u8) -> SlotWord {
+        slots::load_slot::<T, Brand>(self.table, &mut self.seat, owner, slot)
     }
 
     fn load_strong(&mut self, index: u16) -> u64 {
-        counters::load_strong::<T, Brand>(self.table, &mut self.place, index)
+        counters::load_strong::<T, Brand>(self.table, &mut self.seat, index)
     }
 
-    fn set_slot(&mut self, place: u8, shown: SlotWord, tag: &Tag, mode: Mode) {
+    fn set_slot(&mut self, slot: u8, shown: SlotWord, tag: &Tag, mode: Mode) {
         slots::set_slot::<T, Brand>(
             self.table,
-            &mut self.place,
+            &mut self.seat,
             self.number,
-            place,
+            slot,
             shown,
             tag,
             mode,
         );
     }
 
-    fn clear_slot(&mut self, place: u8, shown: SlotWord, tag: &Tag, mode: Mode) {
+    fn clear_slot(&mut self, slot: u8, shown: SlotWord, tag: &Tag, mode: Mode) {
         slots::clear_slot::<T, Brand>(
             self.table,
-            &mut self.place,
+            &mut self.seat,
             self.number,
-            place,
+            slot,
             shown,
             tag,
             mode,
@@ -245,7 +245,7 @@ impl<'a, T: PartTable> Board<T> for SeatBoard<'a, T> {
     fn transfer_slot(
         &mut self,
         owner: SessionId,
-        place: u8,
+        slot: u8,
         shown: SlotWord,
         tag: &Tag,
         mode: Mode,
@@ -254,9 +254,9 @@ impl<'a, T: PartTable> Board<T> for SeatBoard<'a, T> {
     ) {
         slots::transfer_slot::<T, Brand>(
             self.table,
-            &mut self.place,
+            &mut self.seat,
             owner,
-            place,
+            slot,
             shown,
             tag,
             mode,
@@ -268,7 +268,7 @@ impl<'a, T: PartTable> Board<T> for SeatBoard<'a, T> {
     fn set_waiting(&mut self, tag: &Tag, mode: Mode, content: &T) {
         waits::set_waiting::<T, Brand>(
             self.table,
-            &mut self.place,
+            &mut self.seat,
             self.number,
             tag,
             mode,
@@ -286,7 +286,7 @@ impl<'a, T: PartTable> Board<T> for SeatBoard<'a, T> {
     ) {
         waits::mark_granted::<T, Brand>(
             self.table,
-            &mut self.place,
+            &mut self.seat,
             part,
             other,
             done,
@@ -296,19 +296,19 @@ impl<'a, T: PartTable> Board<T> for SeatBoard<'a, T> {
     }
 
     fn load_wait(&mut self) -> u64 {
-        waits::load_wait::<T, Brand>(self.table, &mut self.place, self.number)
+        waits::load_wait::<T, Brand>(self.table, &mut self.seat, self.number)
     }
 
     fn ask_cancel(&mut self, other: SessionId) -> u64 {
-        waits::ask_cancel::<T, Brand>(self.table, &mut self.place, other)
+        waits::ask_cancel::<T, Brand>(self.table, &mut self.seat, other)
     }
 
     fn clear_wait(&mut self) {
-        waits::clear_wait::<T, Brand>(self.table, &mut self.place, self.number);
+        waits::clear_wait::<T, Brand>(self.table, &mut self.seat, self.number);
     }
 
     fn leave_queue(&mut self, woken: &Woken, content: &T) {
-        waits::leave_queue::<T, Brand>(self.table, &mut self.place, self.number, woken, content);
+        waits::leave_queue::<T, Brand>(self.table, &mut self.seat, self.number, woken, content);
     }
 
     fn sleep<R: Wait>(&self, rt: &R, shown: u64) {
@@ -317,6 +317,6 @@ impl<'a, T: PartTable> Board<T> for SeatBoard<'a, T> {
     }
 
     fn wake(&mut self, other: SessionId) {
-        waits::call_waiter::<T, Brand>(self.table, &mut self.place, other);
+        waits::call_waiter::<T, Brand>(self.table, &mut self.seat, other);
     }
 }

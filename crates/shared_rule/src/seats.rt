@@ -13,7 +13,7 @@ ghost use Rattle.shared_rule.specs.Todos.{first_todo, nothing_to_do};
 
 use crate::history::View;
 use crate::plays::{TellsApart, TellsClosed};
-use crate::rule::{Place, Top};
+use crate::rule::{Seat, SharedWords};
 use atomic_table::{Join, Split};
 use lock_table::PartTable;
 
@@ -64,80 +64,80 @@ impl<T> Split<View<T>> for HandsBack {
 }
 
 /// Opens a session, which gets the opener's next number (`InitProcess` in proc.c). It has made no step yet.
-pub(crate) fn open<T: PartTable>(top: &Top<T>, opener: &mut Place<T>) -> Place<T>
-    requires table { FitsTable opener.old top.now.table_id }
-    requires number { HasNumber opener.old.me.0 top.now.key.sessions }
-    ensures seat { IsSameSeat opener.old opener.new }
+pub(crate) fn open<T: PartTable>(words: &SharedWords<T>, opener: &mut Seat<T>) -> Seat<T>
+    requires table { FitsTable opener.old words.now.table_id }
+    requires number { HasNumber opener.old.me.0 words.now.key.sessions }
+    ensures same_seat { IsSameSeat opener.old opener.new }
     ensures opener { opener.new.me ≡ (opened opener.old.me.0, opener.old.me.1) }
     ensures table { result.table_id ≡ opener.old.table_id }
     ensures session { result.me ≡ (newcomer opener.old.me.0, []) }
 {
-    top.split_seat::<Opens>(opener)
+    words.split_seat::<Opens>(opener)
 }
 
 /// Closes a session that has nothing any more, nothing to do for those who wait, and nobody to wake (`ProcKill` in proc.c).
-pub(crate) fn close<T: PartTable>(top: &Top<T>, opener: &mut Place<T>, session: Place<T>)
-    requires table { FitsTable opener.old top.now.table_id }
-    requires session_table { FitsTable session top.now.table_id }
+pub(crate) fn close<T: PartTable>(words: &SharedWords<T>, opener: &mut Seat<T>, session: Seat<T>)
+    requires table { FitsTable opener.old words.now.table_id }
+    requires session_table { FitsTable session words.now.table_id }
     requires opener { HasNext opener.old.me.0 }
     requires one { IsForOne session.me.0 }
     requires nothing_in_hand { session.me.1 ≡ [] }
     requires lawful { MayCloseBy (first_account T.content session.me.0.sessions) }
     requires todo { first_todo session.me.0.sessions ≡ nothing_to_do }
     requires wakes_nobody { first_owed session.me.0.sessions ≡ [] }
-    ensures seat { IsSameSeat opener.old opener.new }
+    ensures same_seat { IsSameSeat opener.old opener.new }
     ensures side { opener.new.me ≡ (with_closed opener.old.me.0 session.me.0, opener.old.me.1) }
 {
-    top.join_seat::<Closes>(opener, session);
+    words.join_seat::<Closes>(opener, session);
 }
 
 /// Tells the opener that those that have closed were given out, each once. It loads a word, and ignores what it finds.
-pub(crate) fn tell_closed<T: PartTable>(top: &Top<T>, opener: &mut Place<T>)
-    requires table { FitsTable opener.old top.now.table_id }
+pub(crate) fn tell_closed<T: PartTable>(words: &SharedWords<T>, opener: &mut Seat<T>)
+    requires table { FitsTable opener.old words.now.table_id }
     requires opener { HasNext opener.old.me.0 }
-    ensures seat { IsSameSeat opener.old opener.new }
+    ensures same_seat { IsSameSeat opener.old opener.new }
     ensures side { opener.new.me ≡ opener.old.me }
     ensures closed { HaveClosed (number_in opener.old.me.0.next) opener.old.me.0.closed }
 {
-    top.load::<TellsClosed>(opener, 0);
+    words.load::<TellsClosed>(opener, 0);
 }
 
 /// Keeps a session apart that holds no word, has nothing to do for those who wait, and has nobody to wake: its history goes
 /// behind those at the seat, for as long as they meet.
-pub(crate) fn keep_apart<T: PartTable>(top: &Top<T>, place: &mut Place<T>, other: Place<T>)
-    requires table { FitsTable place.old top.now.table_id }
-    requires other_table { FitsTable other top.now.table_id }
+pub(crate) fn keep_apart<T: PartTable>(words: &SharedWords<T>, seat: &mut Seat<T>, other: Seat<T>)
+    requires table { FitsTable seat.old words.now.table_id }
+    requires other_table { FitsTable other words.now.table_id }
     requires one { IsForOne other.me.0 }
     requires nothing_in_hand { other.me.1 ≡ [] }
     requires lawful { MayBeKeptApartBy (first_account T.content other.me.0.sessions) }
     requires free { IsFree other.me.0.sessions }
-    ensures seat { IsSameSeat place.old place.new }
-    ensures side { place.new.me ≡ (met place.old.me.0 other.me.0, place.old.me.1) }
+    ensures same_seat { IsSameSeat seat.old seat.new }
+    ensures side { seat.new.me ≡ (met seat.old.me.0 other.me.0, seat.old.me.1) }
 {
-    top.join_seat::<KeepsApart>(place, other);
+    words.join_seat::<KeepsApart>(seat, other);
 }
 
 /// Hands the seat of the session that came last back: it goes on by itself.
-pub(crate) fn hand_back<T: PartTable>(top: &Top<T>, place: &mut Place<T>) -> Place<T>
-    requires table { FitsTable place.old top.now.table_id }
-    requires last { HasLast place.old.me.0 }
-    ensures seat { IsSameSeat place.old place.new }
-    ensures side { place.new.me ≡ (parted place.old.me.0, place.old.me.1) }
-    ensures table { result.table_id ≡ place.old.table_id }
-    ensures other { result.me ≡ (handed_back place.old.me.0, []) }
+pub(crate) fn hand_back<T: PartTable>(words: &SharedWords<T>, seat: &mut Seat<T>) -> Seat<T>
+    requires table { FitsTable seat.old words.now.table_id }
+    requires last { HasLast seat.old.me.0 }
+    ensures same_seat { IsSameSeat seat.old seat.new }
+    ensures side { seat.new.me ≡ (parted seat.old.me.0, seat.old.me.1) }
+    ensures table { result.table_id ≡ seat.old.table_id }
+    ensures other { result.me ≡ (handed_back seat.old.me.0, []) }
 {
-    top.split_seat::<HandsBack>(place)
+    words.split_seat::<HandsBack>(seat)
 }
 
 /// Tells that no hold of the one session conflicts with a hold of the other on an object, where the two meet
 /// (`LockConflicts` in lock.c says which modes do). It loads a word, and ignores what it finds.
-pub(crate) fn tell_apart<T: PartTable>(top: &Top<T>, place: &mut Place<T>)
-    requires table { FitsTable place.old top.now.table_id }
-    requires two { IsForTwo place.old.me.0 }
-    ensures seat { IsSameSeat place.old place.new }
-    ensures side { place.new.me ≡ place.old.me }
-    ensures apart { DoNotConflict (first_account T.content place.old.me.0.sessions)
-        (first_account T.content (behind_of place.old.me.0.sessions)) }
+pub(crate) fn tell_apart<T: PartTable>(words: &SharedWords<T>, seat: &mut Seat<T>)
+    requires table { FitsTable seat.old words.now.table_id }
+    requires two { IsForTwo seat.old.me.0 }
+    ensures same_seat { IsSameSeat seat.old seat.new }
+    ensures side { seat.new.me ≡ seat.old.me }
+    ensures apart { DoNotConflict (first_account T.content seat.old.me.0.sessions)
+        (first_account T.content (behind_of seat.old.me.0.sessions)) }
 {
-    top.load::<TellsApart>(place, 0);
+    words.load::<TellsApart>(seat, 0);
 }

@@ -21,7 +21,7 @@ ghost use Rattle.shared_rule.specs.Plays.{account_at, number_at, todo_at, FitsTa
 
 use crate::layout::fast_word;
 use crate::plays::{Grouping, Marking, SharesSlots};
-use crate::rule::{Place, Top};
+use crate::rule::{Seat, SharedWords};
 use crate::slot_locks::{SlotsLock, SlotsShared};
 use crate::words::fetch_sub_as;
 use lock_table::PartTable;
@@ -34,25 +34,25 @@ use std::sync::Wait;
 // One attempt to share the lock of a session's slots, of so many groups, by the number that its word may show.
 #[inline(always)]
 fn attempt_share<T: PartTable, G: Grouping>(
-    top: &Top<T>,
-    place: &mut Place<T>,
+    words: &SharedWords<T>,
+    seat: &mut Seat<T>,
     owner: SessionId,
     shown: u64,
     shared: u64,
 ) -> bool
-    requires table { FitsTable place.old top.now.table_id }
-    requires exists { owner < top.now.key.sessions }
-    requires session { HasSession place.old.me.0 }
-    requires lawful { MayShareFastBy (account_at T.content place.old) owner }
-    requires no_other_try { NoneOr (todo_at place.old).tries (fast_lock owner) }
-    requires no_other_list { NoneOr (account_at T.content place.old).lists.stands (fast_lock owner) }
+    requires table { FitsTable seat.old words.now.table_id }
+    requires exists { owner < words.now.key.sessions }
+    requires session { HasSession seat.old.me.0 }
+    requires lawful { MayShareFastBy (account_at T.content seat.old) owner }
+    requires no_other_try { NoneOr (todo_at seat.old).tries (fast_lock owner) }
+    requires no_other_list { NoneOr (account_at T.content seat.old).lists.stands (fast_lock owner) }
     requires free { IsFreeToShare shown × (shared ≡ shared_word shown) }
-    requires groups { G.groups ≡ top.now.key.groups }
-    ensures seat { IsSameSeat place.old place.new }
-    ensures won { OnTrue result (GetsSlots T.content top.now.key.groups Shared owner place.old place.new) }
-    ensures lost { OnFalse result (IsAsBefore T.content place.old place.new) }
+    requires groups { G.groups ≡ words.now.key.groups }
+    ensures same_seat { IsSameSeat seat.old seat.new }
+    ensures won { OnTrue result (GetsSlots T.content words.now.key.groups Shared owner seat.old seat.new) }
+    ensures lost { OnFalse result (IsAsBefore T.content seat.old seat.new) }
 {
-    if top.compare_exchange::<SharesSlots<G>>(place, fast_word(owner), shown, shared) != shown {
+    if words.compare_exchange::<SharesSlots<G>>(seat, fast_word(owner), shown, shared) != shown {
         return false;
     }
     true
@@ -61,23 +61,23 @@ fn attempt_share<T: PartTable, G: Grouping>(
 // The same, where the word shows that nobody holds the lock exclusively, and else no attempt.
 #[inline(always)]
 pub(crate) fn attempt_free_share<T: PartTable>(
-    top: &Top<T>,
-    place: &mut Place<T>,
+    words: &SharedWords<T>,
+    seat: &mut Seat<T>,
     owner: SessionId,
 ) -> bool
-    requires table { FitsTable place.old top.now.table_id }
-    requires exists { owner < top.now.key.sessions }
-    requires session { HasSession place.old.me.0 }
-    requires lawful { MayShareFastBy (account_at T.content place.old) owner }
-    requires no_other_try { NoneOr (todo_at place.old).tries (fast_lock owner) }
-    requires no_other_list { NoneOr (account_at T.content place.old).lists.stands (fast_lock owner) }
-    ensures seat { IsSameSeat place.old place.new }
-    ensures won { OnTrue result (GetsSlots T.content top.now.key.groups Shared owner place.old place.new) }
-    ensures lost { OnFalse result (IsAsBefore T.content place.old place.new) }
+    requires table { FitsTable seat.old words.now.table_id }
+    requires exists { owner < words.now.key.sessions }
+    requires session { HasSession seat.old.me.0 }
+    requires lawful { MayShareFastBy (account_at T.content seat.old) owner }
+    requires no_other_try { NoneOr (todo_at seat.old).tries (fast_lock owner) }
+    requires no_other_list { NoneOr (account_at T.content seat.old).lists.stands (fast_lock owner) }
+    ensures same_seat { IsSameSeat seat.old seat.new }
+    ensures won { OnTrue result (GetsSlots T.content words.now.key.groups Shared owner seat.old seat.new) }
+    ensures lost { OnFalse result (IsAsBefore T.content seat.old seat.new) }
 {
-    let shown = top.peek(fast_word(owner));
+    let shown = words.peek(fast_word(owner));
     match shared(shown) {
-        Some(shared) => attempt_share::<T, Brand>(top, place, owner, shown, shared),
+        Some(shared) => attempt_share::<T, Brand>(words, seat, owner, shown, shared),
         None => false,
     }
 }
@@ -87,27 +87,27 @@ pub(crate) fn attempt_free_share<T: PartTable>(
 #[inline]
 pub(crate) fn share_fast<T: PartTable, R: Wait>(
     rt: &R,
-    top: &Top<T>,
-    place: &mut Place<T>,
+    words: &SharedWords<T>,
+    seat: &mut Seat<T>,
     number: SessionId,
     owner: SessionId,
 )
-    requires table { FitsTable place.old top.now.table_id }
-    requires exists { owner < top.now.key.sessions }
-    requires session { HasSession place.old.me.0 }
-    requires own { number ≡ number_at place.old }
-    requires lawful { MayShareFastBy (account_at T.content place.old) owner }
-    requires idle { (account_at T.content place.old).lists ≡ no_lists }
-    requires todo { todo_at place.old ≡ nothing_to_do }
-    requires latest { IsLatestBy (account_at T.content place.old) (OfSlots owner) }
-    ensures { GetsSlots T.content top.now.key.groups Shared owner place.old place.new }
+    requires table { FitsTable seat.old words.now.table_id }
+    requires exists { owner < words.now.key.sessions }
+    requires session { HasSession seat.old.me.0 }
+    requires own { number ≡ number_at seat.old }
+    requires lawful { MayShareFastBy (account_at T.content seat.old) owner }
+    requires idle { (account_at T.content seat.old).lists ≡ no_lists }
+    requires todo { todo_at seat.old ≡ nothing_to_do }
+    requires latest { IsLatestBy (account_at T.content seat.old) (OfSlots owner) }
+    ensures { GetsSlots T.content words.now.key.groups Shared owner seat.old seat.new }
 {
     let mode = LwMode::Shared;
     acquire(
         rt,
-        place,
+        seat,
         &SlotsLock {
-            top,
+            words,
             number,
             owner,
             mode,
@@ -117,42 +117,42 @@ pub(crate) fn share_fast<T: PartTable, R: Wait>(
 
 // Gives its share back, and tells what its word showed.
 pub(crate) fn unshare_fast_home<T: PartTable, M: Marking<T>>(
-    top: &Top<T>,
-    place: &mut Place<T>,
+    words: &SharedWords<T>,
+    seat: &mut Seat<T>,
     owner: SessionId,
 ) -> u64
-    requires table { FitsTable place.old top.now.table_id }
-    requires exists { owner < top.now.key.sessions }
-    requires session { HasSession place.old.me.0 }
-    requires lawful { (slots : SlotsInHand) × MayUnshareFastBy (account_at T.content place.old) owner slots }
-    requires no_look { (todo_at place.old).due ≡ None }
+    requires table { FitsTable seat.old words.now.table_id }
+    requires exists { owner < words.now.key.sessions }
+    requires session { HasSession seat.old.me.0 }
+    requires lawful { (slots : SlotsInHand) × MayUnshareFastBy (account_at T.content seat.old) owner slots }
+    requires no_look { (todo_at seat.old).due ≡ None }
     requires mark { M.mark ≡ UnsharedFast owner }
-    ensures led { LedTo T.content place.old place.new
-        (account_unsharing_fast (account_at T.content place.old) owner)
-        (todo_putting (todo_at place.old) (fast_lock owner) (put_in Shared (state_of result))) }
-    ensures slots { place.new.me.1 ≡ place.old.me.1 }
+    ensures led { LedTo T.content seat.old seat.new
+        (account_unsharing_fast (account_at T.content seat.old) owner)
+        (todo_putting (todo_at seat.old) (fast_lock owner) (put_in Shared (state_of result))) }
+    ensures shelves { seat.new.me.1 ≡ seat.old.me.1 }
 {
-    fetch_sub_as::<T, M>(top, place, fast_word(owner), LwMode::Shared.amount())
+    fetch_sub_as::<T, M>(words, seat, fast_word(owner), LwMode::Shared.amount())
 }
 
 /// Gives back the session's share of the lock of the slots of `owner` (`LWLockRelease` in lwlock.c). The last
 /// session that shared it wakes those who wait for the lock, where its word says so.
 pub(crate) fn unshare_fast<T: PartTable, M: Marking<T>>(
-    top: &Top<T>,
-    place: &mut Place<T>,
+    words: &SharedWords<T>,
+    seat: &mut Seat<T>,
     owner: SessionId,
 )
-    requires table { FitsTable place.old top.now.table_id }
-    requires exists { owner < top.now.key.sessions }
-    requires session { HasSession place.old.me.0 }
-    requires lawful { (slots : SlotsInHand) × MayUnshareFastBy (account_at T.content place.old) owner slots }
-    requires idle { (account_at T.content place.old).lists ≡ no_lists }
-    requires todo { todo_at place.old ≡ nothing_to_do }
+    requires table { FitsTable seat.old words.now.table_id }
+    requires exists { owner < words.now.key.sessions }
+    requires session { HasSession seat.old.me.0 }
+    requires lawful { (slots : SlotsInHand) × MayUnshareFastBy (account_at T.content seat.old) owner slots }
+    requires idle { (account_at T.content seat.old).lists ≡ no_lists }
+    requires todo { todo_at seat.old ≡ nothing_to_do }
     requires mark { M.mark ≡ UnsharedFast owner }
-    ensures led { Led T.content place.old place.new
-        (account_unsharing_fast (account_at T.content place.old) owner) }
-    ensures slots { place.new.me.1 ≡ place.old.me.1 }
+    ensures led { Led T.content seat.old seat.new
+        (account_unsharing_fast (account_at T.content seat.old) owner) }
+    ensures shelves { seat.new.me.1 ≡ seat.old.me.1 }
 {
     let of = PhantomData::<M>;
-    release(place, &SlotsShared { top, owner, of }, ());
+    release(seat, &SlotsShared { words, owner, of }, ());
 }

@@ -15,7 +15,7 @@ use crate::locks::{attempt_free_fast, pass_fast_home, put_fast_home};
 use crate::lw_locks::LwLock;
 use crate::plays::Marking;
 use crate::queues::{dequeue_self, queue_self, sleep_for};
-use crate::rule::{Place, Top};
+use crate::rule::{Seat, SharedWords};
 use crate::sharing::{attempt_free_share, unshare_fast_home};
 use crate::wakeups::wake_waiters;
 use lock_table::PartTable;
@@ -28,7 +28,7 @@ use std::sync::Wait;
 /// The lock of the slots of `owner`, as the session `number` comes for it in `mode`: what they show is known with it.
 #[derive(Drop)]
 pub(crate) struct SlotsLock<'a, T: PartTable> {
-    pub(crate) top: &'a Top<T>,
+    pub(crate) words: &'a SharedWords<T>,
     pub(crate) number: SessionId,
     pub(crate) owner: SessionId,
     pub(crate) mode: LwMode,
@@ -37,82 +37,82 @@ pub(crate) struct SlotsLock<'a, T: PartTable> {
 impl<'a, T: PartTable> SlotsLock<'a, T> {
     // One attempt, where the word shows that nobody is in the way.
     #[inline(always)]
-    fn attempt_free(&self, place: &mut Place<T>) -> Option<()>
-        requires table { FitsTable place.old self.now.top.now.table_id }
-        requires exists { self.now.owner < self.now.top.now.key.sessions }
-        requires session { HasSession place.old.me.0 }
-        requires lawful { MayGetSlots self.now.mode (account_at T.content place.old) self.now.owner }
-        requires no_other_try { NoneOr (todo_at place.old).tries (fast_lock self.now.owner) }
-        requires no_other_list { NoneOr (account_at T.content place.old).lists.stands (fast_lock self.now.owner) }
-        ensures won { IfSome result (λ _. GetsSlots T.content self.now.top.now.key.groups self.now.mode self.now.owner
-            place.old place.new) }
-        ensures lost { IfNone result (IsAsBefore T.content place.old place.new) }
+    fn attempt_free(&self, seat: &mut Seat<T>) -> Option<()>
+        requires table { FitsTable seat.old self.now.words.now.table_id }
+        requires exists { self.now.owner < self.now.words.now.key.sessions }
+        requires session { HasSession seat.old.me.0 }
+        requires lawful { MayGetSlots self.now.mode (account_at T.content seat.old) self.now.owner }
+        requires no_other_try { NoneOr (todo_at seat.old).tries (fast_lock self.now.owner) }
+        requires no_other_list { NoneOr (account_at T.content seat.old).lists.stands (fast_lock self.now.owner) }
+        ensures won { IfSome result (λ _. GetsSlots T.content self.now.words.now.key.groups self.now.mode self.now.owner
+            seat.old seat.new) }
+        ensures lost { IfNone result (IsAsBefore T.content seat.old seat.new) }
     {
         let won = match self.mode {
-            LwMode::Exclusive => attempt_free_fast(self.top, place, self.owner),
-            LwMode::Shared => attempt_free_share(self.top, place, self.owner),
+            LwMode::Exclusive => attempt_free_fast(self.words, seat, self.owner),
+            LwMode::Shared => attempt_free_share(self.words, seat, self.owner),
         };
         if won { Some(()) } else { None }
     }
 }
 
-impl<'a, T: PartTable> Guarded<Place<T>, ()> for SlotsLock<'a, T> {
+impl<'a, T: PartTable> Guarded<Seat<T>, ()> for SlotsLock<'a, T> {
     ghost use Rattle.shared_rule.specs.declared.lw_locks.LwLock.TheVariants.{OfSlots};
     ghost use Rattle.shared_rule.specs.Acquires.{GetsSlots};
     ghost use Rattle.shared_rule.specs.Waiting.{sought_of, IsOnWay, IsQueued, HasSeenHeld, HasWonQueued};
 
     ghost on_way = { λ it. IsOnWay T.content
-        (sought_of it.top.now.key.sessions it.top.now.table_id it.number (OfSlots it.owner) it.mode) };
+        (sought_of it.words.now.key.sessions it.words.now.table_id it.number (OfSlots it.owner) it.mode) };
 
     ghost queued = { λ it. IsQueued T.content
-        (sought_of it.top.now.key.sessions it.top.now.table_id it.number (OfSlots it.owner) it.mode) };
+        (sought_of it.words.now.key.sessions it.words.now.table_id it.number (OfSlots it.owner) it.mode) };
 
     ghost saw_held = { λ it. HasSeenHeld T.content
-        (sought_of it.top.now.key.sessions it.top.now.table_id it.number (OfSlots it.owner) it.mode) };
+        (sought_of it.words.now.key.sessions it.words.now.table_id it.number (OfSlots it.owner) it.mode) };
 
     ghost won_queued = { λ it first now _. HasWonQueued T.content
-        (sought_of it.top.now.key.sessions it.top.now.table_id it.number (OfSlots it.owner) it.mode)
-        (GetsSlots T.content it.top.now.key.groups it.mode it.owner) first now };
+        (sought_of it.words.now.key.sessions it.words.now.table_id it.number (OfSlots it.owner) it.mode)
+        (GetsSlots T.content it.words.now.key.groups it.mode it.owner) first now };
 
-    ghost won = { λ it first now _. GetsSlots T.content it.top.now.key.groups it.mode it.owner first now };
+    ghost won = { λ it first now _. GetsSlots T.content it.words.now.key.groups it.mode it.owner first now };
 
     #[inline(always)]
-    fn attempt(&self, place: &mut Place<T>) -> Option<()> {
-        self.attempt_free(place)
+    fn attempt(&self, seat: &mut Seat<T>) -> Option<()> {
+        self.attempt_free(seat)
     }
 
-    fn queue_self<R: Wait>(&self, rt: &R, place: &mut Place<T>) {
+    fn queue_self<R: Wait>(&self, rt: &R, seat: &mut Seat<T>) {
         let lock = LwLock::OfSlots(self.owner);
-        queue_self(rt, self.top, place, self.number, &lock, self.mode);
+        queue_self(rt, self.words, seat, self.number, &lock, self.mode);
     }
 
-    fn attempt_again(&self, place: &mut Place<T>) -> Option<()> {
-        self.attempt_free(place)
+    fn attempt_again(&self, seat: &mut Seat<T>) -> Option<()> {
+        self.attempt_free(seat)
     }
 
-    fn is_held(&self, place: &mut Place<T>) -> bool {
-        let shown = look_at_lock(self.top, place, &LwLock::OfSlots(self.owner));
+    fn is_held(&self, seat: &mut Seat<T>) -> bool {
+        let shown = look_at_lock(self.words, seat, &LwLock::OfSlots(self.owner));
         match self.mode {
             LwMode::Exclusive => taken(shown).is_none(),
             LwMode::Shared => shared(shown).is_none(),
         }
     }
 
-    fn dequeue_self<R: Wait>(&self, rt: &R, place: &mut Place<T>) {
+    fn dequeue_self<R: Wait>(&self, rt: &R, seat: &mut Seat<T>) {
         let lock = LwLock::OfSlots(self.owner);
-        dequeue_self(rt, self.top, place, self.number, &lock);
+        dequeue_self(rt, self.words, seat, self.number, &lock);
     }
 
-    fn sleep_until_told<R: Wait>(&self, rt: &R, place: &mut Place<T>) {
+    fn sleep_until_told<R: Wait>(&self, rt: &R, seat: &mut Seat<T>) {
         let lock = LwLock::OfSlots(self.owner);
-        sleep_for(rt, self.top, place, self.number, &lock);
+        sleep_for(rt, self.words, seat, self.number, &lock);
     }
 }
 
-impl<'a, T: PartTable> Acquirable<Place<T>, ()> for SlotsLock<'a, T> {
+impl<'a, T: PartTable> Acquirable<Seat<T>, ()> for SlotsLock<'a, T> {
     #[inline(always)]
-    fn acquire_held<R: Wait>(&self, rt: &R, place: &mut Place<T>) {
-        get_slots_held(rt, self.top, place, self.number, self.owner, self.mode);
+    fn acquire_held<R: Wait>(&self, rt: &R, seat: &mut Seat<T>) {
+        get_slots_held(rt, self.words, seat, self.number, self.owner, self.mode);
     }
 }
 
@@ -121,23 +121,23 @@ impl<'a, T: PartTable> Acquirable<Place<T>, ()> for SlotsLock<'a, T> {
 #[inline(never)]
 fn get_slots_held<T: PartTable, R: Wait>(
     rt: &R,
-    top: &Top<T>,
-    place: &mut Place<T>,
+    words: &SharedWords<T>,
+    seat: &mut Seat<T>,
     number: SessionId,
     owner: SessionId,
     mode: LwMode,
 )
     requires { IsSince (IsOnWay T.content
-        (sought_of top.now.key.sessions top.now.table_id number (OfSlots owner) mode)) place.old }
+        (sought_of words.now.key.sessions words.now.table_id number (OfSlots owner) mode)) seat.old }
     ensures { TurnsInto (IsOnWay T.content
-        (sought_of top.now.key.sessions top.now.table_id number (OfSlots owner) mode))
-        (GetsSlots T.content top.now.key.groups mode owner) place.old place.new }
+        (sought_of words.now.key.sessions words.now.table_id number (OfSlots owner) mode))
+        (GetsSlots T.content words.now.key.groups mode owner) seat.old seat.new }
 {
     acquire_held(
         rt,
-        place,
+        seat,
         &SlotsLock {
-            top,
+            words,
             number,
             owner,
             mode,
@@ -148,12 +148,12 @@ fn get_slots_held<T: PartTable, R: Wait>(
 /// The lock of the slots of `owner`, which the session has to write them and puts.
 #[derive(Drop)]
 pub(crate) struct SlotsTaken<'a, T: PartTable, M: Marking<T>> {
-    pub(crate) top: &'a Top<T>,
+    pub(crate) words: &'a SharedWords<T>,
     pub(crate) owner: SessionId,
     pub(crate) of: PhantomData<M>,
 }
 
-impl<'a, T: PartTable, M: Marking<T>> Held<Place<T>, ()> for SlotsTaken<'a, T, M> {
+impl<'a, T: PartTable, M: Marking<T>> Held<Seat<T>, ()> for SlotsTaken<'a, T, M> {
     ghost use Rattle.lw_word.specs.declared.words.LwMode.TheVariants.{Exclusive};
     ghost use Rattle.lock_world.specs.Account.{SlotsInHand};
     ghost use Rattle.lock_world.specs.AccountLaw.{MayPutFastBy};
@@ -165,10 +165,10 @@ impl<'a, T: PartTable, M: Marking<T>> Held<Place<T>, ()> for SlotsTaken<'a, T, M
 
     ghost in_mode = { λ _. Exclusive };
 
-    ghost may_put = { λ it place _. MayPutSlots T.content it.top.now.key.sessions it.top.now.table_id it.owner
-        (λ a. (slots : SlotsInHand) × MayPutFastBy a it.owner slots) M.mark (PutFast it.owner) place };
+    ghost may_put = { λ it seat _. MayPutSlots T.content it.words.now.key.sessions it.words.now.table_id it.owner
+        (λ a. (slots : SlotsInHand) × MayPutFastBy a it.owner slots) M.mark (PutFast it.owner) seat };
 
-    ghost due = { λ it before after _. HasPut T.content it.top.now.key.sessions it.top.now.table_id (OfSlots it.owner)
+    ghost due = { λ it before after _. HasPut T.content it.words.now.key.sessions it.words.now.table_id (OfSlots it.owner)
         Exclusive before after (account_putting_fast (number_at before) (account_at T.content before) it.owner)
         before.me.1 };
 
@@ -181,13 +181,13 @@ impl<'a, T: PartTable, M: Marking<T>> Held<Place<T>, ()> for SlotsTaken<'a, T, M
     }
 
     #[inline(always)]
-    fn put(&self, place: &mut Place<T>, _content: ()) -> u64 {
-        put_fast_home::<T, M>(self.top, place, self.owner)
+    fn put(&self, seat: &mut Seat<T>, _content: ()) -> u64 {
+        put_fast_home::<T, M>(self.words, seat, self.owner)
     }
 
     #[inline(always)]
-    fn wake_waiters(&self, place: &mut Place<T>) {
-        wake_waiters(self.top, place, &LwLock::OfSlots(self.owner));
+    fn wake_waiters(&self, seat: &mut Seat<T>) {
+        wake_waiters(self.words, seat, &LwLock::OfSlots(self.owner));
     }
 }
 
@@ -195,14 +195,14 @@ impl<'a, T: PartTable, M: Marking<T>> Held<Place<T>, ()> for SlotsTaken<'a, T, M
 /// `tag`.
 #[derive(Drop)]
 pub(crate) struct SlotsPassed<'a, T: PartTable, M: Marking<T>> {
-    pub(crate) top: &'a Top<T>,
+    pub(crate) words: &'a SharedWords<T>,
     pub(crate) owner: SessionId,
     pub(crate) tag: &'a Tag,
     pub(crate) mode: Mode,
     pub(crate) of: PhantomData<M>,
 }
 
-impl<'a, T: PartTable, M: Marking<T>> Held<Place<T>, ()> for SlotsPassed<'a, T, M> {
+impl<'a, T: PartTable, M: Marking<T>> Held<Seat<T>, ()> for SlotsPassed<'a, T, M> {
     ghost use Rattle.lw_word.specs.declared.words.LwMode.TheVariants.{Exclusive};
     ghost use Rattle.lock_world.specs.Account.{SlotsInHand};
     ghost use Rattle.lock_world.specs.AccountLaw.{MayPassBy};
@@ -214,11 +214,11 @@ impl<'a, T: PartTable, M: Marking<T>> Held<Place<T>, ()> for SlotsPassed<'a, T, 
 
     ghost in_mode = { λ _. Exclusive };
 
-    ghost may_put = { λ it place _. MayPutSlots T.content it.top.now.key.sessions it.top.now.table_id it.owner
+    ghost may_put = { λ it seat _. MayPutSlots T.content it.words.now.key.sessions it.words.now.table_id it.owner
         (λ a. (slots : SlotsInHand) × MayPassBy a it.owner slots it.tag.now it.mode) M.mark
-        (Passed it.owner it.tag.now it.mode) place };
+        (Passed it.owner it.tag.now it.mode) seat };
 
-    ghost due = { λ it before after _. HasPut T.content it.top.now.key.sessions it.top.now.table_id (OfSlots it.owner)
+    ghost due = { λ it before after _. HasPut T.content it.words.now.key.sessions it.words.now.table_id (OfSlots it.owner)
         Exclusive before after
         (account_passing (number_at before) (account_at T.content before) it.owner it.tag.now it.mode) before.me.1 };
 
@@ -231,25 +231,25 @@ impl<'a, T: PartTable, M: Marking<T>> Held<Place<T>, ()> for SlotsPassed<'a, T, 
     }
 
     #[inline(always)]
-    fn put(&self, place: &mut Place<T>, _content: ()) -> u64 {
-        pass_fast_home::<T, M>(self.top, place, self.owner, self.tag, self.mode)
+    fn put(&self, seat: &mut Seat<T>, _content: ()) -> u64 {
+        pass_fast_home::<T, M>(self.words, seat, self.owner, self.tag, self.mode)
     }
 
     #[inline(always)]
-    fn wake_waiters(&self, place: &mut Place<T>) {
-        wake_waiters(self.top, place, &LwLock::OfSlots(self.owner));
+    fn wake_waiters(&self, seat: &mut Seat<T>) {
+        wake_waiters(self.words, seat, &LwLock::OfSlots(self.owner));
     }
 }
 
 /// The lock of the slots of `owner`, which the session shares and gives back.
 #[derive(Drop)]
 pub(crate) struct SlotsShared<'a, T: PartTable, M: Marking<T>> {
-    pub(crate) top: &'a Top<T>,
+    pub(crate) words: &'a SharedWords<T>,
     pub(crate) owner: SessionId,
     pub(crate) of: PhantomData<M>,
 }
 
-impl<'a, T: PartTable, M: Marking<T>> Held<Place<T>, ()> for SlotsShared<'a, T, M> {
+impl<'a, T: PartTable, M: Marking<T>> Held<Seat<T>, ()> for SlotsShared<'a, T, M> {
     ghost use Rattle.lw_word.specs.declared.words.LwMode.TheVariants.{Shared};
     ghost use Rattle.lock_world.specs.Account.{SlotsInHand};
     ghost use Rattle.lock_world.specs.AccountLaw.{MayUnshareFastBy};
@@ -261,10 +261,10 @@ impl<'a, T: PartTable, M: Marking<T>> Held<Place<T>, ()> for SlotsShared<'a, T, 
 
     ghost in_mode = { λ _. Shared };
 
-    ghost may_put = { λ it place _. MayPutSlots T.content it.top.now.key.sessions it.top.now.table_id it.owner
-        (λ a. (slots : SlotsInHand) × MayUnshareFastBy a it.owner slots) M.mark (UnsharedFast it.owner) place };
+    ghost may_put = { λ it seat _. MayPutSlots T.content it.words.now.key.sessions it.words.now.table_id it.owner
+        (λ a. (slots : SlotsInHand) × MayUnshareFastBy a it.owner slots) M.mark (UnsharedFast it.owner) seat };
 
-    ghost due = { λ it before after _. HasPut T.content it.top.now.key.sessions it.top.now.table_id (OfSlots it.owner)
+    ghost due = { λ it before after _. HasPut T.content it.words.now.key.sessions it.words.now.table_id (OfSlots it.owner)
         Shared before after (account_unsharing_fast (account_at T.content before) it.owner) before.me.1 };
 
     ghost released = { λ it before after _. HasReleased T.content before after
@@ -276,12 +276,12 @@ impl<'a, T: PartTable, M: Marking<T>> Held<Place<T>, ()> for SlotsShared<'a, T, 
     }
 
     #[inline(always)]
-    fn put(&self, place: &mut Place<T>, _content: ()) -> u64 {
-        unshare_fast_home::<T, M>(self.top, place, self.owner)
+    fn put(&self, seat: &mut Seat<T>, _content: ()) -> u64 {
+        unshare_fast_home::<T, M>(self.words, seat, self.owner)
     }
 
     #[inline(always)]
-    fn wake_waiters(&self, place: &mut Place<T>) {
-        wake_waiters(self.top, place, &LwLock::OfSlots(self.owner));
+    fn wake_waiters(&self, seat: &mut Seat<T>) {
+        wake_waiters(self.words, seat, &LwLock::OfSlots(self.owner));
     }
 }

@@ -14,7 +14,7 @@ ghost use Rattle.shared_rule.specs.Marks.{ClearedSlot, TransferredSlot, StoredDa
 
 use crate::layout::{database_word, slot_word};
 use crate::plays::Marking;
-use crate::rule::{Place, Top};
+use crate::rule::{Seat, SharedWords};
 use crate::words::{look_as, store_as};
 use lock_table::PartTable;
 use lw_word::SlotWord;
@@ -22,105 +22,105 @@ use modes_core::{Mode, SessionId, Tag};
 
 /// Loads the database of `owner`, 0 where it has none (`databaseId` in proc.h).
 pub(crate) fn load_database<T: PartTable, M: Marking<T>>(
-    top: &Top<T>,
-    place: &mut Place<T>,
+    words: &SharedWords<T>,
+    seat: &mut Seat<T>,
     owner: SessionId,
 ) -> u64
-    requires table { FitsTable place.old top.now.table_id }
-    requires session { HasSession place.old.me.0 }
+    requires table { FitsTable seat.old words.now.table_id }
+    requires session { HasSession seat.old.me.0 }
     requires mark { M.mark ≡ LoadedDatabase owner }
-    ensures seat { IsSameSeat place.old place.new }
-    ensures side { place.new.me ≡ (noting place.old.me.0 (LoadedDatabase owner result), place.old.me.1) }
-    ensures of_slots { (slots : SlotsInHand) → (account_at T.content place.old).fast.slots owner ≡ Some slots
+    ensures same_seat { IsSameSeat seat.old seat.new }
+    ensures side { seat.new.me ≡ (noting seat.old.me.0 (LoadedDatabase owner result), seat.old.me.1) }
+    ensures of_slots { (slots : SlotsInHand) → (account_at T.content seat.old).fast.slots owner ≡ Some slots
         → slots.holds ≡ slot_holds result slots.word }
     ensures of_shared_slots { (slots : SlotsInHand)
-        → (account_at T.content place.old).fast.shared_slots owner ≡ Some slots
+        → (account_at T.content seat.old).fast.shared_slots owner ≡ Some slots
         → slots.holds ≡ slot_holds result slots.word }
-    ensures own { owner ≡ number_at place.old → result ≡ (account_at T.content place.old).fast.database }
+    ensures own { owner ≡ number_at seat.old → result ≡ (account_at T.content seat.old).fast.database }
 {
-    look_as::<T, M>(top, place, database_word(owner))
+    look_as::<T, M>(words, seat, database_word(owner))
 }
 
 /// Loads the fast-path slot `slot` of `owner` (`fpRelId` and `fpLockBits` in proc.h).
 pub(crate) fn load_slot<T: PartTable, M: Marking<T>>(
-    top: &Top<T>,
-    place: &mut Place<T>,
+    words: &SharedWords<T>,
+    seat: &mut Seat<T>,
     owner: SessionId,
     slot: u8,
 ) -> SlotWord
-    requires table { FitsTable place.old top.now.table_id }
-    requires session { HasSession place.old.me.0 }
-    requires within { slot < group_size * top.now.key.groups }
-    requires grouped { HasGroups top.now.table_id top.now.key.groups }
+    requires table { FitsTable seat.old words.now.table_id }
+    requires session { HasSession seat.old.me.0 }
+    requires within { slot < group_size * words.now.key.groups }
+    requires grouped { HasGroups words.now.table_id words.now.key.groups }
     requires mark { M.mark ≡ LoadedSlot owner slot }
-    ensures seat { IsSameSeat place.old place.new }
-    ensures side { place.new.me ≡ (noting place.old.me.0 (LoadedSlot owner slot result), place.old.me.1) }
-    ensures of_slots { (slots : SlotsInHand) → (account_at T.content place.old).fast.slots owner ≡ Some slots
+    ensures same_seat { IsSameSeat seat.old seat.new }
+    ensures side { seat.new.me ≡ (noting seat.old.me.0 (LoadedSlot owner slot result), seat.old.me.1) }
+    ensures of_slots { (slots : SlotsInHand) → (account_at T.content seat.old).fast.slots owner ≡ Some slots
         → result ≡ slots.word slot }
     ensures of_shared_slots { (slots : SlotsInHand)
-        → (account_at T.content place.old).fast.shared_slots owner ≡ Some slots → result ≡ slots.word slot }
+        → (account_at T.content seat.old).fast.shared_slots owner ≡ Some slots → result ≡ slots.word slot }
 {
-    SlotWord::from_number(look_as::<T, M>(top, place, slot_word(owner, slot)))
+    SlotWord::from_number(look_as::<T, M>(words, seat, slot_word(owner, slot)))
 }
 
 /// Sets `mode` on `tag` in the slot `slot` of the session `number`, its own, which shows `shown`
 /// (`FastPathGrantRelationLock` in lock.c).
 pub(crate) fn set_slot<T: PartTable, M: Marking<T>>(
-    top: &Top<T>,
-    place: &mut Place<T>,
+    words: &SharedWords<T>,
+    seat: &mut Seat<T>,
     number: SessionId,
     slot: u8,
     shown: SlotWord,
     tag: &Tag,
     mode: Mode,
 )
-    requires table { FitsTable place.old top.now.table_id }
-    requires session { HasSession place.old.me.0 }
-    requires own { number ≡ number_at place.old }
-    requires within { slot < group_size * top.now.key.groups }
-    requires grouped { HasGroups top.now.table_id top.now.key.groups }
+    requires table { FitsTable seat.old words.now.table_id }
+    requires session { HasSession seat.old.me.0 }
+    requires own { number ≡ number_at seat.old }
+    requires within { slot < group_size * words.now.key.groups }
+    requires grouped { HasGroups words.now.table_id words.now.key.groups }
     requires lawful { (mine : SlotsInHand)
-        × MaySetSlotBy top.now.key.groups (number_at place.old) (account_at T.content place.old)
+        × MaySetSlotBy words.now.key.groups (number_at seat.old) (account_at T.content seat.old)
         mine slot tag.now mode × (shown ≡ mine.word slot) }
     requires mark { M.mark ≡ (λ _. SetSlot slot tag.now mode) }
-    ensures seat { IsSameSeat place.old place.new }
-    ensures side { place.new.me ≡ (noting place.old.me.0 (SetSlot slot tag.now mode), place.old.me.1) }
+    ensures same_seat { IsSameSeat seat.old seat.new }
+    ensures side { seat.new.me ≡ (noting seat.old.me.0 (SetSlot slot tag.now mode), seat.old.me.1) }
 {
     let word = shown.with(tag.relation_number(), mode);
-    store_as::<T, M>(top, place, slot_word(number, slot), word.number());
+    store_as::<T, M>(words, seat, slot_word(number, slot), word.number());
 }
 
 /// Clears `mode` on `tag` in the slot `slot` of the session `number`, its own, which shows `shown`
 /// (`FastPathUnGrantRelationLock` in lock.c).
 pub(crate) fn clear_slot<T: PartTable, M: Marking<T>>(
-    top: &Top<T>,
-    place: &mut Place<T>,
+    words: &SharedWords<T>,
+    seat: &mut Seat<T>,
     number: SessionId,
     slot: u8,
     shown: SlotWord,
     tag: &Tag,
     mode: Mode,
 )
-    requires table { FitsTable place.old top.now.table_id }
-    requires session { HasSession place.old.me.0 }
-    requires own { number ≡ number_at place.old }
-    requires within { slot < group_size * top.now.key.groups }
-    requires grouped { HasGroups top.now.table_id top.now.key.groups }
-    requires lawful { (mine : SlotsInHand) × MayClearSlotBy (number_at place.old) (account_at T.content place.old)
+    requires table { FitsTable seat.old words.now.table_id }
+    requires session { HasSession seat.old.me.0 }
+    requires own { number ≡ number_at seat.old }
+    requires within { slot < group_size * words.now.key.groups }
+    requires grouped { HasGroups words.now.table_id words.now.key.groups }
+    requires lawful { (mine : SlotsInHand) × MayClearSlotBy (number_at seat.old) (account_at T.content seat.old)
         mine slot tag.now mode × (shown ≡ mine.word slot) }
     requires mark { M.mark ≡ (λ _. ClearedSlot slot tag.now mode) }
-    ensures seat { IsSameSeat place.old place.new }
-    ensures side { place.new.me ≡ (noting place.old.me.0 (ClearedSlot slot tag.now mode), place.old.me.1) }
+    ensures same_seat { IsSameSeat seat.old seat.new }
+    ensures side { seat.new.me ≡ (noting seat.old.me.0 (ClearedSlot slot tag.now mode), seat.old.me.1) }
 {
     let word = shown.without(mode);
-    store_as::<T, M>(top, place, slot_word(number, slot), word.number());
+    store_as::<T, M>(words, seat, slot_word(number, slot), word.number());
 }
 
 /// Moves `mode` on `tag` from the slot `slot` of `owner`, which shows `shown`, to `content` in hand, which has it
 /// now (a mode of the inner loop of `FastPathTransferRelationLocks` in lock.c).
 pub(crate) fn transfer_slot<T: PartTable, M: Marking<T>>(
-    top: &Top<T>,
-    place: &mut Place<T>,
+    words: &SharedWords<T>,
+    seat: &mut Seat<T>,
     owner: SessionId,
     slot: u8,
     shown: SlotWord,
@@ -129,37 +129,37 @@ pub(crate) fn transfer_slot<T: PartTable, M: Marking<T>>(
     strong: Mode,
     content: &T,
 )
-    requires table { FitsTable place.old top.now.table_id }
-    requires session { HasSession place.old.me.0 }
-    requires within { slot < group_size * top.now.key.groups }
-    requires grouped { HasGroups top.now.table_id top.now.key.groups }
+    requires table { FitsTable seat.old words.now.table_id }
+    requires session { HasSession seat.old.me.0 }
+    requires within { slot < group_size * words.now.key.groups }
+    requires grouped { HasGroups words.now.table_id words.now.key.groups }
     requires lawful { (its : SlotsInHand) × (mine : InHand)
-        × MayTransferBy top.now.key.sessions (account_at T.content place.old) owner slot its mine tag.now mode strong
+        × MayTransferBy words.now.key.sessions (account_at T.content seat.old) owner slot its mine tag.now mode strong
         × (shown ≡ its.word slot) × (T.content content.now ≡ add_hold mine.now owner tag.now mode) }
-    requires exists { owner < top.now.key.sessions }
+    requires exists { owner < words.now.key.sessions }
     requires mark { M.mark ≡ (λ _. TransferredSlot owner slot tag.now mode) }
-    ensures seat { IsSameSeat place.old place.new }
-    ensures side { place.new.me
-        ≡ (noting place.old.me.0 (TransferredSlot owner slot tag.now mode), place.old.me.1) }
+    ensures same_seat { IsSameSeat seat.old seat.new }
+    ensures side { seat.new.me
+        ≡ (noting seat.old.me.0 (TransferredSlot owner slot tag.now mode), seat.old.me.1) }
 {
     let word = shown.without(mode);
-    store_as::<T, M>(top, place, slot_word(owner, slot), word.number());
+    store_as::<T, M>(words, seat, slot_word(owner, slot), word.number());
 }
 
 /// Stores `database` as that of the session `number`, its own, which holds nothing (`InitPostgres` in postinit.c).
 pub(crate) fn store_database<T: PartTable, M: Marking<T>>(
-    top: &Top<T>,
-    place: &mut Place<T>,
+    words: &SharedWords<T>,
+    seat: &mut Seat<T>,
     number: SessionId,
     database: u32,
 )
-    requires table { FitsTable place.old top.now.table_id }
-    requires session { HasSession place.old.me.0 }
-    requires own { number ≡ number_at place.old }
-    requires no_hold { HoldsNothing (account_at T.content place.old) }
+    requires table { FitsTable seat.old words.now.table_id }
+    requires session { HasSession seat.old.me.0 }
+    requires own { number ≡ number_at seat.old }
+    requires no_hold { HoldsNothing (account_at T.content seat.old) }
     requires mark { M.mark ≡ (λ _. StoredDatabase database) }
-    ensures seat { IsSameSeat place.old place.new }
-    ensures side { place.new.me ≡ (noting place.old.me.0 (StoredDatabase database), place.old.me.1) }
+    ensures same_seat { IsSameSeat seat.old seat.new }
+    ensures side { seat.new.me ≡ (noting seat.old.me.0 (StoredDatabase database), seat.old.me.1) }
 {
-    store_as::<T, M>(top, place, database_word(number), u64::from(database));
+    store_as::<T, M>(words, seat, database_word(number), u64::from(database));
 }

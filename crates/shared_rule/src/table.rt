@@ -10,10 +10,10 @@ ghost use Rattle.shared_rule.specs.Opening.{IsNew, IsEmptyList, AreNew};
 use crate::history::View;
 use crate::kept::Kept;
 use crate::layout::{
-    BLOCK, CONTENT_GAP, CONTENT_SLOTS, GAP, SESSIONS_START, TABLE_SLOTS, table_words,
+    BLOCK, CONTENT_GAP, CONTENT_SHELVES, GAP, SESSIONS_START, TABLE_SHELVES, table_words,
 };
 use crate::opener::Opener;
-use crate::rule::{Law, Sizes};
+use crate::rule::{LockTableRule, TableSizes};
 use atomic_table::{Refused, Table};
 use lock_table::{NoMemory, PartTable};
 use lw_word::{LwWord, WaitList};
@@ -21,7 +21,7 @@ use modes_core::{PARTITIONS, SESSIONS};
 use std::alloc::Global;
 
 /// The table and its memory. Threads share its field `shared`.
-pub type SharedTable<T> = Table<Kept<T>, View<T>, Sizes, Law, Global>;
+pub type SharedTable<T> = Table<Kept<T>, View<T>, TableSizes, LockTableRule, Global>;
 
 // All words, before the first step, with so many groups of slots: those of lightweight locks are free, and all others 0.
 fn first_words(alloc: Global, groups: u8) -> Result<Vec<u64>, NoMemory>
@@ -40,7 +40,7 @@ fn first_words(alloc: Global, groups: u8) -> Result<Vec<u64>, NoMemory>
     Ok(words)
 }
 
-// What a slot for contents has, by its index: the next part where it is a partition's.
+// What a shelf for contents has, by its index: the next part where it is a partition's.
 fn next_part<T: PartTable>(parts: &mut Vec<T>, index: usize) -> Kept<T>
     requires empty { AreEmptyParts T.content T.begun parts.old.items }
     requires some { index % 8 ≡ 0 → 0 < length parts.old.items }
@@ -58,7 +58,7 @@ fn next_part<T: PartTable>(parts: &mut Vec<T>, index: usize) -> Kept<T>
     }
 }
 
-// What a slot for wait lists has, by its index: an empty one where it is a lock's.
+// What a shelf for wait lists has, by its index: an empty one where it is a lock's.
 fn next_list<T: PartTable>(alloc: Global, index: usize) -> Result<Kept<T>, NoMemory>
     ensures { IfOk result (λ kept. index % 8 ≡ 0 → IsEmptyList (Some kept)) }
 {
@@ -69,31 +69,31 @@ fn next_list<T: PartTable>(alloc: Global, index: usize) -> Result<Kept<T>, NoMem
     }
 }
 
-/// The slots of the table with `parts`, the sixteen partitions, each in its place (`content_slot`), and with the
+/// The shelves of the table with `parts`, the sixteen partitions, each on its own (`content_shelf`), and with the
 /// wait lists of all lightweight locks. Where memory, by `alloc`, runs out the parts are let go.
-pub fn in_slots<T: PartTable + Drop>(
+pub fn in_shelves<T: PartTable + Drop>(
     alloc: Global,
     mut parts: Vec<T>,
 ) -> Result<Vec<Kept<T>>, NoMemory>
     requires sixteen { length parts.items ≡ 16 }
     requires new { AreEmptyParts T.content T.begun parts.items }
-    ensures { IfOk result (λ slots. AreNew T.content T.begun slots.items) }
+    ensures { IfOk result (λ shelves. AreNew T.content T.begun shelves.items) }
 {
-    let mut slots = Vec::with_capacity(alloc, TABLE_SLOTS)?;
-    for index in 0..CONTENT_SLOTS {
-        slots.push_reserved(next_part(&mut parts, index));
+    let mut shelves = Vec::with_capacity(alloc, TABLE_SHELVES)?;
+    for index in 0..CONTENT_SHELVES {
+        shelves.push_reserved(next_part(&mut parts, index));
     }
-    for index in CONTENT_SLOTS..TABLE_SLOTS {
-        slots.push_reserved(next_list(alloc, index)?);
+    for index in CONTENT_SHELVES..TABLE_SHELVES {
+        shelves.push_reserved(next_list(alloc, index)?);
     }
-    Ok(slots)
+    Ok(shelves)
 }
 
 /// Makes the table of `sizes`, and the opener at it (`InitProcGlobal` in proc.c, `InitLocks` in lock.c). `parts`
-/// come each in its slot of the table, as `in_slots` puts them. Without memory, by `alloc`, they come back.
+/// come each on its shelf of the table, as `in_shelves` puts them. Without memory, by `alloc`, they come back.
 pub fn open<T: PartTable>(
     alloc: Global,
-    sizes: &Sizes,
+    sizes: &TableSizes,
     parts: Vec<Kept<T>>,
 ) -> Result<(SharedTable<T>, Opener<T>), Refused<Kept<T>, Global>>
     requires few { sizes.now.sessions ≤ 64 }
@@ -116,6 +116,6 @@ pub fn open<T: PartTable>(
         Ok(words) => words,
         Err(NoMemory) => return Err(Refused { slots: parts }),
     };
-    let (table, place) = Table::new(alloc, words.as_slice(), parts, sizes)?;
-    Ok((table, Opener::at(place, sizes)))
+    let (table, seat) = Table::new(alloc, words.as_slice(), parts, sizes)?;
+    Ok((table, Opener::at(seat, sizes)))
 }

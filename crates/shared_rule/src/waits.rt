@@ -18,7 +18,7 @@ ghost use Rattle.shared_rule.specs.Lawful.{IsGrantingIn, MayMarkBy, MayClearBy};
 
 use crate::layout::wait_word;
 use crate::plays::Marking;
-use crate::rule::{Place, Top};
+use crate::rule::{Seat, SharedWords};
 use crate::words::{fetch_add_as, fetch_or_as, load_as, store_as};
 use lock_table::{Move, PartTable, Woken};
 use modes_core::{Mode, SessionId, Tag};
@@ -26,144 +26,144 @@ use modes_core::{Mode, SessionId, Tag};
 /// Stores in the wait word of the session `number`, its own, that it waits for `mode` on `tag`, with its join made
 /// in `content` in hand (`ProcSleep` in proc.c sets `waitStatus` so).
 pub(crate) fn set_waiting<T: PartTable, M: Marking<T>>(
-    top: &Top<T>,
-    place: &mut Place<T>,
+    words: &SharedWords<T>,
+    seat: &mut Seat<T>,
     number: SessionId,
     tag: &Tag,
     mode: Mode,
     content: &T,
 )
-    requires table { FitsTable place.old top.now.table_id }
-    requires session { HasSession place.old.me.0 }
-    requires own { number ≡ number_at place.old }
-    requires lawful { (mine : InHand) × MayMoveBy top.now.key.sessions (number_at place.old)
-        (account_at T.content place.old) (partition_of tag.now) mine (Join tag.now mode) [] (T.content content.now) }
+    requires table { FitsTable seat.old words.now.table_id }
+    requires session { HasSession seat.old.me.0 }
+    requires own { number ≡ number_at seat.old }
+    requires lawful { (mine : InHand) × MayMoveBy words.now.key.sessions (number_at seat.old)
+        (account_at T.content seat.old) (partition_of tag.now) mine (Join tag.now mode) [] (T.content content.now) }
     requires mark { M.mark ≡ (λ _. SetWaiting tag.now mode content.now) }
-    ensures seat { IsSameSeat place.old place.new }
-    ensures side { place.new.me ≡ (noting place.old.me.0 (SetWaiting tag.now mode content.now), place.old.me.1) }
+    ensures same_seat { IsSameSeat seat.old seat.new }
+    ensures side { seat.new.me ≡ (noting seat.old.me.0 (SetWaiting tag.now mode content.now), seat.old.me.1) }
 {
-    store_as::<T, M>(top, place, wait_word(number), 1);
+    store_as::<T, M>(words, seat, wait_word(number), 1);
 }
 
 /// Marks the wait of `other` granted, one of those in `woken` whom the move `done` in `content`, that of partition
 /// `part`, grants (`ProcWakeup` in proc.c sets `waitStatus`; the waiter's own side is `GrantAwaitedLock` in lock.c).
 pub(crate) fn mark_granted<T: PartTable, M: Marking<T>>(
-    top: &Top<T>,
-    place: &mut Place<T>,
+    words: &SharedWords<T>,
+    seat: &mut Seat<T>,
     part: u8,
     other: SessionId,
     done: &Move,
     woken: &Woken,
     content: &T,
 )
-    requires table { FitsTable place.old top.now.table_id }
-    requires session { HasSession place.old.me.0 }
+    requires table { FitsTable seat.old words.now.table_id }
+    requires session { HasSession seat.old.me.0 }
     requires grants { IsGrantingIn part done.now }
     requires lawful { (mine : InHand) × (granted : List contents.Wait)
         × (woken.now.items ≡ map whose_and_mode granted)
-        × MayMarkBy top.now.key.sessions (number_at place.old) (account_at T.content place.old) part
+        × MayMarkBy words.now.key.sessions (number_at seat.old) (account_at T.content seat.old) part
         mine done.now granted (T.content content.now) other }
     requires mark { M.mark
         ≡ (λ _. MarkedGranted part other done.now (sessions_told woken.now.items) content.now) }
-    ensures seat { IsSameSeat place.old place.new }
-    ensures side { place.new.me
+    ensures same_seat { IsSameSeat seat.old seat.new }
+    ensures side { seat.new.me
         ≡ (
-          noting place.old.me.0 (MarkedGranted part other done.now (sessions_told woken.now.items) content.now),
-          place.old.me.1,
+          noting seat.old.me.0 (MarkedGranted part other done.now (sessions_told woken.now.items) content.now),
+          seat.old.me.1,
         ) }
 {
-    fetch_add_as::<T, M>(top, place, wait_word(other), 1);
+    fetch_add_as::<T, M>(words, seat, wait_word(other), 1);
 }
 
 /// Loads the wait word of the session `number`, its own (`waitStatus` in proc.h, as `ProcSleep` in proc.c reads it).
 pub(crate) fn load_wait<T: PartTable, M: Marking<T>>(
-    top: &Top<T>,
-    place: &mut Place<T>,
+    words: &SharedWords<T>,
+    seat: &mut Seat<T>,
     number: SessionId,
 ) -> u64
-    requires table { FitsTable place.old top.now.table_id }
-    requires session { HasSession place.old.me.0 }
-    requires own { number ≡ number_at place.old }
+    requires table { FitsTable seat.old words.now.table_id }
+    requires session { HasSession seat.old.me.0 }
+    requires own { number ≡ number_at seat.old }
     requires mark { M.mark ≡ LoadedWait }
-    ensures seat { IsSameSeat place.old place.new }
-    ensures side { place.new.me ≡ (noting place.old.me.0 (LoadedWait result), place.old.me.1) }
+    ensures same_seat { IsSameSeat seat.old seat.new }
+    ensures side { seat.new.me ≡ (noting seat.old.me.0 (LoadedWait result), seat.old.me.1) }
 {
-    load_as::<T, M>(top, place, wait_word(number))
+    load_as::<T, M>(words, seat, wait_word(number))
 }
 
 /// Asks `other` to cancel its wait, and answers what its wait word showed before (`pg_cancel_backend` in
 /// signalfuncs.c).
 pub(crate) fn ask_cancel<T: PartTable, M: Marking<T>>(
-    top: &Top<T>,
-    place: &mut Place<T>,
+    words: &SharedWords<T>,
+    seat: &mut Seat<T>,
     other: SessionId,
 ) -> u64
-    requires table { FitsTable place.old top.now.table_id }
-    requires session { HasSession place.old.me.0 }
+    requires table { FitsTable seat.old words.now.table_id }
+    requires session { HasSession seat.old.me.0 }
     requires mark { M.mark ≡ Asked other }
-    ensures seat { IsSameSeat place.old place.new }
-    ensures side { place.new.me ≡ (noting place.old.me.0 (Asked other result), place.old.me.1) }
-    ensures own { other ≡ number_at place.old → (account_at T.content place.old).awaited ≡ None
+    ensures same_seat { IsSameSeat seat.old seat.new }
+    ensures side { seat.new.me ≡ (noting seat.old.me.0 (Asked other result), seat.old.me.1) }
+    ensures own { other ≡ number_at seat.old → (account_at T.content seat.old).awaited ≡ None
         → wait_state result ≡ 0 }
 {
-    fetch_or_as::<T, M>(top, place, wait_word(other), 4)
+    fetch_or_as::<T, M>(words, seat, wait_word(other), 4)
 }
 
 /// Calls `other`, which may be parked on its wait word (`SetLatch` in `ProcWakeup` of proc.c). The session looks at that word
 /// right before the call, so that its history tells of it.
 pub(crate) fn call_waiter<T: PartTable, M: Marking<T>>(
-    top: &Top<T>,
-    place: &mut Place<T>,
+    words: &SharedWords<T>,
+    seat: &mut Seat<T>,
     other: SessionId,
 )
-    requires table { FitsTable place.old top.now.table_id }
-    requires session { HasSession place.old.me.0 }
+    requires table { FitsTable seat.old words.now.table_id }
+    requires session { HasSession seat.old.me.0 }
     requires mark { M.mark ≡ (λ _. CalledWaiter other) }
-    ensures seat { IsSameSeat place.old place.new }
-    ensures side { place.new.me ≡ (noting place.old.me.0 (CalledWaiter other), place.old.me.1) }
+    ensures same_seat { IsSameSeat seat.old seat.new }
+    ensures side { seat.new.me ≡ (noting seat.old.me.0 (CalledWaiter other), seat.old.me.1) }
 {
-    load_as::<T, M>(top, place, wait_word(other));
-    top.wake_one(wait_word(other));
+    load_as::<T, M>(words, seat, wait_word(other));
+    words.wake_one(wait_word(other));
 }
 
 /// Clears the wait word of the session `number`, its own: the wait is over, since the grant was seen or the wait is
 /// gone from the content in hand.
 pub(crate) fn clear_wait<T: PartTable, M: Marking<T>>(
-    top: &Top<T>,
-    place: &mut Place<T>,
+    words: &SharedWords<T>,
+    seat: &mut Seat<T>,
     number: SessionId,
 )
-    requires table { FitsTable place.old top.now.table_id }
-    requires session { HasSession place.old.me.0 }
-    requires own { number ≡ number_at place.old }
-    requires lawful { (wait : OwnWait) × MayClearBy (number_at place.old) (account_at T.content place.old) wait }
+    requires table { FitsTable seat.old words.now.table_id }
+    requires session { HasSession seat.old.me.0 }
+    requires own { number ≡ number_at seat.old }
+    requires lawful { (wait : OwnWait) × MayClearBy (number_at seat.old) (account_at T.content seat.old) wait }
     requires mark { M.mark ≡ (λ _. ClearedWait) }
-    ensures seat { IsSameSeat place.old place.new }
-    ensures side { place.new.me ≡ (noting place.old.me.0 (ClearedWait), place.old.me.1) }
+    ensures same_seat { IsSameSeat seat.old seat.new }
+    ensures side { seat.new.me ≡ (noting seat.old.me.0 (ClearedWait), seat.old.me.1) }
 {
-    store_as::<T, M>(top, place, wait_word(number), 0);
+    store_as::<T, M>(words, seat, wait_word(number), 0);
 }
 
 /// Clears the wait word of the session `number`, its own, and records that the wait was taken out of the queue of
 /// `content` in hand, which granted those in `woken` (`RemoveFromWaitQueue` in lock.c).
 pub(crate) fn leave_queue<T: PartTable, M: Marking<T>>(
-    top: &Top<T>,
-    place: &mut Place<T>,
+    words: &SharedWords<T>,
+    seat: &mut Seat<T>,
     number: SessionId,
     woken: &Woken,
     content: &T,
 )
-    requires table { FitsTable place.old top.now.table_id }
-    requires session { HasSession place.old.me.0 }
-    requires own { number ≡ number_at place.old }
+    requires table { FitsTable seat.old words.now.table_id }
+    requires session { HasSession seat.old.me.0 }
+    requires own { number ≡ number_at seat.old }
     requires lawful { (wait : OwnWait) × (mine : InHand) × (granted : List contents.Wait)
         × (woken.now.items ≡ map whose_and_mode granted)
-        × MayLeaveBy top.now.key.sessions (number_at place.old) (account_at T.content place.old) wait
+        × MayLeaveBy words.now.key.sessions (number_at seat.old) (account_at T.content seat.old) wait
         mine granted (T.content content.now) }
     requires mark { M.mark ≡ (λ _. LeftQueue (sessions_told woken.now.items) content.now) }
-    ensures seat { IsSameSeat place.old place.new }
-    ensures side { place.new.me
-        ≡ (noting place.old.me.0 (LeftQueue (sessions_told woken.now.items) content.now), place.old.me.1) }
+    ensures same_seat { IsSameSeat seat.old seat.new }
+    ensures side { seat.new.me
+        ≡ (noting seat.old.me.0 (LeftQueue (sessions_told woken.now.items) content.now), seat.old.me.1) }
 {
-    store_as::<T, M>(top, place, wait_word(number), 0);
+    store_as::<T, M>(words, seat, wait_word(number), 0);
 }

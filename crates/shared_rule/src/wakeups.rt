@@ -4,7 +4,7 @@ ghost use Rattle.std.specs.Prelude.{◌≡◌, ◌∷◌, ℕ, Some, None, true,
 ghost use Rattle.atomic_table.specs.Table.{rest};
 ghost use Rattle.lock_world.specs.AccountSteps.{account_unlocking_list};
 ghost use Rattle.shared_rule.specs.declared.kept.Kept.TheVariants.{Nothing};
-ghost use Rattle.shared_rule.specs.Layout.{list_slot_of};
+ghost use Rattle.shared_rule.specs.Layout.{list_shelf_of};
 ghost use Rattle.shared_rule.specs.Led.{Led, LedTo};
 ghost use Rattle.shared_rule.specs.Todos.{IsLeftWellBy, todo_looked};
 ghost use Rattle.lock_world.specs.Wakes.Waking.{NoneOr};
@@ -14,87 +14,87 @@ ghost use Rattle.shared_rule.specs.Wakeups.{all_taken_off, all_told, all_owed, a
 
 use crate::lists::{call_sleeper, set_release_ok, take_off, tell, try_lock_list, unlock_list};
 use crate::lw_locks::LwLock;
-use crate::rule::{Place, Top};
+use crate::rule::{Seat, SharedWords};
 use lock_table::PartTable;
 use lw_word::{LwWaiter, WaitList};
 use std::marker::Brand;
 
 // Takes these off the list in hand, one after the other.
-fn take_all_off<T: PartTable>(top: &Top<T>, place: &mut Place<T>, taken: &[LwWaiter])
-    requires table { FitsTable place.old top.now.table_id }
-    requires session { HasSession place.old.me.0 }
-    requires lawful { MayTakeAllOff (number_at place.old) (account_at T.content place.old) taken.now }
-    ensures led { LedTo T.content place.old place.new (all_taken_off (account_at T.content place.old) taken.now)
-        (all_owed (todo_at place.old) taken.now) }
-    ensures slots { place.new.me.1 ≡ place.old.me.1 }
+fn take_all_off<T: PartTable>(words: &SharedWords<T>, seat: &mut Seat<T>, taken: &[LwWaiter])
+    requires table { FitsTable seat.old words.now.table_id }
+    requires session { HasSession seat.old.me.0 }
+    requires lawful { MayTakeAllOff (number_at seat.old) (account_at T.content seat.old) taken.now }
+    ensures led { LedTo T.content seat.old seat.new (all_taken_off (account_at T.content seat.old) taken.now)
+        (all_owed (todo_at seat.old) taken.now) }
+    ensures shelves { seat.new.me.1 ≡ seat.old.me.1 }
 {
     for waiter in taken {
-        take_off::<T, Brand>(top, place, waiter.session);
+        take_off::<T, Brand>(words, seat, waiter.session);
     }
 }
 
 // Tells each of these that it may go on, and calls it: the sleep word shows 0 before the call, so that nobody
 // sleeps through it.
-fn tell_all<T: PartTable>(top: &Top<T>, place: &mut Place<T>, taken: &[LwWaiter])
-    requires table { FitsTable place.old top.now.table_id }
-    requires session { HasSession place.old.me.0 }
-    requires lawful { MayTellAll (account_at T.content place.old) taken.now }
-    ensures led { LedTo T.content place.old place.new (all_told (account_at T.content place.old) taken.now)
-        (all_called (todo_at place.old) taken.now) }
-    ensures slots { place.new.me.1 ≡ place.old.me.1 }
+fn tell_all<T: PartTable>(words: &SharedWords<T>, seat: &mut Seat<T>, taken: &[LwWaiter])
+    requires table { FitsTable seat.old words.now.table_id }
+    requires session { HasSession seat.old.me.0 }
+    requires lawful { MayTellAll (account_at T.content seat.old) taken.now }
+    ensures led { LedTo T.content seat.old seat.new (all_told (account_at T.content seat.old) taken.now)
+        (all_called (todo_at seat.old) taken.now) }
+    ensures shelves { seat.new.me.1 ≡ seat.old.me.1 }
 {
     for waiter in taken {
-        tell::<T, Brand>(top, place, waiter.session);
-        call_sleeper::<T, Brand>(top, place, waiter.session);
+        tell::<T, Brand>(words, seat, waiter.session);
+        call_sleeper::<T, Brand>(words, seat, waiter.session);
     }
 }
 
 // Sets release-ok where a wakeup says so: it took nobody off.
 fn set_release_ok_if<T: PartTable>(
-    top: &Top<T>,
-    place: &mut Place<T>,
+    words: &SharedWords<T>,
+    seat: &mut Seat<T>,
     lock: &LwLock,
     release_ok: bool,
 )
-    requires table { FitsTable place.old top.now.table_id }
-    requires exists { LockExists top.now.key.sessions lock.now }
+    requires table { FitsTable seat.old words.now.table_id }
+    requires exists { LockExists words.now.key.sessions lock.now }
     requires there { LockIsInTable lock.now }
-    requires session { HasSession place.old.me.0 }
-    requires owes_no_ok { (todo_at place.old).owes_release_ok ≡ None }
-    ensures led { Led T.content place.old place.new (account_at T.content place.old) }
-    ensures slots { place.new.me.1 ≡ place.old.me.1 }
+    requires session { HasSession seat.old.me.0 }
+    requires owes_no_ok { (todo_at seat.old).owes_release_ok ≡ None }
+    ensures led { Led T.content seat.old seat.new (account_at T.content seat.old) }
+    ensures shelves { seat.new.me.1 ≡ seat.old.me.1 }
 {
     if !release_ok {
         return;
     }
-    set_release_ok::<T, Brand>(top, place, lock);
+    set_release_ok::<T, Brand>(words, seat, lock);
 }
 
 // Puts the list home after a wakeup, with has-waiters where somebody is left, and release-ok as the wakeup says.
 fn unlock_after_wakeup<T: PartTable>(
-    top: &Top<T>,
-    place: &mut Place<T>,
+    words: &SharedWords<T>,
+    seat: &mut Seat<T>,
     lock: &LwLock,
     list: Box<WaitList>,
     release_ok: bool,
 )
-    requires table { FitsTable place.old top.now.table_id }
-    requires exists { LockExists top.now.key.sessions lock.now }
+    requires table { FitsTable seat.old words.now.table_id }
+    requires exists { LockExists words.now.key.sessions lock.now }
     requires there { LockIsInTable lock.now }
-    requires session { HasSession place.old.me.0 }
-    requires out { place.old.me.1 ≡ (list_slot_of (lock_number lock.now), Nothing) ∷ rest place.old.me.1 }
-    requires in_hand { (account_at T.content place.old).lists.in_hand
+    requires session { HasSession seat.old.me.0 }
+    requires out { seat.old.me.1 ≡ (list_shelf_of (lock_number lock.now), Nothing) ∷ rest seat.old.me.1 }
+    requires in_hand { (account_at T.content seat.old).lists.in_hand
         ≡ Some (record { lock = lock_number lock.now; waiters = list.value }) }
-    requires owes_no_ok { (todo_at place.old).owes_release_ok ≡ None }
+    requires owes_no_ok { (todo_at seat.old).owes_release_ok ≡ None }
     requires release_stays { release_ok ≡ false
-        → (other : ℕ) × ((account_at T.content place.old).lists.off other ≡ true) }
-    requires left_well { IsLeftWellBy (account_at T.content place.old) (todo_at place.old) lock.now list.value }
-    ensures led { Led T.content place.old place.new (account_unlocking_list (account_at T.content place.old)) }
-    ensures slots { place.new.me.1 ≡ rest place.old.me.1 }
+        → (other : ℕ) × ((account_at T.content seat.old).lists.off other ≡ true) }
+    requires left_well { IsLeftWellBy (account_at T.content seat.old) (todo_at seat.old) lock.now list.value }
+    ensures led { Led T.content seat.old seat.new (account_unlocking_list (account_at T.content seat.old)) }
+    ensures shelves { seat.new.me.1 ≡ rest seat.old.me.1 }
 {
-    set_release_ok_if(top, place, lock, release_ok);
+    set_release_ok_if(words, seat, lock, release_ok);
     let some_left = !list.is_empty();
-    unlock_list(top, place, lock, list, some_left, release_ok);
+    unlock_list(words, seat, lock, list, some_left, release_ok);
 }
 
 /// Wakes those first in the wait list of `lock`: one that wants it exclusively, or all that want to share it
@@ -102,25 +102,25 @@ fn unlock_after_wakeup<T: PartTable>(
 /// list in hand attempts the lock afterwards, holds it, or has taken somebody off.
 #[cold]
 #[inline(never)]
-pub(crate) fn wake_waiters<T: PartTable>(top: &Top<T>, place: &mut Place<T>, lock: &LwLock)
-    requires table { FitsTable place.old top.now.table_id }
-    requires exists { LockExists top.now.key.sessions lock.now }
+pub(crate) fn wake_waiters<T: PartTable>(words: &SharedWords<T>, seat: &mut Seat<T>, lock: &LwLock)
+    requires table { FitsTable seat.old words.now.table_id }
+    requires exists { LockExists words.now.key.sessions lock.now }
     requires there { LockIsInTable lock.now }
-    requires session { HasSession place.old.me.0 }
-    requires idle { (account_at T.content place.old).lists ≡ no_lists }
-    requires no_other_look { NoneOr (todo_at place.old).due (lock_number lock.now) }
-    requires owes_no_ok { (todo_at place.old).owes_release_ok ≡ None }
-    requires calls_nobody { (todo_at place.old).calls ≡ (λ _. false) }
-    ensures led { LedTo T.content place.old place.new (account_at T.content place.old)
-        (todo_looked (todo_at place.old)) }
-    ensures slots { place.new.me.1 ≡ place.old.me.1 }
+    requires session { HasSession seat.old.me.0 }
+    requires idle { (account_at T.content seat.old).lists ≡ no_lists }
+    requires no_other_look { NoneOr (todo_at seat.old).due (lock_number lock.now) }
+    requires owes_no_ok { (todo_at seat.old).owes_release_ok ≡ None }
+    requires calls_nobody { (todo_at seat.old).calls ≡ (λ _. false) }
+    ensures led { LedTo T.content seat.old seat.new (account_at T.content seat.old)
+        (todo_looked (todo_at seat.old)) }
+    ensures shelves { seat.new.me.1 ≡ seat.old.me.1 }
 {
-    let Some(mut list) = try_lock_list(top, place, lock) else {
+    let Some(mut list) = try_lock_list(words, seat, lock) else {
         return;
     };
     let _each_once = list.waiters();
     let wakeup = list.wake_split();
-    take_all_off(top, place, wakeup.taken.as_slice());
-    unlock_after_wakeup(top, place, lock, list, wakeup.release_ok);
-    tell_all(top, place, wakeup.taken.as_slice());
+    take_all_off(words, seat, wakeup.taken.as_slice());
+    unlock_after_wakeup(words, seat, lock, list, wakeup.release_ok);
+    tell_all(words, seat, wakeup.taken.as_slice());
 }

@@ -13,137 +13,137 @@ ghost use Rattle.shared_rule.specs.Layout.{index_of_word, MayBeInTable};
 ghost use Rattle.shared_rule.specs.Slots.{KnowsWord};
 
 use crate::plays::{Looks, Marking, Marks, PutsHome};
-use crate::rule::{Place, Top};
+use crate::rule::{Seat, SharedWords};
 use lock_table::PartTable;
 use lw_word::LwMode;
 
 pub(crate) fn load_as<T: PartTable, M: Marking<T>>(
-    top: &Top<T>,
-    place: &mut Place<T>,
+    words: &SharedWords<T>,
+    seat: &mut Seat<T>,
     word: usize,
 ) -> u64
-    requires table { FitsTable place.old top.now.table_id × (word < top.now.table_id.words) }
-    requires allowed { Allows (Ruled T.content T.begun top.now.key) top.now.table_id.slots
-        place.old.id place.old.me word (λ n. n)
-        (Marked M.mark (step top.now.table_id.slots word 0 0 none) place.old.me) }
-    ensures seat { IsSameSeat place.old place.new }
-    ensures side { place.new.me ≡ (noting place.old.me.0 (M.mark result), place.old.me.1) }
+    requires table { FitsTable seat.old words.now.table_id × (word < words.now.table_id.words) }
+    requires allowed { Allows (Ruled T.content T.begun words.now.key) words.now.table_id.slots
+        seat.old.id seat.old.me word (λ n. n)
+        (Marked M.mark (step words.now.table_id.slots word 0 0 none) seat.old.me) }
+    ensures same_seat { IsSameSeat seat.old seat.new }
+    ensures side { seat.new.me ≡ (noting seat.old.me.0 (M.mark result), seat.old.me.1) }
 {
-    top.load::<Marks<M>>(place, word)
+    words.load::<Marks<M>>(seat, word)
 }
 
 pub(crate) fn fetch_add_as<T: PartTable, M: Marking<T>>(
-    top: &Top<T>,
-    place: &mut Place<T>,
+    words: &SharedWords<T>,
+    seat: &mut Seat<T>,
     word: usize,
     amount: u64,
 ) -> u64
-    requires table { FitsTable place.old top.now.table_id × (word < top.now.table_id.words) }
-    requires allowed { Allows (Ruled T.content T.begun top.now.key) top.now.table_id.slots
-        place.old.id place.old.me word
-        (λ n. (n + amount) % 2 ^ 64) (Marked M.mark (step top.now.table_id.slots word amount 0 none) place.old.me) }
-    ensures seat { IsSameSeat place.old place.new }
-    ensures side { place.new.me ≡ (noting place.old.me.0 (M.mark result), place.old.me.1) }
+    requires table { FitsTable seat.old words.now.table_id × (word < words.now.table_id.words) }
+    requires allowed { Allows (Ruled T.content T.begun words.now.key) words.now.table_id.slots
+        seat.old.id seat.old.me word
+        (λ n. (n + amount) % 2 ^ 64) (Marked M.mark (step words.now.table_id.slots word amount 0 none) seat.old.me) }
+    ensures same_seat { IsSameSeat seat.old seat.new }
+    ensures side { seat.new.me ≡ (noting seat.old.me.0 (M.mark result), seat.old.me.1) }
 {
-    top.fetch_add::<Marks<M>>(place, word, amount)
+    words.fetch_add::<Marks<M>>(seat, word, amount)
 }
 
 pub(crate) fn fetch_sub_as<T: PartTable, M: Marking<T>>(
-    top: &Top<T>,
-    place: &mut Place<T>,
+    words: &SharedWords<T>,
+    seat: &mut Seat<T>,
     word: usize,
     amount: u64,
 ) -> u64
-    requires table { FitsTable place.old top.now.table_id × (word < top.now.table_id.words) }
-    requires allowed { Allows (Ruled T.content T.begun top.now.key) top.now.table_id.slots
-        place.old.id place.old.me word
+    requires table { FitsTable seat.old words.now.table_id × (word < words.now.table_id.words) }
+    requires allowed { Allows (Ruled T.content T.begun words.now.key) words.now.table_id.slots
+        seat.old.id seat.old.me word
         (λ n. (n + (2 ^ 64 - amount)) % 2 ^ 64)
-        (Marked M.mark (step top.now.table_id.slots word amount 0 none) place.old.me) }
-    ensures seat { IsSameSeat place.old place.new }
-    ensures side { place.new.me ≡ (noting place.old.me.0 (M.mark result), place.old.me.1) }
+        (Marked M.mark (step words.now.table_id.slots word amount 0 none) seat.old.me) }
+    ensures same_seat { IsSameSeat seat.old seat.new }
+    ensures side { seat.new.me ≡ (noting seat.old.me.0 (M.mark result), seat.old.me.1) }
 {
-    top.fetch_sub::<Marks<M>>(place, word, amount)
+    words.fetch_sub::<Marks<M>>(seat, word, amount)
 }
 
 pub(crate) fn put_home_as<T: PartTable, M: Marking<T>>(
-    top: &Top<T>,
-    place: &mut Place<T>,
+    words: &SharedWords<T>,
+    seat: &mut Seat<T>,
     word: usize,
 ) -> u64
-    requires table { FitsTable place.old top.now.table_id × (word < top.now.table_id.words) }
-    requires allowed { Allows (Ruled T.content T.begun top.now.key) top.now.table_id.slots
-        place.old.id place.old.me word
+    requires table { FitsTable seat.old words.now.table_id × (word < words.now.table_id.words) }
+    requires allowed { Allows (Ruled T.content T.begun words.now.key) words.now.table_id.slots
+        seat.old.id seat.old.me word
         (λ n. (n + (2 ^ 64 - 16777216)) % 2 ^ 64)
-        (WentHome M.mark (step top.now.table_id.slots word 16777216 0 none) place.old.me) }
-    ensures seat { IsSameSeat place.old place.new }
-    ensures side { place.new.me ≡ (noting place.old.me.0 (M.mark result), rest place.old.me.1) }
+        (WentHome M.mark (step words.now.table_id.slots word 16777216 0 none) seat.old.me) }
+    ensures same_seat { IsSameSeat seat.old seat.new }
+    ensures side { seat.new.me ≡ (noting seat.old.me.0 (M.mark result), rest seat.old.me.1) }
 {
-    top.fetch_sub::<PutsHome<M>>(place, word, LwMode::Exclusive.amount())
+    words.fetch_sub::<PutsHome<M>>(seat, word, LwMode::Exclusive.amount())
 }
 
 pub(crate) fn store_as<T: PartTable, M: Marking<T>>(
-    top: &Top<T>,
-    place: &mut Place<T>,
+    words: &SharedWords<T>,
+    seat: &mut Seat<T>,
     word: usize,
     new: u64,
 )
-    requires table { FitsTable place.old top.now.table_id × (word < top.now.table_id.words) }
-    requires allowed { Allows (Ruled T.content T.begun top.now.key) top.now.table_id.slots
-        place.old.id place.old.me word
-        (λ _. new) (λ _. Marked M.mark (step top.now.table_id.slots word new 0 none) place.old.me new) }
-    ensures seat { IsSameSeat place.old place.new }
-    ensures side { place.new.me ≡ (noting place.old.me.0 (M.mark new), place.old.me.1) }
+    requires table { FitsTable seat.old words.now.table_id × (word < words.now.table_id.words) }
+    requires allowed { Allows (Ruled T.content T.begun words.now.key) words.now.table_id.slots
+        seat.old.id seat.old.me word
+        (λ _. new) (λ _. Marked M.mark (step words.now.table_id.slots word new 0 none) seat.old.me new) }
+    ensures same_seat { IsSameSeat seat.old seat.new }
+    ensures side { seat.new.me ≡ (noting seat.old.me.0 (M.mark new), seat.old.me.1) }
 {
-    top.store::<Marks<M>>(place, word, new);
+    words.store::<Marks<M>>(seat, word, new);
 }
 
 pub(crate) fn fetch_or_as<T: PartTable, M: Marking<T>>(
-    top: &Top<T>,
-    place: &mut Place<T>,
+    words: &SharedWords<T>,
+    seat: &mut Seat<T>,
     word: usize,
     bits: u64,
 ) -> u64
-    requires table { FitsTable place.old top.now.table_id × (word < top.now.table_id.words) }
-    requires allowed { Allows (Ruled T.content T.begun top.now.key) top.now.table_id.slots
-        place.old.id place.old.me word
-        (λ n. bit_or n bits) (Looked T.content M.mark (step top.now.table_id.slots word bits 0 none) place.old.me) }
-    ensures seat { IsSameSeat place.old place.new }
-    ensures side { place.new.me ≡ (noting place.old.me.0 (M.mark result), place.old.me.1) }
+    requires table { FitsTable seat.old words.now.table_id × (word < words.now.table_id.words) }
+    requires allowed { Allows (Ruled T.content T.begun words.now.key) words.now.table_id.slots
+        seat.old.id seat.old.me word
+        (λ n. bit_or n bits) (Looked T.content M.mark (step words.now.table_id.slots word bits 0 none) seat.old.me) }
+    ensures same_seat { IsSameSeat seat.old seat.new }
+    ensures side { seat.new.me ≡ (noting seat.old.me.0 (M.mark result), seat.old.me.1) }
     ensures knows { (which : Word) → MayBeInTable which → word ≡ index_of_word which
-        → KnowsWord (number_at place.old) (account_at T.content place.old) which result }
+        → KnowsWord (number_at seat.old) (account_at T.content seat.old) which result }
 {
-    top.fetch_or::<Looks<M>>(place, word, bits)
+    words.fetch_or::<Looks<M>>(seat, word, bits)
 }
 
 pub(crate) fn look_as<T: PartTable, M: Marking<T>>(
-    top: &Top<T>,
-    place: &mut Place<T>,
+    words: &SharedWords<T>,
+    seat: &mut Seat<T>,
     word: usize,
 ) -> u64
-    requires table { FitsTable place.old top.now.table_id × (word < top.now.table_id.words) }
-    requires allowed { Allows (Ruled T.content T.begun top.now.key) top.now.table_id.slots
-        place.old.id place.old.me word (λ n. n)
-        (Looked T.content M.mark (step top.now.table_id.slots word 0 0 none) place.old.me) }
-    ensures seat { IsSameSeat place.old place.new }
-    ensures side { place.new.me ≡ (noting place.old.me.0 (M.mark result), place.old.me.1) }
+    requires table { FitsTable seat.old words.now.table_id × (word < words.now.table_id.words) }
+    requires allowed { Allows (Ruled T.content T.begun words.now.key) words.now.table_id.slots
+        seat.old.id seat.old.me word (λ n. n)
+        (Looked T.content M.mark (step words.now.table_id.slots word 0 0 none) seat.old.me) }
+    ensures same_seat { IsSameSeat seat.old seat.new }
+    ensures side { seat.new.me ≡ (noting seat.old.me.0 (M.mark result), seat.old.me.1) }
     ensures knows { (which : Word) → MayBeInTable which → word ≡ index_of_word which
-        → KnowsWord (number_at place.old) (account_at T.content place.old) which result }
+        → KnowsWord (number_at seat.old) (account_at T.content seat.old) which result }
 {
-    top.load::<Looks<M>>(place, word)
+    words.load::<Looks<M>>(seat, word)
 }
 
 pub(crate) fn unlock_as<T: PartTable, M: Marking<T>>(
-    top: &Top<T>,
-    place: &mut Place<T>,
+    words: &SharedWords<T>,
+    seat: &mut Seat<T>,
     word: usize,
     mask: u64,
 )
-    requires table { FitsTable place.old top.now.table_id × (word < top.now.table_id.words) }
-    requires allowed { Allows (Ruled T.content T.begun top.now.key) top.now.table_id.slots
-        place.old.id place.old.me word
-        (λ n. bit_and n mask) (WentHome M.mark (step top.now.table_id.slots word mask 0 none) place.old.me) }
-    ensures seat { IsSameSeat place.old place.new }
-    ensures side { (n : ℕ) × (place.new.me ≡ (noting place.old.me.0 (M.mark n), rest place.old.me.1)) }
+    requires table { FitsTable seat.old words.now.table_id × (word < words.now.table_id.words) }
+    requires allowed { Allows (Ruled T.content T.begun words.now.key) words.now.table_id.slots
+        seat.old.id seat.old.me word
+        (λ n. bit_and n mask) (WentHome M.mark (step words.now.table_id.slots word mask 0 none) seat.old.me) }
+    ensures same_seat { IsSameSeat seat.old seat.new }
+    ensures side { (n : ℕ) × (seat.new.me ≡ (noting seat.old.me.0 (M.mark n), rest seat.old.me.1)) }
 {
-    top.fetch_and::<PutsHome<M>>(place, word, mask);
+    words.fetch_and::<PutsHome<M>>(seat, word, mask);
 }

@@ -6,7 +6,7 @@ ghost use Rattle.shared_rule.specs.History.{blank_account};
 ghost use Rattle.shared_rule.specs.Seats.{MayCloseBy};
 
 use super::latecomers::race;
-use super::{SIZES, empty_slots, one_thread};
+use super::{SIZES, empty_shelves, one_thread};
 use lock_table::{Move, PartTable, PlainPart};
 use modes_core::SessionId;
 use shared_rule::{Board, open};
@@ -111,7 +111,7 @@ fn of_two<R: Abort + Clock + Threads + Wait + Sync>(
     alloc: Global,
     what: SideBySide,
 ) -> Result<(), Fail> {
-    let Ok((table, mut opener)) = open(alloc, &SIZES, empty_slots(alloc)?) else {
+    let Ok((table, mut opener)) = open(alloc, &SIZES, empty_shelves(alloc)?) else {
         return Err("out of memory".into());
     };
     let Some(mut first) = opener.session(&table.shared) else {

@@ -16,7 +16,7 @@ use lock_manager::OwnSession;
 use lock_manager::Owner::{Session, Transaction};
 use lock_table::{PartTable, PlainPart, empty_parts};
 use modes_core::Tag;
-use shared_rule::{Board, Kept, OneThread, Sizes, in_slots};
+use shared_rule::{Board, Kept, OneThread, TableSizes, in_shelves};
 use std::alloc::Global;
 use std::process::Abort;
 use std::sync::Wait;
@@ -179,11 +179,11 @@ fn make_all<T: PartTable, B: Board<T>, R: Abort + Wait>(
     }
 }
 
-/// Sixteen empty partitions, each in its slot.
-fn empty_slots(alloc: Global) -> Result<Vec<Kept<PlainPart>>, Fail>
-    ensures new { let T = ⟦<PlainPart as PartTable>⟧ in IfOk result (λ slots. AreNew T.content T.begun slots.items) }
+/// Sixteen empty partitions, each on its shelf.
+fn empty_shelves(alloc: Global) -> Result<Vec<Kept<PlainPart>>, Fail>
+    ensures new { let T = ⟦<PlainPart as PartTable>⟧ in IfOk result (λ shelves. AreNew T.content T.begun shelves.items) }
 {
-    Ok(in_slots(alloc, empty_parts(alloc, PlainPart::new)?)?)
+    Ok(in_shelves(alloc, empty_parts(alloc, PlainPart::new)?)?)
 }
 
 /// A board for tests, of a table for one session.
@@ -195,11 +195,11 @@ fn one_thread(alloc: Global) -> Result<OneThread<PlainPart>, Fail>
     ensures limit { let B = ⟦<OneThread<PlainPart> as Board<PlainPart>>⟧ in
         IfOk result (λ board. (B.seat board).limit ≡ 1) }
 {
-    let sizes = Sizes {
+    let sizes = TableSizes {
         sessions: 1,
         groups: 1,
     };
-    match OneThread::new(alloc, &sizes, empty_slots(alloc)?) {
+    match OneThread::new(alloc, &sizes, empty_shelves(alloc)?) {
         Ok(board) => Ok(board),
         Err(_) => Err("out of memory".into()),
     }

@@ -14,7 +14,7 @@ use super::{asked, crowds, watches};
 use lock_manager::{OwnSession, Part};
 use lock_table::{PartTable, empty_parts};
 use modes_core::SessionId;
-use shared_rule::{Board, Kept, Opener, SeatBoard, SharedTable, Sizes, Top, in_slots, open};
+use shared_rule::{Board, Kept, Opener, SeatBoard, SharedTable, SharedWords, TableSizes, in_shelves, open};
 use std::alloc::Global;
 use std::process::Abort;
 use std::sync::Wait;
@@ -107,11 +107,11 @@ impl Crew {
 /// A session at the shared table, on a board that pauses.
 type Unsteady<'a> = OwnSession<Part, WatchedBoard<SeatBoard<'a, Part>, Pauses>>;
 
-/// Sixteen empty partitions, each in its slot.
-fn empty_slots(alloc: Global) -> Result<Vec<Kept<Part>>, Fail>
-    ensures new { let T = ⟦<Part as PartTable>⟧ in IfOk result (λ slots. AreNew T.content T.begun slots.items) }
+/// Sixteen empty partitions, each on its shelf.
+fn empty_shelves(alloc: Global) -> Result<Vec<Kept<Part>>, Fail>
+    ensures new { let T = ⟦<Part as PartTable>⟧ in IfOk result (λ shelves. AreNew T.content T.begun shelves.items) }
 {
-    Ok(in_slots(alloc, empty_parts(alloc, Part::new)?)?)
+    Ok(in_shelves(alloc, empty_parts(alloc, Part::new)?)?)
 }
 
 /// A table for `sessions` sessions, and the opener that gives their numbers out.
@@ -122,11 +122,11 @@ fn open_table(alloc: Global, sessions: u8) -> Result<(SharedTable<Part>, Opener<
         × (opened.1.groups ≡ opened.0.shared.key.groups)) }
     ensures limit { IfOk result (λ opened. opened.1.limit ≡ sessions) }
 {
-    let sizes = Sizes {
+    let sizes = TableSizes {
         sessions,
         groups: GROUPS,
     };
-    match open(alloc, &sizes, empty_slots(alloc)?) {
+    match open(alloc, &sizes, empty_shelves(alloc)?) {
         Ok(opened) => Ok(opened),
         Err(_) => Err("out of memory".into()),
     }
@@ -136,7 +136,7 @@ fn open_table(alloc: Global, sessions: u8) -> Result<(SharedTable<Part>, Opener<
 fn open_next<'a, R: Abort>(
     rt: &R,
     alloc: Global,
-    table: &'a Top<Part>,
+    table: &'a SharedWords<Part>,
     opener: &mut Opener<Part>,
 ) -> Unsteady<'a>
     requires table { (opener.old.table ≡ table.now.table_id) × (opener.old.limit ≡ table.now.key.sessions)
@@ -164,7 +164,7 @@ fn open_next<'a, R: Abort>(
 fn open_all<'a, R: Abort>(
     rt: &R,
     alloc: Global,
-    table: &'a Top<Part>,
+    table: &'a SharedWords<Part>,
     opener: &mut Opener<Part>,
     number: u8,
 ) -> Vec<Unsteady<'a>>

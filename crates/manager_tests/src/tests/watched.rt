@@ -138,9 +138,9 @@ impl<T: PartTable, B: Board<T>, W: Watch> Board<T> for WatchedBoard<B, W> {
         self.watch.after();
     }
 
-    fn load_slot(&mut self, owner: SessionId, place: u8) -> SlotWord {
+    fn load_slot(&mut self, owner: SessionId, slot: u8) -> SlotWord {
         self.watch.before();
-        let result = self.board.load_slot(owner, place);
+        let result = self.board.load_slot(owner, slot);
         self.watch.after();
         result
     }
@@ -152,22 +152,22 @@ impl<T: PartTable, B: Board<T>, W: Watch> Board<T> for WatchedBoard<B, W> {
         result
     }
 
-    fn set_slot(&mut self, place: u8, shown: SlotWord, tag: &Tag, mode: Mode) {
+    fn set_slot(&mut self, slot: u8, shown: SlotWord, tag: &Tag, mode: Mode) {
         self.watch.before();
-        self.board.set_slot(place, shown, tag, mode);
+        self.board.set_slot(slot, shown, tag, mode);
         self.watch.after();
     }
 
-    fn clear_slot(&mut self, place: u8, shown: SlotWord, tag: &Tag, mode: Mode) {
+    fn clear_slot(&mut self, slot: u8, shown: SlotWord, tag: &Tag, mode: Mode) {
         self.watch.before();
-        self.board.clear_slot(place, shown, tag, mode);
+        self.board.clear_slot(slot, shown, tag, mode);
         self.watch.after();
     }
 
     fn transfer_slot(
         &mut self,
         owner: SessionId,
-        place: u8,
+        slot: u8,
         shown: SlotWord,
         tag: &Tag,
         mode: Mode,
@@ -176,7 +176,7 @@ impl<T: PartTable, B: Board<T>, W: Watch> Board<T> for WatchedBoard<B, W> {
     ) {
         self.watch.before();
         self.board
-            .transfer_slot(owner, place, shown, tag, mode, strong, content);
+            .transfer_slot(owner, slot, shown, tag, mode, strong, content);
         self.watch.after();
     }
 

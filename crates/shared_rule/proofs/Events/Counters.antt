@@ -19,7 +19,7 @@ use Rattle.lock_world.proofs.Counters.Uncounting.{count_at-uncounting}
 use Rattle.lock_world.proofs.Accounts.Lawful.{count-lawful, uncount-lawful}
 use Rattle.lock_world.proofs.Accounts.Slots.{account-counting, account-uncounting}
 use Rattle.shared_rule.specs.Marks as mark
-use Rattle.shared_rule.specs.declared.rule.Sizes.{Sizes}
+use Rattle.shared_rule.specs.declared.rule.TableSizes.{TableSizes}
 use Rattle.shared_rule.specs.declared.history.History.{History}
 use Rattle.shared_rule.specs.Shown.{set_word}
 use Rattle.shared_rule.specs.History.{told}
@@ -46,7 +46,7 @@ counter-most limit counted index few each =
     let few_here = each k in omega (arith, most_here, few_here)) in
     omega (arith, most, few)
 
-module _ {T : Type 0} (content : T → Content) (sizes : Sizes) (x : History T) (tag : Tag) (mode : Mode) where
+module _ {T : Type 0} (content : T → Content) (sizes : TableSizes) (x : History T) (tag : Tag) (mode : Mode) where
   -- the counter's index
   abbrev index : ℕ
   index = index_of tag

@@ -10,7 +10,7 @@ use Rattle.lock_world.specs.declared.events.Word.TheVariants.{Partition, Fast, D
 use Rattle.lock_world.specs.World.{opening, word_in}
 use Rattle.shared_rule.specs.declared.history.History.{History}
 use Rattle.shared_rule.specs.declared.history.Mark.{Mark}
-use Rattle.shared_rule.specs.declared.rule.Sizes.{Sizes}
+use Rattle.shared_rule.specs.declared.rule.TableSizes.{TableSizes}
 use Rattle.shared_rule.specs.declared.history.View.{View}
 use Rattle.shared_rule.specs.declared.kept.Kept.{Kept}
 use Rattle.shared_rule.specs.History.{noting, first_account}
@@ -26,7 +26,7 @@ use Rattle.shared_rule.proofs.Gathered.{distinct, stands-among, slots-among, cou
 
 -- Loads by a seat at which all sessions are.
 
-module _ {T : Type 0} (content : T → Content) (begun : T → Option Request) (sizes : Sizes) (s : State (Kept T) (View T)) (r : Ruled content begun sizes s) (id : ℕ) (view : View T) (at : get_elem? s.views id ≡ some view)
+module _ {T : Type 0} (content : T → Content) (begun : T → Option Request) (sizes : TableSizes) (s : State (Kept T) (View T)) (r : Ruled content begun sizes s) (id : ℕ) (view : View T) (at : get_elem? s.views id ≡ some view)
     (x : History T) (others : List (History T)) (is : view.sessions ≡ x ∷ others) (issued : ℕ) (are : AreAll issued view) where
   few : sizes.sessions < 2 ^ 24
   few = let most = r.few in omega (arith, most)
@@ -39,9 +39,9 @@ module _ {T : Type 0} (content : T → Content) (begun : T → Option Request) (
   all-known (Partition p) exists = tt
   all-known (Fast k) exists = tt
   all-known (Database k) exists = tt
-  all-known (Slot k place) exists = λ contents has.
+  all-known (Slot k slot) exists = λ contents has.
       slots-among content r.world sizes r.events few (leads-runs (opening sizes.sessions sizes.groups) r.events r.world r.run) r.safe s.views id issued view at r.seats r.closed are x first contents
-      (subst (λ (xs : List (History T)). HasAllInHand (first_account content xs) contents) is has) k place exists.0
+      (subst (λ (xs : List (History T)). HasAllInHand (first_account content xs) contents) is has) k slot exists.0
   all-known (Wait k) exists = tt
   all-known (Strong index) exists =
       let most_limit : r.world.numbers.limit ≤ 64 = subst (λ n. n ≤ 64) (sym r.is_limit) r.few in
@@ -50,7 +50,7 @@ module _ {T : Type 0} (content : T → Content) (begun : T → Option Request) (
       (counters-among content r.world sizes r.events few (leads-runs (opening sizes.sessions sizes.groups) r.events r.world r.run) r.safe s.views id issued view at r.seats r.closed are index, omega (arith, shown, most))
   all-known (Sleep k) exists = tt
 
-module _ {T : Type 0} (content : T → Content) (begun : T → Option Request) (sizes : Sizes) (slots id : ℕ) (me : Side T) (x : History T) (others : List (History T)) (is : me.0.sessions ≡ x ∷ others) where
+module _ {T : Type 0} (content : T → Content) (begun : T → Option Request) (sizes : TableSizes) (slots id : ℕ) (me : Side T) (x : History T) (others : List (History T)) (is : me.0.sessions ≡ x ∷ others) where
   -- A load that tells what is known of the number found.
   pub looks_over_at : (word : Word) → IsInTable sizes.groups word → (i : ℕ) → i ≡ index_of_word word → (mark : ℕ → Mark T) → IsAlwaysLawful content sizes x word (λ _. Unit {0}) (λ n. n) mark
       → Allows (Ruled content begun sizes) slots id me i (λ n. n) (LookedOver content mark (step slots i 0 0 none) me)

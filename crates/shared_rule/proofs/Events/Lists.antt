@@ -48,13 +48,13 @@ use Rattle.shared_rule.proofs.Orders.{latest-by, none-shared}
 use Rattle.shared_rule.proofs.Owings.{keeps-locking, keeps-unlocking, keeps-joining, keeps-leaving, keeps-setting_ok, keeps-flagging, lock-in_hand, tells-told, calls-here}
 use Rattle.shared_rule.specs.Marks as mark
 use Rattle.shared_rule.specs.declared.history.History.{History}
-use Rattle.shared_rule.specs.declared.rule.Sizes.{Sizes}
+use Rattle.shared_rule.specs.declared.rule.TableSizes.{TableSizes}
 use Rattle.shared_rule.specs.declared.kept.Kept.{Kept}
 use Rattle.shared_rule.specs.declared.kept.Kept.TheVariants as kept
-use Rattle.shared_rule.specs.declared.layout.TheConstants.{TABLE_SLOTS}
+use Rattle.shared_rule.specs.declared.layout.TheConstants.{TABLE_SHELVES}
 use Rattle.shared_rule.specs.declared.lw_locks.LwLock.{LwLock}
 use Rattle.shared_rule.specs.declared.lw_locks.LwLock.TheVariants.{OfPart, OfSlots}
-use Rattle.shared_rule.specs.Layout.{index_of_word, content_slot_of, list_slot_of, lock_count, IsInTable}
+use Rattle.shared_rule.specs.Layout.{index_of_word, content_shelf_of, list_shelf_of, lock_count, IsInTable}
 use Rattle.shared_rule.specs.LwLocks.{word_of_lock, lock_number, LockExists, LockIsInTable}
 use Rattle.shared_rule.specs.Shown.{WordsAreShown, set_word}
 use Rattle.shared_rule.specs.History.{told, noting, first_account, first_number, list_here}
@@ -74,7 +74,7 @@ or-locked n set =
     let bit : bit_or n (2 ^ 28) / 2 ^ 28 % 2 ≡ 1 = list_locked_word-locked n in
     omega (arith, high, low, bit, set)
 
--- The places of lists: one each, and apart from contents.
+-- The shelves of lists: one each, and apart from contents.
 pub lock-below : (lock : LwLock) → LockIsInTable lock → lock_number lock < lock_count
 lock-below (OfPart p) there = omega (arith, there)
 lock-below (OfSlots o) there = omega (arith, there)
@@ -83,10 +83,10 @@ pub lock-word_there : (lock : LwLock) → LockIsInTable lock → (groups : ℕ) 
 lock-word_there (OfPart p) there groups = (there, tt)
 lock-word_there (OfSlots o) there groups = (tt, there)
 
-lists-apart : (l m : ℕ) → l ≢ m → list_slot_of l ≢ list_slot_of m
+lists-apart : (l m : ℕ) → l ≢ m → list_shelf_of l ≢ list_shelf_of m
 lists-apart l m other same = other (omega (arith, same))
 
-content-apart : (p lock : ℕ) → p < 16 → content_slot_of p ≢ list_slot_of lock
+content-apart : (p lock : ℕ) → p < 16 → content_shelf_of p ≢ list_shelf_of lock
 content-apart p lock exists same = omega (arith, same, exists)
 
 -- Two locks with one word are one.
@@ -128,7 +128,7 @@ no_list-known : (has : Option ℕ) (list : ℕ → List LwWaiter) → list_in_ha
 no_list-known None list nothing = refl
 no_list-known (Some lock) list nothing = absurd (cc (nothing))
 
--- A slot keeps one list.
+-- A shelf keeps one list.
 pub list-same : {T : Type 0} (one other : Box (List LwWaiter)) → ◌≡◌ {A = Kept T} (kept.List one) (kept.List other) → one ≡ other
 list-same one other same = cc (same)
 
@@ -136,17 +136,17 @@ module _ {T : Type 0} where
   -- Contents stay at home where a list comes or goes.
   contents-beside :
       (content : T → Content) (begun : T → Option Request) (homes : List (maybe.Option (Kept T))) (lock : ℕ) (there : maybe.Option (Kept T)) (contents : Contents)
-      → ContentsAreHome content begun homes contents → ContentsAreHome content begun (slice_set homes (list_slot_of lock) there) contents
+      → ContentsAreHome content begun homes contents → ContentsAreHome content begun (slice_set homes (list_shelf_of lock) there) contents
   contents-beside content begun homes lock there contents home p exists =
-      subst (IsHomeUnlessInHand content begun (contents.hand p) (contents.now p)) (sym (set_else homes (list_slot_of lock) (content_slot_of p) there (content-apart p lock exists))) (home p exists)
+      subst (IsHomeUnlessInHand content begun (contents.hand p) (contents.now p)) (sym (set_else homes (list_shelf_of lock) (content_shelf_of p) there (content-apart p lock exists))) (home p exists)
 
   -- Lists stay at home where one is taken in hand,
   list-taken :
       (homes : List (maybe.Option (Kept T))) (has_list : ℕ → Option ℕ) (list : ℕ → List LwWaiter) (lock s : ℕ) → has_list s ≡ None → ListsAreHome homes has_list list
-      → ListsAreHome (slice_set homes (list_slot_of lock) none) (set_at has_list s (Some lock)) list
+      → ListsAreHome (slice_set homes (list_shelf_of lock) none) (set_at has_list s (Some lock)) list
   list-taken homes has_list list lock s free home l within nobody = elim (cases_eq l lock) [
     | inl same ↦ absurd (nobody s (set_at-here has_list s (Some lock) s refl ∙ ap Some (sym same)))
-    | inr other ↦ subst (ListIsAtHome (list l)) (sym (set_else homes (list_slot_of lock) (list_slot_of l) none (lists-apart l lock other)))
+    | inr other ↦ subst (ListIsAtHome (list l)) (sym (set_else homes (list_shelf_of lock) (list_shelf_of l) none (lists-apart l lock other)))
         (home l within (λ k had. elim (cases_eq k s) [
           | inl its ↦ let never : ◌≡◌ {A = Option ℕ} None (Some l) = sym free ∙ ap has_list (sym its) ∙ had in cc (never)
           | inr away ↦ nobody k (set_at-else has_list s (Some lock) k away ∙ had)
@@ -155,17 +155,17 @@ module _ {T : Type 0} where
 
   -- and where it is put home.
   list-put :
-      (homes : List (maybe.Option (Kept T))) (has_list : ℕ → Option ℕ) (list : ℕ → List LwWaiter) (lock s : ℕ) (put : Box (List LwWaiter)) → length homes ≡ TABLE_SLOTS → lock < lock_count
+      (homes : List (maybe.Option (Kept T))) (has_list : ℕ → Option ℕ) (list : ℕ → List LwWaiter) (lock s : ℕ) (put : Box (List LwWaiter)) → length homes ≡ TABLE_SHELVES → lock < lock_count
       → has_list s ≡ Some lock → put.value ≡ list lock → ListsAreHome homes has_list list
-      → ListsAreHome (slice_set homes (list_slot_of lock) (some (kept.List put))) (set_at has_list s None) list
+      → ListsAreHome (slice_set homes (list_shelf_of lock) (some (kept.List put))) (set_at has_list s None) list
   list-put homes has_list list lock s put many below had is home l within nobody = elim (cases_eq l lock) [
     | inl same ↦ record {
       list = put;
-      at_home = ap (λ j. get_elem? (slice_set homes (list_slot_of lock) (some (kept.List put))) (list_slot_of j)) same
-          ∙ set_here homes (list_slot_of lock) (some (kept.List put)) (omega (arith, many, below));
+      at_home = ap (λ j. get_elem? (slice_set homes (list_shelf_of lock) (some (kept.List put))) (list_shelf_of j)) same
+          ∙ set_here homes (list_shelf_of lock) (some (kept.List put)) (omega (arith, many, below));
       is_list = is ∙ ap list (sym same);
     }
-    | inr other ↦ subst (ListIsAtHome (list l)) (sym (set_else homes (list_slot_of lock) (list_slot_of l) (some (kept.List put)) (lists-apart l lock other)))
+    | inr other ↦ subst (ListIsAtHome (list l)) (sym (set_else homes (list_shelf_of lock) (list_shelf_of l) (some (kept.List put)) (lists-apart l lock other)))
         (home l within (λ k has. elim (cases_eq k s) [
           | inl its ↦ let both : Some lock ≡ Some l = sym had ∙ ap has_list (sym its) ∙ has in let same : lock ≡ l = cc (both) in other (sym same)
           | inr away ↦ nobody k (set_at-else has_list s None k away ∙ has)
@@ -179,7 +179,7 @@ record ChangesHand {T : Type 0} (content : T → Content) (groups : ℕ) (w : Wo
   has_list : noted.after.sessions.has_list ≡ set_at w.sessions.has_list number has
   list : noted.after.words.list ≡ w.words.list
 
-module _ {T : Type 0} (content : T → Content) (sizes : Sizes) (x : History T) where
+module _ {T : Type 0} (content : T → Content) (sizes : TableSizes) (x : History T) where
   abbrev a : Account
   a = told content x.number x.marks
 
@@ -499,7 +499,7 @@ module _ {T : Type 0} (content : T → Content) (sizes : Sizes) (x : History T) 
         lists = λ l nobody. (nobody, refl);
       }
 
-module _ {T : Type 0} (content : T → Content) (begun : T → Option Request) (sizes : Sizes) (slots id : ℕ) (me : Side T) (x : History T) (others : List (History T)) (is : me.0.sessions ≡ x ∷ others)
+module _ {T : Type 0} (content : T → Content) (begun : T → Option Request) (sizes : TableSizes) (slots id : ℕ) (me : Side T) (x : History T) (others : List (History T)) (is : me.0.sessions ≡ x ∷ others)
     (lock : LwLock) (there : LockIsInTable lock) where
   abbrev at_word : ℕ
   at_word = index_of_word (word_of_lock lock)
@@ -519,22 +519,22 @@ module _ {T : Type 0} (content : T → Content) (begun : T → Option Request) (
         let none_had : w.sessions.has_list x.number ≡ None = no_list-known (w.sessions.has_list x.number) w.words.list
         (ap (λ (b : Account). b.lists.in_hand) (sym steps.account) ∙ may.no_list) in (
           noting me.0 (mark.LockedList (lock_number lock) home.list.value),
-          takes (list_slot_of (lock_number lock)) (kept.List home.list),
+          takes (list_shelf_of (lock_number lock)) (kept.List home.list),
           home.at_home,
           ruled-noted content begun sizes s r id me.0 x others at_view is (mark.LockedList (lock_number lock) home.list.value)
               (set_word w.words (word_of_lock lock) (list_locked_word (word_in w.words (word_of_lock lock)))) (slice_set s.words at_word (bit_or n (2 ^ 28)))
-              (slice_set s.homes (list_slot_of (lock_number lock)) none) changes.noted
+              (slice_set s.homes (list_shelf_of (lock_number lock)) none) changes.noted
               (subst (λ k. WordsAreShown sizes.groups (slice_set s.words at_word (list_locked_word k)) (set_word w.words (word_of_lock lock) (list_locked_word (word_in w.words (word_of_lock lock))))) shown
               (words-set sizes.groups r.some_groups r.few_groups s.words w.words (word_of_lock lock) (list_locked_word (word_in w.words (word_of_lock lock))) r.words (lock-word_there lock there sizes.groups)))
-              (subst (ContentsAreHome content begun (slice_set s.homes (list_slot_of (lock_number lock)) none)) (sym changes.contents)
+              (subst (ContentsAreHome content begun (slice_set s.homes (list_shelf_of (lock_number lock)) none)) (sym changes.contents)
               (contents-beside content begun s.homes (lock_number lock) none w.contents r.contents))
-              (subst (λ has. ListsAreHome (slice_set s.homes (list_slot_of (lock_number lock)) none) has changes.noted.after.words.list) (sym changes.has_list)
-              (subst (ListsAreHome (slice_set s.homes (list_slot_of (lock_number lock)) none) (set_at w.sessions.has_list x.number (Some (lock_number lock)))) (sym changes.list)
+              (subst (λ has. ListsAreHome (slice_set s.homes (list_shelf_of (lock_number lock)) none) has changes.noted.after.words.list) (sym changes.has_list)
+              (subst (ListsAreHome (slice_set s.homes (list_shelf_of (lock_number lock)) none) (set_at w.sessions.has_list x.number (Some (lock_number lock)))) (sym changes.list)
               (list-taken s.homes w.sessions.has_list w.words.list (lock_number lock) x.number none_had r.lists))),
           (
             (λ _ other also same.
                 let one : lock ≡ other = same-lock lock other there also same in
-                subst (λ l. TookList content l me (noting me.0 (mark.LockedList (lock_number lock) home.list.value), (list_slot_of (lock_number lock), kept.List home.list) ∷ me.1)) one (record {
+                subst (λ l. TookList content l me (noting me.0 (mark.LockedList (lock_number lock) home.list.value), (list_shelf_of (lock_number lock), kept.List home.list) ∷ me.1)) one (record {
                   list = home.list;
                   side = refl;
                   stands = λ stood.
@@ -567,9 +567,9 @@ module _ {T : Type 0} (content : T → Content) (begun : T → Option Request) (
 
   -- The fetch-and puts the list home that came last.
   unlocks_list :
-      (has_waiters release_ok : Bool) (list : Box (List LwWaiter)) → slots ≡ TABLE_SLOTS
+      (has_waiters release_ok : Bool) (list : Box (List LwWaiter)) → slots ≡ TABLE_SHELVES
       → (told content x.number x.marks).lists.in_hand ≡ Some (record { lock = lock_number lock; waiters = list.value })
-      → me.1 ≡ (list_slot_of (lock_number lock), kept.List list) ∷ rest me.1 → (has_waiters ≡ false → list.value ≡ [])
+      → me.1 ≡ (list_shelf_of (lock_number lock), kept.List list) ∷ rest me.1 → (has_waiters ≡ false → list.value ≡ [])
       → (release_ok ≡ false → (other : ℕ) × ((told content x.number x.marks).lists.off other ≡ true))
       → IsLeftWellBy (told content x.number x.marks) (todo_told_by x.number x.marks) lock list.value → (step : Step (Kept T))
       → Allows (Ruled content begun sizes) slots id me at_word (λ n. bit_and n (kept_bits has_waiters release_ok)) (WentHome (λ _. mark.UnlockedList) step me)
@@ -584,7 +584,7 @@ module _ {T : Type 0} (content : T → Content) (begun : T → Option Request) (
       let its = known-list (w.sessions.has_list x.number) w.words.list mine known' in
       let has = has_list-lawful w steps.safe x.number steps.makes mine known' in
       let changes = unlocking-noted content sizes x lock has_waiters release_ok w steps has list.value its.1 waiters_stay release_stays well in
-      let homes : List (maybe.Option (Kept T)) = slice_set s.homes (list_slot_of number) (some (kept.List list)) in
+      let homes : List (maybe.Option (Kept T)) = slice_set s.homes (list_shelf_of number) (some (kept.List list)) in
       let back : put_back s.homes me.1 ≡ homes = ap (put_back s.homes) carried in (
         noting me.0 mark.UnlockedList,
         gives,
@@ -612,9 +612,9 @@ module _ {T : Type 0} (content : T → Content) (begun : T → Option Request) (
       subst (λ k. Allows (Ruled content begun sizes) slots id me k (λ n. bit_or n (2 ^ 28)) (LockedListOr content (step slots k (2 ^ 28) 0 none) me)) (sym at) (locks_list exists may fits nobody)
 
   pub unlocks_list_at :
-      (has_waiters release_ok : Bool) (list : Box (List LwWaiter)) → slots ≡ TABLE_SLOTS
+      (has_waiters release_ok : Bool) (list : Box (List LwWaiter)) → slots ≡ TABLE_SHELVES
       → (told content x.number x.marks).lists.in_hand ≡ Some (record { lock = lock_number lock; waiters = list.value })
-      → me.1 ≡ (list_slot_of (lock_number lock), kept.List list) ∷ rest me.1 → (has_waiters ≡ false → list.value ≡ [])
+      → me.1 ≡ (list_shelf_of (lock_number lock), kept.List list) ∷ rest me.1 → (has_waiters ≡ false → list.value ≡ [])
       → (release_ok ≡ false → (other : ℕ) × ((told content x.number x.marks).lists.off other ≡ true))
       → IsLeftWellBy (told content x.number x.marks) (todo_told_by x.number x.marks) lock list.value → (i : ℕ) → i ≡ at_word → (mask : ℕ) → mask ≡ kept_bits has_waiters release_ok
       → (mark' : ℕ → Mark T) → mark' ≡ (λ _. mark.UnlockedList)

@@ -10,7 +10,7 @@ use Rattle.lock_world.specs.Happens.Slots.{after_loading, after_reading_counter}
 use Rattle.lock_world.specs.AccountSteps.{account_tracing, account_reading}
 use Rattle.lock_world.proofs.Accounts.Slots.{account-loading, account-reading}
 use Rattle.shared_rule.specs.Marks as mark
-use Rattle.shared_rule.specs.declared.rule.Sizes.{Sizes}
+use Rattle.shared_rule.specs.declared.rule.TableSizes.{TableSizes}
 use Rattle.shared_rule.specs.declared.history.History.{History}
 use Rattle.shared_rule.specs.Shown.{set_word}
 use Rattle.shared_rule.specs.Ruled.{NoneBeyondSlots}
@@ -19,16 +19,16 @@ use Rattle.shared_rule.proofs.Events.Words.{IsAlwaysLawful}
 -- Loading a session's database, a slot of it, the lock of its own slots, and a strong lock counter.
 
 -- A slot that is stored as it was stays so.
-pub slot-same : (words : Words) (session place n : ℕ) → n ≡ words.slot session place
-    → words ≡ set_word words (Slot session place) n
-slot-same words session place n shown =
-    let row : set_at (words.slot session) place n ≡ words.slot session = set_at-same (words.slot session) place n
+pub slot-same : (words : Words) (session slot n : ℕ) → n ≡ words.slot session slot
+    → words ≡ set_word words (Slot session slot) n
+slot-same words session slot n shown =
+    let row : set_at (words.slot session) slot n ≡ words.slot session = set_at-same (words.slot session) slot n
     shown in
-    let all : set_at words.slot session (set_at (words.slot session) place n) ≡ words.slot =
-    set_at-same words.slot session (set_at (words.slot session) place n) row in
+    let all : set_at words.slot session (set_at (words.slot session) slot n) ≡ words.slot =
+    set_at-same words.slot session (set_at (words.slot session) slot n) row in
     ap (λ f. record words { slot = f }) (sym all)
 
-module _ {T : Type 0} (content : T → Content) (sizes : Sizes) (x : History T) where
+module _ {T : Type 0} (content : T → Content) (sizes : TableSizes) (x : History T) where
   pub loading_database-lawful : (owner : ℕ) → IsAlwaysLawful content sizes x (Database owner) (λ _. Unit {0}) (λ n. n)
       (mark.LoadedDatabase owner)
   loading_database-lawful owner w steps n below shown _ = record {
@@ -50,20 +50,20 @@ module _ {T : Type 0} (content : T → Content) (sizes : Sizes) (x : History T) 
     lists = λ lock nobody. (nobody, refl);
   }
 
-  pub loading_slot-lawful : (owner place : ℕ) → place < group_size * sizes.groups → IsAlwaysLawful content sizes x (Slot owner place)
-      (λ _. Unit {0}) (λ n. n) (mark.LoadedSlot owner place)
-  loading_slot-lawful owner place within w steps n below shown _ = record {
+  pub loading_slot-lawful : (owner slot : ℕ) → slot < group_size * sizes.groups → IsAlwaysLawful content sizes x (Slot owner slot)
+      (λ _. Unit {0}) (λ n. n) (mark.LoadedSlot owner slot)
+  loading_slot-lawful owner slot within w steps n below shown _ = record {
     list = w.words.list;
     noted = record {
-      step = LoadWord (Slot owner place) n;
+      step = LoadWord (Slot owner slot) n;
       tells = refl;
-      after = after_loading w x.number (Slot owner place) n;
-      happens = (record { steps = steps.makes; exists = subst (λ n. place < group_size * n) (sym steps.are_groups) within; is_shown = shown }, refl);
+      after = after_loading w x.number (Slot owner slot) n;
+      happens = (record { steps = steps.makes; exists = subst (λ n. slot < group_size * n) (sym steps.are_groups) within; is_shown = shown }, refl);
       numbers = refl;
-      account = ap (λ a. account_tracing a (Loaded (Slot owner place) n)) steps.account
-          ∙ sym (account-loading w x.number (Slot owner place) n);
-      words = slot-same w.words owner place n shown;
-      none_beyond = subst (NoneBeyondSlots sizes.groups) (slot-same w.words owner place n shown) steps.none_beyond;
+      account = ap (λ a. account_tracing a (Loaded (Slot owner slot) n)) steps.account
+          ∙ sym (account-loading w x.number (Slot owner slot) n);
+      words = slot-same w.words owner slot n shown;
+      none_beyond = subst (NoneBeyondSlots sizes.groups) (slot-same w.words owner slot n shown) steps.none_beyond;
       few_counted = steps.few_counted x.number;
       keeps = record { in_order = tt; asks = λ d is was. tt; todo_ = λ d is. is; flagged_ = λ d was. was };
     };

@@ -42,7 +42,7 @@ use Rattle.shared_rule.proofs.Orders.{MayAttempt, earlier-by}
 use Rattle.shared_rule.proofs.Owings.{keeps-taking, keeps-sharing, keeps-putting, keeps-unsharing, keeps-passing, put-exclusive, put-shared}
 use Rattle.shared_rule.specs.Marks as mark
 use Rattle.shared_rule.specs.declared.history.History.{History}
-use Rattle.shared_rule.specs.declared.rule.Sizes.{Sizes}
+use Rattle.shared_rule.specs.declared.rule.TableSizes.{TableSizes}
 use Rattle.shared_rule.specs.declared.history.View.{View}
 use Rattle.shared_rule.specs.declared.kept.Kept.{Kept}
 use Rattle.shared_rule.specs.Layout.{index_of_word}
@@ -80,18 +80,18 @@ read-listed (suc n) slot (suc k) rest = read-listed n (λ j. slot (suc j)) k
 slots-listed : (database : ℕ) (slot : ℕ → ℕ) → ((j : ℕ) → slot_count ≤ j → slot j ≡ 0)
     → slots_shown database (listed slot_count slot) ≡ record { word = slot; holds = slot_holds database slot }
 slots-listed database slot rest =
-    let same : (λ place. slice_index_or (listed slot_count slot) place 0) ≡ slot = λ i k. read-listed slot_count slot
+    let same : (λ k. slice_index_or (listed slot_count slot) k 0) ≡ slot = λ i k. read-listed slot_count slot
     k rest i in
     λ i. record { word = same i; holds = slot_holds database (same i) }
 
--- What is beyond all places is beyond the slots of so many groups.
+-- What is beyond all slots is beyond those of so many groups.
 beyond-all : (groups : ℕ) → groups ≤ most_groups → (slot : ℕ → ℕ) → ((j : ℕ) → group_size * groups ≤ j → slot j ≡ 0)
     → (j : ℕ) → slot_count ≤ j → slot j ≡ 0
 beyond-all groups few slot rest j later = rest j (omega (arith, few, later))
 
 -- Taking it is noted so, with what the slots show.
 abbrev taking_fast-noted :
-    {T : Type 0} (content : T → Content) (sizes : Sizes) (x : History T) (owner : ℕ) (w : World)
+    {T : Type 0} (content : T → Content) (sizes : TableSizes) (x : History T) (owner : ℕ) (w : World)
     → Stepper sizes w x.number (told content x.number x.marks) → owner < w.numbers.limit
     → IsHeldByNobody (w.words.fast owner) → MayAttempt (told content x.number x.marks) (todo_told_by x.number x.marks) (fast_lock owner)
     → IsNoted content sizes.groups w x.number (told content x.number x.marks) (todo_told_by x.number x.marks) (flagged_told_by x.marks) (mark.TookFast owner (w.words.database owner)
@@ -113,7 +113,7 @@ taking_fast-noted content sizes x owner w steps exists free tries = record {
 
 -- So is sharing it.
 abbrev sharing_fast-noted :
-    {T : Type 0} (content : T → Content) (sizes : Sizes) (x : History T) (owner : ℕ) (w : World)
+    {T : Type 0} (content : T → Content) (sizes : TableSizes) (x : History T) (owner : ℕ) (w : World)
     → Stepper sizes w x.number (told content x.number x.marks) → owner < w.numbers.limit
     → IsFreeToShare (w.words.fast owner) → MayShareFastBy (told content x.number x.marks) owner → MayAttempt (told content x.number x.marks) (todo_told_by x.number x.marks) (fast_lock owner)
     → IsNoted content sizes.groups w x.number (told content x.number x.marks) (todo_told_by x.number x.marks) (flagged_told_by x.marks) (mark.SharedFast owner (w.words.database owner)
@@ -146,7 +146,7 @@ record Sees {T : Type 0} (content : T → Content) (groups : ℕ) (x : History T
   contents : noted.after.contents ≡ w.contents
   lists : KeepsLists w noted.after
 
-module _ {T : Type 0} (content : T → Content) (begun : T → Option Request) (sizes : Sizes) (slots id : ℕ) (me : Side T)
+module _ {T : Type 0} (content : T → Content) (begun : T → Option Request) (sizes : TableSizes) (slots id : ℕ) (me : Side T)
     (x : History T) (others : List (History T)) (is : me.0.sessions ≡ x ∷ others)
     (owner : ℕ) (inside : owner < 64) where
   -- where the word stands
@@ -292,7 +292,7 @@ module _ {T : Type 0} (content : T → Content) (begun : T → Option Request) (
       }))
       (λ s r at_view below. nothing-changes content begun sizes id at_word me.0 s r at_view) i at)
 
-module _ {T : Type 0} (content : T → Content) (sizes : Sizes) (x : History T) (owner : ℕ) (exists : owner < sizes.sessions) where
+module _ {T : Type 0} (content : T → Content) (sizes : TableSizes) (x : History T) (owner : ℕ) (exists : owner < sizes.sessions) where
   there : (w : World) → Stepper sizes w x.number (told content x.number x.marks) → owner < w.numbers.limit
   there w steps = subst (λ n. owner < n) (sym steps.is_limit) exists
 

@@ -42,12 +42,12 @@ use Rattle.shared_rule.proofs.Owings.{KeepsOwed, keeps-taking, keeps-putting, pu
 use Rattle.shared_rule.specs.Marks.{TookPart, PutPart}
 use Rattle.shared_rule.specs.declared.history.Mark.{Mark}
 use Rattle.shared_rule.specs.declared.history.History.{History}
-use Rattle.shared_rule.specs.declared.rule.Sizes.{Sizes}
+use Rattle.shared_rule.specs.declared.rule.TableSizes.{TableSizes}
 use Rattle.shared_rule.specs.declared.history.View.{View}
 use Rattle.shared_rule.specs.declared.kept.Kept.{Kept}
 use Rattle.shared_rule.specs.declared.kept.Kept.TheVariants.{Part}
-use Rattle.shared_rule.specs.declared.layout.TheConstants.{TABLE_SLOTS}
-use Rattle.shared_rule.specs.Layout.{index_of_word, content_slot_of, list_slot_of}
+use Rattle.shared_rule.specs.declared.layout.TheConstants.{TABLE_SHELVES}
+use Rattle.shared_rule.specs.Layout.{index_of_word, content_shelf_of, list_shelf_of}
 use Rattle.shared_rule.specs.Tells.{Puts}
 use Rattle.shared_rule.specs.Shown.{set_word}
 use Rattle.shared_rule.specs.History.{told, noting, taken_of, first_account, first_number}
@@ -60,8 +60,8 @@ use Rattle.shared_rule.proofs.Events.Locks.{put_word-wraps}
 
 -- Taking a partition in hand with its content, and putting it home.
 
--- Two partitions' contents have slots of their own.
-slots-apart : (p q : ℕ) → q ≢ p → content_slot_of q ≢ content_slot_of p
+-- Two partitions' contents have shelves of their own.
+slots-apart : (p q : ℕ) → q ≢ p → content_shelf_of q ≢ content_shelf_of p
 slots-apart p q other same = other (omega (arith, same))
 
 -- A partition whose word is free is in nobody's hand.
@@ -74,68 +74,68 @@ free-in_no_hand w safe p free = go (w.contents.hand p) refl where
       absurd (free-not_held w.numbers.limit (w.words.partition p) (λ s. w.sessions.holds_partition s p) (λ s. w.sessions.shares_partition s p)
       (safe.but_slots.table.promise.words p) free hand.holder held)
 
--- A slot keeps one part.
+-- A shelf keeps one part.
 pub part-same : {T : Type 0} (one other : T) → ◌≡◌ {A = Kept T} (Part one) (Part other) → one ≡ other
 part-same one other same = cc (same)
 
--- A list has another slot than each content,
-list-apart : (p lock : ℕ) → p < 16 → list_slot_of lock ≢ content_slot_of p
+-- A list has another shelf than each content,
+list-apart : (p lock : ℕ) → p < 16 → list_shelf_of lock ≢ content_shelf_of p
 list-apart p lock exists same = omega (arith, same, exists)
 
 -- so lists stay at home where a content comes or goes.
 lists-beside :
     {T : Type 0} (homes : List (maybe.Option (Kept T))) (p : ℕ) (there : maybe.Option (Kept T))
     (has_list : ℕ → Option ℕ) (list : ℕ → List LwWaiter) → p < 16 → ListsAreHome homes has_list list
-    → ListsAreHome (slice_set homes (content_slot_of p) there) has_list list
+    → ListsAreHome (slice_set homes (content_shelf_of p) there) has_list list
 lists-beside homes p there has_list list exists home lock within nobody =
     subst (ListIsAtHome (list lock))
-    (sym (set_else homes (content_slot_of p) (list_slot_of lock) there (list-apart p lock exists)))
+    (sym (set_else homes (content_shelf_of p) (list_shelf_of lock) there (list-apart p lock exists)))
     (home lock within nobody)
 
 module _ {T : Type 0} (content : T → Content) (begun : T → Option Request) where
   -- What is at home stays so where one content is taken in hand,
   home-taken :
       (homes : List (maybe.Option (Kept T))) (contents : Contents) (p : ℕ) (hand : Hand) → ContentsAreHome content begun homes contents
-      → ContentsAreHome content begun (slice_set homes (content_slot_of p) none) (record { now = contents.now; hand = set_at contents.hand p (Some hand) })
+      → ContentsAreHome content begun (slice_set homes (content_shelf_of p) none) (record { now = contents.now; hand = set_at contents.hand p (Some hand) })
   home-taken homes contents p hand home q within =
       elim (cases_eq q p) [
-        | inl same ↦ subst (λ h. IsHomeUnlessInHand content begun h (contents.now q) (get_elem? (slice_set homes (content_slot_of p) none) (content_slot_of q)))
+        | inl same ↦ subst (λ h. IsHomeUnlessInHand content begun h (contents.now q) (get_elem? (slice_set homes (content_shelf_of p) none) (content_shelf_of q)))
             (sym (set_at-here contents.hand p (Some hand) q same)) tt
-        | inr other ↦ subst (λ h. IsHomeUnlessInHand content begun h (contents.now q) (get_elem? (slice_set homes (content_slot_of p) none) (content_slot_of q)))
+        | inr other ↦ subst (λ h. IsHomeUnlessInHand content begun h (contents.now q) (get_elem? (slice_set homes (content_shelf_of p) none) (content_shelf_of q)))
             (sym (set_at-else contents.hand p (Some hand) q other))
-            (subst (IsHomeUnlessInHand content begun (contents.hand q) (contents.now q)) (sym (set_else homes (content_slot_of p) (content_slot_of q) none (slots-apart p q other))) (home q within))
+            (subst (IsHomeUnlessInHand content begun (contents.hand q) (contents.now q)) (sym (set_else homes (content_shelf_of p) (content_shelf_of q) none (slots-apart p q other))) (home q within))
       ]
 
   -- and where one goes home.
   home-put :
-      (homes : List (maybe.Option (Kept T))) (contents : Contents) (p : ℕ) (part : T) → length homes ≡ TABLE_SLOTS → p < 16 → begun part ≡ None → ContentsAreHome content begun homes contents
-      → ContentsAreHome content begun (slice_set homes (content_slot_of p) (some (Part part))) (record { now = set_at contents.now p (content part); hand = set_at contents.hand p None })
+      (homes : List (maybe.Option (Kept T))) (contents : Contents) (p : ℕ) (part : T) → length homes ≡ TABLE_SHELVES → p < 16 → begun part ≡ None → ContentsAreHome content begun homes contents
+      → ContentsAreHome content begun (slice_set homes (content_shelf_of p) (some (Part part))) (record { now = set_at contents.now p (content part); hand = set_at contents.hand p None })
   home-put homes contents p part many exists none_begun home q within =
       elim (cases_eq q p) [
         | inl same ↦
-            subst (λ h. IsHomeUnlessInHand content begun h (set_at contents.now p (content part) q) (get_elem? (slice_set homes (content_slot_of p) (some (Part part))) (content_slot_of q)))
+            subst (λ h. IsHomeUnlessInHand content begun h (set_at contents.now p (content part) q) (get_elem? (slice_set homes (content_shelf_of p) (some (Part part))) (content_shelf_of q)))
             (sym (set_at-here contents.hand p None q same)) (record {
               part = part;
-              at_home = ap (λ j. get_elem? (slice_set homes (content_slot_of p) (some (Part part))) (content_slot_of j)) same
-                  ∙ set_here homes (content_slot_of p) (some (Part part)) (omega (arith, many, exists));
+              at_home = ap (λ j. get_elem? (slice_set homes (content_shelf_of p) (some (Part part))) (content_shelf_of j)) same
+                  ∙ set_here homes (content_shelf_of p) (some (Part part)) (omega (arith, many, exists));
               is_content = sym (set_at-here contents.now p (content part) q same);
               none_begun = none_begun;
             })
         | inr other ↦
-            subst (λ h. IsHomeUnlessInHand content begun h (set_at contents.now p (content part) q) (get_elem? (slice_set homes (content_slot_of p) (some (Part part))) (content_slot_of q)))
+            subst (λ h. IsHomeUnlessInHand content begun h (set_at contents.now p (content part) q) (get_elem? (slice_set homes (content_shelf_of p) (some (Part part))) (content_shelf_of q)))
             (sym (set_at-else contents.hand p None q other))
-            (subst (λ now. IsHomeUnlessInHand content begun (contents.hand q) now (get_elem? (slice_set homes (content_slot_of p) (some (Part part))) (content_slot_of q)))
+            (subst (λ now. IsHomeUnlessInHand content begun (contents.hand q) now (get_elem? (slice_set homes (content_shelf_of p) (some (Part part))) (content_shelf_of q)))
             (sym (set_at-else contents.now p (content part) q other))
             (subst (IsHomeUnlessInHand content begun (contents.hand q) (contents.now q))
-            (sym (set_else homes (content_slot_of p) (content_slot_of q) (some (Part part)) (slots-apart p q other))) (home q within)))
+            (sym (set_else homes (content_shelf_of p) (content_shelf_of q) (some (Part part)) (slots-apart p q other))) (home q within)))
       ]
 
-module _ {T : Type 0} (content : T → Content) (begun : T → Option Request) (sizes : Sizes) (id : ℕ) (me : Side T) (x : History T) (others : List (History T)) (is : me.0.sessions ≡ x ∷ others)
+module _ {T : Type 0} (content : T → Content) (begun : T → Option Request) (sizes : TableSizes) (id : ℕ) (me : Side T) (x : History T) (others : List (History T)) (is : me.0.sessions ≡ x ∷ others)
     (p : ℕ) (exists : p < 16) where
   -- What is at home in a partition that is free.
   at_home : (s : State (Kept T) (View T)) (r : Ruled content begun sizes s) → IsHeldByNobody (r.world.words.partition p)
-      → IsAtHome content begun (r.world.contents.now p) (get_elem? s.homes (content_slot_of p))
-  at_home s r free = subst (λ h. IsHomeUnlessInHand content begun h (r.world.contents.now p) (get_elem? s.homes (content_slot_of p))) (free-in_no_hand r.world r.safe p free) (r.contents p exists)
+      → IsAtHome content begun (r.world.contents.now p) (get_elem? s.homes (content_shelf_of p))
+  at_home s r free = subst (λ h. IsHomeUnlessInHand content begun h (r.world.contents.now p) (get_elem? s.homes (content_shelf_of p))) (free-in_no_hand r.world r.safe p free) (r.contents p exists)
 
   -- Taking it is noted so.
   abbrev taking-noted : (w : World) → Stepper sizes w x.number (told content x.number x.marks) → IsHeldByNobody (w.words.partition p) → MayAttempt (told content x.number x.marks) (todo_told_by x.number x.marks) (partition_lock p) → (part : T) → content part ≡ w.contents.now p
@@ -156,7 +156,7 @@ module _ {T : Type 0} (content : T → Content) (begun : T → Option Request) (
   -- The exchange takes it where it finds the number of a free word.
   pub takes_part : (old new : ℕ) (step : Step (Kept T)) → step.first ≡ old → step.word ≡ index_of_word (Partition p) → IsHeldByNobody old → new ≡ taken_word old
       → MayAttempt (told content x.number x.marks) (todo_told_by x.number x.marks) (partition_lock p)
-      → Allows (Ruled content begun sizes) TABLE_SLOTS id me (index_of_word (Partition p)) (λ n. either (n == old) new n) (TookPartition content begun step me)
+      → Allows (Ruled content begun sizes) TABLE_SHELVES id me (index_of_word (Partition p)) (λ n. either (n == old) new n) (TookPartition content begun step me)
   takes_part old new step first word free is_new tries s r many at below =
       exchanged n old new (λ m. (view : View T) × (act : Act (Kept T)) × Valid s.homes me.1 act
       × Ruled content begun sizes (stepped s (index_of_word (Partition p)) m id me.1 view act)
@@ -169,11 +169,11 @@ module _ {T : Type 0} (content : T → Content) (begun : T → Option Request) (
       let noted = taking-noted r.world steps is_free tries home.part home.is_content in
       let next : taken_word (r.world.words.partition p) ≡ new = ap taken_word shown ∙ sym is_new in (
         noting me.0 (TookPart p home.part),
-        takes (content_slot_of p) (Part home.part),
+        takes (content_shelf_of p) (Part home.part),
         home.at_home,
         ruled-noted content begun sizes s r id me.0 x others at is (TookPart p home.part)
             (set_word r.world.words (Partition p) (taken_word (r.world.words.partition p))) (slice_set s.words (index_of_word (Partition p)) new)
-            (slice_set s.homes (content_slot_of p) none) noted
+            (slice_set s.homes (content_shelf_of p) none) noted
             (subst (λ k. Rattle.shared_rule.specs.Shown.WordsAreShown sizes.groups (slice_set s.words (index_of_word (Partition p)) k) (set_word r.world.words (Partition p) (taken_word (r.world.words.partition p)))) next
             (words-set sizes.groups r.some_groups r.few_groups s.words r.world.words (Partition p) (taken_word (r.world.words.partition p)) r.words (exists, tt)))
             (home-taken content begun s.homes r.world.contents p
@@ -182,7 +182,7 @@ module _ {T : Type 0} (content : T → Content) (begun : T → Option Request) (
         (
           (λ _ q within same.
               let one : p ≡ q = omega (arith, same, word) in
-              subst (λ k. TookContent content begun k me (noting me.0 (TookPart p home.part), (content_slot_of p, Part home.part) ∷ me.1)) one (record {
+              subst (λ k. TookContent content begun k me (noting me.0 (TookPart p home.part), (content_shelf_of p, Part home.part) ∷ me.1)) one (record {
                 part = home.part;
                 side = refl;
                 none_begun = home.none_begun;
@@ -245,8 +245,8 @@ module _ {T : Type 0} (content : T → Content) (begun : T → Option Request) (
       }
 
   pub puts_part : (step : Step (Kept T)) (its : InHand) (done : Move) (part : T) → MayPutPart sizes.sessions x.number (told content x.number x.marks) p its done (content part)
-      → begun part ≡ None → me.1 ≡ (content_slot_of p, Part part) ∷ rest me.1 → (todo_told_by x.number x.marks).due ≡ None
-      → Allows (Ruled content begun sizes) TABLE_SLOTS id me (index_of_word (Partition p)) (λ n. (n + (2 ^ 64 - 2 ^ 24)) % 2 ^ 64) (WentHome (PutPart p done part) step me)
+      → begun part ≡ None → me.1 ≡ (content_shelf_of p, Part part) ∷ rest me.1 → (todo_told_by x.number x.marks).due ≡ None
+      → Allows (Ruled content begun sizes) TABLE_SHELVES id me (index_of_word (Partition p)) (λ n. (n + (2 ^ 64 - 2 ^ 24)) % 2 ^ 64) (WentHome (PutPart p done part) step me)
   puts_part step its done part may none_begun carried undue s r many at below =
       let steps = ruled-steps content begun sizes s r id me.0 x others at is in
       let own = hand-known (r.world.contents.hand p) (r.world.contents.now p) x.number its (subst (λ (a : Account). a.hand p ≡ Some its) steps.account (may_put-in_hand (told content x.number x.marks) its done (content part) may)) in
@@ -274,21 +274,21 @@ module _ {T : Type 0} (content : T → Content) (begun : T → Option Request) (
         refl,
       )
 
--- The same of the word at an index, in a table with this many slots.
-module _ {T : Type 0} (content : T → Content) (begun : T → Option Request) (sizes : Sizes) (id : ℕ) (me : Side T) (x : History T) (others : List (History T)) (is : me.0.sessions ≡ x ∷ others)
-    (p : ℕ) (exists : p < 16) (slots i : ℕ) (many : slots ≡ TABLE_SLOTS) (at : i ≡ index_of_word (Partition p)) where
+-- The same of the word at an index, in a table with this many shelves.
+module _ {T : Type 0} (content : T → Content) (begun : T → Option Request) (sizes : TableSizes) (id : ℕ) (me : Side T) (x : History T) (others : List (History T)) (is : me.0.sessions ≡ x ∷ others)
+    (p : ℕ) (exists : p < 16) (slots i : ℕ) (many : slots ≡ TABLE_SHELVES) (at : i ≡ index_of_word (Partition p)) where
   pub takes_part_at : (old new : ℕ) → IsHeldByNobody old → new ≡ taken_word old → MayAttempt (told content x.number x.marks) (todo_told_by x.number x.marks) (partition_lock p)
       → Allows (Ruled content begun sizes) slots id me i (λ n. either (n == old) new n) (TookPartition content begun (step slots i old new none) me)
   takes_part_at old new free is_new tries =
       subst (λ n. Allows (Ruled content begun sizes) n id me i (λ n. either (n == old) new n) (TookPartition content begun (step n i old new none) me)) (sym many)
-      (subst (λ k. Allows (Ruled content begun sizes) TABLE_SLOTS id me k (λ n. either (n == old) new n) (TookPartition content begun (step TABLE_SLOTS k old new none) me)) (sym at)
-      (takes_part content begun sizes id me x others is p exists old new (step TABLE_SLOTS (index_of_word (Partition p)) old new none) refl refl free is_new tries))
+      (subst (λ k. Allows (Ruled content begun sizes) TABLE_SHELVES id me k (λ n. either (n == old) new n) (TookPartition content begun (step TABLE_SHELVES k old new none) me)) (sym at)
+      (takes_part content begun sizes id me x others is p exists old new (step TABLE_SHELVES (index_of_word (Partition p)) old new none) refl refl free is_new tries))
 
   pub puts_part_at : (its : InHand) (done : Move) (part : T) → MayPutPart sizes.sessions x.number (told content x.number x.marks) p its done (content part)
-      → begun part ≡ None → me.1 ≡ (content_slot_of p, Part part) ∷ rest me.1 → (todo_told_by x.number x.marks).due ≡ None → (mark : ℕ → Mark T) → mark ≡ PutPart p done part
+      → begun part ≡ None → me.1 ≡ (content_shelf_of p, Part part) ∷ rest me.1 → (todo_told_by x.number x.marks).due ≡ None → (mark : ℕ → Mark T) → mark ≡ PutPart p done part
       → Allows (Ruled content begun sizes) slots id me i (λ n. (n + (2 ^ 64 - 16777216)) % 2 ^ 64) (WentHome mark (step slots i 16777216 0 none) me)
   puts_part_at its done part may none_begun carried undue mark marked =
       subst (λ n. Allows (Ruled content begun sizes) n id me i (λ n. (n + (2 ^ 64 - 16777216)) % 2 ^ 64) (WentHome mark (step n i 16777216 0 none) me)) (sym many)
-      (subst (λ k. Allows (Ruled content begun sizes) TABLE_SLOTS id me k (λ n. (n + (2 ^ 64 - 16777216)) % 2 ^ 64) (WentHome mark (step TABLE_SLOTS k 16777216 0 none) me)) (sym at)
-      (subst (λ (m : ℕ → Mark T). Allows (Ruled content begun sizes) TABLE_SLOTS id me (index_of_word (Partition p)) (λ n. (n + (2 ^ 64 - 16777216)) % 2 ^ 64) (WentHome m (step TABLE_SLOTS (index_of_word (Partition p)) 16777216 0 none) me)) (sym marked)
-      (puts_part content begun sizes id me x others is p exists (step TABLE_SLOTS (index_of_word (Partition p)) 16777216 0 none) its done part may none_begun carried undue)))
+      (subst (λ k. Allows (Ruled content begun sizes) TABLE_SHELVES id me k (λ n. (n + (2 ^ 64 - 16777216)) % 2 ^ 64) (WentHome mark (step TABLE_SHELVES k 16777216 0 none) me)) (sym at)
+      (subst (λ (m : ℕ → Mark T). Allows (Ruled content begun sizes) TABLE_SHELVES id me (index_of_word (Partition p)) (λ n. (n + (2 ^ 64 - 16777216)) % 2 ^ 64) (WentHome m (step TABLE_SHELVES (index_of_word (Partition p)) 16777216 0 none) me)) (sym marked)
+      (puts_part content begun sizes id me x others is p exists (step TABLE_SHELVES (index_of_word (Partition p)) 16777216 0 none) its done part may none_begun carried undue)))

@@ -19,7 +19,7 @@ use Rattle.lock_world.proofs.SafeWorld.Seats.{issuing-safe_world, going_on-safe_
 use Rattle.lock_world.proofs.FromSafeWorld.{no_conflict-own_world}
 use Rattle.shared_rule.specs.declared.history.Mark.{Mark}
 use Rattle.shared_rule.specs.declared.history.History.{History}
-use Rattle.shared_rule.specs.declared.rule.Sizes.{Sizes}
+use Rattle.shared_rule.specs.declared.rule.TableSizes.{TableSizes}
 use Rattle.shared_rule.specs.declared.history.View.{View}
 use Rattle.shared_rule.specs.declared.kept.Kept.{Kept}
 use Rattle.std.proofs.lemmas.Bool.{false_from_ne_true}
@@ -79,7 +79,7 @@ closing-lawful w safe k steps nobody may = record {
   keeps_nobody = nobody;
 }
 
-module _ {T : Type 0} (content : T → Content) (begun : T → Option Request) (sizes : Sizes) where
+module _ {T : Type 0} (content : T → Content) (begun : T → Option Request) (sizes : TableSizes) where
   -- Who closed stands with the opener still, where a view joins the others that doesn't know the next number,
   opener-longer : (numbers : Numbers) (views : List (View T)) (more : View T) → more.next ≡ None → OpenerHasClosed views numbers → OpenerHasClosed (views ++ more ∷ []) numbers
   opener-longer numbers views more none has seat view number there says =

@@ -25,7 +25,7 @@ use Rattle.lock_world.proofs.Accounts.Slots.{slots_now, account-setting, account
 use Rattle.lock_world.proofs.Accounts.Slots.{account-storing}
 use Rattle.lock_world.proofs.SafeWorld.Seats.{holding_nothing-unused}
 use Rattle.shared_rule.specs.Marks as mark
-use Rattle.shared_rule.specs.declared.rule.Sizes.{Sizes}
+use Rattle.shared_rule.specs.declared.rule.TableSizes.{TableSizes}
 use Rattle.shared_rule.specs.declared.history.History.{History}
 use Rattle.shared_rule.specs.Shown.{set_word}
 use Rattle.shared_rule.specs.Ruled.{NoneBeyondSlots}
@@ -37,16 +37,16 @@ use Rattle.shared_rule.proofs.Events.Waits.{home-recorded}
 -- Setting and clearing a mode in a slot of its own, moving one from a slot to the table, and storing its own database.
 
 -- A slot that is set is none beyond the others.
-set-none_beyond : (groups : ℕ) (words : Words) (session place n : ℕ) → place < group_size * groups → NoneBeyondSlots groups words
-    → NoneBeyondSlots groups (set_word words (Slot session place) n)
-set-none_beyond groups words session place n within none k j later =
+set-none_beyond : (groups : ℕ) (words : Words) (session slot n : ℕ) → slot < group_size * groups → NoneBeyondSlots groups words
+    → NoneBeyondSlots groups (set_word words (Slot session slot) n)
+set-none_beyond groups words session slot n within none k j later =
     elim (cases_eq k session) [
       | inl same ↦
-          ap (λ row. row j) (set_at-here words.slot session (set_at (words.slot session) place n) k same)
-          ∙ set_at-else (words.slot session) place n j (λ e. let eq : ◌≡◌ {A = ℕ} j place =
+          ap (λ row. row j) (set_at-here words.slot session (set_at (words.slot session) slot n) k same)
+          ∙ set_at-else (words.slot session) slot n j (λ e. let eq : ◌≡◌ {A = ℕ} j slot =
           e in omega (arith, eq, within, later))
           ∙ none session j later
-      | inr other ↦ ap (λ row. row j) (set_at-else words.slot session (set_at (words.slot session) place n) k other)
+      | inr other ↦ ap (λ row. row j) (set_at-else words.slot session (set_at (words.slot session) slot n) k other)
           ∙ none k j later
     ]
 
@@ -56,34 +56,34 @@ known-here : (w : World) (s owner : ℕ) (its : SlotsInHand) → (account w s).f
 known-here w s owner its known = (slots-known (w.sessions.holds_fast s owner) (w.words.database owner)
     (w.words.slot owner) its known).1
 
-module _ {T : Type 0} (content : T → Content) (sizes : Sizes) (x : History T) where
-  pub setting-lawful : (its : SlotsInHand) (place : ℕ) (tag : Tag) (mode : Mode) (shown : ℕ)
-      → place < group_size * sizes.groups → MaySetSlotBy sizes.groups x.number (told content x.number x.marks) its place tag mode → shown ≡ its.word place
-      → IsAlwaysLawful content sizes x (Slot x.number place) (λ _. Unit {0})
-      (λ _. word_with shown (relation_of tag) mode) (λ _. mark.SetSlot place tag mode)
-  setting-lawful its place tag mode shown within may is w steps n below _ _ =
+module _ {T : Type 0} (content : T → Content) (sizes : TableSizes) (x : History T) where
+  pub setting-lawful : (its : SlotsInHand) (slot : ℕ) (tag : Tag) (mode : Mode) (shown : ℕ)
+      → slot < group_size * sizes.groups → MaySetSlotBy sizes.groups x.number (told content x.number x.marks) its slot tag mode → shown ≡ its.word slot
+      → IsAlwaysLawful content sizes x (Slot x.number slot) (λ _. Unit {0})
+      (λ _. word_with shown (relation_of tag) mode) (λ _. mark.SetSlot slot tag mode)
+  setting-lawful its slot tag mode shown within may is w steps n below _ _ =
       let s : ℕ = x.number in
-      let may' : MaySetSlotBy w.numbers.groups s (account w s) its place tag mode =
-      subst (λ k. MaySetSlotBy k s (account w s) its place tag mode) (sym steps.are_groups)
-      (subst (λ a. MaySetSlotBy sizes.groups s a its place tag mode) steps.account may) in
-      let lawful = set_slot-lawful w steps.safe s steps.makes its place tag mode may' in
+      let may' : MaySetSlotBy w.numbers.groups s (account w s) its slot tag mode =
+      subst (λ k. MaySetSlotBy k s (account w s) its slot tag mode) (sym steps.are_groups)
+      (subst (λ a. MaySetSlotBy sizes.groups s a its slot tag mode) steps.account may) in
+      let lawful = set_slot-lawful w steps.safe s steps.makes its slot tag mode may' in
       let known : its ≡ slots_now w s = known-here w s s its may'.in_hand in
       let here : slots_here ((account w s).fast.slots s) ≡ slots_now w s = ap slots_here may'.in_hand ∙ known in
-      let shows : shown ≡ w.words.slot s place = is ∙ ap (λ (k : SlotsInHand). k.word place) known in
+      let shows : shown ≡ w.words.slot s slot = is ∙ ap (λ (k : SlotsInHand). k.word slot) known in
       record {
         list = w.words.list;
         noted = record {
-          step = step.SetSlot place tag mode;
+          step = step.SetSlot slot tag mode;
           tells = refl;
-          after = after_setting_slot w s place tag mode;
+          after = after_setting_slot w s slot tag mode;
           happens = (lawful, refl);
           numbers = refl;
-          account = (λ i. account_setting s (steps.account i) (slots_here ((steps.account i).fast.slots s)) place tag
+          account = (λ i. account_setting s (steps.account i) (slots_here ((steps.account i).fast.slots s)) slot tag
               mode)
-              ∙ (ap (λ slots. account_setting s (account w s) slots place tag mode) here
-              ∙ sym (account-setting w s place tag mode steps.safe lawful));
-          words = ap (λ k. set_word w.words (Slot s place) (word_with k (relation_of tag) mode)) (sym shows);
-          none_beyond = set-none_beyond sizes.groups w.words s place (word_with shown (relation_of tag) mode) within
+              ∙ (ap (λ slots. account_setting s (account w s) slots slot tag mode) here
+              ∙ sym (account-setting w s slot tag mode steps.safe lawful));
+          words = ap (λ k. set_word w.words (Slot s slot) (word_with k (relation_of tag) mode)) (sym shows);
+          none_beyond = set-none_beyond sizes.groups w.words s slot (word_with shown (relation_of tag) mode) within
               steps.none_beyond;
           few_counted = steps.few_counted s;
           keeps = record { in_order = tt; asks = λ d is was. tt; todo_ = λ d is. is; flagged_ = λ d was. was };
@@ -92,32 +92,32 @@ module _ {T : Type 0} (content : T → Content) (sizes : Sizes) (x : History T) 
         home = λ p none. (none, refl);
       }
 
-  pub clearing_slot-lawful : (its : SlotsInHand) (place : ℕ) (tag : Tag) (mode : Mode) (shown : ℕ)
-      → place < group_size * sizes.groups → MayClearSlotBy x.number (told content x.number x.marks) its place tag mode → shown ≡ its.word place
-      → IsAlwaysLawful content sizes x (Slot x.number place) (λ _. Unit {0}) (λ _. word_without shown mode)
-      (λ _. mark.ClearedSlot place tag mode)
-  clearing_slot-lawful its place tag mode shown within may is w steps n below _ _ =
+  pub clearing_slot-lawful : (its : SlotsInHand) (slot : ℕ) (tag : Tag) (mode : Mode) (shown : ℕ)
+      → slot < group_size * sizes.groups → MayClearSlotBy x.number (told content x.number x.marks) its slot tag mode → shown ≡ its.word slot
+      → IsAlwaysLawful content sizes x (Slot x.number slot) (λ _. Unit {0}) (λ _. word_without shown mode)
+      (λ _. mark.ClearedSlot slot tag mode)
+  clearing_slot-lawful its slot tag mode shown within may is w steps n below _ _ =
       let s : ℕ = x.number in
-      let may' : MayClearSlotBy s (account w s) its place tag mode =
-      subst (λ a. MayClearSlotBy s a its place tag mode) steps.account may in
-      let lawful = clear_slot-lawful w steps.safe s steps.makes its place tag mode may' in
+      let may' : MayClearSlotBy s (account w s) its slot tag mode =
+      subst (λ a. MayClearSlotBy s a its slot tag mode) steps.account may in
+      let lawful = clear_slot-lawful w steps.safe s steps.makes its slot tag mode may' in
       let known : its ≡ slots_now w s = known-here w s s its may'.in_hand in
       let here : slots_here ((account w s).fast.slots s) ≡ slots_now w s = ap slots_here may'.in_hand ∙ known in
-      let shows : shown ≡ w.words.slot s place = is ∙ ap (λ (k : SlotsInHand). k.word place) known in
+      let shows : shown ≡ w.words.slot s slot = is ∙ ap (λ (k : SlotsInHand). k.word slot) known in
       record {
         list = w.words.list;
         noted = record {
-          step = step.ClearSlot place tag mode;
+          step = step.ClearSlot slot tag mode;
           tells = refl;
-          after = after_clearing_slot w s place tag mode;
+          after = after_clearing_slot w s slot tag mode;
           happens = (lawful, refl);
           numbers = refl;
-          account = (λ i. account_unsetting s (steps.account i) (slots_here ((steps.account i).fast.slots s)) place
+          account = (λ i. account_unsetting s (steps.account i) (slots_here ((steps.account i).fast.slots s)) slot
               tag mode)
-              ∙ (ap (λ slots. account_unsetting s (account w s) slots place tag mode) here
-              ∙ sym (account-unsetting w s place tag mode steps.safe lawful));
-          words = ap (λ k. set_word w.words (Slot s place) (word_without k mode)) (sym shows);
-          none_beyond = set-none_beyond sizes.groups w.words s place (word_without shown mode) within steps.none_beyond;
+              ∙ (ap (λ slots. account_unsetting s (account w s) slots slot tag mode) here
+              ∙ sym (account-unsetting w s slot tag mode steps.safe lawful));
+          words = ap (λ k. set_word w.words (Slot s slot) (word_without k mode)) (sym shows);
+          none_beyond = set-none_beyond sizes.groups w.words s slot (word_without shown mode) within steps.none_beyond;
           few_counted = steps.few_counted s;
           keeps = record { in_order = tt; asks = λ d is was. tt; todo_ = λ d is. is; flagged_ = λ d was. was };
         };
@@ -125,47 +125,47 @@ module _ {T : Type 0} (content : T → Content) (sizes : Sizes) (x : History T) 
         home = λ p none. (none, refl);
       }
 
-  pub transferring-lawful : (owner place : ℕ) (its : SlotsInHand) (held : InHand) (tag : Tag) (mode strong : Mode)
-      (shown : ℕ) → place < group_size * sizes.groups
-      → MayTransferBy sizes.sessions (told content x.number x.marks) owner place its held tag mode strong
-      → shown ≡ its.word place
-      → IsAlwaysLawful content sizes x (Slot owner place) (λ _. Unit {0}) (λ _. word_without shown mode)
-      (λ _. mark.TransferredSlot owner place tag mode)
-  transferring-lawful owner place its held tag mode strong shown within may is w steps n below _ _ =
+  pub transferring-lawful : (owner slot : ℕ) (its : SlotsInHand) (held : InHand) (tag : Tag) (mode strong : Mode)
+      (shown : ℕ) → slot < group_size * sizes.groups
+      → MayTransferBy sizes.sessions (told content x.number x.marks) owner slot its held tag mode strong
+      → shown ≡ its.word slot
+      → IsAlwaysLawful content sizes x (Slot owner slot) (λ _. Unit {0}) (λ _. word_without shown mode)
+      (λ _. mark.TransferredSlot owner slot tag mode)
+  transferring-lawful owner slot its held tag mode strong shown within may is w steps n below _ _ =
       let s : ℕ = x.number in
       let p : ℕ = partition_of tag in
-      let may' : MayTransferBy w.numbers.limit (account w s) owner place its held tag mode strong =
-      subst (λ k. MayTransferBy k (account w s) owner place its held tag mode strong) (sym steps.is_limit)
-      (subst (λ a. MayTransferBy sizes.sessions a owner place its held tag mode strong) steps.account may) in
-      let lawful = transfer-lawful w steps.safe s steps.makes owner place its held tag mode strong may' in
+      let may' : MayTransferBy w.numbers.limit (account w s) owner slot its held tag mode strong =
+      subst (λ k. MayTransferBy k (account w s) owner slot its held tag mode strong) (sym steps.is_limit)
+      (subst (λ a. MayTransferBy sizes.sessions a owner slot its held tag mode strong) steps.account may) in
+      let lawful = transfer-lawful w steps.safe s steps.makes owner slot its held tag mode strong may' in
       let own = hand-known (w.contents.hand p) (w.contents.now p) s held may'.in_hand in
       let known : its ≡ slots_now w owner = known-here w s owner its may'.its_slots in
       let here : slots_here ((account w s).fast.slots owner) ≡ slots_now w owner = ap slots_here may'.its_slots
       ∙ known in
       let hand : in_hand ((account w s).hand p) ≡ mine own.hand_of (w.contents.now p) = ap in_hand may'.in_hand
       ∙ own.as_known in
-      let shows : shown ≡ w.words.slot owner place = is ∙ ap (λ (k : SlotsInHand). k.word place) known in
+      let shows : shown ≡ w.words.slot owner slot = is ∙ ap (λ (k : SlotsInHand). k.word slot) known in
       record {
         list = w.words.list;
         noted = record {
-          step = step.TransferSlot owner place tag mode strong;
+          step = step.TransferSlot owner slot tag mode strong;
           tells = (strong, refl);
-          after = after_transferring w owner place tag mode;
+          after = after_transferring w owner slot tag mode;
           happens = (lawful, refl);
           numbers = refl;
-          account = (λ i. account_transferring (steps.account i) owner place
+          account = (λ i. account_transferring (steps.account i) owner slot
               (slots_here ((steps.account i).fast.slots owner)) (in_hand ((steps.account i).hand p)) tag mode)
-              ∙ ((λ i. account_transferring (account w s) owner place (here i) (hand i) tag mode)
-              ∙ sym (account-transferring w s owner place tag mode strong own.hand_of steps.safe lawful own.is_hand
+              ∙ ((λ i. account_transferring (account w s) owner slot (here i) (hand i) tag mode)
+              ∙ sym (account-transferring w s owner slot tag mode strong own.hand_of steps.safe lawful own.is_hand
               own.whose));
-          words = ap (λ k. set_word w.words (Slot owner place) (word_without k mode)) (sym shows);
-          none_beyond = set-none_beyond sizes.groups w.words owner place (word_without shown mode) within steps.none_beyond;
+          words = ap (λ k. set_word w.words (Slot owner slot) (word_without k mode)) (sym shows);
+          none_beyond = set-none_beyond sizes.groups w.words owner slot (word_without shown mode) within steps.none_beyond;
           few_counted = steps.few_counted s;
           keeps = record { in_order = tt; asks = λ d is was. tt; todo_ = λ d is. is; flagged_ = λ d was. was };
         };
         lists = λ lock nobody. (nobody, refl);
         home = home-recorded w.contents p s held own
-            (set_at w.contents.now p (add_hold (w.contents.now p) owner tag mode)) (Adopt owner place)
+            (set_at w.contents.now p (add_hold (w.contents.now p) owner tag mode)) (Adopt owner slot)
             (is_unmarked (w.contents.hand p))
             (set_at-else w.contents.now p (add_hold (w.contents.now p) owner tag mode));
       }

@@ -28,7 +28,7 @@ use Rattle.lock_world.proofs.Accounts.Waits.{account-asking, account-loading_wai
 use Rattle.lock_world.proofs.Accounts.Marks.{mark_first-lawful, mark_next-lawful}
 use Rattle.lock_world.proofs.Counters.Lists.{any-map}
 use Rattle.shared_rule.specs.Marks as mark
-use Rattle.shared_rule.specs.declared.rule.Sizes.{Sizes}
+use Rattle.shared_rule.specs.declared.rule.TableSizes.{TableSizes}
 use Rattle.shared_rule.specs.declared.history.History.{History}
 use Rattle.shared_rule.specs.Shown.{set_word}
 use Rattle.shared_rule.specs.History.{told, in_hand, is_among, sessions_told, account_granting, account_granting_by, is_granted, account_cleared, account_left}
@@ -50,7 +50,7 @@ home-recorded contents p s its own now done unmarked elsewhere q none =
       | inr other ↦ (sym (set_at-else contents.hand p (recording (contents.hand p) done unmarked) q other) ∙ none, elsewhere q other)
     ]
 
-module _ {T : Type 0} (content : T → Content) (sizes : Sizes) (x : History T) where
+module _ {T : Type 0} (content : T → Content) (sizes : TableSizes) (x : History T) where
   -- Loading its own wait word.
   pub loading_wait-lawful : IsAlwaysLawful content sizes x (word.Wait x.number) (λ _. Unit {0}) (λ n. n) mark.LoadedWait
   loading_wait-lawful w steps n below shown _ =
@@ -149,7 +149,7 @@ marking-happens w s other p (Adopt k i) v grants h = absurd grants
 granted_word-wraps : (n : ℕ) → n < 2 ^ 64 → wait_state n ≡ 1 → granted_word n ≡ (n + 1) % 2 ^ 64
 granted_word-wraps n below waits = omega (arith, below, waits)
 
-module _ {T : Type 0} (content : T → Content) (sizes : Sizes) (x : History T) (p : ℕ) (its : InHand) (done : Move) (granted : List Wait) (now : T) (other : ℕ) (grants : IsGrantingIn p done) where
+module _ {T : Type 0} (content : T → Content) (sizes : TableSizes) (x : History T) (p : ℕ) (its : InHand) (done : Move) (granted : List Wait) (now : T) (other : ℕ) (grants : IsGrantingIn p done) where
   abbrev a : Account
   a = told content x.number x.marks
 
@@ -245,7 +245,7 @@ clearing-happens : (w : World) → SafeWorld w → (s : ℕ) → MakesSteps w.nu
 clearing-happens w safe s makes wait (inl seen) = inl (clear_seen-lawful w safe s makes wait seen)
 clearing-happens w safe s makes wait (inr gone) = inr (clear_in_hand-lawful w safe s makes wait gone.0 gone.1)
 
-module _ {T : Type 0} (content : T → Content) (sizes : Sizes) (x : History T) (wait : OwnWait) where
+module _ {T : Type 0} (content : T → Content) (sizes : TableSizes) (x : History T) (wait : OwnWait) where
   pub clearing-lawful : MayClearBy x.number (told content x.number x.marks) wait
       → IsAlwaysLawful content sizes x (word.Wait x.number) (λ _. Unit {0}) (λ _. 0) (λ _. mark.ClearedWait)
   clearing-lawful may w steps n below shown _ =

@@ -20,10 +20,10 @@ use mathlib.Core.Option as maybe
 use Rattle.lock_world.specs.World.{World, Words, Contents, Hand, word_in}
 use Rattle.shared_rule.specs.declared.history.Mark.{Mark}
 use Rattle.shared_rule.specs.declared.history.History.{History}
-use Rattle.shared_rule.specs.declared.rule.Sizes.{Sizes}
+use Rattle.shared_rule.specs.declared.rule.TableSizes.{TableSizes}
 use Rattle.shared_rule.specs.declared.history.View.{View}
 use Rattle.shared_rule.specs.declared.kept.Kept.{Kept}
-use Rattle.shared_rule.specs.Layout.{index_of_word, content_slot_of, list_slot_of, IsInTable}
+use Rattle.shared_rule.specs.Layout.{index_of_word, content_shelf_of, list_shelf_of, IsInTable}
 use Rattle.shared_rule.specs.Shown.{WordsAreShown, set_word}
 use Rattle.shared_rule.specs.History.{told, noting, first_account, first_number}
 use Rattle.shared_rule.specs.Ruled.{IsHomeUnlessInHand, ContentsAreHome, IsInNoHand, ListIsAtHome, ListsAreHome, Ruled}
@@ -43,11 +43,11 @@ home-kept :
     {T : Type 0} (content : T → Content) (begun : T → Option Request) (homes : List (maybe.Option (Kept T))) (before after : Contents) → KeepsHome before after
     → ContentsAreHome content begun homes before → ContentsAreHome content begun homes after
 home-kept {T} content begun homes before after kept home p within = go (after.hand p) refl where
-  go : (hand : Option Hand) → after.hand p ≡ hand → IsHomeUnlessInHand content begun hand (after.now p) (get_elem? homes (content_slot_of p))
+  go : (hand : Option Hand) → after.hand p ≡ hand → IsHomeUnlessInHand content begun hand (after.now p) (get_elem? homes (content_shelf_of p))
   go None home_now =
       let was = kept p home_now in
-      subst (λ now. IsHomeUnlessInHand content begun None now (get_elem? homes (content_slot_of p))) (sym was.1)
-      (subst (λ h. IsHomeUnlessInHand content begun h (before.now p) (get_elem? homes (content_slot_of p))) was.0 (home p within))
+      subst (λ now. IsHomeUnlessInHand content begun None now (get_elem? homes (content_shelf_of p))) (sym was.1)
+      (subst (λ h. IsHomeUnlessInHand content begun h (before.now p) (get_elem? homes (content_shelf_of p))) was.0 (home p within))
   go (Some hand) away = tt
 
 -- Slots that a session has in hand, or shares, are what the words show.
@@ -67,7 +67,7 @@ pub lists-kept :
     → ListsAreHome homes after.sessions.has_list after.words.list
 lists-kept homes before after kept home lock within nobody =
     let was = kept lock nobody in
-    subst (λ waiters. ListIsAtHome waiters (get_elem? homes (list_slot_of lock))) (sym was.1) (home lock within was.0)
+    subst (λ waiters. ListIsAtHome waiters (get_elem? homes (list_shelf_of lock))) (sym was.1) (home lock within was.0)
 
 -- No word shows who stands in a list.
 listed-same : (words : Words) (list : ℕ → List LwWaiter) (word : Word)
@@ -75,7 +75,7 @@ listed-same : (words : Words) (list : ℕ → List LwWaiter) (word : Word)
 listed-same words list (Partition p) = refl
 listed-same words list (Fast k) = refl
 listed-same words list (Database k) = refl
-listed-same words list (Slot k place) = refl
+listed-same words list (Slot k slot) = refl
 listed-same words list (Wait k) = refl
 listed-same words list (Strong index) = refl
 listed-same words list (Sleep k) = refl
@@ -100,9 +100,9 @@ word-known w safe s (Database k) = (
       ∙ ap (slot_holds (w.words.database k)) (sym (ap (λ (its : SlotsInHand). its.word) is)),
   λ own. ap w.words.database own,
 )
-word-known w safe s (Slot k place) = λ slots known.
+word-known w safe s (Slot k slot) = λ slots known.
     let is = slots-here w s k slots known in
-    sym (ap (λ (its : SlotsInHand). its.word place) is)
+    sym (ap (λ (its : SlotsInHand). its.word slot) is)
 word-known w safe s (Wait k) = λ own no_wait.
     ap (λ session. wait_state (w.words.wait session)) own ∙ safe.but_slots.table.promise.wait_words.idle s no_wait
 word-known w safe s (Strong index) = tt
@@ -110,7 +110,7 @@ word-known w safe s (Sleep k) = tt
 
 module _ {T : Type 0} (content : T → Content) where
   -- Whatever the World is, the step on a word that shows this is noted so, and leaves the contents alone.
-  pub record IsLawful (sizes : Sizes) (x : History T) (word : Word) (shown next : ℕ) (mark : Mark T) (w : World) : Type 0 where
+  pub record IsLawful (sizes : TableSizes) (x : History T) (word : Word) (shown next : ℕ) (mark : Mark T) (w : World) : Type 0 where
     -- who stands in lists after it
     pub list : ℕ → List LwWaiter
     pub noted :
@@ -119,13 +119,13 @@ module _ {T : Type 0} (content : T → Content) where
     pub home : KeepsHome w.contents noted.after.contents
     pub lists : KeepsLists w noted.after
 
-  abbrev pub IsAlwaysLawful : Sizes → History T → Word → (ℕ → Type 0) → (ℕ → ℕ) → (ℕ → Mark T) → Type 0
+  abbrev pub IsAlwaysLawful : TableSizes → History T → Word → (ℕ → Type 0) → (ℕ → ℕ) → (ℕ → Mark T) → Type 0
   IsAlwaysLawful sizes x word expected next mark =
       (w : World) → Stepper sizes w x.number (told content x.number x.marks)
       → (n : ℕ) → n < 2 ^ 64 → n ≡ word_in w.words word → expected n
       → IsLawful sizes x word n (next n) (mark n) w
 
-module _ {T : Type 0} (content : T → Content) (begun : T → Option Request) (sizes : Sizes) (slots id : ℕ) (me : Side T) (x : History T) (others : List (History T)) (is : me.0.sessions ≡ x ∷ others)
+module _ {T : Type 0} (content : T → Content) (begun : T → Option Request) (sizes : TableSizes) (slots id : ℕ) (me : Side T) (x : History T) (others : List (History T)) (is : me.0.sessions ≡ x ∷ others)
     (word : Word) (exists : IsInTable sizes.groups word) (next : ℕ → ℕ) (mark : ℕ → Mark T) where
   -- After it the rule holds.
   pub rule-after :
@@ -158,7 +158,7 @@ module _ {T : Type 0} (content : T → Content) (begun : T → Option Request) (
 
 -- A step that changes nothing.
 pub nothing-changes :
-    {T : Type 0} (content : T → Content) (begun : T → Option Request) (sizes : Sizes) (id i : ℕ) (view : View T) (s : State (Kept T) (View T))
+    {T : Type 0} (content : T → Content) (begun : T → Option Request) (sizes : TableSizes) (id i : ℕ) (view : View T) (s : State (Kept T) (View T))
     → Ruled content begun sizes s → get_elem? s.views id ≡ some view
     → Ruled content begun sizes (record { words = slice_set s.words i (slice_index s.words i); homes = s.homes; views = slice_set s.views id view })
 nothing-changes {T} content begun sizes id i view s r at =
@@ -167,7 +167,7 @@ nothing-changes {T} content begun sizes id i view s r at =
 
 -- The same of the word at an index: a play of a mark reads nothing else of its step.
 pub marks_at :
-    {T : Type 0} (content : T → Content) (begun : T → Option Request) (sizes : Sizes) (slots id : ℕ) (me : Side T) (x : History T) (others : List (History T)) → me.0.sessions ≡ x ∷ others
+    {T : Type 0} (content : T → Content) (begun : T → Option Request) (sizes : TableSizes) (slots id : ℕ) (me : Side T) (x : History T) (others : List (History T)) → me.0.sessions ≡ x ∷ others
     → (word : Word) → IsInTable sizes.groups word → (i : ℕ) → i ≡ index_of_word word → (next : ℕ → ℕ) (mark : ℕ → Mark T)
     → IsAlwaysLawful content sizes x word (λ _. Unit {0}) next mark
     → Allows (Ruled content begun sizes) slots id me i next (Marked mark (step 0 0 0 0 none) me)
@@ -177,7 +177,7 @@ marks_at {T} content begun sizes slots id me x others is word exists i at next m
 
 -- A load, or a fetch operation, that tells what the account knows of the number found.
 pub looks_at :
-    {T : Type 0} (content : T → Content) (begun : T → Option Request) (sizes : Sizes) (slots id : ℕ) (me : Side T) (x : History T) (others : List (History T)) → me.0.sessions ≡ x ∷ others
+    {T : Type 0} (content : T → Content) (begun : T → Option Request) (sizes : TableSizes) (slots id : ℕ) (me : Side T) (x : History T) (others : List (History T)) → me.0.sessions ≡ x ∷ others
     → (word : Word) → IsInTable sizes.groups word → (i : ℕ) → i ≡ index_of_word word → (first : ℕ) (next : ℕ → ℕ) (mark : ℕ → Mark T)
     → IsAlwaysLawful content sizes x word (λ _. Unit {0}) next mark
     → Allows (Ruled content begun sizes) slots id me i next (Looked content mark (step slots i first 0 none) me)
@@ -209,7 +209,7 @@ looks_at {T} content begun sizes slots id me x others is word exists i at first 
 
 -- A store, which leaves the same mark whatever it found.
 pub stores_at :
-    {T : Type 0} (content : T → Content) (begun : T → Option Request) (sizes : Sizes) (slots id : ℕ) (me : Side T) (x : History T) (others : List (History T)) → me.0.sessions ≡ x ∷ others
+    {T : Type 0} (content : T → Content) (begun : T → Option Request) (sizes : TableSizes) (slots id : ℕ) (me : Side T) (x : History T) (others : List (History T)) → me.0.sessions ≡ x ∷ others
     → (word : Word) → IsInTable sizes.groups word → (i : ℕ) → i ≡ index_of_word word → (new : ℕ) (mark : ℕ → Mark T) (left : Mark T) → mark ≡ (λ _. left)
     → IsAlwaysLawful content sizes x word (λ _. Unit {0}) (λ _. new) (λ _. left)
     → Allows (Ruled content begun sizes) slots id me i (λ _. new) (λ _. Marked mark (step 0 0 0 0 none) me new)
@@ -219,7 +219,7 @@ stores_at {T} content begun sizes slots id me x others is word exists i at new m
 
 -- A look at a word that stays as it is.
 pub looks-only :
-    {T : Type 0} (content : T → Content) (begun : T → Option Request) (sizes : Sizes) (id i : ℕ) (view : View T) (x : History T) (others : List (History T)) → view.sessions ≡ x ∷ others
+    {T : Type 0} (content : T → Content) (begun : T → Option Request) (sizes : TableSizes) (id i : ℕ) (view : View T) (x : History T) (others : List (History T)) → view.sessions ≡ x ∷ others
     → (s : State (Kept T) (View T)) (r : Ruled content begun sizes s) → get_elem? s.views id ≡ some view → (mark : Mark T) → IsSeen r.world (todo_told_by x.number x.marks) mark
     → Ruled content begun sizes (record { words = slice_set s.words i (slice_index s.words i); homes = s.homes; views = slice_set s.views id (noting view mark) })
 looks-only {T} content begun sizes id i view x others is s r at mark seen =
@@ -228,7 +228,7 @@ looks-only {T} content begun sizes id i view x others is s r at mark seen =
 
 -- A call: a load that leaves its mark, and changes nothing.
 pub calls_at :
-    {T : Type 0} (content : T → Content) (begun : T → Option Request) (sizes : Sizes) (slots id i : ℕ) (me : Side T) (x : History T) (others : List (History T)) → me.0.sessions ≡ x ∷ others
+    {T : Type 0} (content : T → Content) (begun : T → Option Request) (sizes : TableSizes) (slots id i : ℕ) (me : Side T) (x : History T) (others : List (History T)) → me.0.sessions ≡ x ∷ others
     → (mark : ℕ → Mark T) (left : Mark T) → mark ≡ (λ _. left) → ((w : World) → IsSeen w (todo_told_by x.number x.marks) left)
     → Allows (Ruled content begun sizes) slots id me i (λ n. n) (Marked mark (step 0 0 0 0 none) me)
 calls_at {T} content begun sizes slots id i me x others is mark left same seen =

@@ -70,7 +70,7 @@ returns-then-has g c =
     let cleared = c.clear_slot in
     let same = ap (λ (s : Seated). s.number) (looks.ensures.seat ∙ took.ensures.seat) in
     let counted : c.if-in_use.left ≡ used_in c.group_of-group.result
-    (set_at took.ensures.taken.slots.word c.in-Some.slot.place (word_without (took.ensures.taken.slots.word c.in-Some.slot.place) c.args.mode)) =
+    (set_at took.ensures.taken.slots.word c.in-Some.slot.number (word_without (took.ensures.taken.slots.word c.in-Some.slot.number) c.args.mode)) =
     elim c.if-in_use.branch [
       | then-in_use w ↦
           w.left-is ∙ recounted-kept groups number a c.args.uses.now c.number-own.result c.requires.ready

@@ -2,7 +2,7 @@ use Rattle.std.proofs.Common.{◌≡◌, ◌∙◌, ℕ, ◌+◌, ◌≤◌, tru
 use Rattle.std.specs.Prelude.{not}
 use Rattle.lock_world.specs.SlotHolds.{group_size, used_in}
 use Rattle.shared_rule.specs.History.{slots_here}
-use Rattle.fast_path.specs.Slots.{place_from_top, account_loading}
+use Rattle.fast_path.specs.Slots.{slot_from_top, account_loading}
 use Rattle.fast_path.proofs.Loading.{loading-begun, loading-next, loading-shows}
 use Rattle.fast_path.proofs.LookingFromTop.{SeesFromTop, sees-none, sees-same, sees-other, sees-first, sees-later}
 use Rattle.fast_path.proofs.LookingFromTop.{found-its, found-unused, found-end}
@@ -15,7 +15,7 @@ loop-step-init g c =
     let a = g.B.Board.view c.args.board.now in
     let word = (slots_here (a.fast.slots c.args.owner)).word in
     record {
-      loaded = loading-begun a c.args.owner (place_from_top c.args.group) word;
+      loaded = loading-begun a c.args.owner (slot_from_top c.args.group) word;
       sees = sees-none c.args.group word c.args.relation;
       few = omega arith;
       seat = search rules;
@@ -29,13 +29,13 @@ returns-then-relation g c =
     let word = (slots_here (a.fast.slots c.args.owner)).word in
     let so_far = c.loop-step.invariant in
     let step : ℕ = c.loop-step.step in
-    let shown : c.load_slot-word.result ≡ word (place_from_top c.args.group step) =
-    loading-shows a (g.B.Board.view c.loop-step.board) c.args.owner (place_from_top c.args.group) word step _
+    let shown : c.load_slot-word.result ≡ word (slot_from_top c.args.group step) =
+    loading-shows a (g.B.Board.view c.loop-step.board) c.args.owner (slot_from_top c.args.group) word step _
     c.load_slot-word.result
     c.requires.in_hand.0 so_far.loaded c.requires.in_hand.1 c.load_slot-word.ensures.of_slots in
     let loaded : g.B.Board.view c.load_slot-word.new.self
-    ≡ account_loading a c.args.owner (place_from_top c.args.group) word (step + 1) =
-    loading-next a (g.B.Board.view c.loop-step.board) _ c.args.owner (place_from_top c.args.group) word step
+    ≡ account_loading a c.args.owner (slot_from_top c.args.group) word (step + 1) =
+    loading-next a (g.B.Board.view c.loop-step.board) _ c.args.owner (slot_from_top c.args.group) word step
     c.load_slot-word.result so_far.loaded shown c.load_slot-word.ensures.view in
     record {
       loaded = (step + 1, omega (arith, c.loop-step-test.true), loaded);
@@ -53,13 +53,13 @@ returns-then-used_count-use_count g c =
     let word = (slots_here (a.fast.slots c.args.owner)).word in
     let so_far = c.loop-step.invariant in
     let step : ℕ = c.loop-step.step in
-    let shown : c.load_slot-word.result ≡ word (place_from_top c.args.group step) =
-    loading-shows a (g.B.Board.view c.loop-step.board) c.args.owner (place_from_top c.args.group) word step _
+    let shown : c.load_slot-word.result ≡ word (slot_from_top c.args.group step) =
+    loading-shows a (g.B.Board.view c.loop-step.board) c.args.owner (slot_from_top c.args.group) word step _
     c.load_slot-word.result
     c.requires.in_hand.0 so_far.loaded c.requires.in_hand.1 c.load_slot-word.ensures.of_slots in
     let loaded : g.B.Board.view c.load_slot-word.new.self
-    ≡ account_loading a c.args.owner (place_from_top c.args.group) word (step + 1) =
-    loading-next a (g.B.Board.view c.loop-step.board) _ c.args.owner (place_from_top c.args.group) word step
+    ≡ account_loading a c.args.owner (slot_from_top c.args.group) word (step + 1) =
+    loading-next a (g.B.Board.view c.loop-step.board) _ c.args.owner (slot_from_top c.args.group) word step
     c.load_slot-word.result so_far.loaded shown c.load_slot-word.ensures.view in
     let unused = sym c.in_use.ensures ∙ c.if-in_use.false in
     let some : is_some c.if-is_none.highest_unused ≡ true = elim c.if-is_none.branch [
@@ -96,13 +96,13 @@ loop-step-preserved g c =
     let word = (slots_here (a.fast.slots c.args.owner)).word in
     let so_far = c.loop-step.invariant in
     let step : ℕ = c.loop-step.step in
-    let shown : c.load_slot-word.result ≡ word (place_from_top c.args.group step) =
-    loading-shows a (g.B.Board.view c.loop-step.board) c.args.owner (place_from_top c.args.group) word step _
+    let shown : c.load_slot-word.result ≡ word (slot_from_top c.args.group step) =
+    loading-shows a (g.B.Board.view c.loop-step.board) c.args.owner (slot_from_top c.args.group) word step _
     c.load_slot-word.result
     c.requires.in_hand.0 so_far.loaded c.requires.in_hand.1 c.load_slot-word.ensures.of_slots in
     let loaded : g.B.Board.view c.load_slot-word.new.self
-    ≡ account_loading a c.args.owner (place_from_top c.args.group) word (step + 1) =
-    loading-next a (g.B.Board.view c.loop-step.board) _ c.args.owner (place_from_top c.args.group) word step
+    ≡ account_loading a c.args.owner (slot_from_top c.args.group) word (step + 1) =
+    loading-next a (g.B.Board.view c.loop-step.board) _ c.args.owner (slot_from_top c.args.group) word step
     c.load_slot-word.result so_far.loaded shown c.load_slot-word.ensures.view in
     record {
       loaded = loaded;

@@ -1,13 +1,13 @@
 use Rattle.std.proofs.Common.{◌≡◌, ◌≤◌}
 use Rattle.shared_rule.specs.History.{slots_here}
-use Rattle.fast_path.specs.Slots.{place_from_top, account_loading}
+use Rattle.fast_path.specs.Slots.{slot_from_top, account_loading}
 use Rattle.fast_path.proofs.LookingFromTop.{SeesFromTop}
 use Rattle.fast_path.proofs.slot_words.look_from_top.Given as goal
 
 abbrev pub invariant-loop-step : goal.invariant-loop-step
 invariant-loop-step g l = record {
   loaded : g.B.Board.view l.board
-      ≡ account_loading (g.B.Board.view l.fn.board) l.owner (place_from_top l.group)
+      ≡ account_loading (g.B.Board.view l.fn.board) l.owner (slot_from_top l.group)
       (slots_here ((g.B.Board.view l.fn.board).fast.slots l.owner)).word l.step;
   sees : SeesFromTop l.group (slots_here ((g.B.Board.view l.fn.board).fast.slots l.owner)).word l.relation l.step
       l.highest_unused l.used_count;

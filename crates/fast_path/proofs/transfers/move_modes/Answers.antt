@@ -12,11 +12,11 @@ use Rattle.fast_path.proofs.transfers.move_modes.Goals.{then-has+else-is_err, el
 
 pub transfer_slot-requires-clause-within : goal.transfer_slot-requires-clause-within
 transfer_slot-requires-clause-within g c =
-    subst (λ (s : Seated). c.args.place < group_size * s.groups) (sym c.loop-number.invariant.seat) c.requires.there
+    subst (λ (s : Seated). c.args.slot < group_size * s.groups) (sym c.loop-number.invariant.seat) c.requires.there
 
 pub loop-number-init : goal.loop-number-init
 loop-number-init g c = record {
-  moving = moving-begun (g.B.Board.view c.args.board.now) c.args.owner c.args.place c.args.word c.args.tag.now
+  moving = moving-begun (g.B.Board.view c.args.board.now) c.args.owner c.args.slot c.args.word c.args.tag.now
       (g.T.PartTable.content c.args.content.now) c.requires.in_hand;
   begun = c.requires.none_begun;
   stack = refl;
@@ -34,7 +34,7 @@ begin-requires-clause-new g c =
     let next : number_of c.unwrap-mode.result ≡ c.loop-number.number =
     subst (λ found. IfSome found (λ mode. number_of mode ≡ c.loop-number.number)) c.unwrap-mode.ensures
     c.from_number.ensures.found in
-    not_there-yet (g.B.Board.view c.args.board.now) c.args.owner c.args.place c.args.word c.args.tag.now
+    not_there-yet (g.B.Board.view c.args.board.now) c.args.owner c.args.slot c.args.word c.args.tag.now
     (g.T.PartTable.content c.args.content.now) c.requires.in_hand
     c.loop-number.number c.loop-number.left (g.T.PartTable.content c.loop-number.content)
     (g.B.Board.view c.loop-number.board) c.unwrap-mode.result c.args.strong c.requires.strong next
@@ -45,7 +45,7 @@ begin-requires-clause-not_awaited g c =
     let next : number_of c.unwrap-mode.result ≡ c.loop-number.number =
     subst (λ found. IfSome found (λ mode. number_of mode ≡ c.loop-number.number)) c.unwrap-mode.ensures
     c.from_number.ensures.found in
-    not_awaited-yet (g.B.Board.view c.args.board.now) c.args.owner c.args.place c.args.word c.args.tag.now
+    not_awaited-yet (g.B.Board.view c.args.board.now) c.args.owner c.args.slot c.args.word c.args.tag.now
     (g.T.PartTable.content c.args.content.now) c.requires.in_hand
     c.loop-number.number c.loop-number.left (g.T.PartTable.content c.loop-number.content)
     (g.B.Board.view c.loop-number.board) c.unwrap-mode.result c.args.strong c.requires.strong next
@@ -56,10 +56,10 @@ returns-then-is_err-clause-moved g c =
     let next : number_of c.unwrap-mode.result ≡ c.loop-number.number =
     subst (λ found. IfSome found (λ mode. number_of mode ≡ c.loop-number.number)) c.unwrap-mode.ensures
     c.from_number.ensures.found in
-    subst (λ now. MovesSome (g.B.Board.view c.args.board.now) c.args.owner c.args.place c.args.word c.args.tag.now
+    subst (λ now. MovesSome (g.B.Board.view c.args.board.now) c.args.owner c.args.slot c.args.word c.args.tag.now
     (g.T.PartTable.content c.args.content.now) now (g.B.Board.view c.loop-number.board))
     (sym c.begin.ensures.content)
-    (moving-stops (g.B.Board.view c.args.board.now) c.args.owner c.args.place c.args.word c.args.tag.now
+    (moving-stops (g.B.Board.view c.args.board.now) c.args.owner c.args.slot c.args.word c.args.tag.now
     (g.T.PartTable.content c.args.content.now) c.requires.in_hand
     c.loop-number.number c.loop-number.left (g.T.PartTable.content c.loop-number.content)
     (g.B.Board.view c.loop-number.board) c.unwrap-mode.result c.args.strong c.requires.strong next
@@ -70,7 +70,7 @@ transfer_slot-requires-clause-lawful g c =
     let next : number_of c.unwrap-mode.result ≡ c.loop-number.number =
     subst (λ found. IfSome found (λ mode. number_of mode ≡ c.loop-number.number)) c.unwrap-mode.ensures
     c.from_number.ensures.found in
-    may_transfer (g.B.Board.view c.args.board.now) c.args.owner c.args.place c.args.word c.args.tag.now
+    may_transfer (g.B.Board.view c.args.board.now) c.args.owner c.args.slot c.args.word c.args.tag.now
     (g.T.PartTable.content c.args.content.now) c.requires.in_hand
     c.loop-number.number c.loop-number.left (g.T.PartTable.content c.loop-number.content)
     (g.B.Board.view c.loop-number.board) c.unwrap-mode.result c.args.strong c.requires.strong next
@@ -92,7 +92,7 @@ loop-number-preserved g c =
     let now = g.T.PartTable.content c.loop-number.content in
     elim c.if-has.branch [
       | then-has+else-is_err w ↦ record {
-        moving = moving-next a c.args.owner c.args.place c.args.word c.args.tag.now taken c.requires.in_hand
+        moving = moving-next a c.args.owner c.args.slot c.args.word c.args.tag.now taken c.requires.in_hand
             c.loop-number.number c.loop-number.left now b c.unwrap-mode.result c.args.strong c.requires.strong next
             (omega (arith, c.loop-number-test.true)) c.loop-number.invariant.moving
             (g.T.PartTable.content c.if-has.content) (g.B.Board.view c.if-has.board) c.if-has.left
@@ -107,11 +107,11 @@ loop-number-preserved g c =
         seat = ap g.B.Board.seat w.board-is ∙ w.transfer_slot.ensures.seat ∙ c.loop-number.invariant.seat;
       }
       | else-has w ↦ record {
-        moving = moving-same a c.args.owner c.args.place c.args.word c.args.tag.now taken (c.loop-number.number + 1)
+        moving = moving-same a c.args.owner c.args.slot c.args.word c.args.tag.now taken (c.loop-number.number + 1)
             c.loop-number.left c.if-has.left now (g.T.PartTable.content c.if-has.content) b
             (g.B.Board.view c.if-has.board)
             w.left-is (ap g.T.PartTable.content w.content-is) (ap g.B.Board.view w.board-is)
-            (moving-skips a c.args.owner c.args.place c.args.word c.args.tag.now taken c.requires.in_hand
+            (moving-skips a c.args.owner c.args.slot c.args.word c.args.tag.now taken c.requires.in_hand
             c.loop-number.number c.loop-number.left now b c.unwrap-mode.result c.args.strong c.requires.strong next
             (omega (arith, c.loop-number-test.true)) c.loop-number.invariant.moving
             (sym c.has.ensures ∙ w.if-has.false));

@@ -17,8 +17,8 @@ adopt-requires-clause-there g c =
     looks.ensures.sighted.found in
     let below : c.group_of-group.result < (g.B.Board.seat c.args.board.now).groups =
     subst (λ (k : ℕ). c.group_of-group.result < k) c.groups.ensures.value c.group_of-group.ensures.exists in
-    subst (λ (s : Seated). c.in-Some.slot.place < group_size * s.groups) (sym looks.ensures.seat)
-    (place-below c.group_of-group.result (g.B.Board.seat c.args.board.now).groups c.in-Some.slot.place seen.within below)
+    subst (λ (s : Seated). c.in-Some.slot.number < group_size * s.groups) (sym looks.ensures.seat)
+    (place-below c.group_of-group.result (g.B.Board.seat c.args.board.now).groups c.in-Some.slot.number seen.within below)
 
 pub pass_fast-requires-clause-lawful : goal.pass_fast-requires-clause-lawful
 pass_fast-requires-clause-lawful g c =

@@ -200,15 +200,15 @@ pub misses-none :
     → listing.fast.items ≡ rows_of_all limit database word → IsListing (whole_of (content_at contents)) listing.table.items
     → MissesNone groups limit number before after listing
 misses-none groups limit number before after database word contents listing sixteen trace fast table first events worlds safe run is is_after
-    session place tag mode exists within its words stands =
-    elim (seen-or-taken session place tag mode first events worlds number before loads.first loads.second
-    (Loaded (Slot session place) (word session place) ∷ loads.later ++ takes.before)
-    (loads.rest ++ steps) (loads.later ++ steps) takes.after (database session) (word session place)
+    session slot tag mode exists within its words stands =
+    elim (seen-or-taken session slot tag mode first events worlds number before loads.first loads.second
+    (Loaded (Slot session slot) (word session slot) ∷ loads.later ++ takes.before)
+    (loads.rest ++ steps) (loads.later ++ steps) takes.after (database session) (word session slot)
     (content_at contents (partition_of tag)) safe run stands is by_database by_slot by_taking) [
       | inl seen ↦
           let fits = words (database session) (relation_of tag) (eligible-is (database session) tag mode seen.0).0 in
           let some : 1 ≤ times_shown (rows_of_all limit database word) session tag mode =
-          times-some limit database word session place tag mode exists fits within seen.0 seen.1 in
+          times-some limit database word session slot tag mode exists fits within seen.0 seen.1 in
           let rows : times_shown listing.fast.items session tag mode ≡ times_shown (rows_of_all limit database word) session tag mode =
           ap (λ entries. times_shown entries session tag mode) fast in
           omega (arith, some, rows)
@@ -217,8 +217,8 @@ misses-none groups limit number before after database word contents listing sixt
           table.each_once (record { session = session; tag = tag; mode = mode; granted = true }) ∙ rw has refl in
           omega (arith, one)
     ] where
-      loads : LoadsAt groups limit database word session place
-      loads = loads-at groups limit database word session place exists its
+      loads : LoadsAt groups limit database word session slot
+      loads = loads-at groups limit database word session slot exists its
 
       takes : StepAt 0 (partition_of tag) contents
       takes = let below : partition_of tag < 16 = omega arith in step-at 0 (partition_of tag) contents (omega (arith, below, sixteen))
@@ -230,7 +230,7 @@ misses-none groups limit number before after database word contents listing sixt
       its_database = Loaded (Database session) (database session) ∷ loads.rest
 
       its_slot : List TraceEntry
-      its_slot = Loaded (Slot session place) (word session place) ∷ loads.later
+      its_slot = Loaded (Slot session slot) (word session slot) ∷ loads.later
 
       its_taking : List TraceEntry
       its_taking = Took (partition_of tag) (content_at contents (partition_of tag)) ∷ takes.after
@@ -257,7 +257,7 @@ misses-none groups limit number before after database word contents listing sixt
           ∙ ap (λ entries. entries ++ its_slot) (sym (append_assoc before loads.first loads.second))
 
       by_slot : (last_of first worlds).sessions.trace number
-          ≡ ((before ++ loads.first) ++ loads.second) ++ Loaded (Slot session place) (word session place) ∷ (loads.later ++ steps)
+          ≡ ((before ++ loads.first) ++ loads.second) ++ Loaded (Slot session slot) (word session slot) ∷ (loads.later ++ steps)
       by_slot =
           all ∙ ap (λ entries. entries ++ steps) slots_then
           ∙ append_assoc ((before ++ loads.first) ++ loads.second) its_slot steps

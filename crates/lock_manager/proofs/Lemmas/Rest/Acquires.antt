@@ -62,7 +62,7 @@ rest-new groups limit database uses a stack entries blank none empty nothing =
     record {
       account = blank ∙ (λ i. account_at_rest limit database (remembered i) (sym nothing i) (trace i));
       use_count = record {
-        in_groups = subst (λ (slot : ℕ → ℕ). AreInGroups groups slot) remembered (λ place within used. absurd (false≢true used));
+        in_groups = subst (λ (words : ℕ → ℕ). AreInGroups groups words) remembered (λ slot within used. absurd (false≢true used));
         enough = λ group below.
             let unused : used_in group a.fast.remembered ≡ 0 = ap (used_in group) (sym remembered) ∙ used-nothing group in
             omega (arith, unused);

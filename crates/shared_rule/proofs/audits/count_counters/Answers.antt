@@ -5,18 +5,18 @@ use Rattle.shared_rule.proofs.audits.count_counters.Goals as goal
 
 pub loop-index-init : goal.loop-index-init
 loop-index-init g c = record {
-  seat = same-seat c.args.place.now;
-  slots = refl;
-  seen = counters-none g.T.PartTable.content c.args.place.now.me.0 c.requires.session;
+  seat = same-seat c.args.seat.now;
+  shelves = refl;
+  seen = counters-none g.T.PartTable.content c.args.seat.now.me.0 c.requires.session;
 }
 
 pub loop-index-preserved : goal.loop-index-preserved
 loop-index-preserved g c =
     let so_far = c.loop-index.invariant in
     record {
-      seat = same-seat_then c.args.place.now c.loop-index.place c.look_over_strong-sum.new.place so_far.seat c.look_over_strong-sum.ensures.seat;
-      slots = ap (λ (m : Side g.row.T.Denot). m.1) c.look_over_strong-sum.ensures.side ∙ so_far.slots;
-      seen = counters-load g.T.PartTable.content c.loop-index.index c.requires.all.0 c.args.place.now.me.0 c.loop-index.place.me.0 c.look_over_strong-sum.new.place.me.0
+      seat = same-seat_then c.args.seat.now c.loop-index.seat c.look_over_strong-sum.new.seat so_far.seat c.look_over_strong-sum.ensures.same_seat;
+      shelves = ap (λ (m : Side g.row.T.Denot). m.1) c.look_over_strong-sum.ensures.side ∙ so_far.shelves;
+      seen = counters-load g.T.PartTable.content c.loop-index.index c.requires.all.0 c.args.seat.now.me.0 c.loop-index.seat.me.0 c.look_over_strong-sum.new.seat.me.0
           c.loop-index.sum c.look_over_strong-sum.result c.requires.session so_far.seen c.requires.all.1 c.requires.no_slots
           (ap (λ (m : Side g.row.T.Denot). m.0) c.look_over_strong-sum.ensures.side) c.look_over_strong-sum.ensures.knows;
     }

@@ -9,7 +9,7 @@ ghosts-look_over_strong g a = record { mark = LoadedStrong a.index }
 
 abbrev pub invariant-loop-index : goal.invariant-loop-index
 invariant-loop-index g l = record {
-  seat : IsSameSeat l.fn.place l.place;
-  slots : l.place.me.1 ≡ l.fn.place.me.1;
-  seen : CountersSeen g.T.PartTable.content l.index l.fn.place.me.0 l.place.me.0 l.sum;
+  seat : IsSameSeat l.fn.seat l.seat;
+  shelves : l.seat.me.1 ≡ l.fn.seat.me.1;
+  seen : CountersSeen g.T.PartTable.content l.index l.fn.seat.me.0 l.seat.me.0 l.sum;
 }

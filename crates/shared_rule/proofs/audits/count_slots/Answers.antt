@@ -7,9 +7,9 @@ use Rattle.shared_rule.proofs.audits.count_slots.Goals as goal
 
 pub loop-number-init : goal.loop-number-init
 loop-number-init g c = record {
-  seat = same-seat c.args.place.now;
-  slots = refl;
-  sees = sees-no_session g.T.PartTable.content c.args.sizes.now.groups c.args.place.now.me.0 c.requires.session;
+  seat = same-seat c.args.seat.now;
+  shelves = refl;
+  sees = sees-no_session g.T.PartTable.content c.args.sizes.now.groups c.args.seat.now.me.0 c.requires.session;
   few = omega arith;
 }
 
@@ -22,11 +22,11 @@ loop-number-preserved g c =
     let owner : c.unwrap-owner.result ≡ c.loop-number.number =
     subst (λ found. IfSome found (λ id. id ≡ c.loop-number.number)) c.unwrap-owner.ensures c.new.ensures.value in
     record {
-      seat = same-seat_then c.args.place.now c.loop-number.place c.count_slots_of-sum.new.place so_far.seat c.count_slots_of-sum.ensures.seat;
-      slots = c.count_slots_of-sum.ensures.slots ∙ so_far.slots;
-      sees = sees-session content c.args.sizes.now.groups c.loop-number.number c.args.place.now.me.0 c.loop-number.place.me.0 c.count_slots_of-sum.new.place.me.0
+      seat = same-seat_then c.args.seat.now c.loop-number.seat c.count_slots_of-sum.new.seat so_far.seat c.count_slots_of-sum.ensures.same_seat;
+      shelves = c.count_slots_of-sum.ensures.shelves ∙ so_far.shelves;
+      sees = sees-session content c.args.sizes.now.groups c.loop-number.number c.args.seat.now.me.0 c.loop-number.seat.me.0 c.count_slots_of-sum.new.seat.me.0
           c.loop-number.sum _ c.count_slots_of-sum.result c.requires.session so_far.sees
-          (subst (λ k. SeesSlots content k (group_size * c.args.sizes.now.groups) c.loop-number.place.me.0 c.count_slots_of-sum.new.place.me.0 c.count_slots_of-sum.result) owner c.count_slots_of-sum.ensures.sees)
+          (subst (λ k. SeesSlots content k (group_size * c.args.sizes.now.groups) c.loop-number.seat.me.0 c.count_slots_of-sum.new.seat.me.0 c.count_slots_of-sum.result) owner c.count_slots_of-sum.ensures.sees)
           refl;
       few = omega (arith, few, most);
     }

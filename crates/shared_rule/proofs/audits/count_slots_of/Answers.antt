@@ -5,9 +5,9 @@ use Rattle.shared_rule.proofs.audits.count_slots_of.Goals as goal
 
 pub loop-slot-init : goal.loop-slot-init
 loop-slot-init g c = record {
-  seat = same-seat c.args.place.now;
-  slots = refl;
-  sees = sees-none g.T.PartTable.content c.args.owner c.args.place.now.me.0 c.requires.session;
+  seat = same-seat c.args.seat.now;
+  shelves = refl;
+  sees = sees-none g.T.PartTable.content c.args.owner c.args.seat.now.me.0 c.requires.session;
   few = omega arith;
 }
 
@@ -18,9 +18,9 @@ loop-slot-preserved g c =
     let few = so_far.few in
     let most = c.modes_in-sum.ensures.few in
     record {
-      seat = same-seat_then c.args.place.now c.loop-slot.place c.look_over_slot.new.place so_far.seat c.look_over_slot.ensures.seat;
-      slots = ap (λ (m : Side g.row.T.Denot). m.1) c.look_over_slot.ensures.side ∙ so_far.slots;
-      sees = sees-load content c.args.owner c.loop-slot.slot c.args.place.now.me.0 c.loop-slot.place.me.0 c.look_over_slot.new.place.me.0
+      seat = same-seat_then c.args.seat.now c.loop-slot.seat c.look_over_slot.new.seat so_far.seat c.look_over_slot.ensures.same_seat;
+      shelves = ap (λ (m : Side g.row.T.Denot). m.1) c.look_over_slot.ensures.side ∙ so_far.shelves;
+      sees = sees-load content c.args.owner c.loop-slot.slot c.args.seat.now.me.0 c.loop-slot.seat.me.0 c.look_over_slot.new.seat.me.0
           c.loop-slot.sum _ c.look_over_slot.result c.requires.session so_far.sees
           (ap (λ (m : Side g.row.T.Denot). m.0) c.look_over_slot.ensures.side) c.look_over_slot.ensures.knows
           (ap (λ n. c.loop-slot.sum + n) c.modes_in-sum.ensures.modes);

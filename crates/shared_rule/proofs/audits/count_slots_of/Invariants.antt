@@ -9,8 +9,8 @@ ghosts-look_over_slot g a = record { mark = LoadedSlot a.owner a.slot }
 
 abbrev pub invariant-loop-slot : goal.invariant-loop-slot
 invariant-loop-slot g l = record {
-  seat : IsSameSeat l.fn.place l.place;
-  slots : l.place.me.1 ≡ l.fn.place.me.1;
-  sees : SeesSlots g.T.PartTable.content l.owner l.slot l.fn.place.me.0 l.place.me.0 l.sum;
+  seat : IsSameSeat l.fn.seat l.seat;
+  shelves : l.seat.me.1 ≡ l.fn.seat.me.1;
+  sees : SeesSlots g.T.PartTable.content l.owner l.slot l.fn.seat.me.0 l.seat.me.0 l.sum;
   few : l.sum ≤ 3 * l.slot;
 }

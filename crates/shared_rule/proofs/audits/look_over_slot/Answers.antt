@@ -10,17 +10,17 @@ use Rattle.shared_rule.proofs.audits.look_over_slot.Goals as goal
 pub look_over_as-requires-clause-allowed : goal.look_over_as-requires-clause-allowed
 look_over_as-requires-clause-allowed g c =
     let content = g.T.PartTable.content in
-    let place = c.args.place.now in
+    let seat = c.args.seat.now in
     let session = c.requires.session in
-    looks_over_at content g.T.PartTable.begun c.args.top.now.key c.args.top.now.table_id.slots place.id place.me
+    looks_over_at content g.T.PartTable.begun c.args.words.now.key c.args.words.now.table_id.slots seat.id seat.me
     session.history session.others session.sessions
     (Slot c.args.owner c.args.slot) (c.requires.within, search rules) c.slot_word.result c.slot_word.ensures.index g.M.Marking.mark
-    (subst (IsAlwaysLawful content c.args.top.now.key session.history (Slot c.args.owner c.args.slot) (λ _. Unit {0})
+    (subst (IsAlwaysLawful content c.args.words.now.key session.history (Slot c.args.owner c.args.slot) (λ _. Unit {0})
     (λ n. n)) (sym c.requires.mark)
-    (loading_slot-lawful content c.args.top.now.key session.history c.args.owner c.args.slot c.requires.within))
+    (loading_slot-lawful content c.args.words.now.key session.history c.args.owner c.args.slot c.requires.within))
 
 pub returns-clause-knows : goal.returns-clause-knows
 returns-clause-knows g c = λ issued are.
-    subst (KnowsOfAll g.T.PartTable.content c.args.place.now.me.0 (Slot c.args.owner c.args.slot)) (sym c.from_number.ensures)
+    subst (KnowsOfAll g.T.PartTable.content c.args.seat.now.me.0 (Slot c.args.owner c.args.slot)) (sym c.from_number.ensures)
     (c.look_over_as.ensures.knows (Slot c.args.owner c.args.slot) issued
-    (may_be c.args.top.now.key.groups c.requires.grouped.few (Slot c.args.owner c.args.slot) (c.requires.within, search rules)) c.slot_word.ensures.index are)
+    (may_be c.args.words.now.key.groups c.requires.grouped.few (Slot c.args.owner c.args.slot) (c.requires.within, search rules)) c.slot_word.ensures.index are)

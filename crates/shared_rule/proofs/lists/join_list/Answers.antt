@@ -19,7 +19,7 @@ use Rattle.shared_rule.proofs.lists.join_list.Goals as goal
 pub store_as-requires-clause-allowed : goal.store_as-requires-clause-allowed
 store_as-requires-clause-allowed g c =
     let content = g.T.PartTable.content in
-    let place = c.args.place.now in
+    let seat = c.args.seat.now in
     let session = c.requires.session in
     let own : c.args.number ≡ session.history.number = c.requires.own
     ∙ ap (λ (sessions : List (History g.row.T.Denot)). first_number sessions) session.sessions in
@@ -27,23 +27,23 @@ store_as-requires-clause-allowed g c =
     let at = c.sleep_word.ensures.index ∙ ap (λ n. index_of_word (Sleep n)) own in
     let may = subst (λ (sessions : List (History g.row.T.Denot)). (mine : ListInHand)
     × MayJoinListBy (first_account content sessions) mine) session.sessions c.requires.lawful in
-    stores_at content g.T.PartTable.begun c.args.top.now.key c.args.top.now.table_id.slots place.id place.me
+    stores_at content g.T.PartTable.begun c.args.words.now.key c.args.words.now.table_id.slots seat.id seat.me
     session.history session.others session.sessions
     (Sleep session.history.number) (tt, exists) c.sleep_word.result at 1 g.M.Marking.mark _ c.requires.mark
-    (joining-lawful content c.args.top.now.key session.history may.0 c.args.mode may.1
-    (flagged-known place.me.0 session c.requires.flagged) (owes-known place.me.0 session c.requires.owes_no_ok)
+    (joining-lawful content c.args.words.now.key session.history may.0 c.args.mode may.1
+    (flagged-known seat.me.0 session c.requires.flagged) (owes-known seat.me.0 session c.requires.owes_no_ok)
     (subst (λ (sessions : List (History g.row.T.Denot)). (mine : ListInHand) → (first_account content sessions).lists.in_hand ≡ Some mine → NoneOr (first_todo sessions).tries mine.lock)
-    session.sessions c.requires.no_other) (joins-known content place.me.0 session c.requires.latest))
+    session.sessions c.requires.no_other) (joins-known content seat.me.0 session c.requires.latest))
 
 pub returns-clause-led : goal.returns-clause-led
 returns-clause-led g c =
     let content = g.T.PartTable.content in
-    let place = c.args.place.now in
-    let a = account_at content place in
-    led_to-as content place c.store_as.new.place _ _ _
-    (led-noted content place c.store_as.new.place (JoinedList c.args.mode) c.requires.session c.store_as.ensures.seat
+    let seat = c.args.seat.now in
+    let a = account_at content seat in
+    led_to-as content seat c.store_as.new.seat _ _ _
+    (led-noted content seat c.store_as.new.seat (JoinedList c.args.mode) c.requires.session c.store_as.ensures.same_seat
     (ap (λ (side : Side g.row.T.Denot). side.0) (c.store_as.ensures.side
-    ∙ ap (λ m. (Rattle.shared_rule.specs.History.noting place.me.0 (m 1), place.me.1)) c.requires.mark)) (λ owed i. owed))
+    ∙ ap (λ m. (Rattle.shared_rule.specs.History.noting seat.me.0 (m 1), seat.me.1)) c.requires.mark)) (λ owed i. owed))
     (ap (λ number. account_joining_list a (list_here a.lists.in_hand) (record { session = number; mode = c.args.mode })) (sym c.requires.own))
 
 pub returns-clause-slots : goal.returns-clause-slots

@@ -13,19 +13,19 @@ use Rattle.shared_rule.proofs.lists.load_sleep.Goals as goal
 pub load_as-requires-clause-allowed : goal.load_as-requires-clause-allowed
 load_as-requires-clause-allowed g c =
     let content = g.T.PartTable.content in
-    let place = c.args.place.now in
+    let seat = c.args.seat.now in
     let session = c.requires.session in
     let own : c.args.number ≡ session.history.number = c.requires.own
     ∙ ap (λ (sessions : List (History g.row.T.Denot)). first_number sessions) session.sessions in
     let exists : session.history.number < 64 = subst (λ n. n < 64) own (search rules) in
     let at = c.sleep_word.ensures.index ∙ ap (λ n. index_of_word (Sleep n)) own in
-    marks_at content g.T.PartTable.begun c.args.top.now.key c.args.top.now.table_id.slots place.id place.me
+    marks_at content g.T.PartTable.begun c.args.words.now.key c.args.words.now.table_id.slots seat.id seat.me
     session.history session.others session.sessions
     (Sleep session.history.number) (tt, exists) c.sleep_word.result at (λ n. n) LoadedSleep
-    (loading_sleep-lawful content c.args.top.now.key session.history)
+    (loading_sleep-lawful content c.args.words.now.key session.history)
 
 pub returns-clause-led : goal.returns-clause-led
 returns-clause-led g c =
-    led-noted g.T.PartTable.content c.args.place.now c.load_as.new.place (LoadedSleep c.load_as.result)
-    c.requires.session c.load_as.ensures.seat
+    led-noted g.T.PartTable.content c.args.seat.now c.load_as.new.seat (LoadedSleep c.load_as.result)
+    c.requires.session c.load_as.ensures.same_seat
     (ap (λ (side : Side g.row.T.Denot). side.0) c.load_as.ensures.side) (λ owed i. owed)

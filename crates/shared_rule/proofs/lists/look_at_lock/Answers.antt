@@ -9,30 +9,30 @@ use Rattle.shared_rule.proofs.lists.look_at_lock.Goals as goal
 
 pub load-requires : goal.load-requires
 load-requires g c =
-    let place = c.args.place.now in
+    let seat = c.args.seat.now in
     let session = c.requires.session in (
       c.requires.table.at,
       search rules,
-      sees_held_at g.T.PartTable.content g.T.PartTable.begun c.args.top.now.key c.args.top.now.table_id.slots place.id place.me
-          session.history session.others session.sessions c.args.lock.now c.requires.there (tries-known place.me.0 session (lock_number c.args.lock.now) c.requires.no_other_try) c.word.result c.word.ensures.index,
+      sees_held_at g.T.PartTable.content g.T.PartTable.begun c.args.words.now.key c.args.words.now.table_id.slots seat.id seat.me
+          session.history session.others session.sessions c.args.lock.now c.requires.there (tries-known seat.me.0 session (lock_number c.args.lock.now) c.requires.no_other_try) c.word.result c.word.ensures.index,
     )
 
 pub returns-clause-held : goal.returns-clause-held
 returns-clause-held g c = λ held.
-    let place = c.args.place.now in
+    let seat = c.args.seat.now in
     let saw = c.load.ensures.2.1 held c.args.lock.now c.requires.there c.word.ensures.index in
     record {
-      led = led-noted g.T.PartTable.content place c.load.new.seat (SawHeld (lock_number c.args.lock.now)) c.requires.session
+      led = led-noted g.T.PartTable.content seat c.load.new.seat (SawHeld (lock_number c.args.lock.now)) c.requires.session
           (record { table_id = c.load.ensures.0; id = c.load.ensures.1 }) (ap (λ (side : Side g.row.T.Denot). side.0) saw) (λ owed i. owed);
-      slots = ap (λ (side : Side g.row.T.Denot). side.1) saw;
+      shelves = ap (λ (side : Side g.row.T.Denot). side.1) saw;
     }
 
 pub returns-clause-free : goal.returns-clause-free
 returns-clause-free g c = λ free.
-    let place = c.args.place.now in
+    let seat = c.args.seat.now in
     let same = c.load.ensures.2.0 free in
     record {
-      led = led-none g.T.PartTable.content place c.load.new.seat c.requires.session
+      led = led-none g.T.PartTable.content seat c.load.new.seat c.requires.session
           (record { table_id = c.load.ensures.0; id = c.load.ensures.1 }) (ap (λ (side : Side g.row.T.Denot). side.0) same);
-      slots = ap (λ (side : Side g.row.T.Denot). side.1) same;
+      shelves = ap (λ (side : Side g.row.T.Denot). side.1) same;
     }

@@ -15,34 +15,34 @@ use Rattle.shared_rule.proofs.lists.set_has_waiters.Goals as goal
 pub fetch_or_as-requires-clause-allowed : goal.fetch_or_as-requires-clause-allowed
 fetch_or_as-requires-clause-allowed g c =
     let content = g.T.PartTable.content in
-    let place = c.args.place.now in
+    let seat = c.args.seat.now in
     let session = c.requires.session in
     let lock = c.args.lock.now in
     let may = subst (λ (sessions : List (History g.row.T.Denot)). (mine : ListInHand)
     × ((first_account content sessions).lists.in_hand ≡ Some mine) × (mine.lock ≡ lock_number lock)) session.sessions
     c.requires.lawful in
-    looks_at content g.T.PartTable.begun c.args.top.now.key c.args.top.now.table_id.slots place.id place.me
+    looks_at content g.T.PartTable.begun c.args.words.now.key c.args.words.now.table_id.slots seat.id seat.me
     session.history session.others session.sessions
-    (word_of_lock lock) (lock-word_there lock c.requires.there c.args.top.now.key.groups) c.word.result c.word.ensures.index (2 ^ 30)
+    (word_of_lock lock) (lock-word_there lock c.requires.there c.args.words.now.key.groups) c.word.result c.word.ensures.index (2 ^ 30)
     (λ n. bit_or n (2 ^ 30)) g.M.Marking.mark
-    (subst (IsAlwaysLawful content c.args.top.now.key session.history (word_of_lock lock) (λ _. Unit {0})
+    (subst (IsAlwaysLawful content c.args.words.now.key session.history (word_of_lock lock) (λ _. Unit {0})
     (λ n. bit_or n (2 ^ 30))) (sym c.requires.mark)
-    (setting_has_waiters-lawful content c.args.top.now.key session.history lock may.0 may.1 may.2))
+    (setting_has_waiters-lawful content c.args.words.now.key session.history lock may.0 may.1 may.2))
 
 pub returns-clause-led : goal.returns-clause-led
 returns-clause-led g c =
-    let place = c.args.place.now in
-    led-noted g.T.PartTable.content place c.fetch_or_as.new.place (SetHasWaiters (lock_number c.args.lock.now))
-    c.requires.session c.fetch_or_as.ensures.seat
+    let seat = c.args.seat.now in
+    led-noted g.T.PartTable.content seat c.fetch_or_as.new.seat (SetHasWaiters (lock_number c.args.lock.now))
+    c.requires.session c.fetch_or_as.ensures.same_seat
     (ap (λ (side : Side g.row.T.Denot). side.0) (c.fetch_or_as.ensures.side
-    ∙ ap (λ m. (noting place.me.0 (m c.fetch_or_as.result), place.me.1)) c.requires.mark)) (λ owed i. owed)
+    ∙ ap (λ m. (noting seat.me.0 (m c.fetch_or_as.result), seat.me.1)) c.requires.mark)) (λ owed i. owed)
 
 pub returns-clause-slots : goal.returns-clause-slots
 returns-clause-slots g c = ap (λ (side : Side g.row.T.Denot). side.1) c.fetch_or_as.ensures.side
 
 pub returns-clause-flagged : goal.returns-clause-flagged
 returns-clause-flagged g c =
-    let place = c.args.place.now in
+    let seat = c.args.seat.now in
     ap (λ (side : Side g.row.T.Denot). first_flagged side.0.sessions) (c.fetch_or_as.ensures.side
-    ∙ ap (λ m. (noting place.me.0 (m c.fetch_or_as.result), place.me.1)) c.requires.mark)
-    ∙ flagged-noted place.me.0 (SetHasWaiters (lock_number c.args.lock.now)) c.requires.session
+    ∙ ap (λ m. (noting seat.me.0 (m c.fetch_or_as.result), seat.me.1)) c.requires.mark)
+    ∙ flagged-noted seat.me.0 (SetHasWaiters (lock_number c.args.lock.now)) c.requires.session

@@ -13,24 +13,24 @@ use Rattle.shared_rule.proofs.lists.tell.Goals as goal
 pub store_as-requires-clause-allowed : goal.store_as-requires-clause-allowed
 store_as-requires-clause-allowed g c =
     let content = g.T.PartTable.content in
-    let place = c.args.place.now in
+    let seat = c.args.seat.now in
     let session = c.requires.session in
     let may = subst (λ (sessions : List (History g.row.T.Denot)). MayTellBy
     (first_account content sessions) c.args.other) session.sessions
     c.requires.lawful in
-    stores_at content g.T.PartTable.begun c.args.top.now.key c.args.top.now.table_id.slots place.id place.me
+    stores_at content g.T.PartTable.begun c.args.words.now.key c.args.words.now.table_id.slots seat.id seat.me
     session.history session.others session.sessions
     (Sleep c.args.other) (tt, search rules) c.sleep_word.result c.sleep_word.ensures.index 0 g.M.Marking.mark _
     c.requires.mark
-    (telling-lawful content c.args.top.now.key session.history c.args.other may)
+    (telling-lawful content c.args.words.now.key session.history c.args.other may)
 
 pub returns-clause-led : goal.returns-clause-led
 returns-clause-led g c =
-    let place = c.args.place.now in
-    led-noted g.T.PartTable.content place c.store_as.new.place (Told c.args.other) c.requires.session
-    c.store_as.ensures.seat
+    let seat = c.args.seat.now in
+    led-noted g.T.PartTable.content seat c.store_as.new.seat (Told c.args.other) c.requires.session
+    c.store_as.ensures.same_seat
     (ap (λ (side : Side g.row.T.Denot). side.0) (c.store_as.ensures.side
-    ∙ ap (λ m. (noting place.me.0 (m 0), place.me.1)) c.requires.mark)) (λ owed i. owed)
+    ∙ ap (λ m. (noting seat.me.0 (m 0), seat.me.1)) c.requires.mark)) (λ owed i. owed)
 
 pub returns-clause-slots : goal.returns-clause-slots
 returns-clause-slots g c = ap (λ (side : Side g.row.T.Denot). side.1) c.store_as.ensures.side

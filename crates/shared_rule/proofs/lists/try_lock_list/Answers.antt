@@ -4,7 +4,7 @@ use Rattle.lock_world.specs.AccountSteps.{account_locking_list}
 use Rattle.shared_rule.specs.declared.history.History.{History}
 use Rattle.shared_rule.specs.Marks.{LockedList, SawListLocked}
 use Rattle.shared_rule.specs.declared.kept.Kept.TheVariants as kept
-use Rattle.shared_rule.specs.Layout.{list_slot_of}
+use Rattle.shared_rule.specs.Layout.{list_shelf_of}
 use Rattle.shared_rule.specs.LwLocks.{lock_number}
 use Rattle.shared_rule.specs.History.{noting, first_account}
 use Rattle.shared_rule.specs.Todos.{TellsNobodyBy}
@@ -15,21 +15,21 @@ use Rattle.lw_word.specs.declared.wait_lists.LwWaiter.{LwWaiter}
 use Rattle.lw_word.specs.WaitList.{stands_in}
 use Rattle.shared_rule.specs.Plays.{Side, account_at, number_at}
 use Rattle.shared_rule.proofs.Led.{led-noted, led_to-as}
-use Rattle.shared_rule.proofs.Sides.{last-slot, last-came, last-set}
+use Rattle.shared_rule.proofs.Sides.{last-shelf, last-came, last-set}
 use Rattle.shared_rule.proofs.lists.try_lock_list.Goals as goal
 
 pub fetch_or-found-requires : goal.fetch_or-found-requires
 fetch_or-found-requires g c =
     let content = g.T.PartTable.content in
-    let place = c.args.place.now in
+    let seat = c.args.seat.now in
     let session = c.requires.session in
     let free = subst (λ (sessions : List (History g.row.T.Denot)). (first_account content sessions).lists.in_hand ≡ None)
     session.sessions c.requires.no_list in (
       c.requires.table.at,
       search rules,
-      locks_list_at content g.T.PartTable.begun c.args.top.now.key c.args.top.now.table_id.slots place.id place.me
+      locks_list_at content g.T.PartTable.begun c.args.words.now.key c.args.words.now.table_id.slots seat.id seat.me
           session.history session.others session.sessions c.args.lock.now c.requires.there c.requires.exists
-          (record { no_list = free }) (look-known place.me.0 session (lock_number c.args.lock.now) c.requires.no_other_look)
+          (record { no_list = free }) (look-known seat.me.0 session (lock_number c.args.lock.now) c.requires.no_other_look)
           (subst (λ (sessions : List (History g.row.T.Denot)). TellsNobodyBy (first_account content sessions)) session.sessions c.requires.tells_nobody)
           c.word.result c.word.ensures.index,
     )
@@ -41,8 +41,8 @@ exchange-kept-requires g c =
       c.fetch_or-found.ensures.0 ∙ c.requires.table.at,
       (
         kept.List took.list,
-        last-slot c.fetch_or-found.new.seat.me (noting c.args.place.now.me.0 (LockedList n took.list.value)) c.list_slot.result
-            (list_slot_of n) (kept.List took.list) c.args.place.now.me.1 took.side c.list_slot.ensures.slot,
+        last-shelf c.fetch_or-found.new.seat.me (noting c.args.seat.now.me.0 (LockedList n took.list.value)) c.list_shelf.result
+            (list_shelf_of n) (kept.List took.list) c.args.seat.now.me.1 took.side c.list_shelf.ensures.shelf,
       ),
     )
 
@@ -51,57 +51,57 @@ into_list-requires g c =
     let n = lock_number c.args.lock.now in
     let took = c.fetch_or-found.ensures.2.0 (c.has_locked_list.ensures.0 c.if-has_locked_list.true) c.args.lock.now c.requires.there c.word.ensures.index in (
       took.list,
-      last-came c.fetch_or-found.new.seat.me (noting c.args.place.now.me.0 (LockedList n took.list.value)) c.list_slot.result
-          (list_slot_of n) (kept.List took.list) c.exchange-kept.result c.args.place.now.me.1 took.side c.exchange-kept.ensures.2,
+      last-came c.fetch_or-found.new.seat.me (noting c.args.seat.now.me.0 (LockedList n took.list.value)) c.list_shelf.result
+          (list_shelf_of n) (kept.List took.list) c.exchange-kept.result c.args.seat.now.me.1 took.side c.exchange-kept.ensures.2,
     )
 
 pub returns-then-has_locked_list-clause-led : goal.returns-then-has_locked_list-clause-led
 returns-then-has_locked_list-clause-led g c =
     let content = g.T.PartTable.content in
-    let place = c.args.place.now in
+    let seat = c.args.seat.now in
     let n = lock_number c.args.lock.now in
     let took = c.fetch_or-found.ensures.2.0 (c.has_locked_list.ensures.0 c.if-has_locked_list.true) c.args.lock.now c.requires.there c.word.ensures.index in
-    let came = last-came c.fetch_or-found.new.seat.me (noting place.me.0 (LockedList n took.list.value)) c.list_slot.result
-    (list_slot_of n) (kept.List took.list) c.exchange-kept.result place.me.1 took.side c.exchange-kept.ensures.2 in
+    let came = last-came c.fetch_or-found.new.seat.me (noting seat.me.0 (LockedList n took.list.value)) c.list_shelf.result
+    (list_shelf_of n) (kept.List took.list) c.exchange-kept.result seat.me.1 took.side c.exchange-kept.ensures.2 in
     let same : took.list ≡ c.into_list.result = list-same took.list c.into_list.result (sym came ∙ c.into_list.ensures) in
     let set = last-set c.fetch_or-found.new.seat.me c.exchange-kept.new.seat.me
-    (noting place.me.0 (LockedList n took.list.value)) c.list_slot.result (list_slot_of n) (kept.List took.list) kept.Nothing
-    place.me.1 took.side c.list_slot.ensures.slot c.exchange-kept.ensures.3 in
-    led_to-as content place c.exchange-kept.new.seat _ _ _
-    (led-noted content place c.exchange-kept.new.seat (LockedList n took.list.value) c.requires.session
+    (noting seat.me.0 (LockedList n took.list.value)) c.list_shelf.result (list_shelf_of n) (kept.List took.list) kept.Nothing
+    seat.me.1 took.side c.list_shelf.ensures.shelf c.exchange-kept.ensures.3 in
+    led_to-as content seat c.exchange-kept.new.seat _ _ _
+    (led-noted content seat c.exchange-kept.new.seat (LockedList n took.list.value) c.requires.session
     (record {
       table_id = c.exchange-kept.ensures.0 ∙ c.fetch_or-found.ensures.0;
       id = c.exchange-kept.ensures.1 ∙ c.fetch_or-found.ensures.1;
     })
     (ap (λ (side : Side g.row.T.Denot). side.0) set) (λ owed i. owed))
-    (ap (λ (list : Box (List LwWaiter)). account_locking_list (account_at content place) n list.value) same)
+    (ap (λ (list : Box (List LwWaiter)). account_locking_list (account_at content seat) n list.value) same)
 
 pub returns-then-has_locked_list-clause-slots : goal.returns-then-has_locked_list-clause-slots
 returns-then-has_locked_list-clause-slots g c =
-    let place = c.args.place.now in
+    let seat = c.args.seat.now in
     let n = lock_number c.args.lock.now in
     let took = c.fetch_or-found.ensures.2.0 (c.has_locked_list.ensures.0 c.if-has_locked_list.true) c.args.lock.now c.requires.there c.word.ensures.index in
     ap (λ (side : Side g.row.T.Denot). side.1) (last-set c.fetch_or-found.new.seat.me c.exchange-kept.new.seat.me
-    (noting place.me.0 (LockedList n took.list.value)) c.list_slot.result (list_slot_of n) (kept.List took.list) kept.Nothing
-    place.me.1 took.side c.list_slot.ensures.slot c.exchange-kept.ensures.3)
+    (noting seat.me.0 (LockedList n took.list.value)) c.list_shelf.result (list_shelf_of n) (kept.List took.list) kept.Nothing
+    seat.me.1 took.side c.list_shelf.ensures.shelf c.exchange-kept.ensures.3)
 
 pub returns-then-has_locked_list-clause-stands : goal.returns-then-has_locked_list-clause-stands
 returns-then-has_locked_list-clause-stands g c = λ there.
-    let place = c.args.place.now in
+    let seat = c.args.seat.now in
     let n = lock_number c.args.lock.now in
     let took = c.fetch_or-found.ensures.2.0 (c.has_locked_list.ensures.0 c.if-has_locked_list.true) c.args.lock.now c.requires.there c.word.ensures.index in
-    let came = last-came c.fetch_or-found.new.seat.me (noting place.me.0 (LockedList n took.list.value)) c.list_slot.result
-    (list_slot_of n) (kept.List took.list) c.exchange-kept.result place.me.1 took.side c.exchange-kept.ensures.2 in
+    let came = last-came c.fetch_or-found.new.seat.me (noting seat.me.0 (LockedList n took.list.value)) c.list_shelf.result
+    (list_shelf_of n) (kept.List took.list) c.exchange-kept.result seat.me.1 took.side c.exchange-kept.ensures.2 in
     let same : took.list ≡ c.into_list.result = list-same took.list c.into_list.result (sym came ∙ c.into_list.ensures) in
-    took.stands (ap (λ (list : Box (List LwWaiter)). stands_in (number_at place) list.value) same ∙ there)
+    took.stands (ap (λ (list : Box (List LwWaiter)). stands_in (number_at seat) list.value) same ∙ there)
 
 pub returns-else-has_locked_list-clause-none : goal.returns-else-has_locked_list-clause-none
 returns-else-has_locked_list-clause-none g c =
-    let place = c.args.place.now in
+    let seat = c.args.seat.now in
     let n = lock_number c.args.lock.now in
     let saw = c.fetch_or-found.ensures.2.1 (λ free. false≢true (sym c.if-has_locked_list.false ∙ c.has_locked_list.ensures.1 free)) c.args.lock.now c.requires.there c.word.ensures.index in
     record {
-      led = led-noted g.T.PartTable.content place c.fetch_or-found.new.seat (SawListLocked n) c.requires.session
+      led = led-noted g.T.PartTable.content seat c.fetch_or-found.new.seat (SawListLocked n) c.requires.session
           (record { table_id = c.fetch_or-found.ensures.0; id = c.fetch_or-found.ensures.1 }) (ap (λ (side : Side g.row.T.Denot). side.0) saw) (λ owed i. owed);
-      slots = ap (λ (side : Side g.row.T.Denot). side.1) saw;
+      shelves = ap (λ (side : Side g.row.T.Denot). side.1) saw;
     }

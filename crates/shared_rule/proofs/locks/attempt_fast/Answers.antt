@@ -9,19 +9,19 @@ use Rattle.shared_rule.proofs.locks.attempt_fast.Goals as goal
 
 pub compare_exchange-requires : goal.compare_exchange-requires
 compare_exchange-requires g c =
-    let place = c.args.place.now in
+    let seat = c.args.seat.now in
     let session = c.requires.session in (
       c.requires.table.at,
       search rules,
-      takes_fast_at g.T.PartTable.content g.T.PartTable.begun c.args.top.now.key c.args.top.now.table_id.slots
-          place.id place.me session.history session.others session.sessions
-          c.args.owner (search rules) g.G.Grouping.groups c.args.shown c.args.taken c.requires.groups c.requires.exists c.requires.free.0 c.requires.free.1 (attempt-known g.T.PartTable.content place.me.0 session (fast_lock c.args.owner) c.requires.no_other_try c.requires.no_other_list)
+      takes_fast_at g.T.PartTable.content g.T.PartTable.begun c.args.words.now.key c.args.words.now.table_id.slots
+          seat.id seat.me session.history session.others session.sessions
+          c.args.owner (search rules) g.G.Grouping.groups c.args.shown c.args.taken c.requires.groups c.requires.exists c.requires.free.0 c.requires.free.1 (attempt-known g.T.PartTable.content seat.me.0 session (fast_lock c.args.owner) c.requires.no_other_try c.requires.no_other_list)
           c.fast_word.result c.fast_word.ensures.index,
     )
 
 pub returns-clause-won : goal.returns-clause-won
 returns-clause-won g c =
-    subst (λ n. GetsSlots g.T.PartTable.content n Exclusive c.args.owner c.args.place.now c.compare_exchange.new.seat) c.requires.groups
-    (took-slots g.T.PartTable.content g.G.Grouping.groups c.args.owner c.args.place.now c.compare_exchange.new.seat c.requires.session
+    subst (λ n. GetsSlots g.T.PartTable.content n Exclusive c.args.owner c.args.seat.now c.compare_exchange.new.seat) c.requires.groups
+    (took-slots g.T.PartTable.content g.G.Grouping.groups c.args.owner c.args.seat.now c.compare_exchange.new.seat c.requires.session
     (record { table_id = c.compare_exchange.ensures.0; id = c.compare_exchange.ensures.1 })
     (c.compare_exchange.ensures.2.0 (search rules) c.args.owner (search rules) c.fast_word.ensures.index))

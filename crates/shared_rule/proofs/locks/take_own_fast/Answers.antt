@@ -9,19 +9,19 @@ use Rattle.shared_rule.proofs.locks.take_own_fast.Goals as goal
 
 pub compare_exchange-requires : goal.compare_exchange-requires
 compare_exchange-requires g c =
-    let place = c.args.place.now in
+    let seat = c.args.seat.now in
     let session = c.requires.session in
     let own : c.args.number ≡ session.history.number = c.requires.own
     ∙ ap (λ (sessions : List (History g.row.T.Denot)). first_number sessions) session.sessions in (
       c.requires.table.at,
       search rules,
-      tries_fast_at g.T.PartTable.content g.T.PartTable.begun c.args.top.now.key c.args.top.now.table_id.slots
-          place.id place.me session.history session.others session.sessions
-          c.args.number (search rules) g.G.Grouping.groups c.args.shown c.args.taken c.requires.groups own c.requires.free.0 c.requires.free.1 (attempt-known g.T.PartTable.content place.me.0 session (fast_lock c.args.number) c.requires.no_other_try c.requires.no_other_list)
+      tries_fast_at g.T.PartTable.content g.T.PartTable.begun c.args.words.now.key c.args.words.now.table_id.slots
+          seat.id seat.me session.history session.others session.sessions
+          c.args.number (search rules) g.G.Grouping.groups c.args.shown c.args.taken c.requires.groups own c.requires.free.0 c.requires.free.1 (attempt-known g.T.PartTable.content seat.me.0 session (fast_lock c.args.number) c.requires.no_other_try c.requires.no_other_list)
           c.fast_word.result c.fast_word.ensures.index,
     )
 
 pub returns-clause-won : goal.returns-clause-won
 returns-clause-won g c = λ same.
-    subst (λ n. TookSlots g.T.PartTable.content n c.args.number c.args.place.now.me c.compare_exchange.new.seat.me) c.requires.groups
+    subst (λ n. TookSlots g.T.PartTable.content n c.args.number c.args.seat.now.me c.compare_exchange.new.seat.me) c.requires.groups
     (c.compare_exchange.ensures.2.0 same c.args.number (search rules) c.fast_word.ensures.index)

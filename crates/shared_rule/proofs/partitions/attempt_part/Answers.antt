@@ -2,7 +2,7 @@ use Rattle.std.proofs.Common.{rules, ◌≡◌, ◌∷◌, sym, ap, ◌∙◌, s
 use Rattle.lock_world.specs.AccountFacts.{KnowsContent}
 use Rattle.shared_rule.specs.Marks.{TookPart}
 use Rattle.shared_rule.specs.declared.kept.Kept.TheVariants.{Part, Nothing}
-use Rattle.shared_rule.specs.Layout.{content_slot_of}
+use Rattle.shared_rule.specs.Layout.{content_shelf_of}
 use Rattle.shared_rule.specs.History.{noting}
 use Rattle.lock_world.specs.WaitLists.{partition_lock}
 use Rattle.shared_rule.proofs.Taken.{attempt-known}
@@ -10,19 +10,19 @@ use Rattle.shared_rule.proofs.Events.Partitions.{takes_part_at, part-same}
 use Rattle.lock_world.specs.AccountSteps.{account_taking}
 use Rattle.shared_rule.specs.Plays.{Side, account_at, number_at}
 use Rattle.shared_rule.proofs.Led.{led-noted, led_to-as}
-use Rattle.shared_rule.proofs.Sides.{last-slot, last-came, last-set}
+use Rattle.shared_rule.proofs.Sides.{last-shelf, last-came, last-set}
 use Rattle.shared_rule.proofs.partitions.attempt_part.Goals as goal
 
 pub compare_exchange-requires : goal.compare_exchange-requires
 compare_exchange-requires g c =
-    let place = c.args.place.now in
+    let seat = c.args.seat.now in
     let sized = c.requires.table.sized in
     let session = c.requires.session in (
       c.requires.table.at,
       search rules,
-      takes_part_at g.T.PartTable.content g.T.PartTable.begun c.args.top.now.key place.id place.me session.history session.others session.sessions
-          c.args.part c.requires.exists c.args.top.now.table_id.slots c.partition_word.result sized.slots c.partition_word.ensures.index
-          c.args.shown c.args.taken c.requires.free.0 c.requires.free.1 (attempt-known g.T.PartTable.content place.me.0 session (partition_lock c.args.part) c.requires.no_other_try c.requires.no_other_list),
+      takes_part_at g.T.PartTable.content g.T.PartTable.begun c.args.words.now.key seat.id seat.me session.history session.others session.sessions
+          c.args.part c.requires.exists c.args.words.now.table_id.slots c.partition_word.result sized.shelves c.partition_word.ensures.index
+          c.args.shown c.args.taken c.requires.free.0 c.requires.free.1 (attempt-known g.T.PartTable.content seat.me.0 session (partition_lock c.args.part) c.requires.no_other_try c.requires.no_other_list),
     )
 
 pub exchange-requires : goal.exchange-requires
@@ -31,8 +31,8 @@ exchange-requires g c =
       c.compare_exchange.ensures.0 ∙ c.requires.table.at,
       (
         Part took.part,
-        last-slot c.compare_exchange.new.seat.me (noting c.args.place.now.me.0 (TookPart c.args.part took.part)) c.content_slot.result (content_slot_of c.args.part) (Part took.part)
-            c.args.place.now.me.1 took.side c.content_slot.ensures.slot,
+        last-shelf c.compare_exchange.new.seat.me (noting c.args.seat.now.me.0 (TookPart c.args.part took.part)) c.content_shelf.result (content_shelf_of c.args.part) (Part took.part)
+            c.args.seat.now.me.1 took.side c.content_shelf.ensures.shelf,
       ),
     )
 
@@ -40,46 +40,46 @@ pub into_part-requires : goal.into_part-requires
 into_part-requires g c =
     let took = c.compare_exchange.ensures.2.0 (search rules) c.args.part c.requires.exists c.partition_word.ensures.index in
     let came : c.exchange.result ≡ Part took.part =
-    last-came c.compare_exchange.new.seat.me (noting c.args.place.now.me.0 (TookPart c.args.part took.part)) c.content_slot.result (content_slot_of c.args.part) (Part took.part) c.exchange.result
-    c.args.place.now.me.1 took.side c.exchange.ensures.2 in
+    last-came c.compare_exchange.new.seat.me (noting c.args.seat.now.me.0 (TookPart c.args.part took.part)) c.content_shelf.result (content_shelf_of c.args.part) (Part took.part) c.exchange.result
+    c.args.seat.now.me.1 took.side c.exchange.ensures.2 in
     (took.part, came)
 
 pub returns-clause-won : goal.returns-clause-won
 returns-clause-won g c =
     let content = g.T.PartTable.content in
-    let place = c.args.place.now in
+    let seat = c.args.seat.now in
     let after = c.exchange.new.seat in
     let part = c.args.part in
     let took = c.compare_exchange.ensures.2.0 (search rules) part c.requires.exists c.partition_word.ensures.index in
     let came : c.exchange.result ≡ Part took.part =
-    last-came c.compare_exchange.new.seat.me (noting place.me.0 (TookPart part took.part)) c.content_slot.result (content_slot_of part)
-    (Part took.part) c.exchange.result place.me.1 took.side c.exchange.ensures.2 in
+    last-came c.compare_exchange.new.seat.me (noting seat.me.0 (TookPart part took.part)) c.content_shelf.result (content_shelf_of part)
+    (Part took.part) c.exchange.result seat.me.1 took.side c.exchange.ensures.2 in
     let same : took.part ≡ c.into_part.result = part-same took.part c.into_part.result (sym came ∙ c.into_part.ensures) in
-    let side = last-set c.compare_exchange.new.seat.me after.me (noting place.me.0 (TookPart part took.part)) c.content_slot.result
-    (content_slot_of part) (Part took.part) Nothing place.me.1 took.side c.content_slot.ensures.slot c.exchange.ensures.3 in
+    let side = last-set c.compare_exchange.new.seat.me after.me (noting seat.me.0 (TookPart part took.part)) c.content_shelf.result
+    (content_shelf_of part) (Part took.part) Nothing seat.me.1 took.side c.content_shelf.ensures.shelf c.exchange.ensures.3 in
     record {
-      led = led_to-as content place after _ _ _
-          (led-noted content place after (TookPart part took.part) c.requires.session
+      led = led_to-as content seat after _ _ _
+          (led-noted content seat after (TookPart part took.part) c.requires.session
           (record {
             table_id = c.exchange.ensures.0 ∙ c.compare_exchange.ensures.0;
             id = c.exchange.ensures.1 ∙ c.compare_exchange.ensures.1;
           })
           (ap (λ (s : Side g.row.T.Denot). s.0) side) (λ owed i. owed))
-          (ap (λ its. account_taking (account_at content place) part (content its)) same);
-      slots = ap (λ (s : Side g.row.T.Denot). s.1) side;
+          (ap (λ its. account_taking (account_at content seat) part (content its)) same);
+      shelves = ap (λ (s : Side g.row.T.Denot). s.1) side;
       none_begun = ap g.T.PartTable.begun (sym same) ∙ took.none_begun;
-      knows = subst (λ its. KnowsContent (number_at place) (account_at content place) part (content its)) same took.knows;
+      knows = subst (λ its. KnowsContent (number_at seat) (account_at content seat) part (content its)) same took.knows;
     }
 
 pub returns-clause-side : goal.returns-clause-side
 returns-clause-side g c =
     let part = c.args.part in
-    let place = c.args.place.now in
+    let seat = c.args.seat.now in
     let took = c.compare_exchange.ensures.2.0 (search rules) part c.requires.exists c.partition_word.ensures.index in
     let came : c.exchange.result ≡ Part took.part =
-    last-came c.compare_exchange.new.seat.me (noting place.me.0 (TookPart part took.part)) c.content_slot.result (content_slot_of part)
-    (Part took.part) c.exchange.result place.me.1 took.side c.exchange.ensures.2 in
+    last-came c.compare_exchange.new.seat.me (noting seat.me.0 (TookPart part took.part)) c.content_shelf.result (content_shelf_of part)
+    (Part took.part) c.exchange.result seat.me.1 took.side c.exchange.ensures.2 in
     let same : took.part ≡ c.into_part.result = part-same took.part c.into_part.result (sym came ∙ c.into_part.ensures) in
-    last-set c.compare_exchange.new.seat.me c.exchange.new.seat.me (noting place.me.0 (TookPart part took.part)) c.content_slot.result
-    (content_slot_of part) (Part took.part) Nothing place.me.1 took.side c.content_slot.ensures.slot c.exchange.ensures.3
-    ∙ ap (λ its. (noting place.me.0 (TookPart part its), (content_slot_of part, Nothing) ∷ place.me.1)) same
+    last-set c.compare_exchange.new.seat.me c.exchange.new.seat.me (noting seat.me.0 (TookPart part took.part)) c.content_shelf.result
+    (content_shelf_of part) (Part took.part) Nothing seat.me.1 took.side c.content_shelf.ensures.shelf c.exchange.ensures.3
+    ∙ ap (λ its. (noting seat.me.0 (TookPart part its), (content_shelf_of part, Nothing) ∷ seat.me.1)) same

@@ -5,44 +5,44 @@ use Rattle.shared_rule.specs.Lawful.{MayPutPart}
 use Rattle.shared_rule.specs.declared.history.History.{History}
 use Rattle.shared_rule.specs.declared.kept.Kept.TheVariants.{Part}
 use Rattle.shared_rule.specs.Plays.{Side}
-use Rattle.shared_rule.specs.Layout.{content_slot_of}
+use Rattle.shared_rule.specs.Layout.{content_shelf_of}
 use Rattle.shared_rule.specs.History.{first_account, first_number, noting}
 use Rattle.shared_rule.proofs.Taken.{due-known}
 use Rattle.shared_rule.proofs.Events.Partitions.{puts_part_at}
 use Rattle.shared_rule.specs.Marks.{PutPart}
 use Rattle.shared_rule.proofs.Led.{led-noted}
-use Rattle.shared_rule.proofs.Sides.{last-slot}
+use Rattle.shared_rule.proofs.Sides.{last-shelf}
 use Rattle.shared_rule.proofs.partitions.put_part_home.Goals as goal
 
 pub put_home_as-requires-clause-allowed : goal.put_home_as-requires-clause-allowed
 put_home_as-requires-clause-allowed g c =
     let content = g.T.PartTable.content in
-    let place = c.exchange.new.seat in
+    let seat = c.exchange.new.seat in
     let session = c.requires.session in
     let set = c.exchange.ensures.3 in
     let is = ap (λ (m : Side g.row.T.Denot). m.0.sessions) set ∙ session.sessions in
-    let slot = c.content_slot.ensures.slot in
-    let may = subst (λ (sessions : List (History g.row.T.Denot)). (mine : InHand) × MayPutPart c.args.top.now.key.sessions (first_number sessions) (first_account content sessions) c.args.part mine c.args.done.now (content c.args.content))
+    let shelf = c.content_shelf.ensures.shelf in
+    let may = subst (λ (sessions : List (History g.row.T.Denot)). (mine : InHand) × MayPutPart c.args.words.now.key.sessions (first_number sessions) (first_account content sessions) c.args.part mine c.args.done.now (content c.args.content))
     session.sessions c.requires.lawful in
-    puts_part_at content g.T.PartTable.begun c.args.top.now.key place.id place.me session.history session.others is
-    c.args.part c.requires.exists c.args.top.now.table_id.slots c.partition_word.result c.requires.table.sized.slots c.partition_word.ensures.index
+    puts_part_at content g.T.PartTable.begun c.args.words.now.key seat.id seat.me session.history session.others is
+    c.args.part c.requires.exists c.args.words.now.table_id.slots c.partition_word.result c.requires.table.sized.shelves c.partition_word.ensures.index
     may.0 c.args.done.now c.args.content may.1 c.requires.none_begun
-    (last-slot place.me c.args.place.now.me.0 (content_slot_of c.args.part) c.content_slot.result (Part c.args.content) (rest c.args.place.now.me.1) set (sym slot))
-    (due-known c.args.place.now.me.0 session c.requires.no_look) g.M.Marking.mark c.requires.mark
+    (last-shelf seat.me c.args.seat.now.me.0 (content_shelf_of c.args.part) c.content_shelf.result (Part c.args.content) (rest c.args.seat.now.me.1) set (sym slot))
+    (due-known c.args.seat.now.me.0 session c.requires.no_look) g.M.Marking.mark c.requires.mark
 
 pub returns-clause-led : goal.returns-clause-led
 returns-clause-led g c =
-    let place = c.args.place.now in
+    let seat = c.args.seat.now in
     let set = c.exchange.ensures.3 in
-    led-noted g.T.PartTable.content place c.put_home_as.new.place (PutPart c.args.part c.args.done.now c.args.content c.put_home_as.result)
+    led-noted g.T.PartTable.content seat c.put_home_as.new.seat (PutPart c.args.part c.args.done.now c.args.content c.put_home_as.result)
     c.requires.session
     (record {
-      table_id = c.put_home_as.ensures.seat.table_id ∙ c.exchange.ensures.0;
-      id = c.put_home_as.ensures.seat.id ∙ c.exchange.ensures.1;
+      table_id = c.put_home_as.ensures.same_seat.table_id ∙ c.exchange.ensures.0;
+      id = c.put_home_as.ensures.same_seat.id ∙ c.exchange.ensures.1;
     })
     (ap (λ (s : Side g.row.T.Denot). s.0) c.put_home_as.ensures.side
     ∙ ap (λ (s : Side g.row.T.Denot). noting s.0 (g.M.Marking.mark c.put_home_as.result)) set
-    ∙ ap (λ m. noting place.me.0 (m c.put_home_as.result)) c.requires.mark) (λ owed i. owed)
+    ∙ ap (λ m. noting seat.me.0 (m c.put_home_as.result)) c.requires.mark) (λ owed i. owed)
 
 pub returns-clause-slots : goal.returns-clause-slots
 returns-clause-slots g c =

@@ -3,4 +3,4 @@ use Rattle.shared_rule.specs.Plays.{IsSameSeat}
 use Rattle.shared_rule.proofs.partitions.take_part_alone.Given as goal
 
 abbrev pub invariant-loop : goal.invariant-loop
-invariant-loop g l = IsSameSeat l.fn.place l.place × (l.place.me ≡ l.fn.place.me)
+invariant-loop g l = IsSameSeat l.fn.seat l.seat × (l.seat.me ≡ l.fn.seat.me)

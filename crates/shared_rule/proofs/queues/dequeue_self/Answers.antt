@@ -16,7 +16,7 @@ leave_list-requires-clause-lawful g c =
     let n = lock_number c.args.lock.now in (
       record { lock = n; waiters = c.lock_list-list.result.value },
       record {
-        in_hand = list-in_hand g.T.PartTable.content c.args.place.now c.lock_list-list.new.place n c.lock_list-list.result.value c.lock_list-list.ensures.led;
+        in_hand = list-in_hand g.T.PartTable.content c.args.seat.now c.lock_list-list.new.seat n c.lock_list-list.result.value c.lock_list-list.ensures.led;
         stands =
             ap (λ k. stands_in k c.lock_list-list.result.value) (c.lock_list-list.ensures.led.number ∙ sym c.requires.own)
             ∙ ap (stands_in c.args.number) (sym c.deref_mut.ensures.value)
@@ -32,15 +32,15 @@ unlock_list-requires-else-leave-clause-in_hand g c =
     let missing : stands_in c.args.number waiters ≡ false =
     ap (stands_in c.args.number) (sym c.deref_mut.ensures.value) ∙ sym c.leave.ensures.found ∙ c.if-leave.false in
     ap (λ (a : Account). a.lists.in_hand) c.set_release_ok.ensures.led.account
-    ∙ list-in_hand g.T.PartTable.content c.args.place.now c.lock_list-list.new.place n waiters c.lock_list-list.ensures.led
+    ∙ list-in_hand g.T.PartTable.content c.args.seat.now c.lock_list-list.new.seat n waiters c.lock_list-list.ensures.led
     ∙ ap (λ (ws : List LwWaiter). Some (record { lock = n; waiters = ws }))
     (sym (c.leave.ensures.left ∙ ap (without c.args.number) c.deref_mut.ensures.value ∙ left-alone c.args.number waiters missing))
 
 pub returns-then-leave-clause-led : goal.returns-then-leave-clause-led
 returns-then-leave-clause-led g c =
-    dequeued g.T.PartTable.content c.args.place.now c.lock_list-list.new.place (lock_number c.args.lock.now)
+    dequeued g.T.PartTable.content c.args.seat.now c.lock_list-list.new.seat (lock_number c.args.lock.now)
     c.lock_list-list.result.value c.lock_list-list.ensures.led
-    c.leave_list.new.place c.unlock_list.new.place c.args.number c.requires.queued c.requires.todo
+    c.leave_list.new.seat c.unlock_list.new.seat c.args.number c.requires.queued c.requires.todo
     c.leave_list.ensures.led c.unlock_list.ensures.led
 
 pub returns-else-leave-clause-led : goal.returns-else-leave-clause-led
@@ -49,20 +49,20 @@ returns-else-leave-clause-led g c =
     let number = c.lock_list-list.ensures.led.number ∙ sym c.requires.own in
     let missing : stands_in c.args.number waiters ≡ false =
     ap (stands_in c.args.number) (sym c.deref_mut.ensures.value) ∙ sym c.leave.ensures.found ∙ c.if-leave.false in
-    taken_off-told g.T.PartTable.content c.args.place.now c.lock_list-list.new.place (lock_number c.args.lock.now)
+    taken_off-told g.T.PartTable.content c.args.seat.now c.lock_list-list.new.seat (lock_number c.args.lock.now)
     waiters c.lock_list-list.ensures.led
-    c.set_release_ok.new.place c.unlock_list-else-leave.new.place c.sleep_until_told.new.place (number_at c.lock_list-list.new.place) c.requires.queued c.requires.todo
+    c.set_release_ok.new.seat c.unlock_list-else-leave.new.seat c.sleep_until_told.new.seat (number_at c.lock_list-list.new.seat) c.requires.queued c.requires.todo
     (ap (λ n. stands_in n waiters) number ∙ missing)
     c.set_release_ok.ensures.led c.unlock_list-else-leave.ensures.led c.sleep_until_told.ensures.led
 
 pub unlock_list-requires-clause-left_well : goal.unlock_list-requires-clause-left_well
 unlock_list-requires-clause-left_well g c =
-    still_has (got-left c.args.lock.now (account_at g.T.PartTable.content c.args.place.now) _ _
+    still_has (got-left c.args.lock.now (account_at g.T.PartTable.content c.args.seat.now) _ _
     (c.leave_list.ensures.led.account ∙ ap (λ (a : Account). account_leaving_list a (list_here a.lists.in_hand) c.args.number) c.lock_list-list.ensures.led.account) c.requires.got)
 
 pub unlock_list-requires-else-leave-clause-left_well : goal.unlock_list-requires-else-leave-clause-left_well
 unlock_list-requires-else-leave-clause-left_well g c =
-    still_has (got-left c.args.lock.now (account_at g.T.PartTable.content c.args.place.now) _ _
+    still_has (got-left c.args.lock.now (account_at g.T.PartTable.content c.args.seat.now) _ _
     (c.set_release_ok.ensures.led.account ∙ c.lock_list-list.ensures.led.account) c.requires.got)
 
 pub set_release_ok-requires-clause-no_other : goal.set_release_ok-requires-clause-no_other
@@ -79,8 +79,8 @@ sleep_until_told-requires-clause-may g c =
     let missing : stands_in c.args.number waiters ≡ false =
     ap (stands_in c.args.number) (sym c.deref_mut.ensures.value) ∙ sym c.leave.ensures.found ∙ c.if-leave.false in
     let done = c.unlock_list-else-leave.ensures.led.todo ∙ c.set_release_ok.ensures.led.todo
-    ∙ won-todo g.T.PartTable.content c.args.place.now c.lock_list-list.new.place (lock_number c.args.lock.now) waiters c.lock_list-list.ensures.led
-    (number_at c.lock_list-list.new.place) c.requires.queued c.requires.todo (ap (λ n. stands_in n waiters) number ∙ missing) in
+    ∙ won-todo g.T.PartTable.content c.args.seat.now c.lock_list-list.new.seat (lock_number c.args.lock.now) waiters c.lock_list-list.ensures.led
+    (number_at c.lock_list-list.new.seat) c.requires.queued c.requires.todo (ap (λ n. stands_in n waiters) number ∙ missing) in
     record {
       no_look = ap (λ (todo : Todo). todo.due) done;
       no_try = ap (λ (todo : Todo). todo.tries) done;

@@ -3,7 +3,7 @@ use Rattle.lw_word.specs.WaitList.{stands_in}
 use Rattle.lock_world.specs.Account.{Account}
 use Rattle.lock_world.specs.AccountSteps.{account_locking_list}
 use Rattle.shared_rule.specs.declared.kept.Kept.TheVariants.{Nothing}
-use Rattle.shared_rule.specs.Layout.{list_slot_of}
+use Rattle.shared_rule.specs.Layout.{list_shelf_of}
 use Rattle.shared_rule.specs.LwLocks.{lock_number}
 use Rattle.shared_rule.specs.Plays.{account_at, todo_at}
 use Rattle.shared_rule.specs.Todos.{Todo, todo_looked}
@@ -12,22 +12,22 @@ use Rattle.shared_rule.proofs.Led.{led-self, led_by-todo, led_to-then, looked-sa
 use Rattle.shared_rule.proofs.queues.lock_list.Goals as goal
 
 pub loop-init : goal.loop-init
-loop-init g c = record { led = led-self g.T.PartTable.content c.args.place.now c.requires.session; slots = Rattle.std.proofs.Common.refl }
+loop-init g c = record { led = led-self g.T.PartTable.content c.args.seat.now c.requires.session; shelves = Rattle.std.proofs.Common.refl }
 
 pub returns-in-Some-try_lock_list-clause-led : goal.returns-in-Some-try_lock_list-clause-led
 returns-in-Some-try_lock_list-clause-led g c =
     let content = g.T.PartTable.content in
-    let place = c.args.place.now in
-    led_by-todo content place c.try_lock_list.new.place _ _ (todo_looked (todo_at place)) (todo_at place)
-    (led_to-then content place c.loop.place c.try_lock_list.new.place (account_at content place) (todo_at place)
+    let seat = c.args.seat.now in
+    led_by-todo content seat c.try_lock_list.new.seat _ _ (todo_looked (todo_at seat)) (todo_at seat)
+    (led_to-then content seat c.loop.seat c.try_lock_list.new.seat (account_at content seat) (todo_at seat)
     (λ a. account_locking_list a (lock_number c.args.lock.now) c.in-Some-try_lock_list.list.value) todo_looked
     c.loop.invariant.led (c.in-Some-try_lock_list.ensures {u = tt}).led)
-    (looked-same (todo_at place) c.requires.no_look)
+    (looked-same (todo_at seat) c.requires.no_look)
 
 pub returns-in-Some-try_lock_list-clause-slots : goal.returns-in-Some-try_lock_list-clause-slots
 returns-in-Some-try_lock_list-clause-slots g c =
-    (c.in-Some-try_lock_list.ensures {u = tt}).slots
-    ∙ ap (λ slots. (list_slot_of (lock_number c.args.lock.now), Nothing) ∷ slots) c.loop.invariant.slots
+    (c.in-Some-try_lock_list.ensures {u = tt}).shelves
+    ∙ ap (λ slots. (list_shelf_of (lock_number c.args.lock.now), Nothing) ∷ slots) c.loop.invariant.shelves
 
 pub returns-in-Some-try_lock_list-clause-stands : goal.returns-in-Some-try_lock_list-clause-stands
 returns-in-Some-try_lock_list-clause-stands g c = λ there.
@@ -47,9 +47,9 @@ try_lock_list-requires-clause-tells_nobody g c = λ other. ap (λ (a : Account).
 pub loop-preserved : goal.loop-preserved
 loop-preserved g c =
     let content = g.T.PartTable.content in
-    let place = c.args.place.now in
-    let next = nothing-then_got content place c.loop.place c.try_lock_list.new.place c.loop.invariant todo_looked (c.in_default.ensures {u = tt}).none in
+    let seat = c.args.seat.now in
+    let next = nothing-then_got content seat c.loop.seat c.try_lock_list.new.seat c.loop.invariant todo_looked (c.in_default.ensures {u = tt}).none in
     record {
-      led = led_by-todo content place c.try_lock_list.new.place _ _ (todo_looked (todo_at place)) (todo_at place) next.led (looked-same (todo_at place) c.requires.no_look);
-      slots = next.slots;
+      led = led_by-todo content seat c.try_lock_list.new.seat _ _ (todo_looked (todo_at seat)) (todo_at seat) next.led (looked-same (todo_at seat) c.requires.no_look);
+      shelves = next.shelves;
     }

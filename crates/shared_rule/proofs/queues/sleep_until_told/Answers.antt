@@ -7,22 +7,22 @@ use Rattle.shared_rule.proofs.queues.sleep_until_told.Goals as goal
 pub returns-then-shown-eq0-clause-led : goal.returns-then-shown-eq0-clause-led
 returns-then-shown-eq0-clause-led g c =
     let content = g.T.PartTable.content in
-    let place = c.args.place.now in
+    let seat = c.args.seat.now in
     let shown = c.load_sleep-shown.result in
-    led-as content place c.load_sleep-shown.new.place _ _
-    (led-then content place c.loop.place c.load_sleep-shown.new.place (account_at content place)
+    led-as content seat c.load_sleep-shown.new.seat _ _
+    (led-then content seat c.loop.seat c.load_sleep-shown.new.seat (account_at content seat)
     (λ a. account_loading_sleep a shown) c.loop.invariant.led c.load_sleep-shown.ensures.led)
-    (slept-told (account_at content place) shown c.if-shown-eq0.true)
+    (slept-told (account_at content seat) shown c.if-shown-eq0.true)
 
 pub loop-preserved : goal.loop-preserved
 loop-preserved g c =
     let content = g.T.PartTable.content in
-    let place = c.args.place.now in
+    let seat = c.args.seat.now in
     let shown = c.load_sleep-shown.result in
     record {
-      led = led-as content place c.load_sleep-shown.new.place _ _
-          (led-then content place c.loop.place c.load_sleep-shown.new.place (account_at content place)
+      led = led-as content seat c.load_sleep-shown.new.seat _ _
+          (led-then content seat c.loop.seat c.load_sleep-shown.new.seat (account_at content seat)
           (λ a. account_loading_sleep a shown) c.loop.invariant.led c.load_sleep-shown.ensures.led)
-          (slept-on (account_at content place) shown c.if-shown-eq0.false);
-      slots = c.load_sleep-shown.ensures.slots ∙ c.loop.invariant.slots;
+          (slept-on (account_at content seat) shown c.if-shown-eq0.false);
+      shelves = c.load_sleep-shown.ensures.shelves ∙ c.loop.invariant.shelves;
     }

@@ -4,11 +4,11 @@ use Rattle.shared_rule.proofs.seats.close.Goals as goal
 
 pub join_seat-requires : goal.join_seat-requires
 join_seat-requires g c =
-    let place = c.args.opener.now in
+    let seat = c.args.opener.now in
     let other = c.args.session in (
       c.requires.table.at,
       c.requires.session_table.at,
       c.requires.nothing_in_hand,
       search rules,
-      closes g.T.PartTable.content g.T.PartTable.begun c.args.top.now.key place.id place.me.0 other.id other.me.0 c.requires.opener c.requires.one c.requires.lawful c.requires.todo c.requires.wakes_nobody,
+      closes g.T.PartTable.content g.T.PartTable.begun c.args.words.now.key seat.id seat.me.0 other.id other.me.0 c.requires.opener c.requires.one c.requires.lawful c.requires.todo c.requires.wakes_nobody,
     )

@@ -4,8 +4,8 @@ use Rattle.shared_rule.proofs.seats.hand_back.Goals as goal
 
 pub split_seat-requires : goal.split_seat-requires
 split_seat-requires g c =
-    let place = c.args.place.now in (
+    let seat = c.args.seat.now in (
       c.requires.table.at,
       search rules,
-      hands_back g.T.PartTable.content g.T.PartTable.begun c.args.top.now.key place.id place.me.0 c.requires.last,
+      hands_back g.T.PartTable.content g.T.PartTable.begun c.args.words.now.key seat.id seat.me.0 c.requires.last,
     )

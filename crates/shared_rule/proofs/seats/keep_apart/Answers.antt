@@ -4,11 +4,11 @@ use Rattle.shared_rule.proofs.seats.keep_apart.Goals as goal
 
 pub join_seat-requires : goal.join_seat-requires
 join_seat-requires g c =
-    let place = c.args.place.now in
+    let seat = c.args.seat.now in
     let other = c.args.other in (
       c.requires.table.at,
       c.requires.other_table.at,
       c.requires.nothing_in_hand,
       search rules,
-      keeps_apart g.T.PartTable.content g.T.PartTable.begun c.args.top.now.key place.id place.me.0 other.id other.me.0 c.requires.one c.requires.lawful c.requires.free,
+      keeps_apart g.T.PartTable.content g.T.PartTable.begun c.args.words.now.key seat.id seat.me.0 other.id other.me.0 c.requires.one c.requires.lawful c.requires.free,
     )

@@ -4,8 +4,8 @@ use Rattle.shared_rule.proofs.seats.open.Goals as goal
 
 pub split_seat-requires : goal.split_seat-requires
 split_seat-requires g c =
-    let place = c.args.opener.now in (
+    let seat = c.args.opener.now in (
       c.requires.table.at,
       search rules,
-      opens g.T.PartTable.content g.T.PartTable.begun c.args.top.now.key place.id place.me.0 c.requires.number,
+      opens g.T.PartTable.content g.T.PartTable.begun c.args.words.now.key seat.id seat.me.0 c.requires.number,
     )

@@ -6,9 +6,9 @@ use Rattle.shared_rule.proofs.seats.tell_apart.Goals as goal
 
 pub load-requires : goal.load-requires
 load-requires g c =
-    let place = c.args.place.now in
-    let slots = c.args.top.now.table_id.slots in (
+    let seat = c.args.seat.now in
+    let slots = c.args.words.now.table_id.slots in (
       c.requires.table.at,
       search rules,
-      tells_apart g.T.PartTable.content g.T.PartTable.begun c.args.top.now.key slots place.id 0 place.me (step slots 0 0 0 none) c.requires.two,
+      tells_apart g.T.PartTable.content g.T.PartTable.begun c.args.words.now.key slots seat.id 0 seat.me (step slots 0 0 0 none) c.requires.two,
     )

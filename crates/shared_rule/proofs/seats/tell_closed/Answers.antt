@@ -7,8 +7,8 @@ use Rattle.shared_rule.proofs.seats.tell_closed.Goals as goal
 pub load-requires : goal.load-requires
 load-requires g c =
     let opener = c.args.opener.now in
-    let slots = c.args.top.now.table_id.slots in (
+    let slots = c.args.words.now.table_id.slots in (
       c.requires.table.at,
       search rules,
-      tells_closed g.T.PartTable.content g.T.PartTable.begun c.args.top.now.key slots opener.id 0 opener.me (step slots 0 0 0 none) c.requires.opener,
+      tells_closed g.T.PartTable.content g.T.PartTable.begun c.args.words.now.key slots opener.id 0 opener.me (step slots 0 0 0 none) c.requires.opener,
     )

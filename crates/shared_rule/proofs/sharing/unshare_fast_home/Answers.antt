@@ -15,18 +15,18 @@ use Rattle.shared_rule.proofs.sharing.unshare_fast_home.Goals as goal
 pub fetch_sub_as-requires-clause-allowed : goal.fetch_sub_as-requires-clause-allowed
 fetch_sub_as-requires-clause-allowed g c =
     let content = g.T.PartTable.content in
-    let place = c.args.place.now in
+    let seat = c.args.seat.now in
     let session = c.requires.session in
     let may = subst (λ (sessions : List (History g.row.T.Denot)). (slots : SlotsInHand) × MayUnshareFastBy (first_account content sessions) c.args.owner slots) session.sessions c.requires.lawful in
-    marks_at content g.T.PartTable.begun c.args.top.now.key c.args.top.now.table_id.slots place.id place.me session.history session.others session.sessions
+    marks_at content g.T.PartTable.begun c.args.words.now.key c.args.words.now.table_id.slots seat.id seat.me session.history session.others session.sessions
     (Fast c.args.owner) (tt, search rules) c.fast_word.result c.fast_word.ensures.index (λ n. (n + (2 ^ 64 - c.amount.result)) % 2 ^ 64) g.M.Marking.mark
-    (subst (IsAlwaysLawful content c.args.top.now.key session.history (Fast c.args.owner) (λ _. Unit {0}) (λ n. (n + (2 ^ 64 - c.amount.result)) % 2 ^ 64)) (sym c.requires.mark)
-    (subst (λ k. IsAlwaysLawful content c.args.top.now.key session.history (Fast c.args.owner) (λ _. Unit {0}) (λ n. (n + (2 ^ 64 - k)) % 2 ^ 64) (UnsharedFast c.args.owner)) (sym c.amount.ensures)
-    (unsharing_fast-lawful content c.args.top.now.key session.history c.args.owner c.requires.exists may.0 may.1 (due-known place.me.0 session c.requires.no_look))))
+    (subst (IsAlwaysLawful content c.args.words.now.key session.history (Fast c.args.owner) (λ _. Unit {0}) (λ n. (n + (2 ^ 64 - c.amount.result)) % 2 ^ 64)) (sym c.requires.mark)
+    (subst (λ k. IsAlwaysLawful content c.args.words.now.key session.history (Fast c.args.owner) (λ _. Unit {0}) (λ n. (n + (2 ^ 64 - k)) % 2 ^ 64) (UnsharedFast c.args.owner)) (sym c.amount.ensures)
+    (unsharing_fast-lawful content c.args.words.now.key session.history c.args.owner c.requires.exists may.0 may.1 (due-known seat.me.0 session c.requires.no_look))))
 
 pub returns-clause-led : goal.returns-clause-led
 returns-clause-led g c =
-    let place = c.args.place.now in
-    led-noted g.T.PartTable.content place c.fetch_sub_as.new.place (UnsharedFast c.args.owner c.fetch_sub_as.result) c.requires.session c.fetch_sub_as.ensures.seat
+    let seat = c.args.seat.now in
+    led-noted g.T.PartTable.content seat c.fetch_sub_as.new.seat (UnsharedFast c.args.owner c.fetch_sub_as.result) c.requires.session c.fetch_sub_as.ensures.same_seat
     (ap (λ (side : Side g.row.T.Denot). side.0) c.fetch_sub_as.ensures.side
-    ∙ ap (λ m. noting place.me.0 (m c.fetch_sub_as.result)) c.requires.mark) (λ owed i. owed)
+    ∙ ap (λ m. noting seat.me.0 (m c.fetch_sub_as.result)) c.requires.mark) (λ owed i. owed)

@@ -18,9 +18,9 @@ without-word-requires g c = (eligible-is _ c.args.tag.now c.args.mode c.requires
 pub store_as-requires-clause-allowed : goal.store_as-requires-clause-allowed
 store_as-requires-clause-allowed g c =
     let content = g.T.PartTable.content in
-    let place = c.args.place.now in
+    let seat = c.args.seat.now in
     let session = c.requires.session in
-    let key = c.args.top.now.key in
+    let key = c.args.words.now.key in
     let own : c.args.number ≡ session.history.number = c.requires.own
     ∙ ap (λ (sessions : List (History g.row.T.Denot)). first_number sessions) session.sessions in
     let exists : session.history.number < 64 = subst (λ n. n < 64) own (search rules) in
@@ -30,7 +30,7 @@ store_as-requires-clause-allowed g c =
     c.args.mode × (c.args.shown ≡ mine.word c.args.slot)) session.sessions c.requires.lawful in
     let new : word_without c.args.shown c.args.mode ≡ c.number.result = sym c.without-word.ensures.number
     ∙ sym c.number.ensures in
-    stores_at content g.T.PartTable.begun key c.args.top.now.table_id.slots place.id place.me session.history
+    stores_at content g.T.PartTable.begun key c.args.words.now.table_id.slots seat.id seat.me session.history
     session.others session.sessions
     (Slot session.history.number c.args.slot) (c.requires.within, exists) c.slot_word.result at c.number.result
     g.M.Marking.mark _ c.requires.mark

@@ -7,15 +7,15 @@ use Rattle.shared_rule.proofs.slots.load_database.Goals as goal
 pub look_as-requires-clause-allowed : goal.look_as-requires-clause-allowed
 look_as-requires-clause-allowed g c =
     let content = g.T.PartTable.content in
-    let place = c.args.place.now in
+    let seat = c.args.seat.now in
     let session = c.requires.session in
-    looks_at content g.T.PartTable.begun c.args.top.now.key c.args.top.now.table_id.slots place.id place.me
+    looks_at content g.T.PartTable.begun c.args.words.now.key c.args.words.now.table_id.slots seat.id seat.me
     session.history session.others session.sessions
     (Database c.args.owner) (tt, search rules) c.database_word.result c.database_word.ensures.index
     0 (λ n. n) g.M.Marking.mark
-    (subst (IsAlwaysLawful content c.args.top.now.key session.history (Database c.args.owner) (λ _. Unit {0})
+    (subst (IsAlwaysLawful content c.args.words.now.key session.history (Database c.args.owner) (λ _. Unit {0})
     (λ n. n)) (sym c.requires.mark)
-    (loading_database-lawful content c.args.top.now.key session.history c.args.owner))
+    (loading_database-lawful content c.args.words.now.key session.history c.args.owner))
 
 pub returns-clause-of_slots : goal.returns-clause-of_slots
 returns-clause-of_slots g c = λ slots has. (c.look_as.ensures.knows (Database c.args.owner) (tt, search rules)

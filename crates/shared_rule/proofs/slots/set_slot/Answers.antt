@@ -20,26 +20,26 @@ with-word-requires-clause-slot_mode g c = (eligible-is _ c.args.tag.now c.args.m
 pub with-word-requires-clause-its_slot : goal.with-word-requires-clause-its_slot
 with-word-requires-clause-its_slot g c = λ used.
     let lawful = c.requires.lawful in
-    its-slot c.args.top.now.key.groups lawful.0.word (relation_of c.args.tag.now) c.args.slot c.args.shown lawful.1.takes lawful.2 used
+    its-slot c.args.words.now.key.groups lawful.0.word (relation_of c.args.tag.now) c.args.slot c.args.shown lawful.1.takes lawful.2 used
     ∙ sym c.relation_number.ensures
 
 pub store_as-requires-clause-allowed : goal.store_as-requires-clause-allowed
 store_as-requires-clause-allowed g c =
     let content = g.T.PartTable.content in
-    let place = c.args.place.now in
+    let seat = c.args.seat.now in
     let session = c.requires.session in
-    let key = c.args.top.now.key in
+    let key = c.args.words.now.key in
     let own : c.args.number ≡ session.history.number = c.requires.own
     ∙ ap (λ (sessions : List (History g.row.T.Denot)). first_number sessions) session.sessions in
     let exists : session.history.number < 64 = subst (λ n. n < 64) own (search rules) in
     let at = c.slot_word.ensures.index ∙ ap (λ n. index_of_word (Slot n c.args.slot)) own in
     let may = subst (λ (sessions : List (History g.row.T.Denot)). (mine : SlotsInHand)
-    × MaySetSlotBy c.args.top.now.key.groups (first_number sessions) (first_account content sessions) mine c.args.slot c.args.tag.now
+    × MaySetSlotBy c.args.words.now.key.groups (first_number sessions) (first_account content sessions) mine c.args.slot c.args.tag.now
     c.args.mode × (c.args.shown ≡ mine.word c.args.slot)) session.sessions c.requires.lawful in
     let new : word_with c.args.shown (relation_of c.args.tag.now) c.args.mode ≡ c.number.result =
     ap (λ r. word_with c.args.shown r c.args.mode) (sym c.relation_number.ensures) ∙ sym c.with-word.ensures.number
     ∙ sym c.number.ensures in
-    stores_at content g.T.PartTable.begun key c.args.top.now.table_id.slots place.id place.me session.history
+    stores_at content g.T.PartTable.begun key c.args.words.now.table_id.slots seat.id seat.me session.history
     session.others session.sessions
     (Slot session.history.number c.args.slot) (c.requires.within, exists) c.slot_word.result at c.number.result
     g.M.Marking.mark _ c.requires.mark

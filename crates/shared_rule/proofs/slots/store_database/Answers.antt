@@ -12,7 +12,7 @@ use Rattle.shared_rule.proofs.slots.store_database.Goals as goal
 pub store_as-requires-clause-allowed : goal.store_as-requires-clause-allowed
 store_as-requires-clause-allowed g c =
     let content = g.T.PartTable.content in
-    let place = c.args.place.now in
+    let seat = c.args.seat.now in
     let session = c.requires.session in
     let own : c.args.number ≡ session.history.number = c.requires.own
     ∙ ap (λ (sessions : List (History g.row.T.Denot)). first_number sessions) session.sessions in
@@ -20,10 +20,10 @@ store_as-requires-clause-allowed g c =
     let at = c.database_word.ensures.index ∙ ap (λ n. index_of_word (Database n)) own in
     let nothing = subst (λ (sessions : List (History g.row.T.Denot)).
     HoldsNothing (first_account content sessions)) session.sessions c.requires.no_hold in
-    stores_at content g.T.PartTable.begun c.args.top.now.key c.args.top.now.table_id.slots place.id place.me
+    stores_at content g.T.PartTable.begun c.args.words.now.key c.args.words.now.table_id.slots seat.id seat.me
     session.history session.others session.sessions
     (Database session.history.number) (tt, exists) c.database_word.result at c.from.result g.M.Marking.mark _
     c.requires.mark
-    (subst (λ n. IsAlwaysLawful content c.args.top.now.key session.history (Database session.history.number)
+    (subst (λ n. IsAlwaysLawful content c.args.words.now.key session.history (Database session.history.number)
     (λ _. Unit {0}) (λ _. n) (λ _. StoredDatabase c.args.database)) (sym c.from.ensures)
-    (storing-lawful content c.args.top.now.key session.history c.args.database nothing))
+    (storing-lawful content c.args.words.now.key session.history c.args.database nothing))

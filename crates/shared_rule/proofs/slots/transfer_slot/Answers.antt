@@ -20,9 +20,9 @@ without-word-requires g c = let may = c.requires.lawful.2 in shown-weak (c.requi
 pub store_as-requires-clause-allowed : goal.store_as-requires-clause-allowed
 store_as-requires-clause-allowed g c =
     let content = g.T.PartTable.content in
-    let place = c.args.place.now in
+    let seat = c.args.seat.now in
     let session = c.requires.session in
-    let key = c.args.top.now.key in
+    let key = c.args.words.now.key in
     let may = subst (λ (sessions : List (History g.row.T.Denot)). (its : SlotsInHand) × (mine : InHand)
     × MayTransferBy key.sessions (first_account content sessions) c.args.owner c.args.slot its mine c.args.tag.now
     c.args.mode c.args.strong
@@ -31,7 +31,7 @@ store_as-requires-clause-allowed g c =
     c.requires.lawful in
     let new : word_without c.args.shown c.args.mode ≡ c.number.result = sym c.without-word.ensures.number
     ∙ sym c.number.ensures in
-    stores_at content g.T.PartTable.begun key c.args.top.now.table_id.slots place.id place.me session.history
+    stores_at content g.T.PartTable.begun key c.args.words.now.table_id.slots seat.id seat.me session.history
     session.others session.sessions
     (Slot c.args.owner c.args.slot) (c.requires.within, search rules) c.slot_word.result c.slot_word.ensures.index
     c.number.result g.M.Marking.mark _ c.requires.mark

@@ -8,11 +8,11 @@ use Rattle.shared_rule.proofs.waits.ask_cancel.Goals as goal
 pub fetch_or_as-requires-clause-allowed : goal.fetch_or_as-requires-clause-allowed
 fetch_or_as-requires-clause-allowed g c =
     let content = g.T.PartTable.content in
-    let place = c.args.place.now in
+    let seat = c.args.seat.now in
     let session = c.requires.session in
-    looks_at content g.T.PartTable.begun c.args.top.now.key c.args.top.now.table_id.slots place.id place.me session.history session.others session.sessions
+    looks_at content g.T.PartTable.begun c.args.words.now.key c.args.words.now.table_id.slots seat.id seat.me session.history session.others session.sessions
     (Wait c.args.other) (tt, search rules) c.wait_word.result c.wait_word.ensures.index 4 (λ n. bit_or n 4) g.M.Marking.mark
-    (subst (IsAlwaysLawful content c.args.top.now.key session.history (Wait c.args.other) (λ _. Unit {0}) (λ n. bit_or n 4)) (sym c.requires.mark) (asking-lawful content c.args.top.now.key session.history c.args.other))
+    (subst (IsAlwaysLawful content c.args.words.now.key session.history (Wait c.args.other) (λ _. Unit {0}) (λ n. bit_or n 4)) (sym c.requires.mark) (asking-lawful content c.args.words.now.key session.history c.args.other))
 
 pub returns-clause-own : goal.returns-clause-own
 returns-clause-own g c = c.fetch_or_as.ensures.knows (Wait c.args.other) (tt, search rules) c.wait_word.ensures.index

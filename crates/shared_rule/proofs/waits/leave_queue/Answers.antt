@@ -16,14 +16,14 @@ use Rattle.shared_rule.proofs.waits.leave_queue.Goals as goal
 pub store_as-requires-clause-allowed : goal.store_as-requires-clause-allowed
 store_as-requires-clause-allowed g c =
     let content = g.T.PartTable.content in
-    let place = c.args.place.now in
+    let seat = c.args.seat.now in
     let session = c.requires.session in
     let own : c.args.number ≡ session.history.number = c.requires.own ∙ ap (λ (sessions : List (History g.row.T.Denot)). first_number sessions) session.sessions in
     let exists : session.history.number < 64 = subst (λ n. n < 64) own (search rules) in
     let at = c.wait_word.ensures.index ∙ ap (λ n. index_of_word (Wait n)) own in
-    let may = subst (λ (sessions : List (History g.row.T.Denot)). (wait : OwnWait) × (mine : InHand) × (granted : List contents.Wait) × (c.args.woken.now.items ≡ map whose_and_mode granted) × MayLeaveBy c.args.top.now.key.sessions (first_number sessions) (first_account content sessions) wait mine granted (content c.args.content.now)) session.sessions c.requires.lawful in
+    let may = subst (λ (sessions : List (History g.row.T.Denot)). (wait : OwnWait) × (mine : InHand) × (granted : List contents.Wait) × (c.args.woken.now.items ≡ map whose_and_mode granted) × MayLeaveBy c.args.words.now.key.sessions (first_number sessions) (first_account content sessions) wait mine granted (content c.args.content.now)) session.sessions c.requires.lawful in
     let marked : g.M.Marking.mark ≡ (λ _. LeftQueue (map (λ (wait : contents.Wait). wait.session) may.2) c.args.content.now) =
     c.requires.mark ∙ ap (λ woken. λ _. LeftQueue woken c.args.content.now) (told-granted c.args.woken.now.items may.2 may.3) in
-    stores_at content g.T.PartTable.begun c.args.top.now.key c.args.top.now.table_id.slots place.id place.me session.history session.others session.sessions
+    stores_at content g.T.PartTable.begun c.args.words.now.key c.args.words.now.table_id.slots seat.id seat.me session.history session.others session.sessions
     (Wait session.history.number) (tt, exists) c.wait_word.result at 0 g.M.Marking.mark _ marked
-    (leaving-lawful content c.args.top.now.key session.history may.0 may.1 may.2 c.args.content.now may.4)
+    (leaving-lawful content c.args.words.now.key session.history may.0 may.1 may.2 c.args.content.now may.4)

@@ -10,11 +10,11 @@ use Rattle.shared_rule.proofs.waits.load_wait.Goals as goal
 pub load_as-requires-clause-allowed : goal.load_as-requires-clause-allowed
 load_as-requires-clause-allowed g c =
     let content = g.T.PartTable.content in
-    let place = c.args.place.now in
+    let seat = c.args.seat.now in
     let session = c.requires.session in
     let own : c.args.number ≡ session.history.number = c.requires.own ∙ ap (λ (sessions : List (History g.row.T.Denot)). first_number sessions) session.sessions in
     let exists : session.history.number < 64 = subst (λ n. n < 64) own (search rules) in
     let at = c.wait_word.ensures.index ∙ ap (λ n. index_of_word (Wait n)) own in
-    marks_at content g.T.PartTable.begun c.args.top.now.key c.args.top.now.table_id.slots place.id place.me session.history session.others session.sessions
+    marks_at content g.T.PartTable.begun c.args.words.now.key c.args.words.now.table_id.slots seat.id seat.me session.history session.others session.sessions
     (Wait session.history.number) (tt, exists) c.wait_word.result at (λ n. n) g.M.Marking.mark
-    (subst (IsAlwaysLawful content c.args.top.now.key session.history (Wait session.history.number) (λ _. Unit {0}) (λ n. n)) (sym c.requires.mark) (loading_wait-lawful content c.args.top.now.key session.history))
+    (subst (IsAlwaysLawful content c.args.words.now.key session.history (Wait session.history.number) (λ _. Unit {0}) (λ n. n)) (sym c.requires.mark) (loading_wait-lawful content c.args.words.now.key session.history))

@@ -14,12 +14,12 @@ use Rattle.shared_rule.proofs.waits.mark_granted.Goals as goal
 pub fetch_add_as-requires-clause-allowed : goal.fetch_add_as-requires-clause-allowed
 fetch_add_as-requires-clause-allowed g c =
     let content = g.T.PartTable.content in
-    let place = c.args.place.now in
+    let seat = c.args.seat.now in
     let session = c.requires.session in
-    let may = subst (λ (sessions : List (History g.row.T.Denot)). (mine : InHand) × (granted : List contents.Wait) × (c.args.woken.now.items ≡ map whose_and_mode granted) × MayMarkBy c.args.top.now.key.sessions (first_number sessions) (first_account content sessions) c.args.part mine c.args.done.now granted (content c.args.content.now) c.args.other) session.sessions c.requires.lawful in
+    let may = subst (λ (sessions : List (History g.row.T.Denot)). (mine : InHand) × (granted : List contents.Wait) × (c.args.woken.now.items ≡ map whose_and_mode granted) × MayMarkBy c.args.words.now.key.sessions (first_number sessions) (first_account content sessions) c.args.part mine c.args.done.now granted (content c.args.content.now) c.args.other) session.sessions c.requires.lawful in
     let marked : g.M.Marking.mark ≡ (λ _. MarkedGranted c.args.part c.args.other c.args.done.now (map (λ (wait : contents.Wait). wait.session) may.1) c.args.content.now) =
     c.requires.mark ∙ ap (λ woken. λ _. MarkedGranted c.args.part c.args.other c.args.done.now woken c.args.content.now) (told-granted c.args.woken.now.items may.1 may.2) in
-    marks_at content g.T.PartTable.begun c.args.top.now.key c.args.top.now.table_id.slots place.id place.me session.history session.others session.sessions
+    marks_at content g.T.PartTable.begun c.args.words.now.key c.args.words.now.table_id.slots seat.id seat.me session.history session.others session.sessions
     (Wait c.args.other) (tt, search rules) c.wait_word.result c.wait_word.ensures.index (λ n. (n + 1) % 2 ^ 64) g.M.Marking.mark
-    (subst (IsAlwaysLawful content c.args.top.now.key session.history (Wait c.args.other) (λ _. Unit {0}) (λ n. (n + 1) % 2 ^ 64)) (sym marked)
-    (marking-lawful content c.args.top.now.key session.history c.args.part may.0 c.args.done.now may.1 c.args.content.now c.args.other c.requires.grants may.3))
+    (subst (IsAlwaysLawful content c.args.words.now.key session.history (Wait c.args.other) (λ _. Unit {0}) (λ n. (n + 1) % 2 ^ 64)) (sym marked)
+    (marking-lawful content c.args.words.now.key session.history c.args.part may.0 c.args.done.now may.1 c.args.content.now c.args.other c.requires.grants may.3))

@@ -14,12 +14,12 @@ use Rattle.shared_rule.proofs.waits.set_waiting.Goals as goal
 pub store_as-requires-clause-allowed : goal.store_as-requires-clause-allowed
 store_as-requires-clause-allowed g c =
     let content = g.T.PartTable.content in
-    let place = c.args.place.now in
+    let seat = c.args.seat.now in
     let session = c.requires.session in
     let own : c.args.number ≡ session.history.number = c.requires.own ∙ ap (λ (sessions : List (History g.row.T.Denot)). first_number sessions) session.sessions in
     let exists : session.history.number < 64 = subst (λ n. n < 64) own (search rules) in
     let at = c.wait_word.ensures.index ∙ ap (λ n. index_of_word (Wait n)) own in
-    let may = subst (λ (sessions : List (History g.row.T.Denot)). (mine : InHand) × MayMoveBy c.args.top.now.key.sessions (first_number sessions) (first_account content sessions) (partition_of c.args.tag.now) mine (Join c.args.tag.now c.args.mode) [] (content c.args.content.now)) session.sessions c.requires.lawful in
-    stores_at content g.T.PartTable.begun c.args.top.now.key c.args.top.now.table_id.slots place.id place.me session.history session.others session.sessions
+    let may = subst (λ (sessions : List (History g.row.T.Denot)). (mine : InHand) × MayMoveBy c.args.words.now.key.sessions (first_number sessions) (first_account content sessions) (partition_of c.args.tag.now) mine (Join c.args.tag.now c.args.mode) [] (content c.args.content.now)) session.sessions c.requires.lawful in
+    stores_at content g.T.PartTable.begun c.args.words.now.key c.args.words.now.table_id.slots seat.id seat.me session.history session.others session.sessions
     (Wait session.history.number) (tt, exists) c.wait_word.result at 1 g.M.Marking.mark _ c.requires.mark
-    (setting_waiting-lawful content c.args.top.now.key session.history may.0 c.args.tag.now c.args.mode c.args.content.now may.1)
+    (setting_waiting-lawful content c.args.words.now.key session.history may.0 c.args.tag.now c.args.mode c.args.content.now may.1)

@@ -8,18 +8,18 @@ use Rattle.shared_rule.proofs.wakeups.tell_all.Goals as goal
 
 pub loop-waiter-init : goal.loop-waiter-init
 loop-waiter-init g c = record {
-  led = led-self g.T.PartTable.content c.args.place.now c.requires.session;
+  led = led-self g.T.PartTable.content c.args.seat.now c.requires.session;
   lawful = c.requires.lawful;
   ends = refl;
   calls = refl;
-  slots = refl;
+  shelves = refl;
 }
 
 pub tell-requires-clause-lawful : goal.tell-requires-clause-lawful
 tell-requires-clause-lawful g c =
-    let place = c.loop-waiter.place in
+    let seat = c.loop-waiter.seat in
     (may_tell-first g.T.PartTable.content c.args.taken.now c.loop-waiter.waiter-index c.waiter-item.result
-    c.loop-waiter-test.true c.waiter-item.is (account_at g.T.PartTable.content place)
+    c.loop-waiter-test.true c.waiter-item.is (account_at g.T.PartTable.content seat)
     c.loop-waiter.invariant.lawful).0
 
 pub loop-waiter-preserved : goal.loop-waiter-preserved
@@ -28,29 +28,29 @@ loop-waiter-preserved g c =
     let items = c.args.taken.now in
     let i = c.loop-waiter.waiter-index in
     let waiter = c.waiter-item.result in
-    let place = c.loop-waiter.place in
-    let told = c.tell.new.place in
-    let after = c.call_sleeper.new.place in
+    let seat = c.loop-waiter.seat in
+    let told = c.tell.new.seat in
+    let after = c.call_sleeper.new.seat in
     let led = c.tell.ensures.led in
     let calls = c.call_sleeper.ensures.led in
     let may = may_tell-first content items i waiter c.loop-waiter-test.true c.waiter-item.is
-    (account_at content place) c.loop-waiter.invariant.lawful in
+    (account_at content seat) c.loop-waiter.invariant.lawful in
     record {
-      led = led_to-itself content c.args.place.now told after _ _ _ _ (led_to-itself content c.args.place.now place told _ _ _ _ c.loop-waiter.invariant.led led) calls;
+      led = led_to-itself content c.args.seat.now told after _ _ _ _ (led_to-itself content c.args.seat.now seat told _ _ _ _ c.loop-waiter.invariant.led led) calls;
       lawful = subst (λ a. MayTellAll a (drop (i + 1) items)) (sym (calls.account ∙ led.account)) may.1;
-      ends = told-next content items i waiter c.loop-waiter-test.true c.waiter-item.is (account_at content place)
+      ends = told-next content items i waiter c.loop-waiter-test.true c.waiter-item.is (account_at content seat)
           (account_at content after) _ c.loop-waiter.invariant.ends (calls.account ∙ led.account);
-      calls = called-next items i waiter c.loop-waiter-test.true c.waiter-item.is (todo_at place) (todo_at after) _ c.loop-waiter.invariant.calls
+      calls = called-next items i waiter c.loop-waiter-test.true c.waiter-item.is (todo_at seat) (todo_at after) _ c.loop-waiter.invariant.calls
           (calls.todo ∙ ap (λ t. todo_calling t waiter.session) led.todo);
-      slots = c.call_sleeper.ensures.slots ∙ c.tell.ensures.slots ∙ c.loop-waiter.invariant.slots;
+      shelves = c.call_sleeper.ensures.shelves ∙ c.tell.ensures.shelves ∙ c.loop-waiter.invariant.shelves;
     }
 
 pub returns-clause-led : goal.returns-clause-led
 returns-clause-led g c =
     let content = g.T.PartTable.content in
-    let place = c.loop-waiter.place in
-    led_to-as content c.args.place.now place (all_called (todo_at c.args.place.now) c.args.taken.now) _ _
-    (led_by-todo content c.args.place.now place _ _ _ _ c.loop-waiter.invariant.led
-    (called-last c.args.taken.now c.loop-waiter.waiter-index (todo_at place) _ (omega arith) c.loop-waiter.invariant.calls))
-    (told-last c.args.taken.now c.loop-waiter.waiter-index (account_at content place) _ (omega arith)
+    let seat = c.loop-waiter.seat in
+    led_to-as content c.args.seat.now seat (all_called (todo_at c.args.seat.now) c.args.taken.now) _ _
+    (led_by-todo content c.args.seat.now seat _ _ _ _ c.loop-waiter.invariant.led
+    (called-last c.args.taken.now c.loop-waiter.waiter-index (todo_at seat) _ (omega arith) c.loop-waiter.invariant.calls))
+    (told-last c.args.taken.now c.loop-waiter.waiter-index (account_at content seat) _ (omega arith)
     c.loop-waiter.invariant.ends)

@@ -7,12 +7,12 @@ use Rattle.shared_rule.proofs.wakeups.tell_all.Given as goal
 
 abbrev pub invariant-loop-waiter : goal.invariant-loop-waiter
 invariant-loop-waiter g l = record {
-  led : LedTo g.T.PartTable.content l.fn.place l.place (account_at g.T.PartTable.content l.place) (todo_at l.place);
-  lawful : MayTellAll (account_at g.T.PartTable.content l.place) (drop l.waiter-index l.taken);
-  ends : all_told (account_at g.T.PartTable.content l.place) (drop l.waiter-index l.taken)
-      ≡ all_told (account_at g.T.PartTable.content l.fn.place) l.taken;
-  calls : all_called (todo_at l.place) (drop l.waiter-index l.taken) ≡ all_called (todo_at l.fn.place) l.taken;
-  slots : l.place.me.1 ≡ l.fn.place.me.1;
+  led : LedTo g.T.PartTable.content l.fn.seat l.seat (account_at g.T.PartTable.content l.seat) (todo_at l.seat);
+  lawful : MayTellAll (account_at g.T.PartTable.content l.seat) (drop l.waiter-index l.taken);
+  ends : all_told (account_at g.T.PartTable.content l.seat) (drop l.waiter-index l.taken)
+      ≡ all_told (account_at g.T.PartTable.content l.fn.seat) l.taken;
+  calls : all_called (todo_at l.seat) (drop l.waiter-index l.taken) ≡ all_called (todo_at l.fn.seat) l.taken;
+  shelves : l.seat.me.1 ≡ l.fn.seat.me.1;
 }
 
 abbrev pub ghosts-tell : goal.ghosts-tell

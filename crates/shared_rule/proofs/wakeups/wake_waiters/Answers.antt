@@ -13,72 +13,72 @@ use Rattle.shared_rule.proofs.wakeups.wake_waiters.Goals as goal
 pub take_all_off-requires-clause-lawful : goal.take_all_off-requires-clause-lawful
 take_all_off-requires-clause-lawful g c =
     let content = g.T.PartTable.content in
-    let place = c.args.place.now in
+    let seat = c.args.seat.now in
     let n = lock_number c.args.lock.now in
     let ws = c.in-Some.list.value in
     let locks = (c.in-Some.ensures {u = tt}).led in
     let once : (k : ℕ) → times_in k ws ≤ 1 =
     λ k. subst (λ (l : List LwWaiter). times_in k l ≤ 1) (c.waiters-each_once.ensures.value ∙ c.deref.ensures)
     (c.waiters-each_once.ensures.once.once k) in
-    let other = not-there (account_at content place).lists (number_at place) n ws c.requires.idle
+    let other = not-there (account_at content seat).lists (number_at seat) n ws c.requires.idle
     (c.in-Some.ensures {u = tt}).stands in
     let taken : c.wake_split-wakeup.result.taken.items ≡ taken_off ws =
     c.wake_split-wakeup.ensures.taken ∙ ap taken_off c.deref_mut.ensures.value in
-    may-take_all_off content place c.try_lock_list.new.place n ws (todo_looked (todo_at place)) locks c.requires.idle once other c.as_slice.result.now (c.as_slice.ensures.value ∙ taken)
+    may-take_all_off content seat c.try_lock_list.new.seat n ws (todo_looked (todo_at seat)) locks c.requires.idle once other c.as_slice.result.now (c.as_slice.ensures.value ∙ taken)
 
 pub unlock_after_wakeup-requires-clause-in_hand : goal.unlock_after_wakeup-requires-clause-in_hand
 unlock_after_wakeup-requires-clause-in_hand g c =
     let content = g.T.PartTable.content in
-    let place = c.args.place.now in
+    let seat = c.args.seat.now in
     let n = lock_number c.args.lock.now in
     let ws = c.in-Some.list.value in
     let locks = (c.in-Some.ensures {u = tt}).led in
     let once : (k : ℕ) → times_in k ws ≤ 1 =
     λ k. subst (λ (l : List LwWaiter). times_in k l ≤ 1) (c.waiters-each_once.ensures.value ∙ c.deref.ensures)
     (c.waiters-each_once.ensures.once.once k) in
-    let other = not-there (account_at content place).lists (number_at place) n ws c.requires.idle
+    let other = not-there (account_at content seat).lists (number_at seat) n ws c.requires.idle
     (c.in-Some.ensures {u = tt}).stands in
     let taken : c.wake_split-wakeup.result.taken.items ≡ taken_off ws =
     c.wake_split-wakeup.ensures.taken ∙ ap taken_off c.deref_mut.ensures.value in
-    left-in_hand content place c.try_lock_list.new.place n ws (todo_looked (todo_at place)) locks c.requires.idle once other c.as_slice.result.now (c.as_slice.ensures.value ∙ taken)
-    c.take_all_off.new.place c.take_all_off.ensures.led c.wake_split-wakeup.new.self
+    left-in_hand content seat c.try_lock_list.new.seat n ws (todo_looked (todo_at seat)) locks c.requires.idle once other c.as_slice.result.now (c.as_slice.ensures.value ∙ taken)
+    c.take_all_off.new.seat c.take_all_off.ensures.led c.wake_split-wakeup.new.self
     (c.wake_split-wakeup.ensures.left ∙ ap left_waiting c.deref_mut.ensures.value)
 
 pub tell_all-requires-clause-lawful : goal.tell_all-requires-clause-lawful
 tell_all-requires-clause-lawful g c =
     let content = g.T.PartTable.content in
-    let place = c.args.place.now in
+    let seat = c.args.seat.now in
     let n = lock_number c.args.lock.now in
     let ws = c.in-Some.list.value in
     let locks = (c.in-Some.ensures {u = tt}).led in
     let once : (k : ℕ) → times_in k ws ≤ 1 =
     λ k. subst (λ (l : List LwWaiter). times_in k l ≤ 1) (c.waiters-each_once.ensures.value ∙ c.deref.ensures)
     (c.waiters-each_once.ensures.once.once k) in
-    let other = not-there (account_at content place).lists (number_at place) n ws c.requires.idle
+    let other = not-there (account_at content seat).lists (number_at seat) n ws c.requires.idle
     (c.in-Some.ensures {u = tt}).stands in
     let taken : c.wake_split-wakeup.result.taken.items ≡ taken_off ws =
     c.wake_split-wakeup.ensures.taken ∙ ap taken_off c.deref_mut.ensures.value in
-    may-tell_all content place c.try_lock_list.new.place n ws (todo_looked (todo_at place)) locks c.requires.idle once other c.as_slice.result.now (c.as_slice.ensures.value ∙ taken)
-    c.take_all_off.new.place c.take_all_off.ensures.led c.unlock_after_wakeup.new.place c.unlock_after_wakeup.ensures.led
+    may-tell_all content seat c.try_lock_list.new.seat n ws (todo_looked (todo_at seat)) locks c.requires.idle once other c.as_slice.result.now (c.as_slice.ensures.value ∙ taken)
+    c.take_all_off.new.seat c.take_all_off.ensures.led c.unlock_after_wakeup.new.seat c.unlock_after_wakeup.ensures.led
     c.as_slice-2.result.now (c.as_slice-2.ensures.value ∙ taken)
 
 pub returns-clause-led : goal.returns-clause-led
 returns-clause-led g c =
     let content = g.T.PartTable.content in
-    let place = c.args.place.now in
+    let seat = c.args.seat.now in
     let n = lock_number c.args.lock.now in
     let ws = c.in-Some.list.value in
     let locks = (c.in-Some.ensures {u = tt}).led in
     let once : (k : ℕ) → times_in k ws ≤ 1 =
     λ k. subst (λ (l : List LwWaiter). times_in k l ≤ 1) (c.waiters-each_once.ensures.value ∙ c.deref.ensures)
     (c.waiters-each_once.ensures.once.once k) in
-    let other = not-there (account_at content place).lists (number_at place) n ws c.requires.idle
+    let other = not-there (account_at content seat).lists (number_at seat) n ws c.requires.idle
     (c.in-Some.ensures {u = tt}).stands in
     let taken : c.wake_split-wakeup.result.taken.items ≡ taken_off ws =
     c.wake_split-wakeup.ensures.taken ∙ ap taken_off c.deref_mut.ensures.value in
-    woken content place c.try_lock_list.new.place n ws (todo_looked (todo_at place)) locks c.requires.idle once other c.as_slice.result.now (c.as_slice.ensures.value ∙ taken)
-    c.take_all_off.new.place c.take_all_off.ensures.led c.unlock_after_wakeup.new.place c.unlock_after_wakeup.ensures.led
-    c.tell_all.new.place c.as_slice-2.result.now (c.as_slice-2.ensures.value ∙ taken) c.requires.calls_nobody c.tell_all.ensures.led
+    woken content seat c.try_lock_list.new.seat n ws (todo_looked (todo_at seat)) locks c.requires.idle once other c.as_slice.result.now (c.as_slice.ensures.value ∙ taken)
+    c.take_all_off.new.seat c.take_all_off.ensures.led c.unlock_after_wakeup.new.seat c.unlock_after_wakeup.ensures.led
+    c.tell_all.new.seat c.as_slice-2.result.now (c.as_slice-2.ensures.value ∙ taken) c.requires.calls_nobody c.tell_all.ensures.led
 
 pub unlock_after_wakeup-requires-clause-release_stays : goal.unlock_after_wakeup-requires-clause-release_stays
 unlock_after_wakeup-requires-clause-release_stays g c = λ clear.
@@ -86,7 +86,7 @@ unlock_after_wakeup-requires-clause-release_stays g c = λ clear.
     let ws = c.in-Some.list.value in
     let taken : c.wake_split-wakeup.result.taken.items ≡ taken_off ws =
     c.wake_split-wakeup.ensures.taken ∙ ap taken_off c.deref_mut.ensures.value in
-    let f = some-off c.as_slice.result.now (account_at content c.try_lock_list.new.place)
+    let f = some-off c.as_slice.result.now (account_at content c.try_lock_list.new.seat)
     (λ none. both_ways c.wake_split-wakeup.result.release_ok clear
     (c.wake_split-wakeup.ensures.release_ok.1 (c.deref_mut.ensures.value ∙ taken-none ws (sym (c.as_slice.ensures.value ∙ taken) ∙ none)))) in
     (f.0, ap (λ a. a.lists.off (f.0)) (c.take_all_off.ensures.led).account ∙ f.1)
@@ -97,7 +97,7 @@ try_lock_list-requires-clause-tells_nobody g c = λ other. ap (λ (lists : ListA
 pub unlock_after_wakeup-requires-clause-owes_no_ok : goal.unlock_after_wakeup-requires-clause-owes_no_ok
 unlock_after_wakeup-requires-clause-owes_no_ok g c =
     ap (λ (todo : Todo). todo.owes_release_ok) c.take_all_off.ensures.led.todo
-    ∙ ap (λ (todo : Todo). todo.owes_release_ok) (owed-else c.as_slice.result.now (todo_at c.try_lock_list.new.place))
+    ∙ ap (λ (todo : Todo). todo.owes_release_ok) (owed-else c.as_slice.result.now (todo_at c.try_lock_list.new.seat))
     ∙ ap (λ (todo : Todo). todo.owes_release_ok) (c.in-Some.ensures {u = tt}).led.todo ∙ c.requires.owes_no_ok
 
 pub unlock_after_wakeup-requires-clause-left_well : goal.unlock_after_wakeup-requires-clause-left_well
@@ -106,6 +106,6 @@ unlock_after_wakeup-requires-clause-left_well g c =
     let ws = c.in-Some.list.value in
     let taken : c.wake_split-wakeup.result.taken.items ≡ taken_off ws =
     c.wake_split-wakeup.ensures.taken ∙ ap taken_off c.deref_mut.ensures.value in
-    left-well (account_at content c.try_lock_list.new.place) (account_at content c.take_all_off.new.place) (todo_at c.take_all_off.new.place) c.args.lock.now ws
+    left-well (account_at content c.try_lock_list.new.seat) (account_at content c.take_all_off.new.seat) (todo_at c.take_all_off.new.seat) c.args.lock.now ws
     c.as_slice.result.now c.wake_split-wakeup.new.self (c.as_slice.ensures.value ∙ taken)
     (c.wake_split-wakeup.ensures.left ∙ ap left_waiting c.deref_mut.ensures.value) c.take_all_off.ensures.led.account

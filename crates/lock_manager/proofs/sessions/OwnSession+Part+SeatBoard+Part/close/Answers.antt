@@ -19,8 +19,8 @@ take_back-requires-clause-lawful g c =
 pub returns : goal.returns
 returns g c =
     let own : c.deref_mut.result.now ≡ c.self.inside.own.value = c.deref_mut.ensures.value in
-    let before = first_account content_of c.self.inside.board.place.me.0.sessions in
-    let last = first_account content_of c.end_all.new.board.place.me.0.sessions in
+    let before = first_account content_of c.self.inside.board.seat.me.0.sessions in
+    let last = first_account content_of c.end_all.new.board.seat.me.0.sessions in
     let number = c.self.inside.board.number in
     rw (← c.self.view_is) (record {
       closed = record {
@@ -33,9 +33,9 @@ returns g c =
         last,
         c.end_all.new.own.uses,
         subst (QuietOfReleases c.self.inside.board.sizes.groups number before c.self.inside.own.value.uses (ended_by Close c.self.inside.own.value.locals.entries) last c.end_all.new.own.uses
-            (first_quiet c.self.inside.board.place.me.0.sessions))
+            (first_quiet c.self.inside.board.seat.me.0.sessions))
             (sym (c.take_back.ensures.quiet history others is))
             (subst (λ (o : Own). QuietOfReleases c.self.inside.board.sizes.groups number before o.uses (ended_by Close o.locals.entries) last c.end_all.new.own.uses
-            (first_quiet c.self.inside.board.place.me.0.sessions) (first_quiet c.end_all.new.board.place.me.0.sessions)) own c.end_all.ensures.quiet),
+            (first_quiet c.self.inside.board.seat.me.0.sessions) (first_quiet c.end_all.new.board.seat.me.0.sessions)) own c.end_all.ensures.quiet),
       );
     })

@@ -10,9 +10,9 @@ use Rattle.shared_rule.proofs.one_thread.OneThreadBoard.transfer_slot.Goals as g
 pub returns-clause-view : goal.returns-clause-view
 returns-clause-view g c =
     let board = c.args.self.now in
-    let view = board.place.me.0 in
+    let view = board.seat.me.0 in
     ap (λ (side : Side g.row.T.Denot). first_account g.T.PartTable.content side.0.sessions) c.transfer_slot.ensures.side
-    ∙ account-noted g.T.PartTable.content view (TransferredSlot c.args.owner c.args.place c.args.tag.now c.args.mode)
+    ∙ account-noted g.T.PartTable.content view (TransferredSlot c.args.owner c.args.slot c.args.tag.now c.args.mode)
     (record {
       history = record { number = board.number; marks = first_marks view.sessions };
       others = [];

@@ -20,15 +20,15 @@ tell_closed-requires-clause-opener g c = record {
 pub returns-clause-closed : goal.returns-clause-closed
 returns-clause-closed g c =
     let board = c.args.board in
-    let had = c.self.inside.place in
-    let last : History g.row.T.Denot = record { number = board.number; marks = first_marks board.place.me.0.sessions } in
-    let came : c.into_place-place.result.1.me.0 ≡ board.place.me.0 = ap (λ place. place.me.0) c.into_place-place.ensures.1 in
+    let had = c.self.inside.seat in
+    let last : History g.row.T.Denot = record { number = board.number; marks = first_marks board.seat.me.0.sessions } in
+    let came : c.into_seat-seat.result.1.me.0 ≡ board.seat.me.0 = ap (λ seat. seat.me.0) c.into_seat-seat.ensures.1 in
     let closed : c.tell_closed.new.opener.me.0.closed ≡ last ∷ had.me.0.closed =
     ap (λ (side : Side g.row.T.Denot). side.0.closed) (c.tell_closed.ensures.side ∙ c.close.ensures.side)
     ∙ ap (λ (view : View g.row.T.Denot). first_of view.sessions ++ had.me.0.closed) (came ∙ board.lone) in
     let gathered : c.tell_closed.new.opener.me.0.sessions ≡ had.me.0.sessions =
     ap (λ (side : Side g.row.T.Denot). side.0.sessions) (c.tell_closed.ensures.side ∙ c.close.ensures.side) in
-    let table : c.tell_closed.new.opener.table_id ≡ had.table_id = c.tell_closed.ensures.seat.table_id ∙ c.close.ensures.seat.table_id in
+    let table : c.tell_closed.new.opener.table_id ≡ had.table_id = c.tell_closed.ensures.same_seat.table_id ∙ c.close.ensures.same_seat.table_id in
     record {
       last = last;
       number_ = refl;
@@ -41,12 +41,12 @@ returns-clause-closed g c =
 pub returns-clause-quiet : goal.returns-clause-quiet
 returns-clause-quiet g c = λ its others is.
     let board = c.args.board in
-    let came : c.into_place-place.result.1.me.0 ≡ board.place.me.0 = ap (λ place. place.me.0) c.into_place-place.ensures.1 in
+    let came : c.into_seat-seat.result.1.me.0 ≡ board.seat.me.0 = ap (λ seat. seat.me.0) c.into_seat-seat.ensures.1 in
     sym (ap (λ (histories : List (History g.row.T.Denot)). first_quiet histories) is)
     ∙ ap (λ (side : Side g.row.T.Denot). first_quiet side.0.closed) (c.tell_closed.ensures.side ∙ c.close.ensures.side)
-    ∙ ap (λ (view : View g.row.T.Denot). first_quiet (first_of view.sessions ++ c.self.inside.place.me.0.closed)) (came ∙ board.lone)
+    ∙ ap (λ (view : View g.row.T.Denot). first_quiet (first_of view.sessions ++ c.self.inside.seat.me.0.closed)) (came ∙ board.lone)
     ∙ ap (λ (view : View g.row.T.Denot). first_quiet view.sessions) (sym board.lone)
 
 pub close-requires-clause-wakes_nobody : goal.close-requires-clause-wakes_nobody
 close-requires-clause-wakes_nobody g c =
-    ap (λ place. first_owed place.me.0.sessions) c.into_place-place.ensures.1 ∙ ap (λ (s : Stack). s.owed) c.requires.stack
+    ap (λ seat. first_owed seat.me.0.sessions) c.into_seat-seat.ensures.1 ∙ ap (λ (s : Stack). s.owed) c.requires.stack

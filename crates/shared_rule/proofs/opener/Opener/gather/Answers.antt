@@ -15,26 +15,26 @@ pub invariant_of-self : goal.invariant_of-self
 invariant_of-self g c =
     let board = c.args.board in
     let side = ap (λ (m : Side g.row.T.Denot). m.0) c.keep_apart.ensures.side in
-    let came : c.into_place-place.result.1.me.0 ≡ board.place.me.0 = ap (λ place. place.me.0) c.into_place-place.ensures.1 in
-    let its : AreFree board.place.me.0.sessions = free-lone board.place.me.0 board.number (first_marks board.place.me.0.sessions) board.lone board.idle (ap (λ (s : Stack). s.owed) c.requires.stack) in (
+    let came : c.into_seat-seat.result.1.me.0 ≡ board.seat.me.0 = ap (λ seat. seat.me.0) c.into_seat-seat.ensures.1 in
+    let its : AreFree board.seat.me.0.sessions = free-lone board.seat.me.0 board.number (first_marks board.seat.me.0.sessions) board.lone board.idle (ap (λ (s : Stack). s.owed) c.requires.stack) in (
       ap (λ (view : View g.row.T.Denot). view.next) side ∙ c.self.invariant.0,
       c.self.invariant.1,
       c.self.invariant.2,
-      subst IsSized (sym c.keep_apart.ensures.seat.table_id) c.self.invariant.3,
+      subst IsSized (sym c.keep_apart.ensures.same_seat.table_id) c.self.invariant.3,
       subst (λ (view : View g.row.T.Denot). AreFree view.sessions) (sym side)
-          (free-with c.self.inside.place.me.0.sessions c.into_place-place.result.1.me.0.sessions c.self.invariant.4
+          (free-with c.self.inside.seat.me.0.sessions c.into_seat-seat.result.1.me.0.sessions c.self.invariant.4
           (subst (λ (view : View g.row.T.Denot). AreFree view.sessions) (sym came) its)),
-      subst (λ (t : TableId). HasGroups t c.self.inside.sizes.groups) (sym c.keep_apart.ensures.seat.table_id) c.self.invariant.5,
+      subst (λ (t : TableId). HasGroups t c.self.inside.sizes.groups) (sym c.keep_apart.ensures.same_seat.table_id) c.self.invariant.5,
     )
 
 pub returns-clause-gathered : goal.returns-clause-gathered
 returns-clause-gathered g c =
     let board = c.args.board in
-    let had = c.self.inside.place in
-    let last : History g.row.T.Denot = record { number = board.number; marks = first_marks board.place.me.0.sessions } in
+    let had = c.self.inside.seat in
+    let last : History g.row.T.Denot = record { number = board.number; marks = first_marks board.seat.me.0.sessions } in
     let side = ap (λ (m : Side g.row.T.Denot). m.0) c.keep_apart.ensures.side in
-    let came : c.into_place-place.result.1.me.0 ≡ board.place.me.0 = ap (λ place. place.me.0) c.into_place-place.ensures.1 in
-    let table = c.keep_apart.ensures.seat.table_id in
+    let came : c.into_seat-seat.result.1.me.0 ≡ board.seat.me.0 = ap (λ seat. seat.me.0) c.into_seat-seat.ensures.1 in
+    let table = c.keep_apart.ensures.same_seat.table_id in
     let closed = ap (λ (view : View g.row.T.Denot). view.closed) side in
     let gathered = ap (λ (view : View g.row.T.Denot). view.sessions) side
     ∙ ap (λ (view : View g.row.T.Denot). had.me.0.sessions ++ view.sessions) (came ∙ board.lone) in
@@ -49,5 +49,5 @@ returns-clause-gathered g c =
 
 pub keep_apart-requires-clause-free : goal.keep_apart-requires-clause-free
 keep_apart-requires-clause-free g c =
-    subst (λ place. IsFree place.me.0.sessions) (sym c.into_place-place.ensures.1)
+    subst (λ seat. IsFree seat.me.0.sessions) (sym c.into_seat-seat.ensures.1)
     (record { idle = c.args.board.idle; wakes_nobody = ap (λ (s : Stack). s.owed) c.requires.stack })

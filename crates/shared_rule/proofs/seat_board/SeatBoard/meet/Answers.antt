@@ -7,8 +7,8 @@ use Rattle.shared_rule.specs.Boards.{Stack}
 
 pub returns-clause-told : goal.returns-clause-told
 returns-clause-told g c =
-    let place = c.args.self.now.place in
-    told-of_both g.T.PartTable.content place.me.0 c.keep_apart.new.place.me.0 c.args.self.now.number (first_marks place.me.0.sessions) c.args.other.place.me.0.sessions
+    let seat = c.args.self.now.seat in
+    told-of_both g.T.PartTable.content seat.me.0 c.keep_apart.new.seat.me.0 c.args.self.now.number (first_marks seat.me.0.sessions) c.args.other.seat.me.0.sessions
     c.args.self.now.lone (ap (λ (m : Side g.row.T.Denot). m.0.sessions) c.keep_apart.ensures.side) c.tell_apart.ensures.apart
 
 pub keep_apart-requires-clause-free : goal.keep_apart-requires-clause-free

@@ -2,12 +2,12 @@ use Rattle.lw_word.specs.declared.words.LwMode.TheVariants.{Exclusive}
 use Rattle.shared_rule.specs.declared.lw_locks.LwLock.TheVariants.{OfPart}
 use Rattle.shared_rule.specs.Waiting.{sought_of}
 use Rattle.shared_rule.proofs.Waiting.{part-left}
-use Rattle.shared_rule.proofs.part_locks.PartLockGuardedPlace.dequeue_self.Goals as goal
+use Rattle.shared_rule.proofs.part_locks.PartLockGuardedSeat.dequeue_self.Goals as goal
 
 pub returns : goal.returns
 returns g c = λ first got has.
     let lock = c.args.self.now in
     part-left g.T.PartTable.content
-    (sought_of lock.top.now.key.sessions lock.top.now.table_id lock.number (OfPart lock.part) Exclusive)
-    first c.args.place.now c.dequeue_self.new.place c.dequeue_self.ensures.led c.dequeue_self.ensures.slots
+    (sought_of lock.words.now.key.sessions lock.words.now.table_id lock.number (OfPart lock.part) Exclusive)
+    first c.args.seat.now c.dequeue_self.new.seat c.dequeue_self.ensures.led c.dequeue_self.ensures.shelves
     g.T.PartTable.begun lock.part got has
