@@ -147,16 +147,16 @@ module _ (group : ℕ) (word : ℕ → ℕ) (relation limit : ℕ) (its : Option
       }
 
 -- A slot of one of so many groups is below the number of their slots.
-pub place-below : (group groups slot : ℕ) → IsOfGroup group slot → group < groups → slot < group_size * groups
-place-below group groups slot its below = omega (arith, its, below)
+pub slot-below : (group groups slot : ℕ) → IsOfGroup group slot → group < groups → slot < group_size * groups
+slot-below group groups slot its below = omega (arith, its, below)
 
 -- What is found among all slots of the group.
 module _ (group : ℕ) (word : ℕ → ℕ) (relation : ℕ) (its : Option SeenSlot) (count : ℕ)
     (all : SightsBelow group word relation group_size its count) where
-  at_place : (test : ℕ → Bool) (value : Bool)
+  at_slot : (test : ℕ → Bool) (value : Bool)
       → ((k : ℕ) → k < group_size → test (in_group group word k) ≡ value)
       → (slot : ℕ) → IsOfGroup group slot → test (word slot) ≡ value
-  at_place test value each slot within =
+  at_slot test value each slot within =
       let there = place-split group slot within in
       ap (λ p. test (word p)) there.2 ∙ each there.0 there.1
 
@@ -173,7 +173,7 @@ module _ (group : ℕ) (word : ℕ → ℕ) (relation : ℕ) (its : Option SeenS
       → IfNone slots ((k : ℕ) → k < group_size → is_slot_of (in_group group word k) relation ≡ false)
       → IfNone slots (NoneInGroup group word relation)
   none-all (Some slot) none = tt
-  none-all None none = at_place (λ w. is_slot_of w relation) false none
+  none-all None none = at_slot (λ w. is_slot_of w relation) false none
 
   pub sights-all : Sights group word relation (record { of_relation = its; used_count = count })
   sights-all = record {

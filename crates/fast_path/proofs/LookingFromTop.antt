@@ -200,7 +200,7 @@ module _ (group : ℕ) (word : ℕ → ℕ) (relation seen : ℕ) (highest : Opt
 
         earlier : (p q step j : ℕ) → p ≡ slot_from_top group step → q ≡ place_in_group group j → p < q → step < group_size
             → j < group_size → group_size - 1 - j < step
-        earlier p q step j first second above few_steps few_places = omega (arith, first, second, above, few_steps, few_places)
+        earlier p q step j first second above few_steps few_slots = omega (arith, first, second, above, few_steps, few_slots)
   highest-all None found = tt
 
   -- The relation's slot ends it,

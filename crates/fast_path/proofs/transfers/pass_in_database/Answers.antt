@@ -4,7 +4,7 @@ use Rattle.lock_world.specs.SlotHolds.{group_size, group_of_relation}
 use Rattle.shared_rule.specs.Boards.{Seated}
 use Rattle.shared_rule.specs.History.{slots_here}
 use Rattle.fast_path.specs.Slots.{IsSeenOf}
-use Rattle.fast_path.proofs.Looking.{place-below}
+use Rattle.fast_path.proofs.Looking.{slot-below}
 use Rattle.fast_path.proofs.Passing.{next-before, finds, relation-found, group-found, may_pass-nothing, may_pass-adopted}
 use Rattle.fast_path.proofs.Passing.{passes-nothing, passes-adopting, stops-adopting}
 use Rattle.fast_path.proofs.transfers.pass_in_database.Goals as goal
@@ -18,7 +18,7 @@ adopt-requires-clause-there g c =
     let below : c.group_of-group.result < (g.B.Board.seat c.args.board.now).groups =
     subst (λ (k : ℕ). c.group_of-group.result < k) c.groups.ensures.value c.group_of-group.ensures.exists in
     subst (λ (s : Seated). c.in-Some.slot.number < group_size * s.groups) (sym looks.ensures.seat)
-    (place-below c.group_of-group.result (g.B.Board.seat c.args.board.now).groups c.in-Some.slot.number seen.within below)
+    (slot-below c.group_of-group.result (g.B.Board.seat c.args.board.now).groups c.in-Some.slot.number seen.within below)
 
 pub pass_fast-requires-clause-lawful : goal.pass_fast-requires-clause-lawful
 pass_fast-requires-clause-lawful g c =

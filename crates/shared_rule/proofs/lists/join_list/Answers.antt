@@ -46,5 +46,5 @@ returns-clause-led g c =
     ∙ ap (λ m. (Rattle.shared_rule.specs.History.noting seat.me.0 (m 1), seat.me.1)) c.requires.mark)) (λ owed i. owed))
     (ap (λ number. account_joining_list a (list_here a.lists.in_hand) (record { session = number; mode = c.args.mode })) (sym c.requires.own))
 
-pub returns-clause-slots : goal.returns-clause-slots
-returns-clause-slots g c = ap (λ (side : Side g.row.T.Denot). side.1) c.store_as.ensures.side
+pub returns-clause-shelves : goal.returns-clause-shelves
+returns-clause-shelves g c = ap (λ (side : Side g.row.T.Denot). side.1) c.store_as.ensures.side

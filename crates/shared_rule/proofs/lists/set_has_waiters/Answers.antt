@@ -37,8 +37,8 @@ returns-clause-led g c =
     (ap (λ (side : Side g.row.T.Denot). side.0) (c.fetch_or_as.ensures.side
     ∙ ap (λ m. (noting seat.me.0 (m c.fetch_or_as.result), seat.me.1)) c.requires.mark)) (λ owed i. owed)
 
-pub returns-clause-slots : goal.returns-clause-slots
-returns-clause-slots g c = ap (λ (side : Side g.row.T.Denot). side.1) c.fetch_or_as.ensures.side
+pub returns-clause-shelves : goal.returns-clause-shelves
+returns-clause-shelves g c = ap (λ (side : Side g.row.T.Denot). side.1) c.fetch_or_as.ensures.side
 
 pub returns-clause-flagged : goal.returns-clause-flagged
 returns-clause-flagged g c =

@@ -33,5 +33,5 @@ returns-clause-led g c =
     (ap (λ (side : Side g.row.T.Denot). side.0) (c.store_as.ensures.side
     ∙ ap (λ m. (noting seat.me.0 (m 2), seat.me.1)) c.requires.mark)) (λ owed i. owed)
 
-pub returns-clause-slots : goal.returns-clause-slots
-returns-clause-slots g c = ap (λ (side : Side g.row.T.Denot). side.1) c.store_as.ensures.side
+pub returns-clause-shelves : goal.returns-clause-shelves
+returns-clause-shelves g c = ap (λ (side : Side g.row.T.Denot). side.1) c.store_as.ensures.side

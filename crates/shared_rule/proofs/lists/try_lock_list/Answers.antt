@@ -76,8 +76,8 @@ returns-then-has_locked_list-clause-led g c =
     (ap (λ (side : Side g.row.T.Denot). side.0) set) (λ owed i. owed))
     (ap (λ (list : Box (List LwWaiter)). account_locking_list (account_at content seat) n list.value) same)
 
-pub returns-then-has_locked_list-clause-slots : goal.returns-then-has_locked_list-clause-slots
-returns-then-has_locked_list-clause-slots g c =
+pub returns-then-has_locked_list-clause-shelves : goal.returns-then-has_locked_list-clause-shelves
+returns-then-has_locked_list-clause-shelves g c =
     let seat = c.args.seat.now in
     let n = lock_number c.args.lock.now in
     let took = c.fetch_or-found.ensures.2.0 (c.has_locked_list.ensures.0 c.if-has_locked_list.true) c.args.lock.now c.requires.there c.word.ensures.index in

@@ -44,7 +44,7 @@ returns-clause-led g c =
     ∙ ap (λ (s : Side g.row.T.Denot). noting s.0 (g.M.Marking.mark c.put_home_as.result)) set
     ∙ ap (λ m. noting seat.me.0 (m c.put_home_as.result)) c.requires.mark) (λ owed i. owed)
 
-pub returns-clause-slots : goal.returns-clause-slots
-returns-clause-slots g c =
+pub returns-clause-shelves : goal.returns-clause-shelves
+returns-clause-shelves g c =
     ap (λ (s : Side g.row.T.Denot). s.1) (c.put_home_as.ensures.side
     ∙ ap (λ (s : Side g.row.T.Denot). (noting s.0 (g.M.Marking.mark c.put_home_as.result), rest s.1)) c.exchange.ensures.3)

@@ -24,8 +24,8 @@ returns-in-Some-try_lock_list-clause-led g c =
     c.loop.invariant.led (c.in-Some-try_lock_list.ensures {u = tt}).led)
     (looked-same (todo_at seat) c.requires.no_look)
 
-pub returns-in-Some-try_lock_list-clause-slots : goal.returns-in-Some-try_lock_list-clause-slots
-returns-in-Some-try_lock_list-clause-slots g c =
+pub returns-in-Some-try_lock_list-clause-shelves : goal.returns-in-Some-try_lock_list-clause-shelves
+returns-in-Some-try_lock_list-clause-shelves g c =
     (c.in-Some-try_lock_list.ensures {u = tt}).shelves
     ∙ ap (λ slots. (list_shelf_of (lock_number c.args.lock.now), Nothing) ∷ slots) c.loop.invariant.shelves
 
