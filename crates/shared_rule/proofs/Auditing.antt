@@ -134,9 +134,9 @@ stand-as : (groups k : ℕ) (a b : Account) (contents : ℕ → Content) → a.o
 stand-as groups k a b contents own fast stand = record {
   one_each = subst (λ (f : FastAccount). OneSlotEach f.remembered) fast stand.one_each;
   in_groups = subst (λ (f : FastAccount). AreInGroups groups f.remembered) fast stand.in_groups;
-  in_shelves = λ t m is.
+  in_slots = λ t m is.
       subst (λ (f : FastAccount). slot_holds f.database f.remembered t m ≡ true) fast
-      (stand.in_shelves t m (ap (λ (o : Tag → Mode → Bool). left_in_slots o contents k t m) own ∙ is));
+      (stand.in_slots t m (ap (λ (o : Tag → Mode → Bool). left_in_slots o contents k t m) own ∙ is));
   in_contents = λ t m has. ap (λ (o : Tag → Mode → Bool). o t m) (sym own) ∙ stand.in_contents t m has;
 }
 

@@ -171,7 +171,7 @@ blank-stands : (groups k : ℕ) (contents : ℕ → Content) → ((t : Tag) (m :
 blank-stands groups k contents none = record {
   one_each = (nothing-remembered groups).0;
   in_groups = (nothing-remembered groups).1;
-  in_shelves = λ t m is. absurd (cc (is));
+  in_slots = λ t m is. absurd (cc (is));
   in_contents = λ t m has. absurd (both_ways ((contents (partition_of t)).holds k t m) (none t m) has);
 }
 
@@ -180,7 +180,7 @@ stands-as : (groups k : ℕ) (a : Account) (contents others : ℕ → Content) �
 stands-as groups k a contents others same stand = record {
   one_each = stand.one_each;
   in_groups = stand.in_groups;
-  in_shelves = λ t m is. stand.in_shelves t m (ap (λ (c : Content). a.own t m && not (c.holds k t m)) (same t) ∙ is);
+  in_slots = λ t m is. stand.in_slots t m (ap (λ (c : Content). a.own t m && not (c.holds k t m)) (same t) ∙ is);
   in_contents = λ t m has. stand.in_contents t m (ap (λ (c : Content). c.holds k t m) (same t) ∙ has);
 }
 

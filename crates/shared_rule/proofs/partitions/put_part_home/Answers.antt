@@ -27,7 +27,7 @@ put_home_as-requires-clause-allowed g c =
     puts_part_at content g.T.PartTable.begun c.args.words.now.key seat.id seat.me session.history session.others is
     c.args.part c.requires.exists c.args.words.now.table_id.slots c.partition_word.result c.requires.table.sized.shelves c.partition_word.ensures.index
     may.0 c.args.done.now c.args.content may.1 c.requires.none_begun
-    (last-shelf seat.me c.args.seat.now.me.0 (content_shelf_of c.args.part) c.content_shelf.result (Part c.args.content) (rest c.args.seat.now.me.1) set (sym slot))
+    (last-shelf seat.me c.args.seat.now.me.0 (content_shelf_of c.args.part) c.content_shelf.result (Part c.args.content) (rest c.args.seat.now.me.1) set (sym shelf))
     (due-known c.args.seat.now.me.0 session c.requires.no_look) g.M.Marking.mark c.requires.mark
 
 pub returns-clause-led : goal.returns-clause-led
