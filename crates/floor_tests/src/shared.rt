@@ -7,7 +7,11 @@ ghost use Rattle.shared_rule.specs.Opening.{AreNew};
 
 use lock_table::{PartTable, PlainPart, empty_parts};
 use modes_core::SessionId;
-use shared_rule::{Board, CONTENT_SHELVES, Kept, OneThread, TABLE_SHELVES, TABLE_WORDS, TableSizes, content_shelf, database_word, fast_word, in_shelves, partition_word, sleep_word, slot_word, strong_word, table_words, wait_word};
+use shared_rule::{
+    Board, CONTENT_SHELVES, Kept, OneThread, TABLE_SHELVES, TABLE_WORDS, TableSizes, content_shelf,
+    database_word, fast_word, in_shelves, partition_word, sleep_word, slot_word, strong_word,
+    table_words, wait_word,
+};
 use std::alloc::Global;
 use std::process::Abort;
 use std::test::Fail;

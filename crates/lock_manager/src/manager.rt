@@ -13,7 +13,9 @@ use crate::keeper::Part;
 use crate::sessions::{Own, OwnSession, Session};
 use lock_table::empty_parts;
 use modes_core::Refusal;
-use shared_rule::{Board, Opener as NumberOpener, SeatBoard, SharedTable, TableSizes, in_shelves, open};
+use shared_rule::{
+    Board, Opener as NumberOpener, SeatBoard, SharedTable, TableSizes, in_shelves, open,
+};
 use std::alloc::Global;
 use std::marker::Model;
 

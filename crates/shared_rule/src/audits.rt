@@ -51,7 +51,11 @@ pub struct Audit {
 }
 
 // A load that tells what a seat at which all sessions are knows of the number found.
-fn look_over_as<T: PartTable, M: Marking<T>>(words: &SharedWords<T>, seat: &mut Seat<T>, word: usize) -> u64
+fn look_over_as<T: PartTable, M: Marking<T>>(
+    words: &SharedWords<T>,
+    seat: &mut Seat<T>,
+    word: usize,
+) -> u64
     requires table { FitsTable seat.old words.now.table_id × (word < words.now.table_id.words) }
     requires allowed { Allows (Ruled T.content T.begun words.now.key) words.now.table_id.slots
         seat.old.id seat.old.me word (λ n. n)
@@ -197,7 +201,12 @@ fn count_slots<T: PartTable>(words: &SharedWords<T>, seat: &mut Seat<T>, sizes: 
 }
 
 // Takes the next partition in rising order, whose content comes in hand.
-fn take_next<T: PartTable, R: Wait>(rt: &R, words: &SharedWords<T>, seat: &mut Seat<T>, part: u8) -> T
+fn take_next<T: PartTable, R: Wait>(
+    rt: &R,
+    words: &SharedWords<T>,
+    seat: &mut Seat<T>,
+    part: u8,
+) -> T
     requires table { FitsTable seat.old words.now.table_id }
     requires session { HasSession seat.old.me.0 }
     requires exists { part < 16 }

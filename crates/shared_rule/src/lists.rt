@@ -135,7 +135,11 @@ pub(crate) fn join_list<T: PartTable, M: Marking<T>>(
 
 /// Stores in the sleep word of the session `number`, its own, that it no longer waits, with itself in the list in
 /// hand (`LWLockDequeueSelf` in lwlock.c).
-pub(crate) fn leave_list<T: PartTable>(words: &SharedWords<T>, seat: &mut Seat<T>, number: SessionId)
+pub(crate) fn leave_list<T: PartTable>(
+    words: &SharedWords<T>,
+    seat: &mut Seat<T>,
+    number: SessionId,
+)
     requires table { FitsTable seat.old words.now.table_id }
     requires session { HasSession seat.old.me.0 }
     requires own { number ≡ number_at seat.old }
@@ -204,7 +208,11 @@ pub(crate) fn call_sleeper<T: PartTable, M: Marking<T>>(
 
 /// Loads the sleep word of the session `number`, its own (`lwWaiting` in proc.h, as the sleep of `LWLockAcquire` in
 /// lwlock.c reads it).
-pub(crate) fn load_sleep<T: PartTable>(words: &SharedWords<T>, seat: &mut Seat<T>, number: SessionId) -> u64
+pub(crate) fn load_sleep<T: PartTable>(
+    words: &SharedWords<T>,
+    seat: &mut Seat<T>,
+    number: SessionId,
+) -> u64
     requires table { FitsTable seat.old words.now.table_id }
     requires session { HasSession seat.old.me.0 }
     requires own { number ≡ number_at seat.old }
@@ -262,7 +270,11 @@ pub(crate) fn set_has_waiters<T: PartTable, M: Marking<T>>(
 
 /// Loads the word of `lock`, which the session is to attempt (the loop of `LWLockAttemptLock` in lwlock.c). Where it shows
 /// that somebody holds the lock that is noted, and the attempt is done: whoever holds it sees has-waiters as it puts it.
-pub(crate) fn look_at_lock<T: PartTable>(words: &SharedWords<T>, seat: &mut Seat<T>, lock: &LwLock) -> u64
+pub(crate) fn look_at_lock<T: PartTable>(
+    words: &SharedWords<T>,
+    seat: &mut Seat<T>,
+    lock: &LwLock,
+) -> u64
     requires table { FitsTable seat.old words.now.table_id }
     requires there { LockIsInTable lock.now }
     requires session { HasSession seat.old.me.0 }

@@ -101,7 +101,15 @@ fn take_part_held<T: PartTable, R: Wait>(
         (sought_of words.now.key.sessions words.now.table_id number (OfPart part) Exclusive))
         (TakesPartition T.content T.begun part) seat.old seat.new result }
 {
-    acquire_held(rt, seat, &PartLock { words, number, part })
+    acquire_held(
+        rt,
+        seat,
+        &PartLock {
+            words,
+            number,
+            part,
+        },
+    )
 }
 
 /// The lock of partition `part`, which goes home after the move `done`, with its content.

@@ -60,7 +60,8 @@ fn attempt_part<T: PartTable>(
         return None;
     }
     Some(
-        words.exchange(seat, content_shelf(part), Kept::Nothing)
+        words
+            .exchange(seat, content_shelf(part), Kept::Nothing)
             .into_part(),
     )
 }
@@ -138,7 +139,15 @@ pub(crate) fn take_part<T: PartTable, R: Wait>(
     requires latest { IsLatestBy (account_at T.content seat.old) (OfPart part) }
     ensures { TakesPartition T.content T.begun part seat.old seat.new result }
 {
-    acquire(rt, seat, &PartLock { words, number, part })
+    acquire(
+        rt,
+        seat,
+        &PartLock {
+            words,
+            number,
+            part,
+        },
+    )
 }
 
 /// Puts `content` home to partition `part`, after the move `done`, and its lightweight lock, and answers what the

@@ -266,14 +266,7 @@ impl<'a, T: PartTable> Board<T> for SeatBoard<'a, T> {
     }
 
     fn set_waiting(&mut self, tag: &Tag, mode: Mode, content: &T) {
-        waits::set_waiting::<T, Brand>(
-            self.table,
-            &mut self.seat,
-            self.number,
-            tag,
-            mode,
-            content,
-        );
+        waits::set_waiting::<T, Brand>(self.table, &mut self.seat, self.number, tag, mode, content);
     }
 
     fn mark_granted(

@@ -14,7 +14,9 @@ use super::{asked, crowds, watches};
 use lock_manager::{OwnSession, Part};
 use lock_table::{PartTable, empty_parts};
 use modes_core::SessionId;
-use shared_rule::{Board, Kept, Opener, SeatBoard, SharedTable, SharedWords, TableSizes, in_shelves, open};
+use shared_rule::{
+    Board, Kept, Opener, SeatBoard, SharedTable, SharedWords, TableSizes, in_shelves, open,
+};
 use std::alloc::Global;
 use std::process::Abort;
 use std::sync::Wait;
