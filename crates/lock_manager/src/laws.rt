@@ -21,7 +21,7 @@ ghost use Rattle.shared_rule.specs.declared.history.History.{History};
 ghost use Rattle.shared_rule.specs.declared.history.View.{View};
 ghost use Rattle.shared_rule.specs.declared.kept.Kept.{Kept};
 ghost use Rattle.shared_rule.specs.declared.kept.Kept.TheVariants as kept;
-ghost use Rattle.shared_rule.specs.Layout.{content_slot_of};
+ghost use Rattle.shared_rule.specs.Layout.{content_shelf_of};
 ghost use Rattle.lock_records.specs.declared.counts.Counts.{Counts};
 ghost use Rattle.lock_records.specs.Counts.{AreCountsOf, CountSessions, IsUntouched};
 ghost use Rattle.lock_records.specs.View.{RecordView, content_of};
@@ -76,7 +76,7 @@ pub fn the_counts_of_the_table_are_exact()
     ensures { (sizes : TableSizes) (state : State (Kept RecordView) (View RecordView))
         (rule : Ruled content_of (λ part. part.begun) sizes state) (partition : ℕ) → partition < 16 →
         rule.world.contents.hand partition ≡ None →
-        (part : RecordView) × (get_elem? state.homes (content_slot_of partition) ≡ some (some (kept.Part part)))
+        (part : RecordView) × (get_elem? state.homes (content_shelf_of partition) ≡ some (some (kept.Part part)))
         × ((tag : Tag) (counts : Counts) → AreCountsOf (content_of part) tag counts →
         CountSessions (rule.world.contents.now partition) tag counts)
         × ((tag : Tag) → IsUntouched (content_of part) tag → IsUntouched (rule.world.contents.now partition) tag) }

@@ -11,7 +11,7 @@ use Rattle.lock_records.specs.Counts.{AreCountsOf, IsUntouched}
 use Rattle.lock_records.specs.View.{RecordView, content_of}
 use Rattle.lock_records.proofs.Sessions.{count-sessions}
 use Rattle.modes_core.specs.declared.tags.Tag.{Tag}
-use Rattle.shared_rule.specs.Layout.{content_slot_of}
+use Rattle.shared_rule.specs.Layout.{content_shelf_of}
 use Rattle.shared_rule.specs.Ruled.{IsHomeUnlessInHand, IsAtHome}
 use Rattle.lock_manager.proofs.laws.the_counts_of_the_table_are_exact.Goals as goal
 
@@ -30,8 +30,8 @@ waiter-within w safe p s t there =
 pub returns : goal.returns
 returns c = λ sizes state rule p below at_home.
     let w = rule.world in
-    let home : IsAtHome content_of (λ (part : RecordView). part.begun) (w.contents.now p) (get_elem? state.homes (content_slot_of p)) =
-    subst (λ (h : Option Hand). IsHomeUnlessInHand content_of (λ (part : RecordView). part.begun) h (w.contents.now p) (get_elem? state.homes (content_slot_of p))) at_home
+    let home : IsAtHome content_of (λ (part : RecordView). part.begun) (w.contents.now p) (get_elem? state.homes (content_shelf_of p)) =
+    subst (λ (h : Option Hand). IsHomeUnlessInHand content_of (λ (part : RecordView). part.begun) h (w.contents.now p) (get_elem? state.homes (content_shelf_of p))) at_home
     (rule.contents p below) in
     let few : sizes.sessions ≤ 64 = rule.few in
     let limit : w.numbers.limit ≡ sizes.sessions = rule.is_limit in (
