@@ -18,8 +18,8 @@ use shared_rule::{Absent, Audit, Board, Opener as NumberOpener, SeatBoard, Share
 use std::sync::Wait;
 
 impl Manager {
-    /// Counts what stands in the manager while nobody else can change it, since all of its open sessions are lent:
-    /// `fast` is how many modes the fast-path slots show, `table` how many holds the contents of all partitions
+    /// Counts what is in the manager while nobody else can change it, since all of its open `sessions` and its `opener`
+    /// are lent: `fast` is how many modes the fast-path slots show, `table` how many holds the contents of all partitions
     /// have, `strong` the sum of the strong lock counters. `fast + table` is how many local entries the sessions
     /// have, and `strong` how many of them are of strong modes.
     ///

@@ -26,36 +26,38 @@ pub trait Guarded<S, G> {
     // It has got the lock, with this, and is in no list.
     ghost won: { Self → S → S → G → Type 0 };
 
-    /// One attempt, where the word shows that nobody is in the way (`LWLockAttemptLock` in lwlock.c).
+    /// Makes one attempt for the session in `state`, where the word shows that nobody is in the way
+    /// (`LWLockAttemptLock` in lwlock.c).
     fn attempt(&self, state: &mut S) -> Option<G>
         requires { IsSince (on_way self.now) state.old }
         ensures won { IfSome result (Gains (on_way self.now) (won self.now) state.old state.new) }
         ensures lost { IfNone result (StaysSince (on_way self.now) state.old state.new) };
 
-    /// Joins the end of the lock's list (`LWLockQueueSelf` in lwlock.c).
+    /// Puts the session in `state` at the end of the lock's list (`LWLockQueueSelf` in lwlock.c).
     fn queue_self<R: Wait>(&self, rt: &R, state: &mut S)
         requires { IsSince (on_way self.now) state.old }
         ensures { TurnsInto (on_way self.now) (queued self.now) state.old state.new };
 
-    /// One attempt as `attempt` makes it, in the list.
+    /// Makes one attempt as `attempt` does, for a session in `state` that is in the list.
     fn attempt_again(&self, state: &mut S) -> Option<G>
         requires { IsSince (queued self.now) state.old }
         ensures won { IfSome result (Gains (queued self.now) (won_queued self.now) state.old state.new) }
         ensures lost { IfNone result (StaysSince (queued self.now) state.old state.new) };
 
-    /// Whether the word shows that somebody is in the way: whoever holds the lock then sees has-waiters as it puts it.
+    /// Whether the word shows that somebody is in the way of the session in `state`: whoever holds the lock then sees
+    /// has-waiters as it puts it.
     fn is_held(&self, state: &mut S) -> bool
         requires { IsSince (queued self.now) state.old }
         ensures held { OnTrue result (TurnsInto (queued self.now) (saw_held self.now) state.old state.new) }
         ensures free { OnFalse result (StaysSince (queued self.now) state.old state.new) };
 
-    /// Leaves the list, with the lock in hand (`LWLockDequeueSelf` in lwlock.c).
+    /// Takes the session in `state`, which has the lock in hand, off the list (`LWLockDequeueSelf` in lwlock.c).
     fn dequeue_self<R: Wait>(&self, rt: &R, state: &mut S)
         requires { IsSinceWith (won_queued self.now) state.old }
         ensures { Carries (won_queued self.now) (won self.now) state.old state.new };
 
-    /// Sleeps until somebody has taken the session off the list and tells it so, and lets releases wake others again (the
-    /// sleep on the semaphore in `LWLockAcquire` of lwlock.c, and `LW_FLAG_RELEASE_OK` after it).
+    /// Has the session in `state` sleep until somebody has taken it off the list and tells it so, and lets releases wake
+    /// others again (the sleep on the semaphore in `LWLockAcquire` of lwlock.c, and `LW_FLAG_RELEASE_OK` after it).
     fn sleep_until_told<R: Wait>(&self, rt: &R, state: &mut S)
         requires { IsSince (saw_held self.now) state.old }
         ensures { TurnsInto (saw_held self.now) (on_way self.now) state.old state.new };
@@ -64,8 +66,8 @@ pub trait Guarded<S, G> {
 /// A guarded lock whose way after a lost attempt is a function of its own, which takes no reference to the lock: so the
 /// short way of `acquire` keeps the lock in no memory.
 pub trait Acquirable<S, G>: Guarded<S, G> {
-    /// Acquires the lock after a lost attempt: a call of the function `acquire_held` in a function that is not put where
-    /// it is called.
+    /// Acquires the lock for the session in `state` after a lost attempt: a call of the function `acquire_held` in a
+    /// function that is not inlined.
     fn acquire_held<R: Wait>(&self, rt: &R, state: &mut S) -> G
         requires { IsSince (Self.on_way self.now) state.old }
         ensures { Gains (Self.on_way self.now) (Self.won self.now) state.old state.new result };

@@ -33,7 +33,7 @@ pub trait Held<S, C> {
         ensures released { must_wake (put_in (in_mode self.now) (state_of result)) ≡ false
             → released self.now state.old state.new content };
 
-    /// Wakes those first in the lock's list (`LWLockWakeup` in lwlock.c).
+    /// Has the session in `state`, which has put the lock, wake those first in the lock's list (`LWLockWakeup` in lwlock.c).
     fn wake_waiters(&self, state: &mut S)
         requires { IsSinceWith (due self.now) state.old }
         ensures { Carries (due self.now) (released self.now) state.old state.new };

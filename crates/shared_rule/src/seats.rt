@@ -63,7 +63,8 @@ impl<T> Split<View<T>> for HandsBack {
     ghost right = { handed_back };
 }
 
-/// Opens a session, which gets the opener's next number (`InitProcess` in proc.c). It has made no step yet.
+/// Opens a session at the seat `opener`, which gives it the next number (`InitProcess` in proc.c), and answers its seat. The
+/// session has made no step yet.
 pub(crate) fn open<T: PartTable>(words: &SharedWords<T>, opener: &mut Seat<T>) -> Seat<T>
     requires table { FitsTable opener.old words.now.table_id }
     requires number { HasNumber opener.old.me.0 words.now.key.sessions }
@@ -75,7 +76,8 @@ pub(crate) fn open<T: PartTable>(words: &SharedWords<T>, opener: &mut Seat<T>) -
     words.split_seat::<Opens>(opener)
 }
 
-/// Closes a session that has nothing any more, nothing to do for those who wait, and nobody to wake (`ProcKill` in proc.c).
+/// Closes the session of the seat `session`, which has nothing any more, nothing to do for those who wait, and nobody to wake:
+/// the seat `opener` has its number as closed (`ProcKill` in proc.c).
 pub(crate) fn close<T: PartTable>(words: &SharedWords<T>, opener: &mut Seat<T>, session: Seat<T>)
     requires table { FitsTable opener.old words.now.table_id }
     requires session_table { FitsTable session words.now.table_id }
@@ -91,7 +93,8 @@ pub(crate) fn close<T: PartTable>(words: &SharedWords<T>, opener: &mut Seat<T>, 
     words.join_seat::<Closes>(opener, session);
 }
 
-/// Tells the opener that those that have closed were given out, each once. It loads a word, and ignores what it finds.
+/// Tells the seat `opener` that those that have closed were given out, each once. The call loads a word, and ignores what it
+/// finds.
 pub(crate) fn tell_closed<T: PartTable>(words: &SharedWords<T>, opener: &mut Seat<T>)
     requires table { FitsTable opener.old words.now.table_id }
     requires opener { HasNext opener.old.me.0 }
@@ -102,8 +105,8 @@ pub(crate) fn tell_closed<T: PartTable>(words: &SharedWords<T>, opener: &mut Sea
     words.load::<TellsClosed>(opener, 0);
 }
 
-/// Keeps a session apart that holds no word, has nothing to do for those who wait, and has nobody to wake: its history goes
-/// behind those at the seat, for as long as they meet.
+/// Keeps the session of the seat `other` apart, which holds no word, has nothing to do for those who wait, and has nobody to
+/// wake: its history goes behind those at `seat`, for as long as they meet.
 pub(crate) fn keep_apart<T: PartTable>(words: &SharedWords<T>, seat: &mut Seat<T>, other: Seat<T>)
     requires table { FitsTable seat.old words.now.table_id }
     requires other_table { FitsTable other words.now.table_id }
