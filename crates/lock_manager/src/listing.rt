@@ -21,9 +21,9 @@ pub struct Listing {
     pub table: Vec<TableRow>,
 }
 
-/// All that is held and awaited (`GetLockStatusData` in lock.c), as the session on `board` with what it owns, `own`, sees it: first what the
-/// slots show, read session by session with the lock of each one's slots shared, and then the lock table at one
-/// moment, at which the session has all partitions in hand. So a hold that is moved from a slot to the table
+/// All that is held and awaited (`GetLockStatusData` in lock.c), as the session on `board`, which owns `own`, sees it:
+/// first what the slots show, read session by session with the lock of each one's slots shared, and then the lock table
+/// at one moment, at which the session has all partitions in hand. So a hold that is moved from a slot to the table
 /// meanwhile may be listed in both, and none that stands all the while is missed. Only the lists of the answer take
 /// memory.
 pub fn list<T: PartTable, B: Board<T>, R: Wait>(
