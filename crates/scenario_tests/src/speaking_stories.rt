@@ -1,7 +1,7 @@
 //! The stories in SQL of `scenarios/sql/`, with what they print (`.ci/scenarios` writes them here).
 
 /// All of them.
-pub static STORIES: [(&str, &str); 17] = [
+pub static STORIES: [(&str, &str); 20] = [
     (
         "\
 # The story of ../a_build_behind_a_forgotten_transaction.scn, in SQL.
@@ -50,8 +50,10 @@ builder: granted after waiting
 builder: committed
 builder: released
 vacuum: granted after waiting
+vacuum: already held
 vacuum: granted
 vacuum: committed
+vacuum: released
 ",
     ),
     (
@@ -520,6 +522,60 @@ web2: granted after waiting
     ),
     (
         "\
+# The story of ../an_alter_behind_an_index_build.scn, in SQL.
+schema
+  SET lock_scenario.transactions = on;
+  CREATE TABLE accounts (id int, balance int);
+end
+session writer 5
+session builder 5
+session alter 5
+session web 5
+session clock 5
+do writer BEGIN; UPDATE accounts SET balance = 0 WHERE id = 1;
+work builder CREATE INDEX CONCURRENTLY accounts_balance ON accounts (balance);
+work alter ALTER TABLE accounts ADD COLUMN note text;
+do web SELECT * FROM accounts WHERE id = 2;
+do writer COMMIT;
+# The index is built. Before its end the build waits for who has a snapshot now.
+done builder;
+cancel clock builder
+abort builder
+done alter;
+",
+        "\
+writer: session 0 database 5
+builder: session 1 database 5
+alter: session 2 database 5
+web: session 3 database 5
+clock: session 4 database 5
+name transaction_1 adv/5/0/1/3
+name accounts 5/16384
+writer: granted
+writer: granted
+builder: granted
+builder: waits
+name transaction_2 adv/5/0/2/3
+alter: granted
+alter: waits
+name accounts_balance 5/16385
+web: waits
+writer: committed
+builder: granted after waiting
+builder: committed
+builder: waits
+clock: asked builder
+builder: cancelled
+builder: aborted
+alter: granted after waiting
+alter: committed
+web: granted after waiting
+web: granted
+web: committed
+",
+    ),
+    (
+        "\
 # The story of ../an_alter_in_a_savepoint.scn, in SQL.
 schema
   CREATE TABLE accounts (id int, owner text, balance int);
@@ -556,6 +612,116 @@ fast migration 15 orders RowExclusiveLock
 table web accounts AccessShareLock granted
 rows 2
 migration: committed
+",
+    ),
+    (
+        "\
+# The story of ../an_autovacuum_that_gives_way.scn, in SQL. An autovacuum takes its table by a try, as VACUUM (SKIP_LOCKED) does.
+schema
+  CREATE TABLE accounts (id int, balance int);
+end
+session auto 5
+session alter 5
+session web 5
+session admin 5
+work auto VACUUM (SKIP_LOCKED) accounts;
+do web UPDATE accounts SET balance = 0 WHERE id = 1;
+do alter ALTER TABLE accounts ADD COLUMN note text;
+do web SELECT * FROM accounts WHERE id = 1;
+# deadlock_timeout is over. auto: ERROR:  canceling autovacuum task
+abort auto
+
+work admin VACUUM accounts;
+do alter ALTER TABLE accounts ADD COLUMN email text;
+do web SELECT * FROM accounts WHERE id = 1;
+work auto VACUUM (SKIP_LOCKED) accounts;
+# The VACUUM ends by itself.
+done admin;
+",
+        "\
+auto: session 0 database 5
+alter: session 1 database 5
+web: session 2 database 5
+admin: session 3 database 5
+name accounts 5/16384
+auto: granted
+web: granted
+web: committed
+alter: waits
+web: waits
+auto: aborted
+alter: granted after waiting
+alter: committed
+web: granted after waiting
+web: committed
+admin: granted
+admin: already held
+alter: waits
+web: waits
+auto: refused 1 conflict alter AccessExclusiveLock awaited
+admin: committed
+admin: released
+alter: granted after waiting
+alter: committed
+web: granted after waiting
+web: committed
+",
+    ),
+    (
+        "\
+# The story of ../an_index_build_stops_the_writers.scn, in SQL.
+schema
+  CREATE TABLE accounts (id int, owner text, balance int);
+end
+session builder 5
+session reader 5
+session writer 5
+do builder BEGIN; CREATE INDEX accounts_owner ON accounts (owner);
+do reader BEGIN; SELECT * FROM accounts;
+do writer INSERT INTO accounts VALUES (1, 'ann', 0);
+list reader
+do reader COMMIT;
+do builder COMMIT;
+
+schema
+  SET lock_scenario.transactions = on;
+end
+work builder CREATE INDEX CONCURRENTLY accounts_balance ON accounts (balance);
+do writer BEGIN; INSERT INTO accounts VALUES (2, 'bob', 0);
+list reader
+do writer COMMIT;
+done builder;
+",
+        "\
+builder: session 0 database 5
+reader: session 1 database 5
+writer: session 2 database 5
+name accounts 5/16384
+name accounts_owner 5/16385
+builder: granted
+builder: granted
+reader: granted
+writer: waits
+table builder accounts ShareLock granted
+table reader accounts AccessShareLock granted
+table writer accounts RowExclusiveLock awaited
+table builder accounts_owner AccessExclusiveLock granted
+rows 4
+reader: committed
+builder: committed
+writer: granted after waiting
+writer: committed
+builder: granted
+name transaction_1 adv/5/0/1/3
+writer: granted
+writer: granted
+fast writer 15 accounts RowExclusiveLock
+table writer transaction_1 ExclusiveLock granted
+table builder accounts ShareUpdateExclusiveLock granted
+rows 3
+writer: committed
+builder: committed
+builder: released
 ",
     ),
     (
@@ -603,8 +769,10 @@ builder: granted after waiting
 builder: committed
 builder: released
 vacuum: granted after waiting
+vacuum: already held
 vacuum: granted
 vacuum: committed
+vacuum: released
 ",
     ),
     (

@@ -79,7 +79,7 @@ pub fn steps_of(
 }
 
 /// The step by which a session asks for the lock `tag` in `mode` as `asking` says.
-fn asking_step(tag: Tag, mode: Mode, asking: Asking) -> Step
+pub fn asking_step(tag: Tag, mode: Mode, asking: Asking) -> Step
     ensures { result ≡ asking_step asking tag mode }
 {
     let (transaction, session) = (Owner::Transaction, Owner::Session);

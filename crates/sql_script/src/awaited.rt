@@ -15,6 +15,8 @@ use std::alloc::{AllocError, Global};
 pub enum Course {
     /// Within one transaction.
     Within,
+    /// Within one transaction, with locks that the session owns beside it: as `VACUUM`.
+    Kept,
     /// The session owns its locks, and its transaction waits for the ends of others: as `CREATE INDEX CONCURRENTLY`.
     Owned,
     /// In two transactions, between which it waits for the ends of others: as `DETACH PARTITION CONCURRENTLY`.

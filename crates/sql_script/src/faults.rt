@@ -24,6 +24,12 @@ pub enum ScriptDefect {
     NoSession,
     #[error("no statement")]
     NoStatement,
+    #[error("the session works at a statement, until its done line")]
+    AtWork,
+    #[error("the session works at no statement")]
+    NotAtWork,
+    #[error("work is one statement, and none that begins or ends a transaction")]
+    NoWork,
 }
 
 /// What ends the reading of a script's SQL early.

@@ -1,16 +1,20 @@
-//! SQL in scripts: the tables that a script's `schema` makes, and what a session plays for the statements of a `do` line.
+//! SQL in scripts: the tables that a script's `schema` makes, and what a session plays for the statements of `do` and `work` lines.
 #![tactic(auto)]
 
 mod advisory;
 mod asked;
 mod awaited;
 mod faults;
+mod kept;
+mod known;
 mod levels;
 mod lines;
+mod manners;
 mod script;
 mod sessions;
 mod steps;
 mod turns;
+mod works;
 
 pub use asked::Asking;
 pub use awaited::Course;

@@ -1,4 +1,4 @@
-//! The lines of a script that say SQL: those of a schema, and `do` lines.
+//! The lines of a script that say SQL: those of a schema, and `do`, `work` and `done` lines.
 
 use crate::faults::{ScriptDefect, ScriptFault};
 use crate::script::SqlScript;
@@ -74,7 +74,18 @@ impl SqlScript {
                 });
                 Ok(Heard::Schema)
             }
-            "do" => self.hear_statements(number, line),
+            "do" => self.hear_statements(number, line, "do"),
+            "work" => self.hear_statements(number, line, "work"),
+            "done" => {
+                let name = words.next().unwrap_or("");
+                self.hear_end(number, name.strip_suffix(";").unwrap_or(name))
+            }
+            "commit" | "abort" => {
+                if let Some(name) = words.next() {
+                    self.drop_transaction(name);
+                }
+                Ok(Heard::Plain)
+            }
             "session" => {
                 self.hear_opening(words.next(), words.next())?;
                 Ok(Heard::Plain)
@@ -138,18 +149,11 @@ impl SqlScript {
         }
     }
 
-    /// What a session plays for the statements of the `do` line `line` of the number `number`.
-    fn hear_statements(&mut self, number: u32, line: &str) -> Result<Heard, Unplayed> {
+    /// What a session plays for the statements of the line `line` of the number `number`, whose first word is `verb`: a `do` or a `work`.
+    fn hear_statements(&mut self, number: u32, line: &str, verb: &str) -> Result<Heard, Unplayed> {
         let alloc = self.alloc;
-        let (name, text) = parts_of(line);
-        let Some(database) = self.database_of(name) else {
-            return Err(Unplayed::of(
-                alloc,
-                number,
-                name.as_bytes(),
-                whole(ScriptDefect::NoSession),
-            ));
-        };
+        let (name, text) = parts_of(line, verb);
+        let database = self.worker(number, name, false)?;
         if text.trim().is_empty() {
             return Err(Unplayed::of(
                 alloc,
@@ -158,13 +162,49 @@ impl SqlScript {
                 whole(ScriptDefect::NoStatement),
             ));
         }
-        match self.turns_of(name, database, text.as_bytes()) {
+        let turns = if verb == "work" {
+            self.turns_at_work(name, database, text.as_bytes())
+        } else {
+            self.turns_of(name, database, text.as_bytes())
+        };
+        match turns {
             Ok(turns) => Ok(Heard::Statements(Statements {
                 session: String::from_str(alloc, name)?,
                 turns,
             })),
             Err(fault) => Err(Unplayed::of(alloc, number, text.as_bytes(), fault)),
         }
+    }
+
+    /// What the session named `name` plays where the line of the number `number` says that the work of its statement is done.
+    fn hear_end(&mut self, number: u32, name: &str) -> Result<Heard, Unplayed> {
+        let alloc = self.alloc;
+        let database = self.worker(number, name, true)?;
+        let mut turns = Vec::new(alloc);
+        match self.done(name, database) {
+            Ok(Some(turn)) => match turns.push(turn) {
+                Ok(()) => {}
+                Err(_) => return Err(Unplayed::NoMemory),
+            },
+            Ok(None) => {}
+            Err(fault) => return Err(Unplayed::of(alloc, number, name.as_bytes(), fault)),
+        }
+        Ok(Heard::Statements(Statements {
+            session: String::from_str(alloc, name)?,
+            turns,
+        }))
+    }
+
+    /// The database of the session named `name`, which the line of the number `number` names. Refused where there is no such session, and where it
+    /// works at a statement or not, otherwise than `is_at_work` wants.
+    fn worker(&self, number: u32, name: &str, is_at_work: bool) -> Result<u32, Unplayed> {
+        let what = match self.database_of(name) {
+            Some(database) if self.is_at_work(name) == is_at_work => return Ok(database),
+            Some(_) if is_at_work => ScriptDefect::NotAtWork,
+            Some(_) => ScriptDefect::AtWork,
+            None => ScriptDefect::NoSession,
+        };
+        Err(Unplayed::of(self.alloc, number, name.as_bytes(), whole(what)))
     }
 }
 
@@ -177,9 +217,9 @@ fn whole(what: ScriptDefect) -> ScriptFault {
     }
 }
 
-/// The second word of `line`, and what stands behind it.
-fn parts_of(line: &str) -> (&str, &str) {
-    let behind = match line.trim_start().strip_prefix("do") {
+/// The second word of `line`, whose first one is `verb`, and what stands behind it.
+fn parts_of<'l>(line: &'l str, verb: &str) -> (&'l str, &'l str) {
+    let behind = match line.trim_start().strip_prefix(verb) {
         Some(behind) => behind.trim_start(),
         None => "",
     };

@@ -1,31 +1,27 @@
-//! The SQL of a script: its schema, and the statements of its `do` lines.
-ghost use Rattle.std.specs.Prelude.{◌≡◌, map, All, IfOk, IfSome};
+//! The SQL of a script: its schema, and the statements of its `do` and `work` lines.
+ghost use Rattle.std.specs.Prelude.{◌≡◌, true, false, map, All, IfOk};
 ghost use Rattle.sql_report.specs.Report.{line_of_statement};
-ghost use Rattle.sql_script.specs.Turns.{line_of_turn, AreTurnsOf, HasForms, IsOwnLock, IsTurn};
+ghost use Rattle.sql_script.specs.Turns.{line_of_turn, AreTurnsOf, IsTurn};
 
-use crate::advisory::advisory_steps;
-use crate::asked::{Asking, tag_of};
-use crate::awaited::{Course, awaited_of};
+use crate::asked::tag_of;
+use crate::awaited::Course;
 use crate::faults::{ScriptDefect, ScriptFault};
-use crate::levels::{bad_word, level_steps};
 use crate::lines::Schema;
-use crate::sessions::{ScriptSession, is_chained};
-use crate::steps::Step;
-use crate::turns::{Manner, Table, Turn, played};
-use modes_core::{Owner, Tag};
-use sql_locks::{Awaits, Defect, Form, Lock, SqlFault, Until, row_of};
-use sql_report::locks_of_acts;
-use sql_statements::{Control, SqlStatement, SqlWord, StatementReader, split_statements};
+use crate::sessions::ScriptSession;
+use crate::turns::{Manner, Table, Turn, end_of, work_of};
+use modes_core::Tag;
+use sql_locks::{Lock, SqlFault};
+use sql_statements::{SqlStatement, SqlWord, StatementReader, split_statements};
 use std::alloc::{AllocError, Global};
 
 /// What the SQL of a script made: tables, and the transactions of its sessions.
 #[derive(Drop)]
 pub struct SqlScript {
     pub(crate) alloc: Global,
-    reader: StatementReader,
-    sessions: Vec<ScriptSession>,
+    pub(crate) reader: StatementReader,
+    pub(crate) sessions: Vec<ScriptSession>,
     /// How many transactions have begun that have a lock of their own, where the schema says that all have one that a `BEGIN` opens.
-    begun: Option<u32>,
+    pub(crate) begun: Option<u32>,
     /// The schema that is read, while one is.
     pub(crate) schema: Option<Schema>,
 }
@@ -78,7 +74,7 @@ impl SqlScript {
     }
 
     /// Where the session named `name` stands.
-    fn place_of(&self, name: &str) -> Option<usize> {
+    pub(crate) fn place_of(&self, name: &str) -> Option<usize> {
         self.sessions
             .iter()
             .position(|session| session.name.as_str() == name)
@@ -92,47 +88,72 @@ impl SqlScript {
         database: u32,
         text: &[u8],
     ) -> Result<Vec<Turn>, ScriptFault>
-        ensures { IfOk result (λ turns. AreTurnsOf database text.now turns.items) }
+        ensures { IfOk result (λ turns. AreTurnsOf database false text.now turns.items) }
     {
         let statements = split_statements(self.alloc, text)?;
-        self.all_turns(name, database, statements)
+        self.all_turns(name, database, statements, false)
     }
 
-    /// What the session named `name`, one of `database`, plays for `statements`.
+    /// What the session named `name`, one of `database`, plays for the statement `text`, at which it works until a later line. What it plays
+    /// at its end is left. Refused where `text` is not one statement.
+    pub fn turns_at_work(
+        &mut self,
+        name: &str,
+        database: u32,
+        text: &[u8],
+    ) -> Result<Vec<Turn>, ScriptFault>
+        ensures { IfOk result (λ turns. AreTurnsOf database true text.now turns.items) }
+    {
+        let statements = split_statements(self.alloc, text)?;
+        if statements.len() != 1 {
+            return Err(ScriptFault::Word {
+                line: 1,
+                what: ScriptDefect::NoWork,
+                from: 0,
+            });
+        }
+        self.all_turns(name, database, statements, true)
+    }
+
+    /// What the session named `name`, one of `database`, plays for `statements`. Where `works` says so each is one at which it works until a later
+    /// line.
     fn all_turns(
         &mut self,
         name: &str,
         database: u32,
         statements: Vec<SqlStatement>,
+        works: bool,
     ) -> Result<Vec<Turn>, ScriptFault>
         ensures lines { IfOk result (λ turns. map line_of_turn turns.items ≡ map line_of_statement statements.items) }
-        ensures turns { IfOk result (λ turns. All (IsTurn database) turns.items) }
+        ensures turns { IfOk result (λ turns. All (IsTurn database works) turns.items) }
     {
         let mut turns = Vec::new(self.alloc);
         for statement in statements {
-            let turn = self.turn(name, database, statement)?;
+            let turn = self.turn(name, database, statement, works)?;
             turns.push(turn)?;
         }
         Ok(turns)
     }
 
-    /// What the session named `name`, one of `database`, plays for `statement`.
+    /// What the session named `name`, one of `database`, plays for `statement`, at which it works until a later line where `works` says so.
     fn turn(
         &mut self,
         name: &str,
         database: u32,
         statement: SqlStatement,
+        works: bool,
     ) -> Result<Turn, ScriptFault>
         ensures line { IfOk result (λ turn. turn.line ≡ statement.line) }
-        ensures turn { IfOk result (IsTurn database) }
+        ensures turn { IfOk result (IsTurn database works) }
     {
         let line = statement.line;
+        let known = self.reader.catalog.relations.len();
         self.reader.read_statement(statement.words)?;
-        let locks = self.locks()?;
+        let locks = self.locks(name)?;
         let others = self.others(name, database)?;
-        let manner = self.manner(name, database, locks.as_slice(), &others)?;
+        let manner = self.manner(name, database, locks.as_slice(), &others, works)?;
         let awaited = self.awaited(database, locks.as_slice())?;
-        let steps = played(
+        let mut steps = work_of(
             self.alloc,
             database,
             manner,
@@ -140,8 +161,16 @@ impl SqlScript {
             &others,
             &awaited,
         )?;
+        let mut left = end_of(self.alloc, database, manner, locks.as_slice())?;
+        if !works {
+            steps.append(&mut left)?;
+        }
         let named = self.named(database, locks.as_slice(), manner.begins)?;
         self.settle(name, manner, locks.as_slice())?;
+        self.note_made(name, manner, works, known)?;
+        if works {
+            self.begin_work(name, locks.as_slice(), &left)?;
+        }
         Ok(Turn {
             line,
             manner,
@@ -149,159 +178,9 @@ impl SqlScript {
             others,
             awaited,
             steps,
+            left,
             named,
         })
-    }
-
-    /// The locks of the statement that was read, in the order of the server.
-    fn locks(&self) -> Result<Vec<Lock>, ScriptFault>
-        ensures { IfOk result (λ locks. HasForms locks.items) }
-    {
-        let unknown = self.reader.fault_at(0, Defect::UnknownStatement);
-        let links = self.reader.catalog.links.as_slice();
-        let acts = self.reader.acts.as_slice();
-        Ok(locks_of_acts(self.alloc, links, acts, unknown)?)
-    }
-
-    /// How the statement that was read goes through transactions, where the session named `name` says it. Where that has one open, and the statement
-    /// may have none around it, it is a fault; so is one that waits for the ends of transactions, where these have no locks.
-    fn course(&self, name: &str) -> Result<Course, ScriptFault> {
-        let mut course = Course::Within;
-        for act in &self.reader.acts {
-            let Some(row) = row_of(act.form) else {
-                continue;
-            };
-            if row.until == Until::OwnEnd && self.is_open(name) {
-                return Err(self.bad_statement(ScriptDefect::InTransaction));
-            }
-            if row.awaits == Awaits::Nobody {
-                continue;
-            }
-            if self.begun.is_none() {
-                return Err(self.bad_statement(ScriptDefect::AwaitsEnds));
-            }
-            course = match act.form {
-                Form::DetachConcurrently => Course::Parted,
-                _ => Course::Owned,
-            };
-        }
-        Ok(course)
-    }
-
-    /// The locks of the transactions for whose end the statement that was read waits, one in `database` with these `locks`. Those who have used a
-    /// partition alone are in nobody's way while it is detached.
-    fn awaited(&self, database: u32, locks: &[Lock]) -> Result<Vec<Tag>, AllocError> {
-        let mut awaits = Awaits::Nobody;
-        let mut tables = locks;
-        for act in &self.reader.acts {
-            if let Some(row) = row_of(act.form) {
-                if row.awaits != Awaits::Nobody {
-                    awaits = row.awaits;
-                }
-                if row.form == Form::DetachConcurrently {
-                    tables = locks.get(..1).unwrap_or(&[]);
-                }
-            }
-        }
-        awaited_of(
-            self.alloc,
-            self.sessions.as_slice(),
-            database,
-            awaits,
-            tables,
-        )
-    }
-
-    /// The fault of the first word of the statement that was read, which has the defect `what`.
-    fn bad_statement(&self, what: ScriptDefect) -> ScriptFault {
-        match self.reader.cursor.words.first() {
-            Some(word) => bad_word(word, what),
-            None => ScriptFault::Sql(SqlFault::NoMemory),
-        }
-    }
-
-    /// What the session named `name`, one of `database`, plays beside the locks of the statement that was read.
-    fn others(&mut self, name: &str, database: u32) -> Result<Vec<Step>, ScriptFault> {
-        if self.reader.control == Control::Savepoint {
-            return self.levels(name);
-        }
-        self.advisory(database)
-    }
-
-    /// The steps by which a session of `database` takes the advisory locks of the statement that was read.
-    fn advisory(&self, database: u32) -> Result<Vec<Step>, ScriptFault> {
-        let words = self.reader.cursor.words.as_slice();
-        advisory_steps(self.alloc, database, words, self.reader.advisory.as_slice())
-    }
-
-    /// The levels that the session named `name` begins and ends by the statement that was read.
-    fn levels(&mut self, name: &str) -> Result<Vec<Step>, ScriptFault> {
-        let alloc = self.alloc;
-        if let Some(place) = self.place_of(name) {
-            let words = self.reader.cursor.words.as_slice();
-            if let Some(session) = self.sessions.get_mut(place) {
-                return level_steps(alloc, session, words);
-            }
-        }
-        Ok(Vec::new(alloc))
-    }
-
-    /// How the statement that was read is played by the session named `name`, one of `database`, where it has these `locks`, and plays `others`
-    /// beside them.
-    fn manner(
-        &mut self,
-        name: &str,
-        database: u32,
-        locks: &[Lock],
-        others: &Vec<Step>,
-    ) -> Result<Manner, ScriptFault>
-        ensures begins { IfOk result (λ manner. IfSome manner.begins (IsOwnLock database)) }
-    {
-        let takes = !locks.is_empty() || has_own(others);
-        let asking = if is_nowait(self.reader.cursor.words.as_slice()) {
-            Asking::Try
-        } else {
-            Asking::Wait
-        };
-        Ok(Manner {
-            control: self.reader.control,
-            asking,
-            is_alone: takes && !self.is_open(name),
-            course: self.course(name)?,
-            begins: self.begins(name, database),
-        })
-    }
-
-    /// The lock of the transaction that the statement that was read begins, said by the session named `name` of `database`, where transactions have
-    /// one: an advisory lock whose last number no function of the server gives.
-    fn begins(&mut self, name: &str, database: u32) -> Option<Tag>
-        ensures { IfSome result (IsOwnLock database) }
-    {
-        let begins = match self.reader.control {
-            Control::Begin => !self.is_open(name),
-            Control::Commit | Control::Rollback => {
-                is_chained(self.reader.cursor.words.as_slice())
-            }
-            Control::Stay | Control::Savepoint => false,
-        };
-        let begun = self.begun?;
-        if !begins {
-            return None;
-        }
-        let next = begun.saturating_add(1);
-        self.begun = Some(next);
-        Some(Tag::advisory(database, 0, next, 3))
-    }
-
-    /// Whether the session named `name` has its transaction open.
-    fn is_open(&self, name: &str) -> bool {
-        match self.place_of(name) {
-            Some(place) => match self.sessions.get(place) {
-                Some(session) => session.is_open,
-                None => false,
-            },
-            None => false,
-        }
     }
 
     /// The relations of `locks`, as `database` has them, each once, with their names, and the lock `begins` of a transaction with its own.
@@ -355,26 +234,27 @@ impl SqlScript {
         self.reader.settle(true)?;
         Ok(())
     }
-}
 
-/// Whether one of `steps` takes a lock of the transaction's.
-fn has_own(steps: &Vec<Step>) -> bool {
-    for step in steps {
-        match step {
-            Step::Lock { owner, .. } | Step::Try { owner, .. } if *owner == Owner::Transaction => {
-                return true;
+    /// Keeps which relations the open transaction of the session named `name` made by the statement that was read, in its `manner`: all but the first
+    /// `known` ones. Where it works until a later line, as `works` says, a transaction of its own is open too.
+    fn note_made(
+        &mut self,
+        name: &str,
+        manner: Manner,
+        works: bool,
+        known: usize,
+    ) -> Result<(), AllocError> {
+        let count = self.reader.catalog.relations.len();
+        if let Some(place) = self.place_of(name) {
+            if let Some(session) = self.sessions.get_mut(place) {
+                if session.is_open || (works && manner.course == Course::Within) {
+                    for number in known..count {
+                        session.made.push(number)?;
+                    }
+                }
             }
-            _ => {}
         }
-    }
-    false
-}
-
-/// Whether `words` are a `LOCK TABLE` that says `NOWAIT`.
-fn is_nowait(words: &[SqlWord]) -> bool {
-    match (words.first(), words.last()) {
-        (Some(first), Some(last)) => first.is_key_word("lock") && last.is_key_word("nowait"),
-        _ => false,
+        Ok(())
     }
 }
 

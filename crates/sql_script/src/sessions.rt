@@ -1,5 +1,6 @@
 //! What is known of a script's sessions: the database of each, and its transaction.
 
+use crate::steps::Step;
 use modes_core::Tag;
 use sql_locks::Lock;
 use sql_statements::{Control, SqlWord};
@@ -20,8 +21,23 @@ pub struct ScriptSession {
     pub used: Vec<Lock>,
     /// Whether its open transaction reads all by one snapshot, as `REPEATABLE READ` does.
     pub repeats: bool,
-    /// Whether its open transaction has that snapshot.
+    /// Whether its open transaction has that snapshot, or the statement at which it works one of its own.
     pub has_snapshot: bool,
+    /// The numbers of the relations that its open transaction made.
+    pub made: Vec<usize>,
+    /// The statement at which it works, while it does.
+    pub work: Option<Work>,
+}
+
+/// A statement at which a session works until a line says that the work is done.
+#[derive(Debug, Drop)]
+pub struct Work {
+    /// What the session plays at the end of the statement.
+    pub left: Vec<Step>,
+    /// Whether it waits before that for the transactions that have a snapshot then.
+    pub awaits_snapshots: bool,
+    /// Whether the session's transaction has a snapshot beside the statement.
+    pub had_snapshot: bool,
 }
 
 /// A savepoint of a transaction.
@@ -44,6 +60,8 @@ impl ScriptSession {
             used: Vec::new(alloc),
             repeats: false,
             has_snapshot: false,
+            made: Vec::new(alloc),
+            work: None,
         })
     }
 
@@ -66,19 +84,68 @@ impl ScriptSession {
                 }
             }
             Control::Commit | Control::Rollback => {
+                self.end_transaction(alloc);
                 self.is_open = is_chained(words);
-                self.savepoints = Vec::new(alloc);
-                self.used = Vec::new(alloc);
                 self.transaction = begins;
-                self.has_snapshot = false;
             }
             Control::Stay if self.is_open => {
                 self.used.extend_from_slice(locks)?;
                 self.note_snapshot(words);
             }
-            Control::Stay | Control::Savepoint => {}
+            Control::Stay => {
+                if begins.is_some() {
+                    self.transaction = begins;
+                }
+            }
+            Control::Savepoint => {}
         }
         Ok(())
+    }
+
+    /// Has it have no transaction, and work at nothing.
+    pub fn end_transaction(&mut self, alloc: Global) {
+        self.is_open = false;
+        self.savepoints = Vec::new(alloc);
+        self.used = Vec::new(alloc);
+        self.transaction = None;
+        self.has_snapshot = false;
+        self.made = Vec::new(alloc);
+        self.work = None;
+    }
+
+    /// Has it work at the statement of `words` with these `locks`, of which `left` is played at its end. Where `awaits_snapshots` says so it waits
+    /// before that for who has a snapshot then.
+    pub fn begin_work(
+        &mut self,
+        words: &[SqlWord],
+        locks: &[Lock],
+        left: Vec<Step>,
+        awaits_snapshots: bool,
+    ) -> Result<(), AllocError> {
+        if !self.is_open {
+            self.used.extend_from_slice(locks)?;
+        }
+        let had_snapshot = self.has_snapshot;
+        if has_own_snapshot(words) && !awaits_snapshots {
+            self.has_snapshot = true;
+        }
+        self.work = Some(Work {
+            left,
+            awaits_snapshots,
+            had_snapshot,
+        });
+        Ok(())
+    }
+
+    /// Has it work at nothing, since its work is done: its transaction has ended, if that was the statement's own. Else that has a snapshot where
+    /// `had_snapshot`.
+    pub fn end_work(&mut self, alloc: Global, had_snapshot: bool) {
+        if self.is_open {
+            self.work = None;
+            self.has_snapshot = had_snapshot;
+        } else {
+            self.end_transaction(alloc);
+        }
     }
 
     /// Keeps whether the statement of `words` has its transaction read by one snapshot, and whether it takes that.
@@ -93,6 +160,19 @@ impl ScriptSession {
         } else if self.repeats && !first.is_key_word("lock") && !first.is_key_word("show") {
             self.has_snapshot = true;
         }
+    }
+}
+
+/// Whether a statement of `words` has a snapshot while it runs, for which index builds wait.
+fn has_own_snapshot(words: &[SqlWord]) -> bool {
+    match words.first() {
+        Some(first) => {
+            !first.is_key_word("lock")
+                && !first.is_key_word("set")
+                && !first.is_key_word("show")
+                && !first.is_key_word("vacuum")
+        }
+        None => false,
     }
 }
 

@@ -1,9 +1,10 @@
 //! What a session plays for one statement.
-ghost use Rattle.std.specs.Prelude.{◌≡◌, ◌∷◌, take, drop, IfOk};
-ghost use Rattle.sql_script.specs.Turns.{begun_by, owned_for, parted_for, played_for, taken_for, transaction_for};
+ghost use Rattle.std.specs.Prelude.{◌≡◌, ◌∷◌, [], take, drop, IfOk, if◌then◌else◌};
+ghost use Rattle.sql_script.specs.Turns.{begun_by, end_for, given_back, owned_for, parted_for, resumed_for, taken_for, transaction_for, work_for};
 
 use crate::asked::{Asking, asked_of, steps_of};
 use crate::awaited::{Course, passes_of, waits_of};
+use crate::kept::{kept_of, kept_steps_of};
 use crate::steps::Step;
 use modes_core::{Mode, Owner, Tag};
 use sql_locks::{Lock, SqlFault};
@@ -22,8 +23,10 @@ pub struct Turn {
     pub others: Vec<Step>,
     /// The locks of the transactions for whose end it waits.
     pub awaited: Vec<Tag>,
-    /// All that it plays, in order.
+    /// What it plays, in order: all, or of a statement that works until a later line what comes before its end.
     pub steps: Vec<Step>,
+    /// What it plays at its end, where that comes by a later line.
+    pub left: Vec<Step>,
     /// The relations that it locks, with their names.
     pub named: Vec<Table>,
 }
@@ -51,8 +54,8 @@ pub struct Manner {
 }
 
 /// What a session of `database` plays for a statement with these `locks`, in this `manner`, and `others` beside the locks, where it waits for
-/// the transactions whose locks are `awaited`.
-pub fn played(
+/// the transactions whose locks are `awaited`: all but what ends it.
+pub fn work_of(
     alloc: Global,
     database: u32,
     manner: Manner,
@@ -61,7 +64,7 @@ pub fn played(
     awaited: &Vec<Tag>,
 ) -> Result<Vec<Step>, SqlFault>
     ensures { IfOk result (λ steps. steps.items ≡
-        played_for database manner locks.now others.now.items awaited.now.items) }
+        work_for database manner locks.now others.now.items awaited.now.items) }
 {
     match manner.control {
         Control::Begin => begun(alloc, manner.begins),
@@ -74,10 +77,76 @@ pub fn played(
         }
         Control::Stay => match manner.course {
             Course::Within => played_in(alloc, database, manner, locks, others),
+            Course::Kept => kept_steps_of(alloc, database, locks),
             Course::Owned => played_owned(alloc, database, locks, awaited),
             Course::Parted => played_parted(alloc, database, locks, awaited),
         },
     }
+}
+
+/// What ends a statement with these `locks` of a session of `database`, in this `manner`: the end of its own transaction, and what the session
+/// gives back behind that.
+pub fn end_of(
+    alloc: Global,
+    database: u32,
+    manner: Manner,
+    locks: &[Lock],
+) -> Result<Vec<Step>, SqlFault>
+    ensures { IfOk result (λ steps. steps.items ≡ end_for database manner locks.now) }
+{
+    match manner.control {
+        Control::Stay => match manner.course {
+            Course::Within => committed(alloc, manner.is_alone),
+            Course::Kept => {
+                let kept = kept_of(alloc, locks)?;
+                given_back(alloc, database, &kept)
+            }
+            Course::Owned => {
+                let asked = asked_of(alloc, locks)?;
+                given_back(alloc, database, &asked)
+            }
+            Course::Parted => committed(alloc, true),
+        },
+        _ => Ok(Vec::new(alloc)),
+    }
+}
+
+/// The end of a transaction where `is_alone`, and else nothing.
+fn committed(alloc: Global, is_alone: bool) -> Result<Vec<Step>, SqlFault>
+    ensures { IfOk result (λ steps. steps.items ≡ (if is_alone then (Step.Commit ∷ []) else [])) }
+{
+    let mut steps = Vec::new(alloc);
+    if is_alone {
+        steps.push(Step::Commit)?;
+    }
+    Ok(steps)
+}
+
+/// The end of a transaction, behind which a session of `database` gives back its own `locks`.
+fn given_back(alloc: Global, database: u32, locks: &Vec<Lock>) -> Result<Vec<Step>, SqlFault>
+    ensures { IfOk result (λ steps. steps.items ≡ given_back database locks.now.items) }
+{
+    let mut steps = Vec::new(alloc);
+    steps.push(Step::Commit)?;
+    let ends = steps_of(alloc, database, locks, Asking::GiveBack)?;
+    steps.extend_from_slice(ends.as_slice())?;
+    Ok(steps)
+}
+
+/// What a session plays where a statement's work is done whose end is `left`, and which waits then for the transactions whose locks are `awaited`:
+/// where there are some, a transaction waits for each of them, and the end comes later.
+pub fn resumed(alloc: Global, left: &Vec<Step>, awaited: &Vec<Tag>) -> Result<Vec<Step>, SqlFault>
+    ensures { IfOk result (λ steps. steps.items ≡ resumed_for left.now.items awaited.now.items) }
+{
+    let mut steps = Vec::new(alloc);
+    if awaited.is_empty() {
+        steps.extend_from_slice(left.as_slice())?;
+        return Ok(steps);
+    }
+    steps.push(Step::Commit)?;
+    let waits = waits_of(alloc, awaited)?;
+    steps.extend_from_slice(waits.as_slice())?;
+    Ok(steps)
 }
 
 /// What is played for the begin of a transaction that has the lock `begins`, if any: it takes that.
@@ -106,7 +175,7 @@ fn ended(alloc: Global, end: Step, begins: Option<Tag>) -> Result<Vec<Step>, Sql
     Ok(steps)
 }
 
-/// What a session of `database` plays for a statement that takes `locks`, and `others` behind them, and may end its transaction, as `manner` says.
+/// What a session of `database` plays for a statement that begins a transaction of its own as `manner` says, takes `locks`, and `others` behind them.
 fn played_in(
     alloc: Global,
     database: u32,
@@ -116,12 +185,11 @@ fn played_in(
 ) -> Result<Vec<Step>, SqlFault>
     ensures { IfOk result (λ steps. steps.items ≡ taken_for database manner locks.now others.now.items) }
 {
+    let mut steps = begun(alloc, manner.begins)?;
     let asked = asked_of(alloc, locks)?;
-    let mut steps = steps_of(alloc, database, &asked, manner.asking)?;
+    let asks = steps_of(alloc, database, &asked, manner.asking)?;
+    steps.extend_from_slice(asks.as_slice())?;
     steps.extend_from_slice(others.as_slice())?;
-    if manner.is_alone {
-        steps.push(Step::Commit)?;
-    }
     Ok(steps)
 }
 
@@ -139,9 +207,6 @@ fn played_owned(
     let mut steps = steps_of(alloc, database, &asked, Asking::Own)?;
     let waits = waits_of(alloc, awaited)?;
     steps.extend_from_slice(waits.as_slice())?;
-    steps.push(Step::Commit)?;
-    let ends = steps_of(alloc, database, &asked, Asking::GiveBack)?;
-    steps.extend_from_slice(ends.as_slice())?;
     Ok(steps)
 }
 
@@ -158,7 +223,8 @@ fn played_parted(
     let mut steps = transaction_of(alloc, database, first_two(locks))?;
     let passes = passes_of(alloc, awaited)?;
     steps.extend_from_slice(passes.as_slice())?;
-    let last = transaction_of(alloc, database, all_but_two(locks))?;
+    let asked = asked_of(alloc, all_but_two(locks))?;
+    let last = steps_of(alloc, database, &asked, Asking::Wait)?;
     steps.extend_from_slice(last.as_slice())?;
     Ok(steps)
 }

@@ -256,6 +256,92 @@ static AWAITED: [(&str, &str); 9] = [
     ),
 ];
 
+/// Lines behind those of statements that work until a later line, and what is played for all of them.
+static WORKED: [(&str, &str); 12] = [
+    // The end of a statement comes by its line, and what it made is known to others from then on.
+    (
+        "work builder CREATE INDEX made ON plain (id);\ndo reader TABLE plain;\ndone builder;\ndo reader TABLE plain;\n",
+        "lock builder adv/5/0/1/3 ExclusiveLock\nlock builder 5/16384 ShareLock\nlock builder 5/16389 AccessExclusiveLock\n\
+         lock reader 5/16384 AccessShareLock\nlock reader 5/16388 AccessShareLock\ncommit reader\n\
+         commit builder\n\
+         lock reader 5/16384 AccessShareLock\nlock reader 5/16388 AccessShareLock\nlock reader 5/16389 AccessShareLock\ncommit reader\n",
+    ),
+    // Who waits for a transaction knows what that made: a write waits for the build of an index.
+    (
+        "do builder BEGIN; CREATE INDEX made ON plain (id);\ndo writer UPDATE plain SET id = 1;\n",
+        "lock builder adv/5/0/1/3 ExclusiveLock\nlock builder 5/16384 ShareLock\nlock builder 5/16389 AccessExclusiveLock\n\
+         lock writer 5/16384 RowExclusiveLock\nlock writer 5/16388 RowExclusiveLock\nlock writer 5/16389 RowExclusiveLock\ncommit writer\n",
+    ),
+    // Inside a transaction nothing is left for the end.
+    (
+        "do writer BEGIN;\nwork writer DELETE FROM other;\ndone writer\ndo writer COMMIT;\n",
+        "lock writer adv/5/0/1/3 ExclusiveLock\nlock writer 5/16385 RowExclusiveLock\ncommit writer\n",
+    ),
+    // An index build waits at its end for a statement at work that came after it, and takes its time again.
+    (
+        "work builder CREATE INDEX CONCURRENTLY made ON plain (id);\nwork writer ALTER TABLE other ADD COLUMN note text;\ndone builder;\ndone writer;\n\
+         done builder;\n",
+        "lock builder 5/16384 ShareUpdateExclusiveLock session\n\
+         lock writer adv/5/0/1/3 ExclusiveLock\nlock writer 5/16385 AccessExclusiveLock\n\
+         commit builder\nlock builder adv/5/0/1/3 ShareLock\ncommit writer\n\
+         commit builder\nunlock builder 5/16384 ShareUpdateExclusiveLock session\n",
+    ),
+    // It waits for no LOCK, which has no snapshot, for no other database's, and for nobody whose transaction a line ended.
+    (
+        "work builder CREATE INDEX CONCURRENTLY made ON plain (id);\nwork far TABLE other;\nwork reader TABLE other;\nabort reader\ndo writer BEGIN;\n\
+         work writer LOCK other;\ndone builder;\n",
+        "lock builder 5/16384 ShareUpdateExclusiveLock session\n\
+         lock far adv/6/0/1/3 ExclusiveLock\nlock far 6/16385 AccessShareLock\n\
+         lock reader adv/5/0/2/3 ExclusiveLock\nlock reader 5/16385 AccessShareLock\n\
+         lock writer adv/5/0/3/3 ExclusiveLock\nlock writer 5/16385 AccessExclusiveLock\n\
+         commit builder\nunlock builder 5/16384 ShareUpdateExclusiveLock session\n",
+    ),
+    // A statement at work is waited for by who comes later, for what it has written.
+    (
+        "work writer INSERT INTO plain VALUES (1);\ndo builder DROP INDEX CONCURRENTLY plain_id;\n",
+        "lock writer adv/5/0/1/3 ExclusiveLock\nlock writer 5/16384 RowExclusiveLock\n\
+         lock builder 5/16384 ShareUpdateExclusiveLock session\nlock builder 5/16388 ShareUpdateExclusiveLock session\n\
+         lock builder adv/5/0/1/3 ShareLock\ncommit builder\n\
+         unlock builder 5/16384 ShareUpdateExclusiveLock session\nunlock builder 5/16388 ShareUpdateExclusiveLock session\n",
+    ),
+    // The second transaction of a statement is the one that works.
+    (
+        "work builder ALTER TABLE parent DETACH PARTITION part CONCURRENTLY;\ndone builder;\n",
+        "lock builder 5/16386 ShareUpdateExclusiveLock\nlock builder 5/16387 ShareUpdateExclusiveLock\ncommit builder\n\
+         lock builder 5/16386 ShareUpdateExclusiveLock\nlock builder 5/16387 AccessExclusiveLock\ncommit builder\n",
+    ),
+    // Of a VACUUM the session owns the table's lock, and not the index's.
+    (
+        "do writer VACUUM plain;\nwork reader VACUUM (VERBOSE) other, plain;\ndone reader;\n",
+        "lock writer 5/16384 ShareUpdateExclusiveLock\nlock writer 5/16384 ShareUpdateExclusiveLock session\nlock writer 5/16388 RowExclusiveLock\n\
+         commit writer\nunlock writer 5/16384 ShareUpdateExclusiveLock session\n\
+         lock reader 5/16385 ShareUpdateExclusiveLock\nlock reader 5/16385 ShareUpdateExclusiveLock session\n\
+         lock reader 5/16384 ShareUpdateExclusiveLock\nlock reader 5/16384 ShareUpdateExclusiveLock session\nlock reader 5/16388 RowExclusiveLock\n\
+         commit reader\nunlock reader 5/16385 ShareUpdateExclusiveLock session\nunlock reader 5/16384 ShareUpdateExclusiveLock session\n",
+    ),
+    // One that passes over what is locked takes it by a try.
+    (
+        "do writer VACUUM (SKIP_LOCKED) other; ANALYZE (SKIP_LOCKED) other;\n",
+        "try writer 5/16385 ShareUpdateExclusiveLock\ncommit writer\ntry writer 5/16385 ShareUpdateExclusiveLock\ncommit writer\n",
+    ),
+    // A session that works says no more SQL, and one that doesn't has nothing to end.
+    (
+        "work reader SELECT 1;\ndo reader SELECT 1;\nwork reader SELECT 1;\ndone reader;\ndone reader;\ndone nobody;\n",
+        "lock reader adv/5/0/1/3 ExclusiveLock\nbad: do reader SELECT 1;\nbad: work reader SELECT 1;\ncommit reader\nbad: done reader;\nbad: done nobody;\n",
+    ),
+    // Work is one statement, and none that begins or ends a transaction.
+    (
+        "work reader BEGIN;\nwork writer SELECT 1; SELECT 2;\nwork far\n",
+        "bad: work reader BEGIN;\nbad: work writer SELECT 1; SELECT 2;\nbad: work far\n",
+    ),
+    // A line that ends a transaction ends it for those who would wait for it.
+    (
+        "do writer BEGIN; DELETE FROM plain;\ncommit writer\ndo builder CREATE INDEX CONCURRENTLY made ON plain (id);\n",
+        "lock writer adv/5/0/1/3 ExclusiveLock\nlock writer 5/16384 RowExclusiveLock\nlock writer 5/16388 RowExclusiveLock\n\
+         lock builder 5/16384 ShareUpdateExclusiveLock session\ncommit builder\nunlock builder 5/16384 ShareUpdateExclusiveLock session\n",
+    ),
+];
+
 /// Adds to `said` the lines that are played for a line that is `heard`.
 fn push_played(said: &mut String, alloc: Global, heard: Heard) -> Result<(), Fail> {
     if let Heard::Statements(statements) = heard {
@@ -281,13 +367,23 @@ fn played_of(alloc: Global, text: &str) -> Result<String, Fail> {
     Ok(said)
 }
 
-#[test]
-fn the_ends_of_transactions_are_waited_for(rt: HostRuntime) -> Result<(), Fail> {
+/// Fails where other lines are played for the first texts of `scripts`, behind those that begin each script, than the second ones are.
+fn compare<H: AllocGlobal + Abort>(rt: &H, scripts: &[(&str, &str)]) -> Result<(), Fail> {
     let alloc = rt.alloc();
-    for (lines, want) in &AWAITED {
+    for (lines, want) in scripts {
         let script = format!(in alloc; "{TRACKED}{lines}")?;
         let said = played_of(alloc, script.as_str())?;
         assert!(rt; said.as_str() == *want, "{lines}: {said}");
     }
     Ok(())
+}
+
+#[test]
+fn the_ends_of_transactions_are_waited_for(rt: HostRuntime) -> Result<(), Fail> {
+    compare(&rt, &AWAITED)
+}
+
+#[test]
+fn statements_work_until_a_later_line(rt: HostRuntime) -> Result<(), Fail> {
+    compare(&rt, &WORKED)
 }

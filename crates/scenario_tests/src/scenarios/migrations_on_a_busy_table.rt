@@ -304,8 +304,10 @@ blockers web vacuum 5/16384
 close forgotten
 commit builder
 unlock builder 5/16384 ShareUpdateExclusiveLock session
+lock vacuum 5/16384 ShareUpdateExclusiveLock session
 lock vacuum 5/16393 RowExclusiveLock
 commit vacuum
+unlock vacuum 5/16384 ShareUpdateExclusiveLock session
 ",
     "\
 forgotten: session 0 database 5
@@ -330,8 +332,10 @@ builder: granted after waiting
 builder: committed
 builder: released
 vacuum: granted after waiting
+vacuum: already held
 vacuum: granted
 vacuum: committed
+vacuum: released
 ",
     "",
 );

@@ -169,32 +169,37 @@ migration: committed
 const AN_INDEX_BUILD_STOPS_THE_WRITERS: Row<'static> = (
     0,
     "\
-# CREATE INDEX holds its table in ShareLock until its transaction ends: reads go on, and writes wait. CREATE INDEX CONCURRENTLY holds it
-# in ShareUpdateExclusiveLock, for the session: writes go on as well.
+# CREATE INDEX holds its table in ShareLock until its transaction ends: reads go on, and writes wait. It holds the new index, 5/16385, too, of
+# which nobody else knows. CREATE INDEX CONCURRENTLY holds the table in ShareUpdateExclusiveLock, for the session: writes go on as well. An
+# advisory lock stands for the writer's virtual transaction, which a build waits for that comes later.
 session builder 5
 session reader 5
 session writer 5
 # builder: BEGIN; CREATE INDEX ON accounts (owner);
 lock builder 5/16384 ShareLock
-# reader: SELECT * FROM accounts;
+lock builder 5/16385 AccessExclusiveLock
+# reader: BEGIN; SELECT * FROM accounts;
 lock reader 5/16384 AccessShareLock
-# writer: UPDATE accounts SET balance = 0 WHERE id = 1;
+# writer: INSERT INTO accounts VALUES (1, 'ann', 0);
 lock writer 5/16384 RowExclusiveLock
-# reader: SELECT * FROM pg_locks;
+# reader: SELECT * FROM pg_locks; COMMIT;
 list reader
 commit reader
 # builder: COMMIT;
 commit builder
 commit writer
 
-# builder: CREATE INDEX CONCURRENTLY ON accounts (owner);
+# builder: CREATE INDEX CONCURRENTLY ON accounts (balance);
 lock builder 5/16384 ShareUpdateExclusiveLock session
-# writer: UPDATE accounts SET balance = 0 WHERE id = 1;
+# writer: BEGIN; INSERT INTO accounts VALUES (2, 'bob', 0);
+lock writer adv/5/0/1/3 ExclusiveLock
 lock writer 5/16384 RowExclusiveLock
 # reader: SELECT * FROM pg_locks;
 list reader
+# writer: COMMIT;
 commit writer
 # builder: the index is built
+commit builder
 unlock builder 5/16384 ShareUpdateExclusiveLock session
 ",
     "\
@@ -202,22 +207,27 @@ builder: session 0 database 5
 reader: session 1 database 5
 writer: session 2 database 5
 builder: granted
+builder: granted
 reader: granted
 writer: waits
 table builder 5/16384 ShareLock granted
 table reader 5/16384 AccessShareLock granted
 table writer 5/16384 RowExclusiveLock awaited
-rows 3
+table builder 5/16385 AccessExclusiveLock granted
+rows 4
 reader: committed
 builder: committed
 writer: granted after waiting
 writer: committed
 builder: granted
 writer: granted
+writer: granted
 fast writer 15 5/16384 RowExclusiveLock
+table writer adv/5/0/1/3 ExclusiveLock granted
 table builder 5/16384 ShareUpdateExclusiveLock granted
-rows 2
+rows 3
 writer: committed
+builder: committed
 builder: released
 ",
     "",
@@ -255,8 +265,10 @@ list web
 commit writer
 commit builder
 unlock builder 5/16384 ShareUpdateExclusiveLock session
+lock vacuum 5/16384 ShareUpdateExclusiveLock session
 lock vacuum 5/16385 RowExclusiveLock
 commit vacuum
+unlock vacuum 5/16384 ShareUpdateExclusiveLock session
 ",
     "\
 writer: session 0 database 5
@@ -282,8 +294,10 @@ builder: granted after waiting
 builder: committed
 builder: released
 vacuum: granted after waiting
+vacuum: already held
 vacuum: granted
 vacuum: committed
+vacuum: released
 ",
     "",
 );
@@ -294,7 +308,8 @@ const AN_ALTER_BEHIND_AN_INDEX_BUILD: Row<'static> = (
     "\
 # An ALTER TABLE waits behind a CREATE INDEX CONCURRENTLY, and has a snapshot meanwhile. Before its end the build waits for older snapshots,
 # so each waits for the other. Advisory locks stand for the writer's virtual transaction and for that snapshot. The server finds the deadlock
-# after deadlock_timeout, and ends one of the two with an error: here the build.
+# after deadlock_timeout, and ends one of the two with an error: here the build. It leaves an invalid index behind, 5/16385, which who reads the
+# table locks too.
 session writer 5
 session builder 5
 session alter 5
@@ -315,10 +330,10 @@ lock web 5/16384 AccessShareLock
 commit writer
 commit builder
 lock builder adv/5/0/2/1 ShareLock
-# The build leaves an invalid index behind.
 cancel clock builder
 abort builder
 commit alter
+lock web 5/16385 AccessShareLock
 commit web
 ",
     "\
@@ -344,6 +359,7 @@ builder: aborted
 alter: granted after waiting
 alter: committed
 web: granted after waiting
+web: granted
 web: committed
 ",
     "",

@@ -13,4 +13,4 @@ loop-statement-preserved c =
     ∙ ap (λ front. front ++ line_of_turn c.in_ok-turn.turn ∷ []) c.loop-statement.invariant.0
     ∙ ap (λ line. map line_of_statement c.loop-statement.yielded ++ line ∷ []) c.in_ok-turn.ensures.line
     ∙ sym (map-append line_of_statement c.loop-statement.yielded (c.in-Some.statement ∷ [])) in
-    (lines, rw appended (All-push (IsTurn c.args.database) c.loop-statement.turns.items c.in_ok-turn.turn c.loop-statement.invariant.1 c.in_ok-turn.ensures.turn))
+    (lines, rw appended (All-push (IsTurn c.args.database c.args.works) c.loop-statement.turns.items c.in_ok-turn.turn c.loop-statement.invariant.1 c.in_ok-turn.ensures.turn))

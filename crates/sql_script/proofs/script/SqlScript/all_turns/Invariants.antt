@@ -5,4 +5,4 @@ use Rattle.sql_script.proofs.script.SqlScript.all_turns.Given as goal
 
 abbrev pub invariant-loop-statement : goal.invariant-loop-statement
 invariant-loop-statement l =
-    (map line_of_turn l.turns.items ≡ map line_of_statement l.yielded) × All (IsTurn l.database) l.turns.items
+    (map line_of_turn l.turns.items ≡ map line_of_statement l.yielded) × All (IsTurn l.database l.works) l.turns.items
