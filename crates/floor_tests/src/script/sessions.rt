@@ -61,30 +61,18 @@ fn sessions_stand_by_their_names(rt: HostRuntime) -> Result<(), Fail> {
     Ok(())
 }
 
-/// The session of the number `number`. Where there is none, the test ends by `rt`.
-fn session(rt: &impl Abort, number: u8) -> SessionId
-    ensures { result ≡ number }
-{
-    SessionId::new(number).expect(rt, "a session's number")
-}
-
 /// The names of two sessions, the first and the second that was opened. Where there is none, the test ends by `rt`.
-fn two(rt: &impl Abort) -> SessionNames
-    ensures { length result ≡ 2 }
-{
+fn two(rt: &impl Abort) -> SessionNames {
     let mut names = SessionNames::new();
-    names.put(session(rt, 0), name(rt, "b"));
-    names.put(session(rt, 1), name(rt, "a"));
+    names.push(name(rt, "b"));
+    names.push(name(rt, "a"));
     names
 }
 
 #[test]
 fn names_stand_by_numbers(rt: HostRuntime) -> Result<(), Fail> {
-    let mut names = two(&rt);
-    let second = session(&rt, 1);
+    let names = two(&rt);
+    let second = SessionId::new(1).ok_or("no such number")?;
     assert!(rt; names.name(second) == Some(name(&rt, "a")));
-    names.put(second, name(&rt, "c"));
-    assert!(rt; names.name(second) == Some(name(&rt, "c")));
-    assert!(rt; names.name(session(&rt, 0)) == Some(name(&rt, "b")));
     Ok(())
 }
