@@ -8,7 +8,7 @@ use sql_locks::{Defect, Form, LinkKind, RelationKind, SqlFault};
 use std::alloc::AllocError;
 
 /// What is made, altered and dropped without a lock on a relation.
-pub static LOCKLESS_OBJECTS: [&str; 22] = [
+pub static LOCKLESS_OBJECTS: [&str; 23] = [
     "function",
     "procedure",
     "type",
@@ -29,6 +29,7 @@ pub static LOCKLESS_OBJECTS: [&str; 22] = [
     "access",
     "conversion",
     "server",
+    "data",
     "text",
     "transform",
 ];

@@ -6,7 +6,7 @@ use crate::reader::{Change, Control, StatementReader};
 use sql_locks::{Defect, Form, SqlFault};
 
 /// Statements that lock no relation of their own.
-static LOCK_NOTHING: [&str; 18] = [
+static LOCK_NOTHING: [&str; 17] = [
     "set",
     "reset",
     "show",
@@ -24,7 +24,6 @@ static LOCK_NOTHING: [&str; 18] = [
     "close",
     "grant",
     "revoke",
-    "values",
 ];
 
 impl StatementReader {
@@ -61,6 +60,7 @@ impl StatementReader {
             || cursor.is_at("delete")
             || cursor.is_at("merge")
             || cursor.is_at("table")
+            || cursor.is_at("values")
             || cursor.is_mark_ahead(0, "(")
     }
 
@@ -158,6 +158,10 @@ impl StatementReader {
         }
         if self.cursor.is_at("set") && self.cursor.is_ahead(1, "tablespace") {
             self.act(Form::AlterIndexTablespace, index)?;
+            return Ok(());
+        }
+        if self.cursor.has("depends") {
+            self.act(Form::AlterView, index)?;
             return Ok(());
         }
         self.act(Form::AlterIndex, index)?;
