@@ -53,7 +53,7 @@ Example:
 /// The word that asks for the subcommand.
 pub const SQL: &str = "sql";
 
-/// The subcommand `sql [--schema FILE] [--fail-on KIND] [--single-transaction]` of `lock_scenario`.
+/// The subcommand `sql [--schema FILE] [--fail-on KIND] [--single-transaction]` of `lock_scenario`, in memory of `alloc`.
 pub fn sql_command<'a>(alloc: Global) -> Result<Command<'a>, AllocError> {
     let schema = Arg::new(alloc, "schema")
         .long("schema")
@@ -85,7 +85,7 @@ pub fn parse_options(alloc: Global, words: &[String]) -> SqlTask {
     }
 }
 
-/// What `clap` has for words that ask for no report.
+/// The task of words that ask for no report, by the `error` that `clap` has for them: a text of help, or a refusal.
 fn task_of_error(alloc: Global, error: &Error) -> SqlTask {
     if error.kind() == ErrorKind::OutOfMemory {
         return SqlTask::NoMemory;
@@ -97,7 +97,7 @@ fn task_of_error(alloc: Global, error: &Error) -> SqlTask {
     }
 }
 
-/// The options that the words name.
+/// The options that `words` name.
 fn options_of(alloc: Global, words: &[String]) -> Result<SqlOptions, Error> {
     let matches = sql_command(alloc)?.try_get_matches_from(words)?;
     let schema = match matches.get_str("schema") {
@@ -111,7 +111,7 @@ fn options_of(alloc: Global, words: &[String]) -> Result<SqlOptions, Error> {
     })
 }
 
-/// What the words have the program fail on.
+/// What the words that `matches` has read would have the program fail on.
 fn fail_on(matches: &ArgMatches) -> FailOn {
     match matches.get_str("fail-on") {
         Some("reads") => FailOn::Reads,

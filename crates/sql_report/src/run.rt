@@ -46,7 +46,8 @@ pub fn run_sql<H: AllocGlobal + Files, R: Read, W: Write, E: Write>(
     }
 }
 
-/// Reads the files, and prints what is said of them.
+/// Reads the schema that `options` names, and the migration of `input`, and prints on `output` what is said of it, or on
+/// `errors` why nothing is. `rt` reads the files.
 fn run_report<H: AllocGlobal + Files, R: Read, W: Write, E: Write>(
     rt: &H,
     options: &SqlOptions,
@@ -95,7 +96,7 @@ pub fn status_of(report: &Report, fail_on: FailOn) -> u8
     }
 }
 
-/// The status where the statements on `lines` keep those waiting whom the words name.
+/// The status where the statements on `lines` keep those waiting whom the options name.
 fn status_of_lines(lines: &[usize]) -> u8
     ensures reads { result ≡ status_for FailOn.Reads lines.now lines.now }
     ensures writes { result ≡ status_for FailOn.Writes lines.now lines.now }
@@ -107,7 +108,7 @@ fn status_of_lines(lines: &[usize]) -> u8
     }
 }
 
-/// Prints a text, and answers this status where that succeeds.
+/// Prints `text` on `output`, and answers `status` where that succeeds.
 fn print<W: Write>(output: &mut W, text: &str, status: u8) -> u8
     requires { status ≤ 4 }
     ensures { result ≤ 4 }
@@ -118,7 +119,7 @@ fn print<W: Write>(output: &mut W, text: &str, status: u8) -> u8
     status
 }
 
-/// Says why a text is refused.
+/// Says on `errors` why a text is refused, as `refused` has it.
 fn refuse<E: Write>(errors: &mut E, refused: &Refused) -> u8
     ensures { result ≤ 4 }
 {
@@ -130,7 +131,7 @@ fn refuse<E: Write>(errors: &mut E, refused: &Refused) -> u8
     BAD_STATEMENT
 }
 
-/// Says why nothing is said.
+/// Says on `errors` that nothing is said, for the reason `why`.
 fn fail<E: Write>(errors: &mut E, why: &str) -> u8
     ensures { result ≤ 4 }
 {

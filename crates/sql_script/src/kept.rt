@@ -36,7 +36,7 @@ fn keeping_steps(alloc: Global, database: u32, lock: &Lock) -> Result<Vec<Step>,
     Ok(steps)
 }
 
-/// Those of `locks` that no earlier ones cover and that the session keeps.
+/// What of `locks` no earlier ones cover and the session keeps.
 pub fn kept_of(alloc: Global, locks: &[Lock]) -> Result<Vec<Lock>, AllocError>
     ensures { IfOk result (λ kept. kept.items ≡ filter is_kept (asked_behind [] locks.now)) }
 {

@@ -5,7 +5,7 @@ use crate::sessions::ScriptSession;
 use sql_locks::{Link, Lock};
 use std::alloc::{AllocError, Global};
 
-/// Those of `links` that a statement of the session named `name` knows, which has these `locks` where it knows all. What the open transaction of
+/// The links, of `links`, that a statement of the session named `name` knows, which has these `locks` where it knows all. What the open transaction of
 /// another one of `sessions` made is known to it only where it waits for the end of that.
 pub fn known_links(
     alloc: Global,

@@ -110,7 +110,7 @@ impl StatementReader {
             return self.read_publication();
         }
         if self.cursor.eat("trigger") {
-            return self.read_alter_attached(Form::AlterTrigger, &TRIGGERS);
+            return self.read_alter_trigger();
         }
         if self.cursor.eat("rule") {
             return self.read_alter_attached(Form::AlterRule, &RULES);
@@ -125,6 +125,14 @@ impl StatementReader {
             return Ok(());
         }
         Err(self.fault_at(0, Defect::UnknownStatement))
+    }
+
+    /// Reads what stands behind `ALTER TRIGGER`. Which extension a trigger goes with is written beside it, as a comment is.
+    fn read_alter_trigger(&mut self) -> Result<(), SqlFault> {
+        if self.cursor.has("depends") {
+            return self.read_on_table(Form::CommentOnConstraint);
+        }
+        self.read_alter_attached(Form::AlterTrigger, &TRIGGERS)
     }
 
     /// Reads a relation that `form` is about.
