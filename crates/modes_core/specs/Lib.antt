@@ -5,3 +5,4 @@ pub mod Tag
 pub mod Refusal
 pub mod TagOrder
 pub mod TagText
+pub mod Sessions

@@ -1,11 +1,13 @@
 ghost use Rattle.std.specs.Prelude.{◌≡◌, ◌<◌, ◌↔◌, ℕ, IsSome, IfSome, Some};
-ghost use Rattle.modes_core.specs.declared.sessions.TheConstants.{SESSIONS};
+ghost use Rattle.modes_core.specs.declared.sessions.TheConstants.{MOST_SESSIONS};
+ghost use Rattle.modes_core.specs.Sessions.{most_sessions};
 
 use std::fmt;
 use std::marker::Model;
 
-/// How many sessions a lock manager can open over its life.
-pub const SESSIONS: u8 = 64;
+/// How many sessions there are at most at a time, whose numbers are those below (`MaxBackends` in globals.c, of a server
+/// as large as can be).
+pub const MOST_SESSIONS: u8 = 64;
 
 /// The number of a session, 0 to 63, given in the order of opening. Contracts see the number. The
 /// default, 0, is what unused places of bounded lists have.
@@ -19,7 +21,7 @@ impl Model for SessionId {
 
     ghost view = { λ id. id.number };
 
-    ghost invariant = { λ id. id.number < 64 };
+    ghost invariant = { λ id. id.number < most_sessions };
 
     ghost inverse = { λ number. record { number = number } };
 }
@@ -27,10 +29,10 @@ impl Model for SessionId {
 impl SessionId {
     /// The session numbered `number`, or `None` where that is not below 64.
     pub fn new(number: u8) -> Option<Self>
-        ensures valid { IsSome result ↔ (number < 64) }
+        ensures valid { IsSome result ↔ (number < most_sessions) }
         ensures value { IfSome result (λ id. id ≡ number) }
     {
-        if number < SESSIONS {
+        if number < MOST_SESSIONS {
             Some(SessionId { number })
         } else {
             None
@@ -40,7 +42,7 @@ impl SessionId {
     /// The session's number.
     pub fn number(self) -> u8
         ensures value { result ≡ self }
-        ensures within { result < 64 }
+        ensures within { result < most_sessions }
     {
         self.number
     }
