@@ -11,6 +11,7 @@ ghost use Rattle.shared_rule.specs.Quiet.{SharesSlots};
 ghost use Rattle.fast_path.specs.Quiet.{QuietOfListing};
 ghost use Rattle.fast_path.specs.Rows.{ListsSlots, ListsSession, BeginsWith};
 ghost use Rattle.fast_path.specs.Rows.{mode_row, rows_of_slot, rows_below, database_in};
+ghost use Rattle.modes_core.specs.Sessions.{most_sessions};
 
 use crate::slot_words::SLOTS;
 use lock_table::{NoMemory, PartTable, SlotRow};
@@ -28,7 +29,7 @@ pub fn slot_rows<T: PartTable, B: Board<T>, R: Wait>(
     board: &mut B,
     rows: &mut Vec<SlotRow>,
 ) -> Result<(), NoMemory>
-    requires few { (B.seat board.old).limit ≤ 64 }
+    requires few { (B.seat board.old).limit ≤ most_sessions }
     requires unlocked { IsUnlocked (B.view board.old) }
     requires nothing_due { B.stack board.old ≡ nothing_due }
     ensures listed { ListsSlots (B.seat board.old).groups (B.seat board.old).number (B.seat board.old).limit

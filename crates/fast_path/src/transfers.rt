@@ -11,6 +11,7 @@ ghost use Rattle.fast_path.specs.Turns.{IsUnlocked, BeginsTurn, HasSlots, HasSlo
 ghost use Rattle.fast_path.specs.Transfers.{TransfersOrNot, PassesOrNot};
 ghost use Rattle.shared_rule.specs.Quiet.{TakesSlots};
 ghost use Rattle.fast_path.specs.Quiet.{QuietOfTransfer};
+ghost use Rattle.modes_core.specs.Sessions.{most_sessions};
 
 use crate::slot_words::{Sighting, look_through};
 use crate::use_counts::group_of;
@@ -31,7 +32,7 @@ pub fn transfer<T: PartTable, B: Board<T>, R: Wait>(
     tag: &Tag,
     mode: Mode,
 ) -> Result<(), NoMemory>
-    requires few { (B.seat board.old).limit ≤ 64 }
+    requires few { (B.seat board.old).limit ≤ most_sessions }
     requires strong { is_strong_on tag.now mode ≡ true }
     requires unlocked { IsUnlocked (B.view board.old) }
     requires nothing_due { B.stack board.old ≡ nothing_due }
@@ -114,7 +115,14 @@ fn pass_in_database<T: PartTable, B: Board<T>, R: Wait>(
         board.pass_fast(owner, tag, mode);
         return Ok(());
     };
-    match adopt(rt, board, owner, slot.number, slot.word, tag, mode) {
+    let turn = Turn {
+        owner,
+        slot: slot.number,
+        word: slot.word,
+        tag,
+        strong: mode,
+    };
+    match adopt(rt, board, &turn) {
         Ok(()) => {
             board.pass_fast(owner, tag, mode);
             Ok(())
@@ -126,60 +134,71 @@ fn pass_in_database<T: PartTable, B: Board<T>, R: Wait>(
     }
 }
 
-/// Moves the modes of the slot `slot` of `owner`, one after another in rising order, into the partition of `tag`
-/// (the inner loop of `FastPathTransferRelationLocks` in lock.c).
+/// What a turn of a transfer found: a slot of another session that has the relation of the object.
+struct Turn<'a> {
+    /// Whose slot it is.
+    owner: SessionId,
+    /// The slot's number.
+    slot: u8,
+    /// What the slot shows.
+    word: SlotWord,
+    /// The object.
+    tag: &'a Tag,
+    /// The mode of the strong lock on it that the session counted.
+    strong: Mode,
+}
+
+/// Moves the modes that `turn` found, one after another in rising order, into the partition of its object (the inner loop
+/// of `FastPathTransferRelationLocks` in lock.c).
 fn adopt<T: PartTable, B: Board<T>, R: Wait>(
     rt: &R,
     board: &mut B,
-    owner: SessionId,
-    slot: u8,
-    word: SlotWord,
-    tag: &Tag,
-    strong: Mode,
+    turn: &Turn,
 ) -> Result<(), NoMemory>
-    requires exists { owner < (B.seat board.old).limit }
-    requires there { slot < group_size * (B.seat board.old).groups }
-    requires strong { is_strong_on tag.now strong ≡ true }
-    requires next { is_at owner (B.view board.old).fast.counted tag.now strong ≡ true }
-    requires in_hand { HasSlots (B.view board.old) owner slot word tag.now }
+    requires exists { turn.now.owner < (B.seat board.old).limit }
+    requires there { turn.now.slot < group_size * (B.seat board.old).groups }
+    requires strong { is_strong_on turn.now.tag.now turn.now.strong ≡ true }
+    requires next { is_at turn.now.owner (B.view board.old).fast.counted turn.now.tag.now turn.now.strong ≡ true }
+    requires in_hand { HasSlots (B.view board.old) turn.now.owner turn.now.slot turn.now.word turn.now.tag.now }
     requires nothing_due { B.stack board.old ≡ nothing_due }
-    ensures adopted { AdoptsOrNot (B.view board.old) owner word tag.now result (B.view board.new) }
+    ensures adopted { AdoptsOrNot (B.view board.old) turn.now.owner turn.now.word turn.now.tag.now result (B.view board.new) }
     ensures stack { B.stack board.new ≡ B.stack board.old }
     ensures quiet { B.quiet board.new ≡ B.quiet board.old }
     ensures seat { B.seat board.new ≡ B.seat board.old }
 {
-    let part = tag.partition();
+    let part = turn.tag.partition();
     let mut content = board.take_part(rt, part);
-    let moved = move_modes(board, &mut content, owner, slot, word, tag, strong);
+    let moved = move_modes(board, &mut content, turn);
     board.put_part(part, &Move::Keep, content);
     moved
 }
 
-/// Moves the modes of the slot `slot` of `owner` with the partition in hand, whose content is `content`, one per
-/// step.
+/// Moves the modes that `turn` found with the partition of its object in hand, whose content is `content`, one per step.
 fn move_modes<T: PartTable, B: Board<T>>(
     board: &mut B,
     content: &mut T,
-    owner: SessionId,
-    slot: u8,
-    word: SlotWord,
-    tag: &Tag,
-    strong: Mode,
+    turn: &Turn,
 ) -> Result<(), NoMemory>
-    requires exists { owner < (B.seat board.old).limit }
-    requires there { slot < group_size * (B.seat board.old).groups }
-    requires strong { is_strong_on tag.now strong ≡ true }
-    requires next { is_at owner (B.view board.old).fast.counted tag.now strong ≡ true }
+    requires exists { turn.now.owner < (B.seat board.old).limit }
+    requires there { turn.now.slot < group_size * (B.seat board.old).groups }
+    requires strong { is_strong_on turn.now.tag.now turn.now.strong ≡ true }
+    requires next { is_at turn.now.owner (B.view board.old).fast.counted turn.now.tag.now turn.now.strong ≡ true }
     requires none_begun { T.begun content.old ≡ None }
-    requires in_hand { HasSlotsAndPart (B.view board.old) owner slot word tag.now (T.content content.old) }
-    ensures moved { MovesOrNot (B.view board.old) owner slot word tag.now (T.content content.old) result
+    requires in_hand { HasSlotsAndPart (B.view board.old) turn.now.owner turn.now.slot turn.now.word turn.now.tag.now (T.content content.old) }
+    ensures moved { MovesOrNot (B.view board.old) turn.now.owner turn.now.slot turn.now.word turn.now.tag.now (T.content content.old) result
         (T.content content.new) (B.view board.new) }
     ensures none_begun { T.begun content.new ≡ None }
     ensures stack { B.stack board.new ≡ B.stack board.old }
     ensures quiet { B.quiet board.new ≡ B.quiet board.old }
     ensures seat { B.seat board.new ≡ B.seat board.old }
 {
-    let mut left = word;
+    let Turn {
+        owner,
+        slot,
+        tag,
+        ..
+    } = *turn;
+    let mut left = turn.word;
     for number in 1..4u8 {
         let mode = Mode::from_number(number).unwrap();
         if left.has(mode) {
@@ -187,7 +206,7 @@ fn move_modes<T: PartTable, B: Board<T>>(
                 return Err(NoMemory);
             }
             content.grant(owner, tag, mode);
-            board.transfer_slot(owner, slot, left, tag, mode, strong, content);
+            board.transfer_slot(owner, slot, left, tag, mode, turn.strong, content);
             left = left.without(mode);
         }
     }

@@ -14,6 +14,7 @@ use Rattle.lock_manager.specs.declared.config.Config.{Config}
 use Rattle.lock_manager.specs.Keeper.{PartView, content_of}
 use Rattle.lock_manager.specs.Releases.{ReleasesAll}
 use Rattle.lock_manager.specs.Sessions.{SessionView, IsResting}
+use Rattle.modes_core.specs.Sessions.{most_sessions}
 
 -- What contracts see of a manager and of its opener.
 
@@ -37,13 +38,13 @@ pub record OpenerView : Type 0 where
 -- whether a manager can have this many sessions, local entries and groups of slots
 abbrev pub is_in_range : Config → Bool
 is_in_range config =
-    nat_le 1 config.sessions && (nat_le config.sessions 64 &&
+    nat_le 1 config.sessions && (nat_le config.sessions most_sessions &&
     (nat_le 1 config.max_local && (nat_le config.max_local 65536 &&
     (nat_le 1 config.slot_groups && nat_le config.slot_groups most_groups))))
 
 -- The manager's size where nothing else is said.
 abbrev pub IsUsual : Config → Type 0
-IsUsual config = config ≡ record { sessions = 64; max_local = 1024; slot_groups = 1 }
+IsUsual config = config ≡ record { sessions = most_sessions; max_local = 1024; slot_groups = 1 }
 
 -- The opener is the manager's.
 pub record IsOpenerOf (opener : OpenerView) (manager : ManagerView) : Type 0 where
@@ -67,7 +68,7 @@ pub record IsCounted (issued limit live : ℕ) (closed : List (History PartView)
   pub have_closed : HaveClosed issued closed
   pub all : live + length closed ≡ issued
   pub issued_within : issued ≤ limit
-  pub few : limit ≤ 64
+  pub few : limit ≤ most_sessions
 
 -- The opener has taken a session of this number back, with this trace.
 pub record TakesBack (number : ℕ) (trace : List TraceEntry) (old new : OpenerView) : Type 0 where

@@ -7,6 +7,7 @@ ghost use Rattle.shared_rule.specs.History.{blank_account};
 ghost use Rattle.shared_rule.specs.Seats.{MayCloseBy};
 ghost use Rattle.fast_path.specs.declared.use_counts.UseCounts.{UseCounts};
 ghost use Rattle.lock_manager.specs.Releases.{ReleasesAll};
+ghost use Rattle.modes_core.specs.Sessions.{most_sessions};
 
 use crate::releases::end_all;
 use crate::sessions::{Own, OwnSession};
@@ -21,7 +22,7 @@ impl<T: PartTable, B: Board<T>> OwnSession<T, B> {
     /// of their own, since a manager's sessions are opened by its opener. Where memory, by `alloc`, runs out the
     /// board comes back.
     pub fn over(alloc: Global, board: B, database: u32, max_local: u32) -> Result<Self, B>
-        requires limit { (B.seat board).limit ≤ 64 }
+        requires limit { (B.seat board).limit ≤ most_sessions }
         requires blank { B.view board ≡ blank_account }
         requires stack { B.stack board ≡ nothing_due }
         requires from { 1 ≤ max_local }

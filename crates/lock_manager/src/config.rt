@@ -2,10 +2,9 @@ ghost use Rattle.std.specs.Prelude.{◌≡◌};
 ghost use Rattle.lock_manager.specs.Managers.{is_in_range, IsUsual};
 
 use local_locks::MOST_LOCAL;
-use modes_core::SESSIONS;
 
 /// How many sessions a manager may open over its life at most.
-pub const MOST_SESSIONS: u32 = SESSIONS as u32;
+pub const MOST_SESSIONS: u32 = modes_core::MOST_SESSIONS as u32;
 
 /// How many groups of fast-path slots a session may have at most.
 pub const MOST_GROUPS: u32 = 8;

@@ -15,6 +15,7 @@ ghost use Rattle.lock_manager.specs.Keeper.{PartView, content_of};
 ghost use Rattle.lock_manager.specs.Managers.{IsOpenerOf, IsOpened, HasClosed};
 ghost use Rattle.lock_manager.specs.Quiet.{QuietOfReleases};
 ghost use Rattle.lock_manager.specs.Sessions.{DontConflict, IsUnchanged};
+ghost use Rattle.modes_core.specs.Sessions.{most_sessions};
 
 use crate::keeper::Part;
 use crate::manager::{Manager, Opener};
@@ -79,7 +80,7 @@ pub trait Desk<S> {
         ensures no_more { IsErrOf result Refusal.NoMoreSessions ↔ (issued self.old ≡ (manager self.old).limit) }
         ensures no_other { IfErr result (λ refusal. (refusal ≡ Refusal.NoMoreSessions) ⊎ (refusal ≡ Refusal.NoMemory)) }
         ensures refused { OnErr result (live self.new ≡ live self.old) }
-        ensures few { OnOk result (issued self.old < 64) }
+        ensures few { OnOk result (issued self.old < most_sessions) }
         ensures issued { OnOk result (issued self.new ≡ issued self.old + 1) }
         ensures none_issued { OnErr result (issued self.new ≡ issued self.old) }
         ensures opened { IfOk result (λ session. IsOpened seat account stack

@@ -6,6 +6,7 @@ ghost use Rattle.fast_path.specs.Quiet.{QuietOfListing};
 ghost use Rattle.lock_manager.specs.Rest.{IsAtRest};
 ghost use Rattle.lock_manager.specs.Sessions.{IsSame};
 ghost use Rattle.lock_manager.specs.Listings.{Lists, ListsTable, ListsFrom};
+ghost use Rattle.modes_core.specs.Sessions.{most_sessions};
 
 use crate::sessions::{Own, OwnSession};
 use fast_path::slot_rows;
@@ -31,7 +32,7 @@ pub fn list<T: PartTable, B: Board<T>, R: Wait>(
     board: &mut B,
     own: &Own,
 ) -> Result<Listing, Refusal>
-    requires few { (B.seat board.old).limit ≤ 64 }
+    requires few { (B.seat board.old).limit ≤ most_sessions }
     requires rest { IsAtRest (B.seat board.old).groups (B.seat board.old).limit own.now.database own.now.uses
         (B.view board.old) (B.stack board.old) own.now.locals.entries }
     ensures listed { Lists (B.seat board.old).groups (B.seat board.old).limit (B.seat board.old).number

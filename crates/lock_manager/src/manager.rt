@@ -7,6 +7,7 @@ ghost use Rattle.shared_rule.specs.declared.history.History.{History};
 ghost use Rattle.shared_rule.specs.Quiet.{quiet_told};
 ghost use Rattle.lock_manager.specs.Keeper.{PartView};
 ghost use Rattle.lock_manager.specs.Managers.{IsNew, IsOpenerOf, IsOpened, TakesBack, is_in_range};
+ghost use Rattle.modes_core.specs.Sessions.{most_sessions};
 
 use crate::config::Config;
 use crate::keeper::Part;
@@ -51,7 +52,7 @@ impl Model for Manager {
       max_local = manager.max_local;
     } };
 
-    ghost invariant = { λ manager. (manager.table.shared.key.sessions ≤ 64) × (1 ≤ manager.max_local)
+    ghost invariant = { λ manager. (manager.table.shared.key.sessions ≤ most_sessions) × (1 ≤ manager.max_local)
         × (manager.max_local ≤ 65536) };
 }
 

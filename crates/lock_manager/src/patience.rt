@@ -8,6 +8,7 @@ ghost use Rattle.lock_manager.specs.Acquires.{AnswersByOwned, IsOwnAnswer, IsRef
 ghost use Rattle.lock_manager.specs.Waiting.{IsWaiting};
 ghost use Rattle.lock_manager.specs.Patience.{CancelsAs, WaitsWhile, LocksWhile};
 ghost use Rattle.lock_manager.specs.Quiet.{QuietOfAcquire};
+ghost use Rattle.modes_core.specs.Sessions.{most_sessions};
 
 use crate::requests::{Begun, acquire};
 use crate::sessions::{Own, OwnSession};
@@ -110,7 +111,7 @@ fn lock_while<T: PartTable, B: Board<T>, R: Wait, K: FnMut() -> bool>(
     keep_waiting: K,
 ) -> Result<Acquired, Refusal>
     requires callable { K.IsAlwaysCallable keep_waiting }
-    requires few { (B.seat board.old).limit ≤ 64 }
+    requires few { (B.seat board.old).limit ≤ most_sessions }
     requires few_entries { own.old.locals.max_local ≤ 65536 }
     requires rest { IsAtRest (B.seat board.old).groups (B.seat board.old).limit own.old.database own.old.uses
         (B.view board.old) (B.stack board.old) own.old.locals.entries }

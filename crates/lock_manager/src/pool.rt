@@ -7,13 +7,14 @@ ghost use Rattle.lock_manager.specs.Managers.{IsOpened};
 ghost use Rattle.lock_manager.specs.Pools.{IsLowestBelow, LendsLowest, TakesIn, life_of};
 ghost use Rattle.lock_manager.specs.Reuse.{ServesNext};
 ghost use Rattle.lock_manager.specs.Waiting.{Asks};
+ghost use Rattle.modes_core.specs.Sessions.{most_sessions};
 
 use crate::crews::close_sessions;
 use crate::desk::Desk;
 use crate::sessions::OwnSession;
 use crate::waiting::Asked;
 use lock_table::PartTable;
-use modes_core::{Refusal, SessionId};
+use modes_core::{MOST_SESSIONS, Refusal, SessionId};
 use shared_rule::Board;
 use std::alloc::Global;
 use std::marker::Model;
@@ -27,12 +28,15 @@ pub struct SessionLife {
     pub life: u64,
 }
 
+/// How many sessions a pool can have: all that a manager can.
+const MOST_LENT: usize = MOST_SESSIONS as usize;
+
 /// Lends the sessions of one manager to connections that come and go, any number of them in turn, and as many at a time as the
 /// manager has (`freeProcs` of `ProcGlobal` in proc.c, of which `InitProcess` takes one and to which `ProcKill` gives it back). A
 /// session is taken back with nothing held. Contracts see those that nobody has, and each number's life.
 pub struct SessionPool<T: PartTable, B: Board<T>> {
     free: Vec<OwnSession<T, B>>,
-    lives: [u64; 64],
+    lives: [u64; MOST_LENT],
 }
 
 impl<T: PartTable, B: Board<T>> Model for SessionPool<T, B> {
@@ -44,7 +48,7 @@ impl<T: PartTable, B: Board<T>> Model for SessionPool<T, B> {
 
     ghost view = { λ pool. record { free = pool.free.items; lives = pool.lives } };
 
-    ghost invariant = { λ pool. (64 ≤ vec_capacity pool.free) };
+    ghost invariant = { λ pool. (most_sessions ≤ vec_capacity pool.free) };
 }
 
 /// The place of the session with the lowest number among those of `free`, of which there is one at least.
@@ -70,10 +74,10 @@ impl<T: PartTable, B: Board<T>> SessionPool<T, B> {
         ensures ok { IfOk result (λ pool. pool.free ≡ []) }
         ensures no_memory { IsOkUnless result Refusal.NoMemory }
     {
-        match Vec::with_capacity(alloc, 64) {
+        match Vec::with_capacity(alloc, MOST_LENT) {
             Ok(free) => Ok(SessionPool {
                 free,
-                lives: [0; 64],
+                lives: [0; MOST_LENT],
             }),
             Err(_) => Err(Refusal::NoMemory),
         }
@@ -102,7 +106,7 @@ impl<T: PartTable, B: Board<T>> SessionPool<T, B> {
     }
 
     /// Takes `session` in, all of whose holds are released, in the order of making (`ProcKill` in proc.c). Nobody has its life any more.
-    /// The session comes back, with nothing held, where as many as 64 are there already, which can't be of one manager's sessions.
+    /// The session comes back, with nothing held, where `MOST_LENT` are there already, which can't be of one manager's sessions.
     pub fn take_in<R: Wait>(
         &mut self,
         rt: &R,
@@ -110,11 +114,11 @@ impl<T: PartTable, B: Board<T>> SessionPool<T, B> {
     ) -> Result<(), OwnSession<T, B>>
         ensures taken { MatchResult result
             (λ _. TakesIn B.seat B.view B.stack B.quiet session self.old self.new)
-            (λ back. ServesNext B.seat B.view B.stack B.quiet 0 session back × (64 ≤ length self.old.free)
+            (λ back. ServesNext B.seat B.view B.stack B.quiet 0 session back × (most_sessions ≤ length self.old.free)
             × (self.new ≡ self.old)) }
     {
         session.serve_next(rt, 0);
-        if self.free.len() >= 64 {
+        if self.free.len() >= MOST_LENT {
             return Err(session);
         }
         let number = usize::from(session.id().number());
@@ -197,9 +201,9 @@ impl<T: PartTable, B: Board<T>> SessionPool<T, B> {
         requires seats { SeatsAre B.seat D.seat }
         requires own { IsOf B.seat (D.manager desk.old) session }
         requires free { AreOf B.seat (D.manager desk.old) self.old.free }
-        ensures taken { length self.old.free < 64 →
+        ensures taken { length self.old.free < most_sessions →
             TakesIn B.seat B.view B.stack B.quiet session self.old self.new × (desk.new ≡ desk.old) }
-        ensures one_more { length self.old.free < 64 → length self.new.free ≡ length self.old.free + 1 }
+        ensures one_more { length self.old.free < most_sessions → length self.new.free ≡ length self.old.free + 1 }
         ensures live { length self.old.free < D.live desk.old →
             D.live desk.new + length self.old.free + 1 ≡ D.live desk.old + length self.new.free }
         ensures free { AreOf B.seat (D.manager desk.old) self.new.free }

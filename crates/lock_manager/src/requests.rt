@@ -12,6 +12,7 @@ ghost use Rattle.lock_manager.specs.Requests.{DecidesInPart, HadRoom, Requests, 
 ghost use Rattle.lock_manager.specs.Acquires.{AnswersByOwned, HasEntryRoom, IsOwnAnswer, IsOwnAnswerBySlot, IsRefusedForMemory, entries_begun, Begins, AcquiresBySlot};
 ghost use Rattle.lock_manager.specs.Waiting.{IsWaiting};
 ghost use Rattle.lock_manager.specs.Quiet.{QuietOfAcquire, QuietOfAcquireBySlot, QuietOfRequest, QuietOfStrong};
+ghost use Rattle.modes_core.specs.Sessions.{most_sessions};
 
 use crate::sessions::Own;
 use fast_path::{UseCounts, grant, transfer, try_grant};
@@ -47,7 +48,7 @@ pub fn acquire<T: PartTable, B: Board<T>, R: Wait>(
     owner: Owner,
     kind: Kind,
 ) -> Result<Begun, Refusal>
-    requires few { (B.seat board.old).limit ≤ 64 }
+    requires few { (B.seat board.old).limit ≤ most_sessions }
     requires few_entries { own.old.locals.max_local ≤ 65536 }
     requires rest { IsAtRest (B.seat board.old).groups (B.seat board.old).limit own.old.database own.old.uses
         (B.view board.old) (B.stack board.old) own.old.locals.entries }
@@ -146,7 +147,7 @@ pub fn request<T: PartTable, B: Board<T>, R: Wait>(
     mode: Mode,
     kind: Kind,
 ) -> Result<Decision, Refusal>
-    requires few { (B.seat board.old).limit ≤ 64 }
+    requires few { (B.seat board.old).limit ≤ most_sessions }
     requires idle { IsIdle (B.view board.old) (B.stack board.old) }
     requires use_count { IsUseCount (B.seat board.old).groups (B.view board.old) uses.old }
     requires database { (B.view board.old).fast.database ≡ database }
@@ -187,7 +188,7 @@ fn request_strong<T: PartTable, B: Board<T>, R: Wait>(
     mode: Mode,
     kind: Kind,
 ) -> Result<Decision, Refusal>
-    requires few { (B.seat board.old).limit ≤ 64 }
+    requires few { (B.seat board.old).limit ≤ most_sessions }
     requires strong { is_strong_on tag.now mode ≡ true }
     requires idle { IsIdle (B.view board.old) (B.stack board.old) }
     requires new { (B.view board.old).own tag.now mode ≡ false }

@@ -23,6 +23,7 @@ ghost use Rattle.wait_queue.specs.Decide.{IsAfterRoom};
 ghost use Rattle.lock_manager.specs.Requests.{HadRoom};
 ghost use Rattle.lock_manager.specs.Acquires.{AnswersByOwned, HasEntryRoom, IsOwnAnswer, IsOwnAnswerBySlot, IsRefusedForMemory, Acquires, AcquiresBySlot};
 ghost use Rattle.lock_manager.specs.Releases.{Releases, ReleasesAll};
+ghost use Rattle.modes_core.specs.Sessions.{most_sessions};
 
 mod levels;
 
@@ -118,14 +119,14 @@ impl<T: PartTable, B: Board<T>> Model for OwnSession<T, B> {
     ghost invariant = { λ session.
         IsAtRest (B.seat session.board).groups (B.seat session.board).limit session.own.value.database session.own.value.uses
         (B.view session.board) (B.stack session.board) session.own.value.locals.entries
-        × ((B.seat session.board).limit ≤ 64) × (session.own.value.locals.max_local ≤ 65536)
+        × ((B.seat session.board).limit ≤ most_sessions) × (session.own.value.locals.max_local ≤ 65536)
         × IsWellOwned session.own.value.locals };
 }
 
 impl<T: PartTable, B: Board<T>> OwnSession<T, B> {
     // A session of a board that has nothing in it yet, with what it has of its own.
     pub(crate) fn of(board: B, own: Box<Own>) -> Self
-        requires limit { (B.seat board).limit ≤ 64 }
+        requires limit { (B.seat board).limit ≤ most_sessions }
         requires blank { B.view board ≡ account_storing blank_account own.value.database }
         requires stack { B.stack board ≡ nothing_due }
         requires no_slot { (group : ℕ) → count_in own.value.uses group ≡ 0 }

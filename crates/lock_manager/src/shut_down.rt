@@ -3,6 +3,7 @@
 ghost use Rattle.std.specs.Prelude.{◌≡◌, ◌≤◌, []};
 ghost use Rattle.lock_manager.specs.Sessions.{IsSame};
 ghost use Rattle.lock_manager.specs.ShutDown.{AsksAll};
+ghost use Rattle.modes_core.specs.Sessions.{most_sessions};
 
 use crate::sessions::OwnSession;
 use crate::waiting::{Asked, ask_cancel};
@@ -12,7 +13,7 @@ use shared_rule::Board;
 
 /// Asks by `board` each session that there can be to cancel its wait, and wakes it where it waits. The answer is how many waited.
 fn ask_all_to_cancel<T: PartTable, B: Board<T>>(board: &mut B) -> u32
-    requires few { (B.seat board.old).limit ≤ 64 }
+    requires few { (B.seat board.old).limit ≤ most_sessions }
     requires none_owed { (B.stack board.old).owed ≡ [] }
     ensures asked { AsksAll (B.seat board.old).limit (B.view board.old) result (B.view board.new) }
     ensures quiet { B.quiet board.new ≡ B.quiet board.old }

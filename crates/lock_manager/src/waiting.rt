@@ -10,13 +10,14 @@ ghost use Rattle.lock_manager.specs.Waiting.{IsWaiting, HasLooked, Asks, LooksFo
 ghost use Rattle.lock_manager.specs.Waiting.{IsInWait, polled_as, Polls, Cancels, Waits, account_cancelled};
 ghost use Rattle.lock_manager.specs.WaitingSessions.{Locks};
 ghost use Rattle.lock_manager.specs.Quiet.{QuietOfAcquire};
+ghost use Rattle.modes_core.specs.Sessions.{most_sessions};
 
 use crate::releases::put_with_woken;
 use crate::requests::{Begun, acquire};
 use crate::sessions::Own;
 use local_locks::Acquired;
 use lock_table::{Move, PartTable};
-use lw_word::{is_asked, wait_state};
+use lw_word::{WaitState, is_asked, wait_state};
 use modes_core::{Mode, Owner, Refusal, SessionId, Tag, is_strong};
 use shared_rule::Board;
 use std::sync::Wait;
@@ -53,7 +54,7 @@ pub fn ask_cancel<T: PartTable, B: Board<T>>(board: &mut B, other: SessionId) ->
     ensures seat { B.seat board.new ≡ B.seat board.old }
 {
     let shown = board.ask_cancel(other);
-    if wait_state(shown) != 1 {
+    if wait_state(shown) != WaitState::Waiting as u64 {
         return Asked::NotWaiting;
     }
     board.wake(other);
@@ -157,7 +158,7 @@ fn take_up<T: PartTable, B: Board<T>>(
     ensures database { own.new.database ≡ own.old.database }
     ensures uses { own.new.uses ≡ own.old.uses }
 {
-    if wait_state(shown) == 2 {
+    if wait_state(shown) == WaitState::Granted as u64 {
         board.clear_wait();
         own.locals.add(tag, mode, owner);
         return Looked::Granted;
@@ -263,7 +264,7 @@ pub fn lock<T: PartTable, B: Board<T>, R: Wait>(
     mode: Mode,
     owner: Owner,
 ) -> Result<Acquired, Refusal>
-    requires few { (B.seat board.old).limit ≤ 64 }
+    requires few { (B.seat board.old).limit ≤ most_sessions }
     requires few_entries { own.old.locals.max_local ≤ 65536 }
     requires rest { IsAtRest (B.seat board.old).groups (B.seat board.old).limit own.old.database own.old.uses
         (B.view board.old) (B.stack board.old) own.old.locals.entries }

@@ -15,6 +15,7 @@ ghost use Rattle.lock_manager.specs.WaitingSessions.{answer_polled, board_polled
 ghost use Rattle.lock_manager.specs.WaitingSessions.{was_granted, session_cancelled};
 ghost use Rattle.lock_manager.specs.WaitingSessions.{answer_waited, session_waited};
 ghost use Rattle.lock_manager.specs.WaitingSessions.{answer_locked, session_locked, Locks, HasBegun, WaitsOn, HasEnded};
+ghost use Rattle.modes_core.specs.Sessions.{most_sessions};
 
 mod looks;
 
@@ -66,7 +67,7 @@ impl<T: PartTable, B: Board<T>> Model for OwnWaiting<T, B> {
     ghost invariant = { λ waiting.
         IsWaiting (B.seat waiting.board).groups (B.seat waiting.board).limit waiting.own.value.database waiting.own.value.uses
         (B.view waiting.board) (B.stack waiting.board) waiting.own.value.locals.entries waiting.tag waiting.mode
-        × ((B.seat waiting.board).limit ≤ 64) × (waiting.own.value.locals.max_local ≤ 65536)
+        × ((B.seat waiting.board).limit ≤ most_sessions) × (waiting.own.value.locals.max_local ≤ 65536)
         × IsWellOwned waiting.own.value.locals
         × IsReserved waiting.own.value.locals waiting.tag waiting.mode waiting.owner };
 }

@@ -8,6 +8,7 @@ use Rattle.slab.specs.Slab.{Slab, get, ContainsKey}
 use Rattle.lock_records.specs.declared.holders.HolderRecord.{HolderRecord}
 use Rattle.lock_records.specs.Holders.{holder_at, IsHolderAt, AreHolders, IsIn, IsChain, IsHolderChain, HasSameElse}
 use Rattle.lock_records.proofs.Held.{same-holder}
+use Rattle.modes_core.specs.Sessions.{most_sessions}
 
 -- A chain with something left goes on at its place.
 pub record GoesOn (slots : List (Option HolderRecord)) (tag : Tag) (at : ℕ) (left : List ℕ) : Type 0 where
@@ -120,7 +121,7 @@ module _ (slots : List (Option HolderRecord)) (tag : Tag) (are : AreHolders slot
   distinct at [] chain = tt
   distinct at (k ∷ ks) chain = (other_sessions k chain.2.0 chain.2.1 chain.2.2 chain.2.0.next ks chain.2.3 chain.1, distinct chain.2.0.next ks chain.2.3)
 
-  small : (at : ℕ) (ks : List ℕ) → IsChain slots tag at ks → (s : ℕ) → list_any (eqb s) (sessions_at slots ks) ≡ true → s < 64
+  small : (at : ℕ) (ks : List ℕ) → IsChain slots tag at ks → (s : ℕ) → list_any (eqb s) (sessions_at slots ks) ≡ true → s < most_sessions
   small at [] chain s any = absurd (false≢true any)
   small at (k ∷ ks) chain s any =
       elim (or_cases _ _ any) [
@@ -128,9 +129,9 @@ module _ (slots : List (Option HolderRecord)) (tag : Tag) (are : AreHolders slot
         | inr later ↦ small chain.2.0.next ks chain.2.3 s later
       ]
 
-  pub chain-short : (at : ℕ) (ks : List ℕ) → IsChain slots tag at ks → length ks ≤ 64
+  pub chain-short : (at : ℕ) (ks : List ℕ) → IsChain slots tag at ks → length ks ≤ most_sessions
   chain-short at ks chain =
-      let fit = length-le_from_distinct_below (sessions_at slots ks) 64 (distinct at ks chain) (small at ks chain) in
+      let fit = length-le_from_distinct_below (sessions_at slots ks) most_sessions (distinct at ks chain) (small at ks chain) in
       let same : length (sessions_at slots ks) ≡ length ks = length-map ks (λ k. session_of (holder_at slots k)) in
       omega arith
 

@@ -22,6 +22,7 @@ use Rattle.lock_records.specs.Objects.{IsHeldLock, IsLock, IsQueue, IsObject, Ar
 use Rattle.lock_records.proofs.IndexLaws.{same-lock, same-then, same-relocked, noted-relocked}
 use Rattle.lock_records.proofs.Queues.{IsAround, around, awaited-without, awaited-joined, one-each-without, one-each-joined, any-filter, any-joined, joined-some, awaits-left}
 use Rattle.lock_records.proofs.ObjectLaws.{object-at, object-none, made-lock, objects-close, used-counted, unused-holder, unused-queue}
+use Rattle.modes_core.specs.Sessions.{most_sessions}
 
 pub same-holders : (slots : List (Option HolderRecord)) (tag : Tag) → HasSameElse slots slots tag
 same-holders slots tag = record { kept = λ k h there other. there; no_more = λ k h there other. there }
@@ -66,13 +67,13 @@ queue-without holders queue s t waiting = record {
 }
 
 pub queue-joined :
-    (holders : List (Option HolderRecord)) (queue : List Wait) (place : ℕ) (w : Wait) (t : Tag) → w.session < 64 → waits_there queue w.session ≡ false → holds_in holders w.session t w.mode ≡ false →
+    (holders : List (Option HolderRecord)) (queue : List Wait) (place : ℕ) (w : Wait) (t : Tag) → w.session < most_sessions → waits_there queue w.session ≡ false → holds_in holders w.session t w.mode ≡ false →
     IsQueue holders queue t → IsQueue holders (joined place w queue) t
 queue-joined holders queue place w t small absent not_held waiting = record {
   one_each = one-each-joined queue place w absent waiting.one_each;
   below = λ k there. elim (any-joined queue place w _ there) [
     | inl was ↦ waiting.below k was
-    | inr its ↦ subst (λ x. x < 64) (eqb-true _ _ its) small
+    | inr its ↦ subst (λ x. x < most_sessions) (eqb-true _ _ its) small
   ];
   apart = λ k n awaits. elim (any-joined queue place w _ awaits) [
     | inl was ↦ waiting.apart k n was
@@ -153,7 +154,7 @@ pub objects-joined :
     (locks mid locks' : List (Option LockRecord)) (holders : List (Option HolderRecord)) (waits waits' : List (Option QueueRecord)) (w : Wait) (t : Tag) (at place : ℕ) (index : Notes) →
     AreObjects locks holders waits → HasMadeLock locks mid t place → AreNoted mid index → (r : IsRelocked mid locks' t place) → r.is.lock.holders ≡ r.was.lock.holders → r.is.lock.granted ≡ r.was.lock.granted →
     counts_in r.is.lock.awaited ≡ one_more (counts_in r.was.lock.awaited) w.mode → queue_on waits' ≡ put tag_eq (queue_on waits) t (joined at w (queue_on waits t)) →
-    w.session < 64 → waits_there (queue_on waits t) w.session ≡ false → holds_in holders w.session t w.mode ≡ false → AreObjects locks' holders waits'
+    w.session < most_sessions → waits_there (queue_on waits t) w.session ≡ false → holds_in holders w.session t w.mode ≡ false → AreObjects locks' holders waits'
 objects-joined locks mid locks' holders waits waits' w t at place index are made noted r same_holders same_granted raised queues small absent not_held =
     objects-close locks locks' holders holders waits waits' t (same-then locks mid locks' t made.same (same-relocked mid locks' t place r)) (same-holders holders t)
     (queues-else waits waits' t (joined at w (queue_on waits t)) queues) are

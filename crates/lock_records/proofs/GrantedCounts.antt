@@ -9,6 +9,7 @@ use Rattle.lock_table.proofs.HoldLemmas.{set_hold-at, here, elsewhere, set_hold-
 use Rattle.lock_table.proofs.PutLemmas.{put_here, put_else}
 use Rattle.lock_records.specs.Tally.{one_more, one_less}
 use Rattle.lock_records.specs.Counting.{sessions_below, granted_of}
+use Rattle.modes_core.specs.Sessions.{most_sessions}
 
 -- How many of the sessions below a number pass: no more than the number, as many where the tests agree, one more where they
 -- agree but at one, and some where one passes.
@@ -64,47 +65,47 @@ hold-else holds s t m b k n not_it =
     ]
 
 -- With one more hold, one more is granted of its mode; with one less, one less.
-pub granted-more : (holds : Holds) (s : ℕ) (t : Tag) (m : Mode) → s < 64 → holds s t m ≡ false →
+pub granted-more : (holds : Holds) (s : ℕ) (t : Tag) (m : Mode) → s < most_sessions → holds s t m ≡ false →
     (n : Mode) → granted_of (set_hold holds s t m true) t n ≡ one_more (granted_of holds t) m n
 granted-more holds s t m small new n =
     elim (cases_Bool (mode_eq n m)) [
       | inl same ↦
           let e : n ≡ m = mode_eq-same n m same in
           ap (granted_of (set_hold holds s t m true) t) e
-          ∙ below-more 64 (λ k. holds k t m) (λ k. set_hold holds s t m true k t m) s small new (set_hold-here holds s t m true)
+          ∙ below-more most_sessions (λ k. holds k t m) (λ k. set_hold holds s t m true k t m) s small new (set_hold-here holds s t m true)
           (λ k other. sym (hold-else holds s t m true k m (λ it. other it.0)))
           ∙ sym (put_here mode_eq (granted_of holds t) m (granted_of holds t m + 1) n same)
       | inr apart ↦
-          below-same 64 (λ k. set_hold holds s t m true k t n) (λ k. holds k t n)
+          below-same most_sessions (λ k. set_hold holds s t m true k t n) (λ k. holds k t n)
           (λ k h. hold-else holds s t m true k n (λ it. both_ways (mode_eq n m) apart (ap (λ x. mode_eq x m) it.1 ∙ mode_eq-refl m)))
           ∙ sym (put_else mode_eq (granted_of holds t) m (granted_of holds t m + 1) n apart)
     ]
 
-pub granted-less : (holds : Holds) (s : ℕ) (t : Tag) (m : Mode) → s < 64 → holds s t m ≡ true →
+pub granted-less : (holds : Holds) (s : ℕ) (t : Tag) (m : Mode) → s < most_sessions → holds s t m ≡ true →
     (n : Mode) → granted_of (set_hold holds s t m false) t n ≡ one_less (granted_of holds t) m n
 granted-less holds s t m small was n =
     elim (cases_Bool (mode_eq n m)) [
       | inl same ↦
           let e : n ≡ m = mode_eq-same n m same in
           let more : granted_of holds t m ≡ granted_of (set_hold holds s t m false) t m + 1 =
-          below-more 64 (λ k. set_hold holds s t m false k t m) (λ k. holds k t m) s small (set_hold-here holds s t m false) was
+          below-more most_sessions (λ k. set_hold holds s t m false k t m) (λ k. holds k t m) s small (set_hold-here holds s t m false) was
           (λ k other. hold-else holds s t m false k m (λ it. other it.0)) in
           ap (granted_of (set_hold holds s t m false) t) e
           ∙ (let less : granted_of (set_hold holds s t m false) t m ≡ granted_of holds t m - 1 = omega arith in less)
           ∙ sym (put_here mode_eq (granted_of holds t) m (granted_of holds t m - 1) n same)
       | inr apart ↦
-          below-same 64 (λ k. set_hold holds s t m false k t n) (λ k. holds k t n)
+          below-same most_sessions (λ k. set_hold holds s t m false k t n) (λ k. holds k t n)
           (λ k h. hold-else holds s t m false k n (λ it. both_ways (mode_eq n m) apart (ap (λ x. mode_eq x m) it.1 ∙ mode_eq-refl m)))
           ∙ sym (put_else mode_eq (granted_of holds t) m (granted_of holds t m - 1) n apart)
     ]
 
 -- Somebody who holds the object in the mode is counted.
-pub granted-some : (holds : Holds) (s : ℕ) (t : Tag) (m : Mode) → s < 64 → holds s t m ≡ true → 0 < granted_of holds t m
-granted-some holds s t m small has = below-some 64 (λ k. holds k t m) s small has
+pub granted-some : (holds : Holds) (s : ℕ) (t : Tag) (m : Mode) → s < most_sessions → holds s t m ≡ true → 0 < granted_of holds t m
+granted-some holds s t m small has = below-some most_sessions (λ k. holds k t m) s small has
 
-pub granted-le : (holds : Holds) (t : Tag) (m : Mode) → granted_of holds t m ≤ 64
-granted-le holds t m = below-le 64 (λ k. holds k t m)
+pub granted-le : (holds : Holds) (t : Tag) (m : Mode) → granted_of holds t m ≤ most_sessions
+granted-le holds t m = below-le most_sessions (λ k. holds k t m)
 
 -- The same holds of the object are as many.
 pub granted-same : (old new : Holds) (t : Tag) (m : Mode) → ((s : ℕ) → new s t m ≡ old s t m) → granted_of new t m ≡ granted_of old t m
-granted-same old new t m same = below-same 64 (λ s. new s t m) (λ s. old s t m) (λ s h. same s)
+granted-same old new t m same = below-same most_sessions (λ s. new s t m) (λ s. old s t m) (λ s h. same s)

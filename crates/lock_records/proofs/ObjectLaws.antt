@@ -19,6 +19,7 @@ use Rattle.lock_records.proofs.Held.{holds-else, holders-else, at-else, swap-els
 use Rattle.lock_records.proofs.Chains.{chain-else, in-nothing, goes-on}
 use Rattle.lock_records.proofs.IndexLaws.{same-lock}
 use Rattle.lock_records.proofs.Queues.{queue-empty, queue-some}
+use Rattle.modes_core.specs.Sessions.{most_sessions}
 
 -- The records of another object are as right as they were.
 module _
@@ -113,7 +114,7 @@ made-lock old new holders queue tag place is made =
             number = fresh.none;
             all = λ k h there on. absurd (no-holder old holders queue tag is no_lock h.session k (record { holder = h; there = there; its = refl; on = on }));
           };
-          granted = λ m. fresh.granted m ∙ sym (below-none 64 (λ s. holds_in holders s tag m) (λ s h. holds-none holders s tag (no-holder old holders queue tag is no_lock s) m));
+          granted = λ m. fresh.granted m ∙ sym (below-none most_sessions (λ s. holds_in holders s tag m) (λ s h. holds-none holders s tag (no-holder old holders queue tag is no_lock s) m));
         };
         awaited = λ m. fresh.awaited m ∙ sym (ap (λ ws. awaited_of ws m) (no-wait old holders queue tag is no_lock));
       }

@@ -17,6 +17,7 @@ use Rattle.lock_table.proofs.HoldLists.{count_by-cons, count_by-filter, count_by
 use Rattle.lock_table.proofs.WaitLists.{count_by-insert}
 use Rattle.lock_records.specs.Tally.{one_more, one_less}
 use Rattle.lock_records.specs.Counting.{awaited_of}
+use Rattle.modes_core.specs.Sessions.{most_sessions}
 
 -- Each session waits once at most.
 abbrev pub OneEach : List Wait → Type 0
@@ -63,14 +64,14 @@ any-sessions s (w ∷ queue) any =
       ]
     ]
 
-pub queue-short : (queue : List Wait) → OneEach queue → ((s : ℕ) → waits_there queue s ≡ true → s < 64) → length queue ≤ 64
+pub queue-short : (queue : List Wait) → OneEach queue → ((s : ℕ) → waits_there queue s ≡ true → s < most_sessions) → length queue ≤ most_sessions
 queue-short queue one below =
-    let fit = length-le_from_distinct_below (map (λ (wait : Wait). wait.session) queue) 64 (distinct queue one) (λ s any. below s (any-sessions s queue any)) in
+    let fit = length-le_from_distinct_below (map (λ (wait : Wait). wait.session) queue) most_sessions (distinct queue one) (λ s any. below s (any-sessions s queue any)) in
     let same : length (map (λ (wait : Wait). wait.session) queue) ≡ length queue = length-map queue (λ (wait : Wait). wait.session) in
     omega arith
 
 -- So few wait for a mode that one more can be counted.
-pub awaited-few : (queue : List Wait) (m : Mode) → OneEach queue → ((s : ℕ) → waits_there queue s ≡ true → s < 64) → awaited_of queue m ≤ 64
+pub awaited-few : (queue : List Wait) (m : Mode) → OneEach queue → ((s : ℕ) → waits_there queue s ≡ true → s < most_sessions) → awaited_of queue m ≤ most_sessions
 awaited-few queue m one below = omega (arith, count_by-le-length (λ (wait : Wait). mode_eq wait.mode m) queue, queue-short queue one below)
 
 -- A session that awaits a mode waits.
@@ -315,8 +316,8 @@ some-awaits queue mode its hit some =
     any_weaker (λ (wait : Wait). mode_eq wait.mode its) (λ (wait : Wait). conflict mode wait.mode) queue (λ w same. ap (conflict mode) (mode_eq-same w.mode its same) ∙ hit) (counted-any (λ (wait : Wait). mode_eq wait.mode its) queue some)
 
 -- Where a session doesn't wait there is room for it.
-pub queue-room : (queue : List Wait) (w : Wait) → OneEach queue → ((s : ℕ) → waits_there queue s ≡ true → s < 64) → w.session < 64 → waits_there queue w.session ≡ false → length queue < 64
-queue-room queue w one below small absent = let all : length (w ∷ queue) ≤ 64 = queue-short (w ∷ queue) one_more below_more in omega arith where
+pub queue-room : (queue : List Wait) (w : Wait) → OneEach queue → ((s : ℕ) → waits_there queue s ≡ true → s < most_sessions) → w.session < most_sessions → waits_there queue w.session ≡ false → length queue < most_sessions
+queue-room queue w one below small absent = let all : length (w ∷ queue) ≤ most_sessions = queue-short (w ∷ queue) one_more below_more in omega arith where
   one_more : OneEach (w ∷ queue)
   one_more k =
       let all : count_by (λ (wait : Wait). wait.session == k) (w ∷ queue) ≡ (if w.session == k then 1 else 0) + count_by (λ (wait : Wait). wait.session == k) queue = count_by-cons (λ (wait : Wait). wait.session == k) w queue in
@@ -331,9 +332,9 @@ queue-room queue w one below small absent = let all : length (w ∷ queue) ≤ 6
             omega (arith, one k)
       ]
 
-  below_more : (s : ℕ) → waits_there (w ∷ queue) s ≡ true → s < 64
+  below_more : (s : ℕ) → waits_there (w ∷ queue) s ≡ true → s < most_sessions
   below_more s there =
       elim (or_cases _ _ there) [
-        | inl its ↦ subst (λ x. x < 64) (eqb-true _ _ its) small
+        | inl its ↦ subst (λ x. x < most_sessions) (eqb-true _ _ its) small
         | inr was ↦ below s was
       ]

@@ -22,6 +22,7 @@ use Rattle.lock_records.specs.Locks.{lock_at, IsRelocked}
 use Rattle.lock_records.proofs.IndexLaws.{nothing-there}
 use Rattle.lock_records.proofs.GrantedCounts.{granted-more, granted-less, granted-some}
 use Rattle.lock_records.proofs.Held.{held-from}
+use Rattle.modes_core.specs.Sessions.{most_sessions}
 
 -- A place with a record is within the list.
 pub place-within : (old : List (Option LockRecord)) (place : ℕ) (l : LockRecord) → lock_at old place ≡ Some l → place < length old
@@ -51,14 +52,14 @@ room-set old place l m capacity there room = omega (arith, len-set old place l m
 
 -- The counts of the holds, with one more and with one less.
 pub counts-raised :
-    (before after : Holds) (s : ℕ) (t : Tag) (m : Mode) (old new : List ℕ) → s < 64 → before s t m ≡ false → after ≡ set_hold before s t m true →
+    (before after : Holds) (s : ℕ) (t : Tag) (m : Mode) (old new : List ℕ) → s < most_sessions → before s t m ≡ false → after ≡ set_hold before s t m true →
     ((n : Mode) → counts_in old n ≡ granted_of before t n) → counts_in new ≡ one_more (counts_in old) m → (n : Mode) → counts_in new n ≡ granted_of after t n
 counts-raised before after s t m old new small was is counted raised n =
     ap (λ f. f n) raised ∙ ap (λ (counts : Mode → ℕ). one_more counts m n) (λ i k. counted k i)
     ∙ sym (granted-more before s t m small was n) ∙ ap (λ holds. granted_of holds t n) (sym is)
 
 pub counts-lowered :
-    (before after : Holds) (s : ℕ) (t : Tag) (m : Mode) (old new : List ℕ) → s < 64 → before s t m ≡ true → after ≡ set_hold before s t m false →
+    (before after : Holds) (s : ℕ) (t : Tag) (m : Mode) (old new : List ℕ) → s < most_sessions → before s t m ≡ true → after ≡ set_hold before s t m false →
     ((n : Mode) → counts_in old n ≡ granted_of before t n) → counts_in new ≡ one_less (counts_in old) m → (n : Mode) → counts_in new n ≡ granted_of after t n
 counts-lowered before after s t m old new small was is counted lowered n =
     ap (λ f. f n) lowered ∙ ap (λ (counts : Mode → ℕ). one_less counts m n) (λ i k. counted k i)

@@ -9,6 +9,7 @@ use Rattle.lock_records.specs.declared.holders.HolderRecord.{HolderRecord}
 use Rattle.lock_records.specs.Holders.{holder_at, holds_in, IsHolderAt, HasNoHolder, AreHolders, IsHolderChain, HasSameElse, HasModesOf, SetsHold}
 use Rattle.lock_records.proofs.Held.{held-from, held-to, same-holder, holds-at, holds-none, holds-others, holds-set}
 use Rattle.lock_records.proofs.Chains.{LeadsAs, chain-kept, chain-at}
+use Rattle.modes_core.specs.Sessions.{most_sessions}
 
 -- One place of the list was written.
 pub record IsWritten (old new : List (Option HolderRecord)) (place : ℕ) (slot : Option HolderRecord) : Type 0 where
@@ -156,7 +157,7 @@ module _
     ];
   }
 
-  pub SetsHold-put : HasNoHolder old s t → s < 64 → set_has modes m ≡ true → ((n : Mode) → n ≢ m → set_has modes n ≡ false) → SetsHold old new s t m true
+  pub SetsHold-put : HasNoHolder old s t → s < most_sessions → set_has modes m ≡ true → ((n : Mode) → n ≢ m → set_has modes n ≡ false) → SetsHold old new s t m true
   SetsHold-put no_holder small own own_else = record {
     same = else;
     holds =
@@ -213,7 +214,7 @@ module _
           | inr a ↦ elim (stands k l two) [ inl b ↦ absurd (a.1 b.1) | inr b ↦ are.once k j l a.2 b.2 ]
         ]
 
-    below : (k j : ℕ) → IsHolderAt new k t j → k < 64
+    below : (k j : ℕ) → IsHolderAt new k t j → k < most_sessions
     below k j n = elim (stands k j n) [ inl a ↦ rw a.1 small | inr a ↦ are.below k j a.2 ]
 
     some : (k j : ℕ) → IsHolderAt new k t j → (mode : Mode) × (holds_in new k t mode ≡ true)

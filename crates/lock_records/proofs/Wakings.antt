@@ -18,6 +18,7 @@ use Rattle.lock_table.proofs.PutLemmas.{put_here, put_else}
 use Rattle.lock_table.proofs.HoldLists.{count_by-cons, count_by-append}
 use Rattle.lock_table.proofs.ListLemmas.{any-counted}
 use Rattle.lock_records.proofs.Queues.{OneEach, queue-short, without-nobody}
+use Rattle.modes_core.specs.Sessions.{most_sessions}
 
 -- The holds with one wait more among those that became holds.
 hold_all-push : (granted : List Wait) (holds : Holds) (t : Tag) (w : Wait) → hold_all holds t (granted ++ w ∷ []) ≡ set_hold (hold_all holds t granted) w.session t w.mode true
@@ -34,7 +35,7 @@ pub record WakingTo (before : Content) (t : Tag) (now : Content) (done todo : Li
   pub others : (o : Tag) → tag_eq o t ≡ false → now.waits o ≡ before.waits o
   pub queue : (more left : List Wait) → SplitsBehind done now.holds t todo more left → SplitsBehind [] before.holds t (before.waits t) (granted ++ more) (done ++ left)
   pub each : (s : ℕ) → count_by (λ wait. wait.session == s) granted + count_by (λ wait. wait.session == s) (done ++ todo) ≤ 1
-  pub below : (s : ℕ) → waits_there granted s ≡ true → s < 64
+  pub below : (s : ℕ) → waits_there granted s ≡ true → s < most_sessions
 
 pub waking-start : (before : Content) (t : Tag) (woken : List (ℕ × Mode)) → woken ≡ [] → OneEach (before.waits t) → WakingTo before t before [] (before.waits t) woken
 waking-start before t woken none each = record {
@@ -104,7 +105,7 @@ module _ (done todo : List Wait) (w : Wait) (one : count_by (λ wait. wait.sessi
       ∙ without-nobody todo w.session (alone todo back))
 
 -- A wait that is free becomes a hold.
-pub waking-go : (before : Content) (t : Tag) (now next : Content) (done todo : List Wait) (w : Wait) (woken : List (ℕ × Mode)) → IsFree now.holds w.session t w.mode done → w.session < 64 →
+pub waking-go : (before : Content) (t : Tag) (now next : Content) (done todo : List Wait) (w : Wait) (woken : List (ℕ × Mode)) → IsFree now.holds w.session t w.mode done → w.session < most_sessions →
     next ≡ add_hold (remove_wait now w.session t) w.session t w.mode → WakingTo before t now done (w ∷ todo) woken → WakingTo before t next done todo (woken ++ (w.session, w.mode) ∷ [])
 waking-go before t now next done todo w woken free small is so_far = record {
   granted = so_far.granted ++ w ∷ [];
@@ -139,13 +140,13 @@ waking-go before t now next done todo w woken free small is so_far = record {
       count_by-append (λ (wait : Wait). wait.session == s) done todo in
       omega (arith, so_far.each s)
 
-  below : (s : ℕ) → waits_there (so_far.granted ++ w ∷ []) s ≡ true → s < 64
+  below : (s : ℕ) → waits_there (so_far.granted ++ w ∷ []) s ≡ true → s < most_sessions
   below s any =
       elim (cases_Bool (waits_there so_far.granted s)) [
         | inl before ↦ so_far.below s before
         | inr not_before ↦
             let last : (w.session == s) ≡ true = last-one _ _ not_before (sym (list_any-append (λ (wait : Wait). wait.session == s) so_far.granted (w ∷ [])) ∙ any) in
-            subst (λ x. x < 64) (eqb-true _ _ last) small
+            subst (λ x. x < most_sessions) (eqb-true _ _ last) small
       ] where
         last-one : (a b : Bool) → a ≡ false → (a || (b || false)) ≡ true → b ≡ true
         last-one true b e any = absurd (false≢true (sym e))
@@ -153,9 +154,9 @@ waking-go before t now next done todo w woken free small is so_far = record {
         last-one false false e any = any
 
 -- At most as many are woken as there are sessions.
-pub waking-fits : (before : Content) (t : Tag) (now : Content) (done todo : List Wait) (woken : List (ℕ × Mode)) → WakingTo before t now done todo woken → length woken ≤ 64
+pub waking-fits : (before : Content) (t : Tag) (now : Content) (done todo : List Wait) (woken : List (ℕ × Mode)) → WakingTo before t now done todo woken → length woken ≤ most_sessions
 waking-fits before t now done todo woken so_far =
-    let few : length so_far.granted ≤ 64 = queue-short so_far.granted (λ s. omega (arith, so_far.each s)) so_far.below in
+    let few : length so_far.granted ≤ most_sessions = queue-short so_far.granted (λ s. omega (arith, so_far.each s)) so_far.below in
     let same : length woken ≡ length so_far.granted = ap length so_far.told ∙ length-map so_far.granted whose_and_mode in
     omega arith
 

@@ -7,6 +7,7 @@ use Rattle.lock_table.specs.Content.{Content}
 use Rattle.lock_table.specs.Queue.{awaits_mode}
 use Rattle.lock_records.specs.declared.counts.Counts.{Counts}
 use Rattle.lock_records.specs.Counting.{sessions_below, granted_of, awaited_of, total_of}
+use Rattle.modes_core.specs.Sessions.{most_sessions}
 
 -- how many sessions hold or await the object in the mode
 abbrev pub requested_of : Content → Tag → Mode → ℕ
@@ -23,10 +24,10 @@ pub record AreCountsOf (content : Content) (tag : Tag) (counts : Counts) : Type 
 
 -- The counts are how many sessions hold the object in the mode, and how many hold it so or await it so.
 pub record CountSessions (content : Content) (tag : Tag) (counts : Counts) : Type 0 where
-  pub granted : (mode : Mode) → slice_index counts.granted (number_of mode) ≡ sessions_below 64 (λ session. content.holds session tag mode)
+  pub granted : (mode : Mode) → slice_index counts.granted (number_of mode) ≡ sessions_below most_sessions (λ session. content.holds session tag mode)
   pub requested :
       (mode : Mode) → slice_index counts.requested (number_of mode)
-      ≡ sessions_below 64 (λ session. content.holds session tag mode) + sessions_below 64 (λ session. awaits_mode (content.waits tag) session mode)
+      ≡ sessions_below most_sessions (λ session. content.holds session tag mode) + sessions_below most_sessions (λ session. awaits_mode (content.waits tag) session mode)
 
 -- Nobody holds or awaits the object.
 pub record IsUntouched (content : Content) (tag : Tag) : Type 0 where

@@ -6,6 +6,7 @@ use Rattle.modes_core.specs.ModeSet.{set_has}
 use Rattle.modes_core.specs.Tag.{tag_eq}
 use Rattle.lock_table.specs.Content.{Holds, set_hold}
 use Rattle.lock_records.specs.declared.holders.HolderRecord.{HolderRecord}
+use Rattle.modes_core.specs.Sessions.{most_sessions}
 
 -- The holder records of a partition, by their places.
 
@@ -36,7 +37,7 @@ HasNoHolder slots session tag = (place : ℕ) → IsHolderAt slots session tag p
 -- A session has one record on the object at most, and each record of the object has a mode.
 pub record AreHolders (slots : List (Option HolderRecord)) (tag : Tag) : Type 0 where
   pub once : (session k j : ℕ) → IsHolderAt slots session tag k → IsHolderAt slots session tag j → k ≡ j
-  pub below : (session k : ℕ) → IsHolderAt slots session tag k → session < 64
+  pub below : (session k : ℕ) → IsHolderAt slots session tag k → session < most_sessions
   pub some : (session k : ℕ) → IsHolderAt slots session tag k → (mode : Mode) × (holds_in slots session tag mode ≡ true)
 
 -- whether a number is in a list

@@ -13,6 +13,7 @@ use Rattle.lock_records.specs.Queues.{queue_on, waiting_in}
 use Rattle.lock_records.specs.declared.holders.HolderRecord.{HolderRecord}
 use Rattle.lock_records.specs.declared.locks.LockRecord.{LockRecord}
 use Rattle.lock_records.specs.declared.wait_queues.QueueRecord.{QueueRecord}
+use Rattle.modes_core.specs.Sessions.{most_sessions}
 
 -- What the records of a partition have of one object.
 
@@ -33,7 +34,7 @@ IsUsed holders queue tag = ((session : ℕ) × (mode : Mode) × (holds_in holder
 -- What waits for an object: a session once at most, and for no mode that it holds.
 pub record IsQueue (holders : List (Option HolderRecord)) (queue : List Wait) (tag : Tag) : Type 0 where
   pub one_each : (session : ℕ) → count_by (λ wait. wait.session == session) queue ≤ 1
-  pub below : (session : ℕ) → waits_there queue session ≡ true → session < 64
+  pub below : (session : ℕ) → waits_there queue session ≡ true → session < most_sessions
   pub apart : (session : ℕ) (mode : Mode) → awaits_mode queue session mode ≡ true → holds_in holders session tag mode ≡ false
 
 -- The records of one object: its lock record is right and not empty, and there is one where there is a holder record or a wait.

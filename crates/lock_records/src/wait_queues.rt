@@ -10,21 +10,24 @@ ghost use Rattle.lock_table.specs.Queue.{joined, waits_there, wait_in, queue_wit
 ghost use Rattle.lock_table.specs.Waiter.{shown_wait};
 ghost use Rattle.lock_records.specs.Queues.{queue_at, is_queue_of, queue_on, waiting_in, IsQueueAt};
 ghost use Rattle.lock_records.specs.Rows.{AppendsRows, HasMoreRows, awaited_below};
+ghost use Rattle.modes_core.specs.Sessions.{most_sessions};
 
 use crate::listing::push_waits;
 use arrayvec::ArrayVec;
 use lock_table::{NoMemory, TableRow, Waiter};
-use modes_core::{Mode, SessionId, Tag};
+use modes_core::{MOST_SESSIONS, Mode, SessionId, Tag};
 use slab::Slab;
 use std::alloc::Global;
 use std::marker::Model;
 
-/// The waits for an object (`waitProcs` of `LOCK` in lock.h), the first one first. There are at most 64 sessions,
-/// and each waits for it once at most.
+/// How many sessions can wait in a queue: all that there are, each once.
+const MOST_WAITERS: usize = MOST_SESSIONS as usize;
+
+/// The waits for an object (`waitProcs` of `LOCK` in lock.h), the first one first. Each session waits for it once at most.
 #[derive(Drop)]
 pub struct QueueRecord {
     pub tag: Tag,
-    pub waiters: ArrayVec<Waiter, 64>,
+    pub waiters: ArrayVec<Waiter, MOST_WAITERS>,
 }
 
 /// The queue records of a partition, and how many waits they have together. An object has one only while somebody
@@ -111,7 +114,7 @@ impl WaitQueues {
     pub(crate) fn waiters(&self, at: usize, tag: &Tag) -> &[Waiter]
         requires { IsQueueAt self.now.slots tag.now at }
         ensures waits { map shown_wait result.now ≡ queue_on self.now.slots tag.now }
-        ensures fits { length result.now ≤ 64 }
+        ensures fits { length result.now ≤ most_sessions }
     {
         self.slots[at].waiters.as_slice()
     }
@@ -127,7 +130,7 @@ impl WaitQueues {
     /// Puts a wait into the object's queue before the waiter with the index `place`. The queue's record is at `at`.
     pub(crate) fn insert(&mut self, at: usize, tag: &Tag, place: usize, waiter: Waiter)
         requires there { IsQueueAt self.old.slots tag.now at }
-        requires few { length (queue_on self.old.slots tag.now) < 64 }
+        requires few { length (queue_on self.old.slots tag.now) < most_sessions }
         requires countable { waiting_in self.old.slots < usize.MAX }
         requires place { place ≤ length (queue_on self.old.slots tag.now) }
         ensures waits { queue_on self.new.slots ≡ put tag_eq (queue_on self.old.slots) tag.now
@@ -202,7 +205,7 @@ pub(crate) fn queue_up(
     requires there { ForSome at (IsQueueAt queues.old.slots tag.now) }
     requires none { ForNone at (queue_on queues.old.slots tag.now ≡ []) }
     requires room { HasRoomFor queues.old 1 }
-    requires few { length (queue_on queues.old.slots tag.now) < 64 }
+    requires few { length (queue_on queues.old.slots tag.now) < most_sessions }
     requires countable { waiting_in queues.old.slots < usize.MAX }
     requires place { place ≤ length (queue_on queues.old.slots tag.now) }
     ensures waits { queue_on queues.new.slots ≡ put tag_eq (queue_on queues.old.slots) tag.now

@@ -1,14 +1,15 @@
 //! The names of a script: those under which sessions were opened, and those of objects.
 ghost use Rattle.std.specs.Prelude.{◌≡◌, ◌<◌, [], ◌∷◌, ◌++◌, length, slice_get};
+ghost use Rattle.modes_core.specs.Sessions.{most_sessions};
 
 use crate::objects::ObjectNames;
 use arrayvec::{ArrayString, ArrayVec};
-use modes_core::{SESSIONS, SessionId};
+use modes_core::SessionId;
 use std::alloc::Global;
 use std::marker::Model;
 
 /// How many sessions there are at most.
-pub(crate) const MOST_SESSIONS: usize = SESSIONS as usize;
+pub(crate) const MOST_SESSIONS: usize = modes_core::MOST_SESSIONS as usize;
 
 /// A session's name.
 pub type Name = ArrayString<16>;
@@ -50,7 +51,7 @@ impl SessionNames {
 
     /// Keeps `name` as that of the session that was opened last. The name of a closed session stays.
     pub fn push(&mut self, name: Name)
-        requires { length self.old < 64 }
+        requires { length self.old < most_sessions }
         ensures { self.new ≡ self.old ++ name ∷ [] }
     {
         self.issued.push(name);

@@ -3,6 +3,7 @@ ghost use Rattle.std.specs.Prelude.{◌≡◌, ℕ, ◌<◌, ◌≤◌, [], ◌�
 ghost use Rattle.std.specs.Borrow.{sem};
 ghost use Rattle.std.specs.List.{HoldsAt};
 ghost use Rattle.lock_script.specs.Names.{IsByName, IsCalled, IsFree, NotAfter, PutsIn};
+ghost use Rattle.modes_core.specs.Sessions.{most_sessions};
 
 use crate::names::{MOST_SESSIONS, Name};
 use std::alloc::{AllocError, Global};
@@ -31,7 +32,7 @@ impl<S> Model for ByName<S> {
 
     ghost view = { λ those. those.sessions.items };
 
-    ghost invariant = { λ those. IsByName those.sessions.items × (64 ≤ vec_capacity those.sessions) };
+    ghost invariant = { λ those. IsByName those.sessions.items × (most_sessions ≤ vec_capacity those.sessions) };
 }
 
 impl<S> ByName<S> {
@@ -85,7 +86,7 @@ impl<S> ByName<S> {
 
     /// Puts `session` in at the place of `name` in the order of the names.
     pub fn put(&mut self, name: Name, session: S)
-        requires { length self.old < 64 }
+        requires { length self.old < most_sessions }
         ensures { PutsIn self.old (record { name = name; session = session }) self.new }
     {
         let place = self.place_of(&name);
@@ -94,7 +95,7 @@ impl<S> ByName<S> {
 
     /// Puts `session` in at `place`, where `name` keeps the order, as at the place that it was taken from.
     pub fn put_at(&mut self, place: usize, name: Name, session: S)
-        requires room { length self.old < 64 }
+        requires room { length self.old < most_sessions }
         requires within { place ≤ length self.old }
         requires in_order { IsByName (insert self.old place (record { name = name; session = session })) }
         ensures { self.new ≡ insert self.old place (record { name = name; session = session }) }

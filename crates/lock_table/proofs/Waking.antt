@@ -27,6 +27,7 @@ use Rattle.lock_table.proofs.HoldLists.{add_hold-push, count_by-cons, count_by-a
 use Rattle.lock_table.proofs.ListingLemmas.{count_by-map}
 use Rattle.lock_table.proofs.Holders.{in_the_way-from, InTheWay-from}
 use Rattle.lock_table.proofs.WaitLists.{any-kept, waits_in-on, waits_in-off, waits_in-push_on, waits_in-without, count_by-insert, times_in-hold, times_in-wait}
+use Rattle.modes_core.specs.Sessions.{most_sessions}
 
 -- Whether some hold of a list is in the way says whether there is a conflicting holder.
 no_holder-from : (hs : List Request) (s : ℕ) (t : Tag) (m : Mode) → list_any (λ hold. is_in_the_way_of hold s t (conflict m)) hs ≡ false → NoConflictingHolder (holds_in hs) s t m
@@ -94,7 +95,7 @@ pub record Waking (hs0 : List Request) (ws0 : List PartWait) (t : Tag) (hs : Lis
   pub same_requests : (s : ℕ) (o : Tag) (m : Mode) → times_in hs (done ++ todo) s o m ≡ times_in hs0 ws0 s o m
   pub no_more_waits : (s : ℕ) (o : Tag) → count_by (λ wait. is_request_on (request_of wait) s o) (done ++ todo) ≤ count_by (λ wait. is_request_on (request_of wait) s o) ws0
   pub each_session : (s : ℕ) → count_by (λ one. s == one.0) woken + count_by (λ wait. is_request_on (request_of wait) s t) (done ++ todo) ≤ 1
-  pub below : (s : ℕ) → list_any (λ one. s == one.0) woken ≡ true → s < 64
+  pub below : (s : ℕ) → list_any (λ one. s == one.0) woken ≡ true → s < most_sessions
 
 pub Waking-start : (hs : List Request) (ws : List PartWait) (t : Tag) → OneWaitEach ws → Waking hs ws t hs [] ws []
 Waking-start hs ws t each = record {
@@ -154,7 +155,7 @@ Waking-stay hs0 ws0 t hs done w todo woken stays so_far =
 -- A wait that goes becomes a hold.
 pub Waking-go :
     (hs0 : List Request) (ws0 : List PartWait) (t : Tag) (hs : List Request) (done : List PartWait) (w : PartWait) (todo : List PartWait) (woken : List (ℕ × Mode)) →
-    goes_now hs done w t ≡ true → w.waiter.session < 64 → Waking hs0 ws0 t hs done (w ∷ todo) woken →
+    goes_now hs done w t ≡ true → w.waiter.session < most_sessions → Waking hs0 ws0 t hs done (w ∷ todo) woken →
     Waking hs0 ws0 t (hs ++ request_of w ∷ []) done todo (woken ++ (w.waiter.session, w.waiter.mode) ∷ [])
 Waking-go hs0 ws0 t hs done w todo woken goes small so_far = record {
   granted = so_far.granted ++ shown_wait w.waiter ∷ [];
@@ -204,7 +205,7 @@ Waking-go hs0 ws0 t hs done w todo woken goes small so_far = record {
       let one : count_by (λ (one : ℕ × Mode). s == one.0) ((w.waiter.session, w.waiter.mode) ∷ []) ≡ (if s == w.waiter.session then 1 else 0) + 0 = count_by-cons (λ (one : ℕ × Mode). s == one.0) (w.waiter.session, w.waiter.mode) [] in
       omega (arith, so_far.each_session s)
 
-  small_ones : (s : ℕ) → list_any (λ one. s == one.0) (woken ++ (w.waiter.session, w.waiter.mode) ∷ []) ≡ true → s < 64
+  small_ones : (s : ℕ) → list_any (λ one. s == one.0) (woken ++ (w.waiter.session, w.waiter.mode) ∷ []) ≡ true → s < most_sessions
   small_ones s any =
       elim (cases_Bool (list_any (λ (one : ℕ × Mode). s == one.0) woken)) [
         | inl before ↦ so_far.below s before
@@ -269,10 +270,10 @@ distinct-from (x ∷ xs) once = (none_alike x xs none, distinct-from xs (λ y. f
 -- At most as many are woken as there are sessions.
 pub woken_fit :
     (hs0 : List Request) (ws0 : List PartWait) (t : Tag) (hs : List Request) (done todo : List PartWait) (woken : List (ℕ × Mode)) →
-    Waking hs0 ws0 t hs done todo woken → length woken ≤ 64
+    Waking hs0 ws0 t hs done todo woken → length woken ≤ most_sessions
 woken_fit hs0 ws0 t hs done todo woken so_far =
-    let fit : length (map (λ (one : ℕ × Mode). one.0) woken) ≤ 64 =
-    length-le_from_distinct_below (map (λ (one : ℕ × Mode). one.0) woken) 64 (distinct-from (map (λ (one : ℕ × Mode). one.0) woken) once)
+    let fit : length (map (λ (one : ℕ × Mode). one.0) woken) ≤ most_sessions =
+    length-le_from_distinct_below (map (λ (one : ℕ × Mode). one.0) woken) most_sessions (distinct-from (map (λ (one : ℕ × Mode). one.0) woken) once)
     (λ s any. so_far.below s (sym (any-map s woken) ∙ any)) in
     let same : length (map (λ (one : ℕ × Mode). one.0) woken) ≡ length woken = length-map woken (λ (one : ℕ × Mode). one.0) in
     omega arith where
@@ -297,7 +298,7 @@ Waking-stay_at hs0 ws0 t hs ws i w woken within is stays so_far =
 
 pub Waking-go_at :
     (hs0 : List Request) (ws0 : List PartWait) (t : Tag) (hs : List Request) (ws : List PartWait) (i : ℕ) (w : PartWait) (woken : List (ℕ × Mode)) →
-    i < length ws → w ≡ get_or ws i w → goes_now hs (take i ws) w t ≡ true → w.waiter.session < 64 → Waking hs0 ws0 t hs (take i ws) (drop i ws) woken →
+    i < length ws → w ≡ get_or ws i w → goes_now hs (take i ws) w t ≡ true → w.waiter.session < most_sessions → Waking hs0 ws0 t hs (take i ws) (drop i ws) woken →
     Waking hs0 ws0 t (hs ++ request_of w ∷ []) (take i (remove ws i)) (drop i (remove ws i)) (woken ++ (w.waiter.session, w.waiter.mode) ∷ [])
 Waking-go_at hs0 ws0 t hs ws i w woken within is goes small so_far =
     let front : length (take i ws) ≡ i = length-take-le i ws (omega arith) in

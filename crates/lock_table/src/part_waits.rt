@@ -12,6 +12,7 @@ ghost use Rattle.lock_table.specs.Waiter.{shown_wait, whose_and_mode};
 ghost use Rattle.lock_table.specs.Request.{is_request_on, is_in_the_way_of};
 ghost use Rattle.lock_table.specs.PartView.{content_in};
 ghost use Rattle.lock_table.specs.PartWaits.{request_of, awaited_row_of, queues_in, times_in, OneWaitEach, awaits_one_of, goes_now};
+ghost use Rattle.modes_core.specs.Sessions.{most_sessions};
 
 use crate::request::Request;
 use crate::rows::TableRow;
@@ -39,12 +40,12 @@ impl PartWait {
         }
     }
 
-    /// What a wakeup tells of the wait: its session and mode. There are at most 64 sessions.
+    /// What a wakeup tells of the wait: its session and mode. Sessions have numbers below the most that there can be.
     pub fn whose(&self) -> (SessionId, Mode)
         ensures value { result ≡ whose_and_mode (shown_wait self.now.waiter) }
-        ensures within { self.now.waiter.session < 64 }
+        ensures within { self.now.waiter.session < most_sessions }
     {
-        // A session's number is known to be below 64 where it was asked for.
+        // A session's number is known to be below that where it was asked for.
         let _number = self.waiter.session.number();
         (self.waiter.session, self.waiter.mode)
     }

@@ -4,6 +4,7 @@
 
 mod events;
 pub mod laws;
+pub mod trace_laws;
 pub mod wake_laws;
 
 pub use events::{Event, Step, Word};

@@ -9,6 +9,7 @@ use Rattle.std.proofs.lemmas.List.{length-map}
 use Rattle.std.proofs.lemmas.Map.Steps.{length-le_from_distinct_below}
 use Rattle.lw_word.specs.declared.wait_lists.LwWaiter.{LwWaiter}
 use Rattle.lw_word.specs.WaitList.{EachStandsOnce, is_of, stands_in, times_in, wants_to_share, taken_off, left_waiting}
+use Rattle.modes_core.specs.Sessions.{most_sessions}
 
 -- Lists in which each session stands once at most.
 
@@ -81,10 +82,10 @@ distinct (x ∷ xs) once = (none_alike x xs none, distinct xs fewer) where
       let sum : count_by (eqb y) (x ∷ xs) ≡ (if eqb y x then 1 else 0) + count_by (eqb y) xs = count-cons (eqb y) x xs in
       omega (arith, once y)
 
-pub EachStandsOnce-fits : (waiters : List LwWaiter) → EachStandsOnce waiters → length waiters ≤ 64
+pub EachStandsOnce-fits : (waiters : List LwWaiter) → EachStandsOnce waiters → length waiters ≤ most_sessions
 EachStandsOnce-fits waiters is =
-    let fit : length (map (λ (one : LwWaiter). one.session) waiters) ≤ 64 =
-    length-le_from_distinct_below (map (λ (one : LwWaiter). one.session) waiters) 64 (distinct (map (λ (one : LwWaiter). one.session) waiters) once) below in
+    let fit : length (map (λ (one : LwWaiter). one.session) waiters) ≤ most_sessions =
+    length-le_from_distinct_below (map (λ (one : LwWaiter). one.session) waiters) most_sessions (distinct (map (λ (one : LwWaiter). one.session) waiters) once) below in
     let same : length (map (λ (one : LwWaiter). one.session) waiters) ≡ length waiters = length-map waiters (λ (one : LwWaiter). one.session) in
     omega arith where
       times : (s : ℕ) → count_by (eqb s) (map (λ (one : LwWaiter). one.session) waiters) ≡ times_in s waiters
@@ -93,13 +94,13 @@ EachStandsOnce-fits waiters is =
       once : (s : ℕ) → count_by (eqb s) (map (λ (one : LwWaiter). one.session) waiters) ≤ 1
       once s = omega (arith, times s, is.once s)
 
-      below : (s : ℕ) → list_any (eqb s) (map (λ (one : LwWaiter). one.session) waiters) ≡ true → s < 64
+      below : (s : ℕ) → list_any (eqb s) (map (λ (one : LwWaiter). one.session) waiters) ≡ true → s < most_sessions
       below s any = is.below s (omega (arith, times s, count-some (eqb s) (map (λ (one : LwWaiter). one.session) waiters) any))
 
 -- Each stands there once after a session joined that was not there, and after some were taken out.
 
 pub EachStandsOnce-join :
-    (waiters : List LwWaiter) (new : LwWaiter) → new.session < 64 → stands_in new.session waiters ≡ false → EachStandsOnce waiters → EachStandsOnce (waiters ++ new ∷ [])
+    (waiters : List LwWaiter) (new : LwWaiter) → new.session < most_sessions → stands_in new.session waiters ≡ false → EachStandsOnce waiters → EachStandsOnce (waiters ++ new ∷ [])
 EachStandsOnce-join waiters new within absent is = record {
   once = λ s. elim (cases_eq s new.session) [
     | inl same ↦
@@ -126,9 +127,9 @@ EachStandsOnce-join waiters new within absent is = record {
   not_this s other = count-none (is_of s) (new ∷ []) (ap (λ b. b || false) (false_from_ne_true (eqb s new.session) (λ same. other (eqb-true s new.session same))))
 
 -- so there is room for whoever joins
-pub room_to_join : (waiters : List LwWaiter) (new : LwWaiter) → new.session < 64 → stands_in new.session waiters ≡ false → EachStandsOnce waiters → length waiters < 64
+pub room_to_join : (waiters : List LwWaiter) (new : LwWaiter) → new.session < most_sessions → stands_in new.session waiters ≡ false → EachStandsOnce waiters → length waiters < most_sessions
 room_to_join waiters new within absent is =
-    let fit : length (waiters ++ new ∷ []) ≤ 64 = EachStandsOnce-fits (waiters ++ new ∷ []) (EachStandsOnce-join waiters new within absent is) in
+    let fit : length (waiters ++ new ∷ []) ≤ most_sessions = EachStandsOnce-fits (waiters ++ new ∷ []) (EachStandsOnce-join waiters new within absent is) in
     let one : length (waiters ++ new ∷ []) ≡ length waiters + 1 = length-append waiters (new ∷ []) in
     omega arith
 

@@ -2,6 +2,7 @@ use Rattle.std.specs.Prelude.{ℕ, ◌<◌, ◌≤◌, Bool, not, ◌==◌, List
 use Rattle.std.specs.List.{list_any}
 use Rattle.lw_word.specs.declared.wait_lists.LwWaiter.{LwWaiter}
 use Rattle.lw_word.specs.LockState.{is_shared}
+use Rattle.modes_core.specs.Sessions.{most_sessions}
 
 -- The sessions that wait for a lightweight lock, first come first (`waiters` of an `LWLock` in lwlock.h).
 
@@ -17,10 +18,10 @@ stands_in session waiters = list_any (is_of session) waiters
 abbrev pub times_in : ℕ → List LwWaiter → ℕ
 times_in session waiters = count_by (is_of session) waiters
 
--- each session stands in the list once at most, and all are below the 64 that there can be
+-- each session stands in the list once at most, and all are below the most that there can be
 pub record EachStandsOnce (waiters : List LwWaiter) : Type 0 where
   pub once : (session : ℕ) → times_in session waiters ≤ 1
-  pub below : (session : ℕ) → 0 < times_in session waiters → session < 64
+  pub below : (session : ℕ) → 0 < times_in session waiters → session < most_sessions
 
 -- the list without the session
 abbrev pub without : ℕ → List LwWaiter → List LwWaiter

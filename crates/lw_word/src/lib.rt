@@ -12,5 +12,5 @@ mod words;
 pub use numbers::{has_locked_list, must_wake_after, shared, taken};
 pub use slot_words::SlotWord;
 pub use wait_lists::{LwWaiter, TakenOff, WaitList, Wakeup};
-pub use wait_words::{is_asked, wait_state};
+pub use wait_words::{CANCEL_ASKED, SleepState, WaitState, is_asked, wait_state};
 pub use words::{LwMode, LwWord};

@@ -1,9 +1,10 @@
 ghost use Rattle.std.specs.Prelude.{◌≡◌, ◌≤◌, length, filter, not};
 ghost use Rattle.lw_word.specs.WaitList.{wants_to_share};
+ghost use Rattle.modes_core.specs.Sessions.{most_sessions};
 
 use crate::LwMode;
 use arrayvec::ArrayVec;
-use modes_core::{SESSIONS, SessionId};
+use modes_core::{MOST_SESSIONS, SessionId};
 use std::marker::Model;
 
 /// A session that waits for a lightweight lock, and how it wants to take it (`lwWaitMode` of a `PGPROC` in proc.h).
@@ -15,9 +16,11 @@ pub struct LwWaiter {
     pub mode: LwMode,
 }
 
-/// Those whom a wakeup took off a wait list, in the order in which they stood. There are at most 64 sessions,
-/// and each stands in a list once at most.
-pub type TakenOff = ArrayVec<LwWaiter, 64>;
+/// How many sessions can stand in a wait list: all that there are, each once.
+const MOST_WAITERS: usize = MOST_SESSIONS as usize;
+
+/// Those whom a wakeup took off a wait list, in the order in which they stood. Each session stands in a list once at most.
+pub type TakenOff = ArrayVec<LwWaiter, MOST_WAITERS>;
 
 /// What a wakeup leads to.
 #[derive(Debug, Drop)]
@@ -33,7 +36,7 @@ pub struct Wakeup {
 /// the list of waiters. A session stands in it once at most. Nothing here takes memory.
 #[derive(Debug, Drop)]
 pub struct WaitList {
-    waiters: ArrayVec<LwWaiter, 64>,
+    waiters: ArrayVec<LwWaiter, MOST_WAITERS>,
 }
 
 impl Model for WaitList {
@@ -93,7 +96,7 @@ impl WaitList {
         ensures { self.new ≡ self.old ++ record { session = session; mode = mode } ∷ [] }
     {
         let number = session.number();
-        prove!(number < SESSIONS);
+        prove!(number < MOST_SESSIONS);
         self.waiters.push(LwWaiter { session, mode });
     }
 
@@ -141,7 +144,7 @@ impl WaitList {
 
 /// Of `waiters`, those who want to share the lock, and the others, each in their order.
 fn parted(waiters: &[LwWaiter]) -> (TakenOff, TakenOff)
-    requires { length waiters.now ≤ 64 }
+    requires { length waiters.now ≤ most_sessions }
     ensures sharers { result.0.items ≡ filter wants_to_share waiters.now }
     ensures others { result.1.items ≡ filter (λ waiter. not (wants_to_share waiter)) waiters.now }
 {

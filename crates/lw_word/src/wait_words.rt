@@ -1,9 +1,34 @@
-//! Sessions' wait words: bits 0 to 1 say whether the session waits, and bit 2 whether it was asked to cancel.
+//! What sessions' own words say: the wait word of its wait in the queue of an object, and the sleep word of its wait in
+//! the list of a lightweight lock.
 
 ghost use Rattle.std.specs.Prelude.{◌≡◌, ◌%◌, ◌/◌, ◌==◌};
 
-/// Bits 0 to 1 of the wait word `word`: 0 where its session doesn't wait, 1 where it waits, 2 where its wait was granted
-/// (`waitStatus` in proc.h).
+/// What bits 0 to 1 of a session's wait word say of its wait in the queue of an object (`ProcWaitStatus` in proc.h).
+#[derive(Clone, Copy, Debug, PartialEq, Eq)]
+pub enum WaitState {
+    /// It doesn't wait.
+    NotWaiting = 0,
+    /// It waits (`PROC_WAIT_STATUS_WAITING`).
+    Waiting = 1,
+    /// Its wait was granted (`PROC_WAIT_STATUS_OK`), and it has not seen that yet.
+    Granted = 2,
+}
+
+/// Bit 2 of a wait word, which is set where the session was asked to cancel its wait (`QueryCancelPending` in globals.c).
+pub const CANCEL_ASKED: u64 = 4;
+
+/// What a session's sleep word says of its wait in the list of a lightweight lock (`LWLockWaitState` in lwlock.h).
+#[derive(Clone, Copy, Debug, PartialEq, Eq)]
+pub enum SleepState {
+    /// It stands in no list, and is told if it was taken off one (`LW_WS_NOT_WAITING`).
+    NotWaiting = 0,
+    /// It stands in a list (`LW_WS_WAITING`).
+    Waiting = 1,
+    /// It was taken off a list, and is yet to be told (`LW_WS_PENDING_WAKEUP`).
+    PendingWakeup = 2,
+}
+
+/// Bits 0 to 1 of the wait word `word`: the number of its `WaitState` (`waitStatus` in proc.h).
 pub fn wait_state(word: u64) -> u64
     ensures { result ≡ word % 4 }
 {

@@ -1,12 +1,13 @@
 //! Pictures of who waits for whom.
 
 ghost use Rattle.std.specs.Prelude.{◌≡◌, ◌<◌, length};
+ghost use Rattle.modes_core.specs.Sessions.{most_sessions};
 
 use crate::style::{Drawing, Pen};
 use crate::text::{ObjectText, name_of};
 use lock_manager::{Blocked, Blocker, How, Mode, ModeSet, QueueRow, SessionId, TableRow, Tag};
 use lock_script::Names;
-use modes_core::SESSIONS;
+use modes_core::MOST_SESSIONS;
 use std::alloc::AllocError;
 use std::fmt::Write;
 
@@ -166,7 +167,7 @@ impl Picture {
 
     fn write_mermaid(&self, names: &Names, text: &mut String) -> Result<(), AllocError> {
         writeln!(text, "graph LR")?;
-        for number in 0..SESSIONS {
+        for number in 0..MOST_SESSIONS {
             if self.shows(number) {
                 self.write_mermaid_node(names, number, text)?;
             }
@@ -180,7 +181,7 @@ impl Picture {
             writeln!(text, "  s{from} {line}|{mode}| s{to}")?;
         }
         let circles = self.circles();
-        for number in 0..SESSIONS {
+        for number in 0..MOST_SESSIONS {
             if circles >> number & 1 == 1 {
                 writeln!(text, "  style s{number} stroke:red,stroke-width:3px")?;
             }
@@ -194,7 +195,7 @@ impl Picture {
         number: u8,
         text: &mut String,
     ) -> Result<(), AllocError>
-        requires { number < 64 }
+        requires { number < most_sessions }
     {
         write!(text, "  s{number}[\"")?;
         self.write_label(names, number, "<br/>", text)?;
@@ -210,7 +211,7 @@ impl Picture {
         line_break: &str,
         text: &mut String,
     ) -> Result<(), AllocError>
-        requires { number < 64 }
+        requires { number < most_sessions }
     {
         write!(text, "{}", name_of(names, SessionId::new(number).unwrap()))?;
         for hold in &self.holds {
@@ -257,7 +258,7 @@ impl Picture {
         writeln!(text, "  rankdir=LR;")?;
         writeln!(text, "  node [shape=box];")?;
         let circles = self.circles();
-        for number in 0..SESSIONS {
+        for number in 0..MOST_SESSIONS {
             if self.shows(number) {
                 let color = if circles >> number & 1 == 1 {
                     "red"
@@ -288,7 +289,7 @@ impl Picture {
         color: &str,
         text: &mut String,
     ) -> Result<(), AllocError>
-        requires { number < 64 }
+        requires { number < most_sessions }
     {
         write!(text, "  s{number} [label=\"")?;
         self.write_label(names, number, "\\n", text)?;

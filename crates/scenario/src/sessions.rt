@@ -9,6 +9,7 @@ ghost use Rattle.scenario.specs.Answers.{Answers, IsNumberAt, IsOtherOf, NamesOb
 ghost use Rattle.lock_manager.specs.Sessions.{SessionView};
 ghost use Rattle.lock_script.specs.Lending.{with_session};
 ghost use Rattle.scenario.specs.Calls.{IsDeedOf, ShowsCounter};
+ghost use Rattle.modes_core.specs.Sessions.{most_sessions};
 
 use crate::answers::{Answer, Row, Said};
 use crate::calls::{Call, draw, make};
@@ -87,7 +88,7 @@ pub struct Stage<T: PartTable, B: Board<T>, D: Desk<OwnSession<T, B>>> {
     pub names: Names,
     pub sessions: OpenSessions<OwnSession<T, B>, OwnWaiting<T, B>>,
     ghost named: { length names.sessions ≡ D.issued desk },
-    ghost few: { D.issued desk ≤ 64 },
+    ghost few: { D.issued desk ≤ most_sessions },
     ghost within: { D.live desk ≤ D.issued desk },
     ghost counted: { D.live desk ≡ length sessions.resting + length sessions.waiting },
     ghost resting: { All (λ one. (B.seat one.session.board).table ≡ (D.manager desk).table) sessions.resting },

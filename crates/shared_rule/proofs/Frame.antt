@@ -49,6 +49,7 @@ use Rattle.shared_rule.proofs.Turns.{events-push, events-look, turns-beside, tur
 use Rattle.shared_rule.proofs.Owings.{KeepsOwed, todo-others, flagged-others, due-others, tries-others, due-here, tries-here, calls-here}
 use Rattle.shared_rule.specs.Ruled.{todo_of, todo_with, OwesAsTold, TurnsAreTold, StandsAtSeat, WakesAreKept, OpenerHasClosed, NoneBeyondSlots, ContentsAreHome, ListsAreHome, IsClosed, HistoryIsShown, IsBehind, SeatsAreShown, StandsClosed, HasSeat, HasOpener, StepsAreTold, HasClosedSo, Ruled}
 use Rattle.shared_rule.proofs.Told.{leads-push, another's, tells-no_seats, told-push, steps-beside, set-back, set-among, set-seat, seat-here, set-opener, opener-here, closed_so-push}
+use Rattle.modes_core.specs.Sessions.{most_sessions}
 
 -- A step of the session that goes on by itself at a seat, noted there, keeps the rule.
 
@@ -362,7 +363,7 @@ pub record Stepper (sizes : TableSizes) (w : World) (number : ℕ) (a : Account)
   pub safe : SafeWorld w
   pub is_limit : w.numbers.limit ≡ sizes.sessions
   pub are_groups : w.numbers.groups ≡ sizes.groups
-  pub few : sizes.sessions ≤ 64
+  pub few : sizes.sessions ≤ most_sessions
   pub some_groups : 0 < sizes.groups
   pub few_groups : sizes.groups ≤ most_groups
   pub makes : MakesSteps w.numbers number

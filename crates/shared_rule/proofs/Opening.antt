@@ -23,6 +23,7 @@ use Rattle.shared_rule.specs.Opening.{IsNew, AreNew}
 use Rattle.lock_world.specs.Wakes.{nothing_beside}
 use Rattle.std.proofs.lemmas.Bool.{false≢true}
 use Rattle.shared_rule.specs.Ruled.{ClosedAreCounted, SeatsAreShown, StandsAmong, Ruled}
+use Rattle.modes_core.specs.Sessions.{most_sessions}
 
 -- The table before the first step meets the rule.
 
@@ -68,7 +69,7 @@ module _ {T : Type 0} (content : T → Content) (begun : T → Option Request) (
   unfolding total
   none-closed = record { once = λ number. omega arith; all = refl }
 
-  pub opening-ruled : sizes.sessions ≤ 64 → 0 < sizes.groups → sizes.groups ≤ most_groups → (words : List ℕ) → WordsAreShown sizes.groups words (opening 0 0).words → (slots : List (Kept T)) → AreNew content begun slots
+  pub opening-ruled : sizes.sessions ≤ most_sessions → 0 < sizes.groups → sizes.groups ≤ most_groups → (words : List ℕ) → WordsAreShown sizes.groups words (opening 0 0).words → (slots : List (Kept T)) → AreNew content begun slots
       → Ruled content begun sizes (table.opening words slots opening_view)
   opening-ruled few some_groups few_groups words shown slots new = record {
     world = opening sizes.sessions sizes.groups;

@@ -3,6 +3,7 @@ use Rattle.lock_world.specs.declared.events.Word.{Word}
 use Rattle.lock_world.specs.declared.events.Word.TheVariants.{Partition, Fast, Database, Slot, Wait, Strong, Sleep}
 use Rattle.lock_world.specs.SlotHolds.{group_size, most_groups}
 use Rattle.lock_world.specs.World.{WordExists}
+use Rattle.modes_core.specs.Sessions.{most_sessions}
 
 -- Where each word stands in the table: its index, in words of 8 bytes. First come the partitions, then the strong lock
 -- counters, then a block for each session, with the slots of its first group. The slots of each further group have an area
@@ -28,15 +29,15 @@ index_of_word (Slot session slot) = block_start session + 2 + area_words * (slot
 index_of_word (Wait session) = block_start session + 18
 index_of_word (Sleep session) = block_start session + 19
 
--- The table has the words of 64 sessions.
+-- The table has the words of the most sessions that there can be.
 abbrev pub SessionHasWords : Word → Type 0
 SessionHasWords (Partition p) = Unit {0}
 SessionHasWords (Strong index) = Unit {0}
-SessionHasWords (Fast session) = session < 64
-SessionHasWords (Database session) = session < 64
-SessionHasWords (Slot session slot) = session < 64
-SessionHasWords (Wait session) = session < 64
-SessionHasWords (Sleep session) = session < 64
+SessionHasWords (Fast session) = session < most_sessions
+SessionHasWords (Database session) = session < most_sessions
+SessionHasWords (Slot session slot) = session < most_sessions
+SessionHasWords (Wait session) = session < most_sessions
+SessionHasWords (Sleep session) = session < most_sessions
 
 -- The table for so many groups of slots has this word.
 abbrev pub IsInTable : ℕ → Word → Type 0
@@ -69,7 +70,7 @@ IsApart index other = (index + 16 ≤ other) ⊎ (other + 16 ≤ index)
 abbrev pub content_shelf_of : ℕ → ℕ
 content_shelf_of partition = 8 * partition
 
--- how many numbers of lightweight locks there are shelves for: two for each of 64 sessions
+-- how many numbers of lightweight locks there are shelves for: two for each of the most sessions
 abbrev pub lock_count : ℕ
 lock_count = 128
 

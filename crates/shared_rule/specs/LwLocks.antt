@@ -5,6 +5,7 @@ use Rattle.lock_world.specs.WaitLists.{partition_lock, fast_lock}
 use Rattle.lock_world.specs.Account.{ListAccount}
 use Rattle.shared_rule.specs.declared.lw_locks.LwLock.{LwLock}
 use Rattle.shared_rule.specs.declared.lw_locks.LwLock.TheVariants.{OfPart, OfSlots}
+use Rattle.modes_core.specs.Sessions.{most_sessions}
 
 -- The lightweight locks of the table: each has a word and, by its number, a wait list.
 
@@ -24,7 +25,7 @@ LockExists limit (OfSlots owner) = owner < limit
 -- and it has its word and its shelf in the table.
 abbrev pub LockIsInTable : LwLock → Type 0
 LockIsInTable (OfPart partition) = partition < 16
-LockIsInTable (OfSlots owner) = owner < 64
+LockIsInTable (OfSlots owner) = owner < most_sessions
 
 -- What a session knows of wait lists between two calls: it has none in hand, stands in none, and owes nobody that it
 -- was taken off one,

@@ -29,6 +29,7 @@ use Rattle.shared_rule.specs.Quiet.{Quiet, first_quiet}
 use Rattle.shared_rule.specs.Owed.{first_owed}
 use Rattle.shared_rule.specs.Todos.{Todo, first_todo, first_flagged}
 use Rattle.shared_rule.specs.Slots.{KnowsWord}
+use Rattle.modes_core.specs.Sessions.{most_sessions}
 
 -- What each step tells. A session's side of a step: its view, and the contents that it has in hand, each with its shelf.
 
@@ -121,7 +122,7 @@ module _ {T : Type 0} (content : T → Content) where
   abbrev pub SeesSlotsOr :
       ℕ → (ℕ → ℕ → List ℕ → Mark T) → (ℕ → View T → View T) → Step (Kept T) → Side T → ℕ → Side T → Type 0
   SeesSlotsOr groups mark lost step before found after =
-      (found ≡ step.first → (owner : ℕ) → owner < 64 → step.word ≡ index_of_word (Fast owner)
+      (found ≡ step.first → (owner : ℕ) → owner < most_sessions → step.word ≡ index_of_word (Fast owner)
       → SeesSlots groups mark owner before after)
       × (found ≢ step.first → after ≡ (lost found before.0, before.1))
 

@@ -28,6 +28,7 @@ use Rattle.shared_rule.specs.Todos.{Todo, nothing_to_do, todo_told_by, flagged_t
 use Rattle.lock_world.specs.Wakes.{Beside, Turn, RunKeepsInOrder}
 use Rattle.lock_world.specs.Wakes.Owing.{Duties}
 use Rattle.shared_rule.specs.Owed.{owed_told}
+use Rattle.modes_core.specs.Sessions.{most_sessions}
 
 -- The rule of the table: there is a World which its words, its contents at home and the histories of all sessions show,
 -- to which a list of events leads from the World before the first step, and which is safe.
@@ -257,7 +258,7 @@ module _ {T : Type 0} (content : T → Content) (begun : T → Option Request) w
     pub safe : SafeWorld world
     pub is_limit : world.numbers.limit ≡ sizes.sessions
     pub are_groups : world.numbers.groups ≡ sizes.groups
-    pub few : sizes.sessions ≤ 64
+    pub few : sizes.sessions ≤ most_sessions
     pub some_groups : 0 < sizes.groups
     pub few_groups : sizes.groups ≤ most_groups
     pub words : WordsAreShown sizes.groups state.words world.words

@@ -26,6 +26,7 @@ ghost use Rattle.shared_rule.specs.Lawful.{IsAboveHand, MayPutPart};
 ghost use Rattle.shared_rule.specs.Plays.{account_at, number_at, todo_at, FitsTable, HasGroups, HasSession, IsSameSeat};
 ghost use Rattle.shared_rule.specs.Ruled.{Ruled};
 ghost use Rattle.shared_rule.specs.Seats.{MayBeKeptApartBy};
+ghost use Rattle.modes_core.specs.Sessions.{most_sessions};
 
 use crate::layout::{SLOTS_PER_GROUP, slot_word, strong_word};
 use crate::opener::Opener;
@@ -141,7 +142,7 @@ fn modes_in(word: SlotWord) -> u64
     u64::from(word.has(Mode::AccessShare)) + higher
 }
 
-/// The sum of all strong lock counters, each loaded once.
+/// The sum of all strong lock counters of `words`, each loaded once by `seat`.
 pub(crate) fn count_counters<T: PartTable>(words: &SharedWords<T>, seat: &mut Seat<T>) -> u64
     requires table { FitsTable seat.old words.now.table_id }
     requires session { HasSession seat.old.me.0 }
@@ -187,7 +188,7 @@ fn count_slots<T: PartTable>(words: &SharedWords<T>, seat: &mut Seat<T>, sizes: 
     requires session { HasSession seat.old.me.0 }
     requires sizes { sizes.now ≡ words.now.key }
     requires grouped { HasGroups words.now.table_id words.now.key.groups }
-    requires few { sizes.now.sessions ≤ 64 }
+    requires few { sizes.now.sessions ≤ most_sessions }
     ensures same_seat { IsSameSeat seat.old seat.new }
     ensures shelves { seat.new.me.1 ≡ seat.old.me.1 }
     ensures sees { SeesAllSlots T.content sizes.now.groups sizes.now.sessions seat.old.me.0 seat.new.me.0 result }
@@ -260,7 +261,7 @@ pub(crate) fn count_from<T: PartTable, R: Wait>(
     requires session { HasSession seat.old.me.0 }
     requires sizes { sizes.now ≡ words.now.key }
     requires grouped { HasGroups words.now.table_id words.now.key.groups }
-    requires few { sizes.now.sessions ≤ 64 }
+    requires few { sizes.now.sessions ≤ most_sessions }
     requires exists { part ≤ 16 }
     requires none_in_hand { IsAboveHand (account_at T.content seat.old) part }
     requires idle { (account_at T.content seat.old).lists ≡ no_lists }

@@ -1,8 +1,8 @@
 //! Where each word of the shared table stands, and each partition's content. A word has 8 bytes; all indexes
 //! count words. Where a word stands is the same whatever the configuration: 16 partitions, 1,024 strong lock counters,
-//! 64 sessions, each with a block of its own, in which the fast-path slots of its first group are, and for each further
-//! group of slots an area behind that, with a block of its own for each session. How many areas there are goes by the
-//! configuration.
+//! and for each of the most sessions that there can be a block of its own, in which the fast-path slots of its first group
+//! are; for each further group of slots an area behind that, with a block of its own for each session. How many areas
+//! there are goes by the configuration.
 //!
 //! A processor that writes a word takes the word's cache line from all others, 64 bytes or 128. So words that
 //! different sessions write at the same time stand 128 bytes apart (`PG_CACHE_LINE_SIZE` in
@@ -15,7 +15,7 @@ ghost use Rattle.lock_world.specs.declared.events.Word.TheVariants.{Wait, Strong
 ghost use Rattle.shared_rule.specs.Layout.{index_of_word, block_start, words_of_groups};
 ghost use Rattle.shared_rule.specs.Layout.{content_shelf_of, list_shelf_of, lock_count};
 
-use modes_core::{PARTITIONS, SESSIONS, STRONG_COUNTERS, SessionId};
+use modes_core::{MOST_SESSIONS, PARTITIONS, STRONG_COUNTERS, SessionId};
 
 /// 128 bytes, in words.
 pub(crate) const GAP: usize = 16;
@@ -31,7 +31,7 @@ pub(crate) const SESSIONS_START: usize = COUNTERS_START + STRONG_COUNTERS as usi
 pub(crate) const BLOCK: usize = 20 + GAP;
 
 /// A block for each session.
-const AREA: usize = BLOCK * SESSIONS as usize;
+const AREA: usize = BLOCK * MOST_SESSIONS as usize;
 
 /// How many words the table has, with one group of slots.
 pub const TABLE_WORDS: usize = SESSIONS_START + AREA;
@@ -53,9 +53,9 @@ pub(crate) const CONTENT_GAP: usize = 8;
 /// How many shelves the table has for contents. The wait lists of lightweight locks come after them.
 pub const CONTENT_SHELVES: usize = PARTITIONS as usize * CONTENT_GAP;
 
-/// How many wait lists there are shelves for: those of the locks of 64 sessions' slots, and as many others, of which
+/// How many wait lists there are shelves for: those of the locks of all sessions' slots, and as many others, of which
 /// partitions have the first 16. So a list's shelf follows from its lock's number alone.
-pub(crate) const LISTS: usize = 2 * SESSIONS as usize;
+pub(crate) const LISTS: usize = 2 * MOST_SESSIONS as usize;
 
 /// How many shelves the table has. Two lists lie on different lines too.
 pub const TABLE_SHELVES: usize = CONTENT_SHELVES + LISTS * CONTENT_GAP;

@@ -32,7 +32,7 @@ use crate::plays::{LocksList, Marking, SeesHeld};
 use crate::rule::{Seat, SharedWords};
 use crate::words::{fetch_or_as, load_as, store_as, unlock_as};
 use lock_table::PartTable;
-use lw_word::{LwMode, LwWord, WaitList, has_locked_list};
+use lw_word::{LwMode, LwWord, SleepState, WaitList, has_locked_list};
 use modes_core::SessionId;
 use std::marker::Brand;
 
@@ -130,7 +130,7 @@ pub(crate) fn join_list<T: PartTable, M: Marking<T>>(
         (todo_queueing (todo_at seat.old) (lock_of_list (account_at T.content seat.old).lists.in_hand)) }
     ensures shelves { seat.new.me.1 ≡ seat.old.me.1 }
 {
-    store_as::<T, M>(words, seat, sleep_word(number), 1);
+    store_as::<T, M>(words, seat, sleep_word(number), SleepState::Waiting as u64);
 }
 
 /// Stores in the sleep word of the session `number`, its own, that it no longer waits, with itself in the list in
@@ -149,7 +149,12 @@ pub(crate) fn leave_list<T: PartTable>(
         (list_here (account_at T.content seat.old).lists.in_hand) number) (todo_leaving (todo_at seat.old)) }
     ensures shelves { seat.new.me.1 ≡ seat.old.me.1 }
 {
-    store_as::<T, Brand>(words, seat, sleep_word(number), 0);
+    store_as::<T, Brand>(
+        words,
+        seat,
+        sleep_word(number),
+        SleepState::NotWaiting as u64,
+    );
 }
 
 /// Takes `other` off the list in hand: its sleep word shows that it is to be told, and it is owed a call (the first loop of `LWLockWakeup`
@@ -168,7 +173,12 @@ pub(crate) fn take_off<T: PartTable, M: Marking<T>>(
         (list_here (account_at T.content seat.old).lists.in_hand) other) (todo_owing (todo_at seat.old) other) }
     ensures shelves { seat.new.me.1 ≡ seat.old.me.1 }
 {
-    store_as::<T, M>(words, seat, sleep_word(other), 2);
+    store_as::<T, M>(
+        words,
+        seat,
+        sleep_word(other),
+        SleepState::PendingWakeup as u64,
+    );
 }
 
 /// Tells `other`, which was taken off a list, that it may go on (the second loop of `LWLockWakeup` in lwlock.c).
@@ -185,7 +195,12 @@ pub(crate) fn tell<T: PartTable, M: Marking<T>>(
         (todo_owing (todo_at seat.old) other) }
     ensures shelves { seat.new.me.1 ≡ seat.old.me.1 }
 {
-    store_as::<T, M>(words, seat, sleep_word(other), 0);
+    store_as::<T, M>(
+        words,
+        seat,
+        sleep_word(other),
+        SleepState::NotWaiting as u64,
+    );
 }
 
 /// Calls `other`, which may be parked on its sleep word (`PGSemaphoreUnlock` in `LWLockWakeup` of lwlock.c). The session looks at

@@ -10,6 +10,7 @@ ghost use Rattle.shared_rule.specs.Boards.{Seated, nothing_due, parts_in_hand, s
 ghost use Rattle.shared_rule.specs.Boards.{IsIdle};
 ghost use Rattle.shared_rule.specs.Owed.{first_owed};
 ghost use Rattle.shared_rule.specs.Quiet.{first_quiet};
+ghost use Rattle.modes_core.specs.Sessions.{most_sessions};
 
 use crate::board::Board;
 use crate::busy::Busy;
@@ -55,7 +56,7 @@ impl<T: PartTable> OneThread<T> {
         parts: Vec<Kept<T>>,
     ) -> Result<OneThread<T>, Refused<Kept<T>, Global>>
         requires some { 0 < sizes.now.sessions }
-        requires few { sizes.now.sessions ≤ 64 }
+        requires few { sizes.now.sessions ≤ most_sessions }
         requires some_groups { 0 < sizes.now.groups }
         requires few_groups { sizes.now.groups ≤ most_groups }
         requires parts { AreNew T.content T.begun parts.items }

@@ -8,6 +8,7 @@ ghost use Rattle.shared_rule.specs.Openers.{HaveClosed, HasTakenBack};
 ghost use Rattle.shared_rule.specs.Seats.{MayCloseBy};
 ghost use Rattle.shared_rule.specs.declared.history.History.{History};
 ghost use Rattle.shared_rule.specs.Quiet.{quiet_told};
+ghost use Rattle.modes_core.specs.Sessions.{most_sessions};
 
 use crate::board::Board;
 use crate::rule::{Seat, SharedWords, TableSizes};
@@ -46,7 +47,7 @@ impl<T: PartTable> Model for Opener<T> {
 
     ghost invariant = { λ opener.
         (opener.seat.me.0.next ≡ Some opener.issued) × (opener.issued ≤ opener.sizes.sessions)
-        × (opener.sizes.sessions ≤ 64) × IsSized opener.seat.table_id × AreFree opener.seat.me.0.sessions
+        × (opener.sizes.sessions ≤ most_sessions) × IsSized opener.seat.table_id × AreFree opener.seat.me.0.sessions
         × HasGroups opener.seat.table_id opener.sizes.groups };
 }
 
@@ -56,7 +57,7 @@ impl<T: PartTable> Opener<T> {
         requires first { seat.me ≡ (opening_view, []) }
         requires sized { IsSized seat.table_id }
         requires grouped { HasGroups seat.table_id sizes.now.groups }
-        requires few { sizes.now.sessions ≤ 64 }
+        requires few { sizes.now.sessions ≤ most_sessions }
         ensures { result ≡ record {
           table = seat.table_id;
           issued = 0;

@@ -32,7 +32,7 @@ use crate::lw_locks::LwLock;
 use crate::rule::{Seat, SharedWords};
 use crossbeam_utils::Backoff;
 use lock_table::PartTable;
-use lw_word::{LwMode, WaitList};
+use lw_word::{LwMode, SleepState, WaitList};
 use modes_core::SessionId;
 use std::marker::Brand;
 use std::sync::Wait;
@@ -119,7 +119,7 @@ pub(crate) fn sleep_until_told<T: PartTable, R: Wait>(
 {
     for _ in rt.forever() {
         let shown = load_sleep(words, seat, number);
-        if shown == 0 {
+        if shown == SleepState::NotWaiting as u64 {
             return;
         }
         let low_bits = (shown & u64::from(u32::MAX)) as u32;

@@ -120,7 +120,7 @@ pub(crate) fn keep_apart<T: PartTable>(words: &SharedWords<T>, seat: &mut Seat<T
     words.join_seat::<KeepsApart>(seat, other);
 }
 
-/// Hands the seat of the session that came last back: it goes on by itself.
+/// Takes the seat of the session that came last out of `seat`, by a step on `words`, and hands it back: it goes on by itself.
 pub(crate) fn hand_back<T: PartTable>(words: &SharedWords<T>, seat: &mut Seat<T>) -> Seat<T>
     requires table { FitsTable seat.old words.now.table_id }
     requires last { HasLast seat.old.me.0 }
@@ -132,8 +132,8 @@ pub(crate) fn hand_back<T: PartTable>(words: &SharedWords<T>, seat: &mut Seat<T>
     words.split_seat::<HandsBack>(seat)
 }
 
-/// Tells that no hold of the one session conflicts with a hold of the other on an object, where the two meet
-/// (`LockConflicts` in lock.c says which modes do). It loads a word, and ignores what it finds.
+/// Has `seat`, in which two sessions meet, tell that no hold of the one conflicts with a hold of the other on an object
+/// (`LockConflicts` in lock.c says which modes do). It loads one of `words`, and ignores what it finds.
 pub(crate) fn tell_apart<T: PartTable>(words: &SharedWords<T>, seat: &mut Seat<T>)
     requires table { FitsTable seat.old words.now.table_id }
     requires two { IsForTwo seat.old.me.0 }

@@ -6,6 +6,7 @@ ghost use Rattle.lock_world.specs.World.{opening};
 ghost use Rattle.shared_rule.specs.Shown.{WordsAreShown};
 ghost use Rattle.lock_table.specs.Parts.{AreEmptyParts};
 ghost use Rattle.shared_rule.specs.Opening.{IsNew, IsEmptyList, AreNew};
+ghost use Rattle.modes_core.specs.Sessions.{most_sessions};
 
 use crate::history::View;
 use crate::kept::Kept;
@@ -17,7 +18,7 @@ use crate::rule::{LockTableRule, TableSizes};
 use atomic_table::{Refused, Table};
 use lock_table::{NoMemory, PartTable};
 use lw_word::{LwWord, WaitList};
-use modes_core::{PARTITIONS, SESSIONS};
+use modes_core::{MOST_SESSIONS, PARTITIONS};
 use std::alloc::Global;
 
 /// The table and its memory. Threads share its field `shared`.
@@ -34,7 +35,7 @@ fn first_words(alloc: Global, groups: u8) -> Result<Vec<u64>, NoMemory>
     for partition in 0..PARTITIONS as usize {
         words[GAP * partition] = free;
     }
-    for session in 0..SESSIONS as usize {
+    for session in 0..MOST_SESSIONS as usize {
         words[SESSIONS_START + BLOCK * session] = free;
     }
     Ok(words)
@@ -96,7 +97,7 @@ pub fn open<T: PartTable>(
     sizes: &TableSizes,
     parts: Vec<Kept<T>>,
 ) -> Result<(SharedTable<T>, Opener<T>), Refused<Kept<T>, Global>>
-    requires few { sizes.now.sessions ≤ 64 }
+    requires few { sizes.now.sessions ≤ most_sessions }
     requires some_groups { 0 < sizes.now.groups }
     requires few_groups { sizes.now.groups ≤ most_groups }
     requires parts { AreNew T.content T.begun parts.items }

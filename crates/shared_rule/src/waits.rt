@@ -21,7 +21,11 @@ use crate::plays::Marking;
 use crate::rule::{Seat, SharedWords};
 use crate::words::{fetch_add_as, fetch_or_as, load_as, store_as};
 use lock_table::{Move, PartTable, Woken};
+use lw_word::{CANCEL_ASKED, WaitState};
 use modes_core::{Mode, SessionId, Tag};
+
+/// What a grant adds to the wait word of the session that waits.
+const GRANT: u64 = WaitState::Granted as u64 - WaitState::Waiting as u64;
 
 /// Stores in the wait word of the session `number`, its own, that it waits for `mode` on `tag`, with its join made
 /// in `content` in hand (`ProcSleep` in proc.c sets `waitStatus` so).
@@ -42,7 +46,7 @@ pub(crate) fn set_waiting<T: PartTable, M: Marking<T>>(
     ensures same_seat { IsSameSeat seat.old seat.new }
     ensures side { seat.new.me ≡ (noting seat.old.me.0 (SetWaiting tag.now mode content.now), seat.old.me.1) }
 {
-    store_as::<T, M>(words, seat, wait_word(number), 1);
+    store_as::<T, M>(words, seat, wait_word(number), WaitState::Waiting as u64);
 }
 
 /// Marks the wait of `other` granted, one of those in `woken` whom the move `done` in `content`, that of partition
@@ -72,7 +76,7 @@ pub(crate) fn mark_granted<T: PartTable, M: Marking<T>>(
           seat.old.me.1,
         ) }
 {
-    fetch_add_as::<T, M>(words, seat, wait_word(other), 1);
+    fetch_add_as::<T, M>(words, seat, wait_word(other), GRANT);
 }
 
 /// Loads the wait word of the session `number`, its own (`waitStatus` in proc.h, as `ProcSleep` in proc.c reads it).
@@ -106,7 +110,7 @@ pub(crate) fn ask_cancel<T: PartTable, M: Marking<T>>(
     ensures own { other ≡ number_at seat.old → (account_at T.content seat.old).awaited ≡ None
         → wait_state result ≡ 0 }
 {
-    fetch_or_as::<T, M>(words, seat, wait_word(other), 4)
+    fetch_or_as::<T, M>(words, seat, wait_word(other), CANCEL_ASKED)
 }
 
 /// Calls `other`, which may be parked on its wait word (`SetLatch` in `ProcWakeup` of proc.c). The session looks at that word
@@ -141,7 +145,7 @@ pub(crate) fn clear_wait<T: PartTable, M: Marking<T>>(
     ensures same_seat { IsSameSeat seat.old seat.new }
     ensures side { seat.new.me ≡ (noting seat.old.me.0 (ClearedWait), seat.old.me.1) }
 {
-    store_as::<T, M>(words, seat, wait_word(number), 0);
+    store_as::<T, M>(words, seat, wait_word(number), WaitState::NotWaiting as u64);
 }
 
 /// Clears the wait word of the session `number`, its own, and records that the wait was taken out of the queue of
@@ -165,5 +169,5 @@ pub(crate) fn leave_queue<T: PartTable, M: Marking<T>>(
     ensures side { seat.new.me
         ≡ (noting seat.old.me.0 (LeftQueue (sessions_told woken.now.items) content.now), seat.old.me.1) }
 {
-    store_as::<T, M>(words, seat, wait_word(number), 0);
+    store_as::<T, M>(words, seat, wait_word(number), WaitState::NotWaiting as u64);
 }

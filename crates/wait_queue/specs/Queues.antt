@@ -8,6 +8,7 @@ use Rattle.modes_core.specs.ModeSet.{all_modes}
 use Rattle.lock_table.specs.Content.{Wait, Content}
 use Rattle.lock_table.specs.Queue.{wait_in}
 use Rattle.wait_queue.specs.declared.queues.Blocker.{Blocker}
+use Rattle.modes_core.specs.Sessions.{most_sessions}
 
 -- Who stands in the way of a session that waits on an object.
 
@@ -31,9 +32,9 @@ unfoldable pub lists_below : ℕ → (ℕ → List Blocker) → List Blocker
 lists_below zero lists = []
 lists_below (suc limit) lists = lists_below limit lists ++ lists limit
 
--- those that hold it, by their numbers, of which there are 64
+-- those that hold it, by their numbers
 abbrev pub holding : Content → Tag → ℕ → Mode → List Blocker
-holding content tag session mode = lists_below 64 (holding_of content tag session mode)
+holding content tag session mode = lists_below most_sessions (holding_of content tag session mode)
 
 -- a wait stands in the way by its mode, if that conflicts with the awaited one
 abbrev pub standing_of : Mode → Wait → List Blocker

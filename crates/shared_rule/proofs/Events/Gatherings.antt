@@ -23,6 +23,7 @@ use Rattle.shared_rule.proofs.Events.Counters.{counter-most}
 use Rattle.shared_rule.proofs.Events.Words.{IsAlwaysLawful, rule-after, nothing-changes}
 use Rattle.shared_rule.proofs.Told.{leads-runs}
 use Rattle.shared_rule.proofs.Gathered.{distinct, stands-among, slots-among, counters-among}
+use Rattle.modes_core.specs.Sessions.{most_sessions}
 
 -- Loads by a seat at which all sessions are.
 
@@ -44,7 +45,7 @@ module _ {T : Type 0} (content : T → Content) (begun : T → Option Request) (
       (subst (λ (xs : List (History T)). HasAllInHand (first_account content xs) contents) is has) k slot exists.0
   all-known (Wait k) exists = tt
   all-known (Strong index) exists =
-      let most_limit : r.world.numbers.limit ≤ 64 = subst (λ n. n ≤ 64) (sym r.is_limit) r.few in
+      let most_limit : r.world.numbers.limit ≤ most_sessions = subst (λ n. n ≤ most_sessions) (sym r.is_limit) r.few in
       let most = counter-most r.world.numbers.limit r.world.sessions.counted index most_limit r.few_counted in
       let shown = r.safe.counters.shown index in
       (counters-among content r.world sizes r.events few (leads-runs (opening sizes.sessions sizes.groups) r.events r.world r.run) r.safe s.views id issued view at r.seats r.closed are index, omega (arith, shown, most))

@@ -54,6 +54,7 @@ use Rattle.shared_rule.proofs.Shown.{words-set}
 use Rattle.shared_rule.proofs.Frame.{Stepper, IsNoted, ruled-steps, ruled-noted}
 use Rattle.shared_rule.proofs.Events.Words.{IsAlwaysLawful, KeepsLists, lists-kept, rule-after, nothing-changes}
 use Rattle.shared_rule.proofs.Events.Loads.{loading_fast-lawful}
+use Rattle.modes_core.specs.Sessions.{most_sessions}
 
 -- Taking the lock of a session's fast-path slots, and putting it, with that session passed or not; and sharing it.
 
@@ -148,7 +149,7 @@ record Sees {T : Type 0} (content : T → Content) (groups : ℕ) (x : History T
 
 module _ {T : Type 0} (content : T → Content) (begun : T → Option Request) (sizes : TableSizes) (slots id : ℕ) (me : Side T)
     (x : History T) (others : List (History T)) (is : me.0.sessions ≡ x ∷ others)
-    (owner : ℕ) (inside : owner < 64) where
+    (owner : ℕ) (inside : owner < most_sessions) where
   -- where the word stands
   abbrev at_word : ℕ
   at_word = index_of_word (Fast owner)

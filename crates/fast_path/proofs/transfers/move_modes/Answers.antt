@@ -12,11 +12,11 @@ use Rattle.fast_path.proofs.transfers.move_modes.Goals.{then-has+else-is_err, el
 
 pub transfer_slot-requires-clause-within : goal.transfer_slot-requires-clause-within
 transfer_slot-requires-clause-within g c =
-    subst (λ (s : Seated). c.args.slot < group_size * s.groups) (sym c.loop-number.invariant.seat) c.requires.there
+    subst (λ (s : Seated). c.args.turn.now.slot < group_size * s.groups) (sym c.loop-number.invariant.seat) c.requires.there
 
 pub loop-number-init : goal.loop-number-init
 loop-number-init g c = record {
-  moving = moving-begun (g.B.Board.view c.args.board.now) c.args.owner c.args.slot c.args.word c.args.tag.now
+  moving = moving-begun (g.B.Board.view c.args.board.now) c.args.turn.now.owner c.args.turn.now.slot c.args.turn.now.word c.args.turn.now.tag.now
       (g.T.PartTable.content c.args.content.now) c.requires.in_hand;
   begun = c.requires.none_begun;
   stack = refl;
@@ -34,10 +34,10 @@ begin-requires-clause-new g c =
     let next : number_of c.unwrap-mode.result ≡ c.loop-number.number =
     subst (λ found. IfSome found (λ mode. number_of mode ≡ c.loop-number.number)) c.unwrap-mode.ensures
     c.from_number.ensures.found in
-    not_there-yet (g.B.Board.view c.args.board.now) c.args.owner c.args.slot c.args.word c.args.tag.now
+    not_there-yet (g.B.Board.view c.args.board.now) c.args.turn.now.owner c.args.turn.now.slot c.args.turn.now.word c.args.turn.now.tag.now
     (g.T.PartTable.content c.args.content.now) c.requires.in_hand
     c.loop-number.number c.loop-number.left (g.T.PartTable.content c.loop-number.content)
-    (g.B.Board.view c.loop-number.board) c.unwrap-mode.result c.args.strong c.requires.strong next
+    (g.B.Board.view c.loop-number.board) c.unwrap-mode.result c.args.turn.now.strong c.requires.strong next
     (omega (arith, c.loop-number-test.true)) c.loop-number.invariant.moving (sym c.has.ensures ∙ c.if-has.true)
 
 pub begin-requires-clause-not_awaited : goal.begin-requires-clause-not_awaited
@@ -45,10 +45,10 @@ begin-requires-clause-not_awaited g c =
     let next : number_of c.unwrap-mode.result ≡ c.loop-number.number =
     subst (λ found. IfSome found (λ mode. number_of mode ≡ c.loop-number.number)) c.unwrap-mode.ensures
     c.from_number.ensures.found in
-    not_awaited-yet (g.B.Board.view c.args.board.now) c.args.owner c.args.slot c.args.word c.args.tag.now
+    not_awaited-yet (g.B.Board.view c.args.board.now) c.args.turn.now.owner c.args.turn.now.slot c.args.turn.now.word c.args.turn.now.tag.now
     (g.T.PartTable.content c.args.content.now) c.requires.in_hand
     c.loop-number.number c.loop-number.left (g.T.PartTable.content c.loop-number.content)
-    (g.B.Board.view c.loop-number.board) c.unwrap-mode.result c.args.strong c.requires.strong next
+    (g.B.Board.view c.loop-number.board) c.unwrap-mode.result c.args.turn.now.strong c.requires.strong next
     (omega (arith, c.loop-number-test.true)) c.loop-number.invariant.moving (sym c.has.ensures ∙ c.if-has.true)
 
 pub returns-then-is_err-clause-moved : goal.returns-then-is_err-clause-moved
@@ -56,13 +56,13 @@ returns-then-is_err-clause-moved g c =
     let next : number_of c.unwrap-mode.result ≡ c.loop-number.number =
     subst (λ found. IfSome found (λ mode. number_of mode ≡ c.loop-number.number)) c.unwrap-mode.ensures
     c.from_number.ensures.found in
-    subst (λ now. MovesSome (g.B.Board.view c.args.board.now) c.args.owner c.args.slot c.args.word c.args.tag.now
+    subst (λ now. MovesSome (g.B.Board.view c.args.board.now) c.args.turn.now.owner c.args.turn.now.slot c.args.turn.now.word c.args.turn.now.tag.now
     (g.T.PartTable.content c.args.content.now) now (g.B.Board.view c.loop-number.board))
     (sym c.begin.ensures.content)
-    (moving-stops (g.B.Board.view c.args.board.now) c.args.owner c.args.slot c.args.word c.args.tag.now
+    (moving-stops (g.B.Board.view c.args.board.now) c.args.turn.now.owner c.args.turn.now.slot c.args.turn.now.word c.args.turn.now.tag.now
     (g.T.PartTable.content c.args.content.now) c.requires.in_hand
     c.loop-number.number c.loop-number.left (g.T.PartTable.content c.loop-number.content)
-    (g.B.Board.view c.loop-number.board) c.unwrap-mode.result c.args.strong c.requires.strong next
+    (g.B.Board.view c.loop-number.board) c.unwrap-mode.result c.args.turn.now.strong c.requires.strong next
     (omega (arith, c.loop-number-test.true)) c.loop-number.invariant.moving (sym c.has.ensures ∙ c.if-has.true))
 
 pub transfer_slot-requires-clause-lawful : goal.transfer_slot-requires-clause-lawful
@@ -70,16 +70,16 @@ transfer_slot-requires-clause-lawful g c =
     let next : number_of c.unwrap-mode.result ≡ c.loop-number.number =
     subst (λ found. IfSome found (λ mode. number_of mode ≡ c.loop-number.number)) c.unwrap-mode.ensures
     c.from_number.ensures.found in
-    may_transfer (g.B.Board.view c.args.board.now) c.args.owner c.args.slot c.args.word c.args.tag.now
+    may_transfer (g.B.Board.view c.args.board.now) c.args.turn.now.owner c.args.turn.now.slot c.args.turn.now.word c.args.turn.now.tag.now
     (g.T.PartTable.content c.args.content.now) c.requires.in_hand
     c.loop-number.number c.loop-number.left (g.T.PartTable.content c.loop-number.content)
-    (g.B.Board.view c.loop-number.board) c.unwrap-mode.result c.args.strong c.requires.strong next
+    (g.B.Board.view c.loop-number.board) c.unwrap-mode.result c.args.turn.now.strong c.requires.strong next
     (omega (arith, c.loop-number-test.true)) c.loop-number.invariant.moving
     (g.B.Board.seat c.loop-number.board).limit (g.T.PartTable.content c.grant.new.self)
-    (subst (λ (s : Seated). c.args.owner < s.limit) (sym c.loop-number.invariant.seat) c.requires.exists)
+    (subst (λ (s : Seated). c.args.turn.now.owner < s.limit) (sym c.loop-number.invariant.seat) c.requires.exists)
     c.requires.next (sym c.has.ensures ∙ c.if-has.true)
     (c.grant.ensures.content
-    ∙ ap (λ content. add_hold content c.args.owner c.args.tag.now c.unwrap-mode.result) c.begin.ensures.content)
+    ∙ ap (λ content. add_hold content c.args.turn.now.owner c.args.turn.now.tag.now c.unwrap-mode.result) c.begin.ensures.content)
 
 pub loop-number-preserved : goal.loop-number-preserved
 loop-number-preserved g c =
@@ -92,13 +92,13 @@ loop-number-preserved g c =
     let now = g.T.PartTable.content c.loop-number.content in
     elim c.if-has.branch [
       | then-has+else-is_err w ↦ record {
-        moving = moving-next a c.args.owner c.args.slot c.args.word c.args.tag.now taken c.requires.in_hand
-            c.loop-number.number c.loop-number.left now b c.unwrap-mode.result c.args.strong c.requires.strong next
+        moving = moving-next a c.args.turn.now.owner c.args.turn.now.slot c.args.turn.now.word c.args.turn.now.tag.now taken c.requires.in_hand
+            c.loop-number.number c.loop-number.left now b c.unwrap-mode.result c.args.turn.now.strong c.requires.strong next
             (omega (arith, c.loop-number-test.true)) c.loop-number.invariant.moving
             (g.T.PartTable.content c.if-has.content) (g.B.Board.view c.if-has.board) c.if-has.left
             (sym c.has.ensures ∙ w.if-has.true)
             (ap g.T.PartTable.content w.content-is ∙ w.grant.ensures.content
-            ∙ ap (λ content. add_hold content c.args.owner c.args.tag.now c.unwrap-mode.result)
+            ∙ ap (λ content. add_hold content c.args.turn.now.owner c.args.turn.now.tag.now c.unwrap-mode.result)
             w.begin.ensures.content)
             (ap g.B.Board.view w.board-is ∙ w.transfer_slot.ensures.view) (w.left-is ∙ w.without-left.ensures.number);
         begun = ap g.T.PartTable.begun w.content-is ∙ w.grant.ensures.ended;
@@ -107,12 +107,12 @@ loop-number-preserved g c =
         seat = ap g.B.Board.seat w.board-is ∙ w.transfer_slot.ensures.seat ∙ c.loop-number.invariant.seat;
       }
       | else-has w ↦ record {
-        moving = moving-same a c.args.owner c.args.slot c.args.word c.args.tag.now taken (c.loop-number.number + 1)
+        moving = moving-same a c.args.turn.now.owner c.args.turn.now.slot c.args.turn.now.word c.args.turn.now.tag.now taken (c.loop-number.number + 1)
             c.loop-number.left c.if-has.left now (g.T.PartTable.content c.if-has.content) b
             (g.B.Board.view c.if-has.board)
             w.left-is (ap g.T.PartTable.content w.content-is) (ap g.B.Board.view w.board-is)
-            (moving-skips a c.args.owner c.args.slot c.args.word c.args.tag.now taken c.requires.in_hand
-            c.loop-number.number c.loop-number.left now b c.unwrap-mode.result c.args.strong c.requires.strong next
+            (moving-skips a c.args.turn.now.owner c.args.turn.now.slot c.args.turn.now.word c.args.turn.now.tag.now taken c.requires.in_hand
+            c.loop-number.number c.loop-number.left now b c.unwrap-mode.result c.args.turn.now.strong c.requires.strong next
             (omega (arith, c.loop-number-test.true)) c.loop-number.invariant.moving
             (sym c.has.ensures ∙ w.if-has.false));
         begun = ap g.T.PartTable.begun w.content-is ∙ c.loop-number.invariant.begun;

@@ -7,6 +7,7 @@ use Rattle.lock_manager.specs.Audits.{MayCount}
 use Rattle.std.proofs.Common.{◌≤◌}
 use Rattle.lock_manager.proofs.Lemmas.Audits.Counts.{no_wait-rest, kept_apart-rest, rest-unchanged, all-before, has-last, unchanged-last, counts-one}
 use Rattle.lock_manager.proofs.audit.+audit_others.Goals as goal
+use Rattle.modes_core.specs.Sessions.{most_sessions}
 
 pub gather_next-absent-requires-clause-own : goal.gather_next-absent-requires-clause-own
 gather_next-absent-requires-clause-own g t c =
@@ -59,7 +60,7 @@ invariant_of-push_reserved g t c =
     is refl c.requires.ready.first c.requires.ready.others c.requires.ready.gathered c.gather_next-absent.ensures.gathered c.audit_others-counted.ensures.counts c.send_back-board.ensures.left c.send_back-board.ensures.quiet
     same_seat c.send_back-board.ensures.stack c.session.invariant.0 c.session.invariant.3 refl refl refl).view_ in (
       rest-unchanged _ _ _ _ _ _ _ _ _ same_seat e (c.send_back-board.ensures.stack ∙ sym c.session.invariant.0.nothing_left) c.session.invariant.0,
-      subst (λ n. n ≤ 64) (sym (ap (λ (s : Seated). s.limit) same_seat)) c.session.invariant.1,
+      subst (λ n. n ≤ most_sessions) (sym (ap (λ (s : Seated). s.limit) same_seat)) c.session.invariant.1,
       c.session.invariant.2,
       c.session.invariant.3,
     )

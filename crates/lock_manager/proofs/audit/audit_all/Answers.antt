@@ -6,6 +6,7 @@ use Rattle.shared_rule.specs.Openers.{OpenerState}
 use Rattle.std.proofs.Common.{◌≤◌}
 use Rattle.lock_manager.proofs.Lemmas.Audits.Counts.{may_count-first, no_wait-rest, kept_apart-rest, rest-traced, all-before, traced-first, audits-first, opener-back}
 use Rattle.lock_manager.proofs.audit.audit_all.Goals as goal
+use Rattle.modes_core.specs.Sessions.{most_sessions}
 
 pub audit_others-counted-requires-clause-ready : goal.audit_others-counted-requires-clause-ready
 audit_others-counted-requires-clause-ready g c =
@@ -39,7 +40,7 @@ invariant_of-push_reserved g c =
     is refl c.requires.none_gathered c.gather-absent.ensures.gathered c.audit_others-counted.ensures.counts c.send_back-board.ensures.left c.send_back-board.ensures.quiet
     same_seat c.send_back-board.ensures.stack c.session.invariant.0 c.session.invariant.3 refl refl refl).view_ in (
       rest-traced _ _ _ _ _ _ _ _ _ same_seat e (c.send_back-board.ensures.stack ∙ sym c.session.invariant.0.nothing_left) c.session.invariant.0,
-      subst (λ n. n ≤ 64) (sym (ap (λ (s : Seated). s.limit) same_seat)) c.session.invariant.1,
+      subst (λ n. n ≤ most_sessions) (sym (ap (λ (s : Seated). s.limit) same_seat)) c.session.invariant.1,
       c.session.invariant.2,
       c.session.invariant.3,
     )

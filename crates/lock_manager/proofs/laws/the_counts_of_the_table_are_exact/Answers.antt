@@ -14,6 +14,7 @@ use Rattle.modes_core.specs.declared.tags.Tag.{Tag}
 use Rattle.shared_rule.specs.Layout.{content_shelf_of}
 use Rattle.shared_rule.specs.Ruled.{IsHomeUnlessInHand, IsAtHome}
 use Rattle.lock_manager.proofs.laws.the_counts_of_the_table_are_exact.Goals as goal
+use Rattle.modes_core.specs.Sessions.{most_sessions}
 
 -- Whoever stands in a queue has a number below the limit.
 waiter-within : (w : World) → SafeWorld w → (p s : ℕ) (t : Tag) → waits_there ((w.contents.now p).waits t) s ≡ true → s < w.numbers.limit
@@ -33,7 +34,7 @@ returns c = λ sizes state rule p below at_home.
     let home : IsAtHome content_of (λ (part : RecordView). part.begun) (w.contents.now p) (get_elem? state.homes (content_shelf_of p)) =
     subst (λ (h : Option Hand). IsHomeUnlessInHand content_of (λ (part : RecordView). part.begun) h (w.contents.now p) (get_elem? state.homes (content_shelf_of p))) at_home
     (rule.contents p below) in
-    let few : sizes.sessions ≤ 64 = rule.few in
+    let few : sizes.sessions ≤ most_sessions = rule.few in
     let limit : w.numbers.limit ≡ sizes.sessions = rule.is_limit in (
       home.part,
       home.at_home,

@@ -4,6 +4,7 @@ use Rattle.lock_records.proofs.ModeSets.{with-own, with-else}
 use Rattle.lock_records.proofs.Steps.{IsWritten, SetsHold-put, chain-put}
 use Rattle.lock_records.proofs.holders.put_holder.Goals as goal
 use Rattle.lock_records.proofs.holders.put_holder.Goals.{After-insert_reserved-holders}
+use Rattle.modes_core.specs.Sessions.{most_sessions}
 
 written : (c : After-insert_reserved-holders) → IsWritten c.args.slots.now.slots c.insert_reserved-holders.new.self.slots c.insert_reserved-holders.result
     (Some (record { tag = c.args.tag.now; next = c.args.holders.now.first; modes = c.with.result; session = c.args.session }))
@@ -11,12 +12,12 @@ written c = record { here = c.insert_reserved-holders.ensures.updates.changed; o
 
 pub overflow_add-holders : goal.overflow_add-holders
 overflow_add-holders c =
-    let few : length c.requires.chain.places ≤ 64 = chain-short c.args.slots.now.slots c.args.tag.now c.requires.are c.args.holders.now.first c.requires.chain.places c.requires.chain.linked in
+    let few : length c.requires.chain.places ≤ most_sessions = chain-short c.args.slots.now.slots c.args.tag.now c.requires.are c.args.holders.now.first c.requires.chain.places c.requires.chain.linked in
     omega (arith, c.requires.chain.number)
 
 pub returns-clause-set : goal.returns-clause-set
 returns-clause-set c =
-    let small : c.args.session < 64 = omega (arith, c.number-number.ensures.within, c.number-number.ensures.value) in
+    let small : c.args.session < most_sessions = omega (arith, c.number-number.ensures.within, c.number-number.ensures.value) in
     SetsHold-put c.args.slots.now.slots c.insert_reserved-holders.new.self.slots c.args.session c.args.tag.now c.args.mode c.insert_reserved-holders.result c.with.result c.args.holders.now.first
     c.requires.are c.insert_reserved-holders.ensures.was_vacant (written (goal.at.returns-clause-set c).After-insert_reserved-holders)
     c.requires.new small (with-own c.empty.result c.with.result c.args.mode c.with.ensures)

@@ -7,6 +7,7 @@ use Rattle.lock_records.proofs.IndexLaws.{same-lock}
 use Rattle.lock_records.proofs.Relocked.{relocked-set, room-set, counts-raised}
 use Rattle.lock_records.proofs.objects.add_hold.Goals as goal
 use Rattle.lock_records.proofs.objects.add_hold.Goals.{After-index_mut-lock}
+use Rattle.modes_core.specs.Sessions.{most_sessions}
 
 abbrev its : (c : After-index_mut-lock) → IsLockAt c.args.locks.now.slots c.args.tag.now c.args.place
 its c =
@@ -25,7 +26,7 @@ raise-requires c =
 pub returns-clause-lock : goal.returns-clause-lock
 returns-clause-lock c =
     let i = its (goal.at.returns-clause-lock c).After-index_mut-lock in
-    let small : c.args.session < 64 = omega (arith, c.number-number.ensures.within, c.number-number.ensures.value) in (
+    let small : c.args.session < most_sessions = omega (arith, c.number-number.ensures.within, c.number-number.ensures.value) in (
       relocked-set c.args.locks.now.slots c.args.tag.now c.args.place c.index_mut-lock.result.now _ c.index_mut-lock.ensures.value i.on i.on,
       record {
         chain = c.raise_holder.ensures.chain;

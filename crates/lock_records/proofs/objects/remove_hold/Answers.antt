@@ -7,6 +7,7 @@ use Rattle.lock_records.proofs.IndexLaws.{same-lock}
 use Rattle.lock_records.proofs.Relocked.{relocked-set, room-set, counts-lowered}
 use Rattle.lock_records.proofs.objects.remove_hold.Goals as goal
 use Rattle.lock_records.proofs.objects.remove_hold.Goals.{After-index_mut-lock}
+use Rattle.modes_core.specs.Sessions.{most_sessions}
 
 abbrev its : (c : After-index_mut-lock) → IsLockAt c.args.locks.now.slots c.args.tag.now c.args.place
 its c =
@@ -20,13 +21,13 @@ its c =
 pub lower-requires : goal.lower-requires
 lower-requires c =
     let counted = (c.requires.held (its (goal.at.lower-requires c).After-index_mut-lock)).granted c.args.mode in
-    let small : c.args.session < 64 = omega (arith, c.number-number.ensures.within, c.number-number.ensures.value) in
+    let small : c.args.session < most_sessions = omega (arith, c.number-number.ensures.within, c.number-number.ensures.value) in
     omega (arith, counted, granted-some (holds_in c.args.holders.now.slots) c.args.session c.args.tag.now c.args.mode small c.requires.there_is)
 
 pub returns-clause-lock : goal.returns-clause-lock
 returns-clause-lock c =
     let i = its (goal.at.returns-clause-lock c).After-index_mut-lock in
-    let small : c.args.session < 64 = omega (arith, c.number-number.ensures.within, c.number-number.ensures.value) in (
+    let small : c.args.session < most_sessions = omega (arith, c.number-number.ensures.within, c.number-number.ensures.value) in (
       relocked-set c.args.locks.now.slots c.args.tag.now c.args.place c.index_mut-lock.result.now _ c.index_mut-lock.ensures.value i.on i.on,
       record {
         chain = c.lower_holder.ensures.chain;

@@ -2,6 +2,7 @@ use Rattle.std.proofs.Common.{◌<◌, ◌≤◌, length, ap, sym, ◌∙◌, ar
 use Rattle.std.proofs.lemmas.List.{length_push}
 use Rattle.lock_table.proofs.Waking.{Waking-start, Waking-stay_at, Waking-go_at, Waking-end_at, Waking-end, woken_fit, same_requests-end, one_wait_each-end}
 use Rattle.lock_table.proofs.part_waits.wake_queue.Goals as goal
+use Rattle.modes_core.specs.Sessions.{most_sessions}
 
 pub loop-place-init : goal.loop-place-init
 loop-place-init c =
@@ -20,7 +21,7 @@ push-requires c =
     Waking-go_at c.args.holds.now.items c.args.waits.now.items c.args.tag.now c.loop-place.holds.items c.loop-place.waits.items c.loop-place.place c.index.result.now c.loop-place.woken.items
     within c.index.ensures (rw (← c.as_slice.ensures.value, ← c.deref.ensures.value) (sym c.goes.ensures ∙ c.if-goes.true)) c.whose.ensures.within c.loop-place.invariant.waking in
     let all = woken_fit _ _ _ _ _ _ _ next in
-    let fits : length c.loop-place.woken.items < 64 = omega (arith, all, length_push c.loop-place.woken.items (c.index.result.now.waiter.session, c.index.result.now.waiter.mode)) in
+    let fits : length c.loop-place.woken.items < most_sessions = omega (arith, all, length_push c.loop-place.woken.items (c.index.result.now.waiter.session, c.index.result.now.waiter.mode)) in
     (omega arith, fits)
 
 pub loop-place-preserved-then-goes : goal.loop-place-preserved-then-goes

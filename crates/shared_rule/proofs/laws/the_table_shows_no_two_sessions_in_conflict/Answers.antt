@@ -6,11 +6,12 @@ use Rattle.lock_world.proofs.Refusals.{refusals-saw}
 use Rattle.lock_world.proofs.SafeWorld.Opening.{opening-safe}
 use Rattle.shared_rule.proofs.Told.{leads-runs}
 use Rattle.shared_rule.proofs.laws.the_table_shows_no_two_sessions_in_conflict.Goals as goal
+use Rattle.modes_core.specs.Sessions.{most_sessions}
 
 pub returns : goal.returns
 returns g c =
     λ sizes state rule.
-    let few : sizes.sessions ≤ 64 = rule.few in
+    let few : sizes.sessions ≤ most_sessions = rule.few in
     let run = leads-runs (opening sizes.sessions sizes.groups) rule.events rule.world rule.run in
     record {
       world = rule.world;

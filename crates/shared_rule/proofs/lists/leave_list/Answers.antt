@@ -12,6 +12,7 @@ use Rattle.shared_rule.proofs.Events.Words.{stores_at}
 use Rattle.shared_rule.proofs.Events.Lists.{leaving-lawful}
 use Rattle.shared_rule.proofs.Led.{led-noted, led_to-as}
 use Rattle.shared_rule.proofs.lists.leave_list.Goals as goal
+use Rattle.modes_core.specs.Sessions.{most_sessions}
 
 pub store_as-requires-clause-allowed : goal.store_as-requires-clause-allowed
 store_as-requires-clause-allowed g c =
@@ -20,7 +21,7 @@ store_as-requires-clause-allowed g c =
     let session = c.requires.session in
     let own : c.args.number ≡ session.history.number = c.requires.own
     ∙ ap (λ (sessions : List (History g.row.T.Denot)). first_number sessions) session.sessions in
-    let exists : session.history.number < 64 = subst (λ n. n < 64) own (search rules) in
+    let exists : session.history.number < most_sessions = subst (λ n. n < most_sessions) own (search rules) in
     let at = c.sleep_word.ensures.index ∙ ap (λ n. index_of_word (Sleep n)) own in
     let may = subst (λ (sessions : List (History g.row.T.Denot)). (mine : ListInHand)
     × MayLeaveListBy (first_number sessions) (first_account content sessions) mine) session.sessions c.requires.lawful in

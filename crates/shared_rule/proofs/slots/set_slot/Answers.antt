@@ -13,6 +13,7 @@ use Rattle.lock_world.proofs.Slots.Eligible.{eligible-is}
 use Rattle.shared_rule.proofs.SlotWords.{its-slot}
 use Rattle.shared_rule.proofs.Events.Slots.{setting-lawful}
 use Rattle.shared_rule.proofs.slots.set_slot.Goals as goal
+use Rattle.modes_core.specs.Sessions.{most_sessions}
 
 pub with-word-requires-clause-slot_mode : goal.with-word-requires-clause-slot_mode
 with-word-requires-clause-slot_mode g c = (eligible-is _ c.args.tag.now c.args.mode c.requires.lawful.1.eligible).2
@@ -31,7 +32,7 @@ store_as-requires-clause-allowed g c =
     let key = c.args.words.now.key in
     let own : c.args.number ≡ session.history.number = c.requires.own
     ∙ ap (λ (sessions : List (History g.row.T.Denot)). first_number sessions) session.sessions in
-    let exists : session.history.number < 64 = subst (λ n. n < 64) own (search rules) in
+    let exists : session.history.number < most_sessions = subst (λ n. n < most_sessions) own (search rules) in
     let at = c.slot_word.ensures.index ∙ ap (λ n. index_of_word (Slot n c.args.slot)) own in
     let may = subst (λ (sessions : List (History g.row.T.Denot)). (mine : SlotsInHand)
     × MaySetSlotBy c.args.words.now.key.groups (first_number sessions) (first_account content sessions) mine c.args.slot c.args.tag.now

@@ -9,6 +9,7 @@ use Rattle.lock_world.specs.declared.events.Word.TheVariants.{Partition, Fast, D
 use Rattle.lock_world.specs.World.{opening, word_in}
 use Rattle.shared_rule.specs.Layout.{block_start, index_of_word, MayBeInTable}
 use Rattle.shared_rule.proofs.table.first_words.Goals as goal
+use Rattle.modes_core.specs.Sessions.{most_sessions}
 
 -- Words that stand apart are set one after the other, and all else stays.
 next-set : (words : List ℕ) (place : ℕ → ℕ) (number n : ℕ) → number ≡ free_word → place n < length words → ((k : ℕ) → k < n → place k ≢ place n) → ((k : ℕ) → k < n → slice_index words (place k) ≡ free_word)
@@ -50,7 +51,7 @@ pub returns : goal.returns
 returns c =
     let l = c.loop-session in
     let words : List ℕ = l.words.items in
-    let session-free : (k : ℕ) → k < 64 → slice_index words (block_start k) ≡ free_word = λ k exists. l.invariant.free k (omega (arith, exists, c.loop-session-test.false)) in
+    let session-free : (k : ℕ) → k < most_sessions → slice_index words (block_start k) ≡ free_word = λ k exists. l.invariant.free k (omega (arith, exists, c.loop-session-test.false)) in
     record {
       shown = record {
         as_many = l.invariant.many;
@@ -58,8 +59,8 @@ returns c =
         gap = λ index gap. l.invariant.others index (λ p exists. gap (Partition p) (exists, tt)) (λ k exists. gap (Fast k) (tt, exists));
       };
     } where
-      shown-word : (words : List ℕ) → ((p : ℕ) → p < 16 → slice_index words (16 * p) ≡ free_word) → ((k : ℕ) → k < 64 → slice_index words (block_start k) ≡ free_word)
-          → ((index : ℕ) → ((p : ℕ) → p < 16 → 16 * p ≢ index) → ((k : ℕ) → k < 64 → block_start k ≢ index) → slice_index words index ≡ 0)
+      shown-word : (words : List ℕ) → ((p : ℕ) → p < 16 → slice_index words (16 * p) ≡ free_word) → ((k : ℕ) → k < most_sessions → slice_index words (block_start k) ≡ free_word)
+          → ((index : ℕ) → ((p : ℕ) → p < 16 → 16 * p ≢ index) → ((k : ℕ) → k < most_sessions → block_start k ≢ index) → slice_index words index ≡ 0)
           → (word : Word) → MayBeInTable word → slice_index words (index_of_word word) ≡ word_in (opening 0 0).words word
       shown-word words partitions sessions others (Partition p) exists = partitions p exists.0
       shown-word words partitions sessions others (Fast k) exists = sessions k exists.1

@@ -3,6 +3,7 @@ use Rattle.std.specs.Prelude.{IfSome}
 use Rattle.wait_queue.specs.Queues.{holding_of, lists_below}
 use Rattle.wait_queue.proofs.BlockerLemmas.{lists_below-start, lists_below-more}
 use Rattle.wait_queue.proofs.queues.append_holding.Goals as goal
+use Rattle.modes_core.specs.Sessions.{most_sessions}
 
 pub loop-number-init : goal.loop-number-init
 loop-number-init g c = lists_below-start c.args.found.now.items (holding_of (g.P.PartTable.content c.args.part.now) c.args.tag.now c.args.session c.args.mode)
@@ -16,6 +17,6 @@ loop-number-preserved g c =
 
 pub returns : goal.returns
 returns g c =
-    let all : c.loop-number.number ≡ 64 = omega (arith, c.loop-number-test.false, c.loop-number.auto.number-end) in
+    let all : c.loop-number.number ≡ most_sessions = omega (arith, c.loop-number-test.false, c.loop-number.auto.number-end) in
     c.loop-number.invariant
     ∙ ap (λ (k : ℕ). c.args.found.now.items ++ lists_below k (holding_of (g.P.PartTable.content c.args.part.now) c.args.tag.now c.args.session c.args.mode)) all

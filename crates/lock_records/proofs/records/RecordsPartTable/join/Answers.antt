@@ -13,11 +13,12 @@ use Rattle.lock_records.proofs.Parts.{nothing-said, counts-few}
 use Rattle.lock_records.proofs.Queues.{queue-room}
 use Rattle.lock_records.proofs.records.RecordsPartTable.join.Goals as goal
 use Rattle.lock_records.proofs.records.RecordsPartTable.join.Goals.{After-capacity-most}
+use Rattle.modes_core.specs.Sessions.{most_sessions}
 
 abbrev its : (c : After-capacity-most) → Wait
 its c = record { session = c.args.session; mode = c.args.mode; held = set_has c.held-held.result }
 
-small : (c : After-capacity-most) → c.args.session < 64
+small : (c : After-capacity-most) → c.args.session < most_sessions
 small c = omega (arith, c.number-number.ensures.within, c.number-number.ensures.value)
 
 absent : (c : After-capacity-most) → waits_there (queue_on c.self.inside.queues.slots c.args.tag.now) c.args.session ≡ false

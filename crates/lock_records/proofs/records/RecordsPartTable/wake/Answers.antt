@@ -10,6 +10,7 @@ use Rattle.lock_records.specs.View.{content_of}
 use Rattle.lock_records.proofs.Wakings.{WakingTo, waking-start, waking-stay, waking-go, waking-fits, waking-end, seam, behind-some, behind-none, free-from, not-free-from, awaits-middle}
 use Rattle.lock_records.proofs.records.RecordsPartTable.wake.Goals as goal
 use Rattle.lock_records.proofs.records.RecordsPartTable.wake.Goals.{In-Some, After-grant_wait}
+use Rattle.modes_core.specs.Sessions.{most_sessions}
 
 pub loop-waiter-init : goal.loop-waiter-init
 loop-waiter-init c = (
@@ -46,7 +47,7 @@ gone : (c : After-grant_wait) → (at : In-Some) → (rest : List Wait) →
     WakingTo (content_of c.args.self.now) c.args.tag.now (content_of c.loop-waiter.self) c.loop-waiter.invariant.0 (shown_wait c.in-Some.waiter ∷ rest) c.loop-waiter.woken.items →
     WakingTo (content_of c.args.self.now) c.args.tag.now (content_of c.grant_wait.new.self) c.loop-waiter.invariant.0 rest (c.loop-waiter.woken.items ++ (c.in-Some.waiter.session, c.in-Some.waiter.mode) ∷ [])
 gone c at rest so_far =
-    let small : c.in-Some.waiter.session < 64 = omega (arith, c.number-number.ensures.within, c.number-number.ensures.value) in
+    let small : c.in-Some.waiter.session < most_sessions = omega (arith, c.number-number.ensures.within, c.number-number.ensures.value) in
     waking-go (content_of c.args.self.now) c.args.tag.now (content_of c.loop-waiter.self) (content_of c.grant_wait.new.self) c.loop-waiter.invariant.0 rest (shown_wait c.in-Some.waiter) c.loop-waiter.woken.items
     (free-from (content_of c.loop-waiter.self).holds c.in-Some.waiter.session c.args.tag.now c.in-Some.waiter.mode (set_has c.loop-waiter.ahead) c.loop-waiter.invariant.0 c.loop-waiter.invariant.4
     (c.is_free.ensures.free c.if-is_free.true)) small c.grant_wait.ensures.content so_far
@@ -56,7 +57,7 @@ push-requires c =
     let at = (goal.at.push-requires c).In-Some in
     let behind = next at in
     let all = waking-fits _ _ _ _ _ _ (gone (goal.at.push-requires c).After-grant_wait at behind.0 (waking at behind.0 behind.1)) in
-    let fits : length c.loop-waiter.woken.items < 64 = omega (arith, all, length_push c.loop-waiter.woken.items (c.in-Some.waiter.session, c.in-Some.waiter.mode)) in
+    let fits : length c.loop-waiter.woken.items < most_sessions = omega (arith, all, length_push c.loop-waiter.woken.items (c.in-Some.waiter.session, c.in-Some.waiter.mode)) in
     (omega arith, fits)
 
 pub loop-waiter-preserved-then-is_free : goal.loop-waiter-preserved-then-is_free

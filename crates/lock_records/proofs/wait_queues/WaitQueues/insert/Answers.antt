@@ -9,6 +9,7 @@ use Rattle.lock_records.specs.Queues.{queue_on, waiting_in, IsQueueAt}
 use Rattle.lock_records.proofs.QueueRecords.{queue-record, queue-is, requeued-are, requeued-queue, requeued-total, set-here, set-else, shown-joined}
 use Rattle.lock_records.proofs.wait_queues.WaitQueues.insert.Goals as goal
 use Rattle.lock_records.proofs.wait_queues.WaitQueues.insert.Goals.{After-index_mut, After-insert}
+use Rattle.modes_core.specs.Sessions.{most_sessions}
 
 on : (c : After-index_mut) → c.index_mut.result.now.tag ≡ c.args.tag.now
 on c =
@@ -32,7 +33,7 @@ now c = record { tag = c.index_mut.result.now.tag; waiters = c.insert.new.self }
 pub insert-requires : goal.insert-requires
 insert-requires c =
     let same = long (goal.at.insert-requires c).After-index_mut in
-    let few : length c.index_mut.result.now.waiters.items < 64 = omega (arith, c.requires.few) in
+    let few : length c.index_mut.result.now.waiters.items < most_sessions = omega (arith, c.requires.few) in
     (omega arith, (omega (arith, c.requires.place), few))
 
 pub invariant_of-self : goal.invariant_of-self

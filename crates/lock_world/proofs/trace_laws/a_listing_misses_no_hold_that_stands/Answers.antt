@@ -2,7 +2,7 @@ use Rattle.std.proofs.Common.{◌≡◌, [], ◌∷◌, ◌++◌, refl, subst, s
 use Rattle.lock_table.proofs.PutLemmas.{set_at-here}
 use Rattle.lock_world.specs.World.{World, Took}
 use Rattle.lock_world.proofs.Listing.{stays-in_content, taken-has}
-use Rattle.lock_world.proofs.laws.a_listing_misses_no_hold_that_stands.Goals as goal
+use Rattle.lock_world.proofs.trace_laws.a_listing_misses_no_hold_that_stands.Goals as goal
 
 pub returns-clause-misses_none : goal.returns-clause-misses_none
 returns-clause-misses_none c =

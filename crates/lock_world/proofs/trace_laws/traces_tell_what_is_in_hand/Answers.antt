@@ -1,4 +1,4 @@
-use Rattle.lock_world.proofs.laws.traces_tell_what_is_in_hand.Goals as goal
+use Rattle.lock_world.proofs.trace_laws.traces_tell_what_is_in_hand.Goals as goal
 
 pub returns : goal.returns
 returns c =
