@@ -1,5 +1,5 @@
 //! The names of a script: those under which sessions were opened, and those of objects.
-ghost use Rattle.std.specs.Prelude.{◌≡◌, ◌<◌, [], ◌∷◌, ◌++◌, length, slice_get};
+ghost use Rattle.std.specs.Prelude.{◌≡◌, ◌<◌, ◌≤◌, [], ◌∷◌, ◌++◌, length, set, slice_get};
 ghost use Rattle.modes_core.specs.Sessions.{most_sessions};
 
 use crate::objects::ObjectNames;
@@ -14,7 +14,7 @@ pub(crate) const MOST_SESSIONS: usize = modes_core::MOST_SESSIONS as usize;
 /// A session's name.
 pub type Name = ArrayString<16>;
 
-/// The names of the sessions that were opened. A session's number is its place in the order of opening.
+/// The names of the sessions that were opened, by their numbers. Of a number that was given out again it is the last one.
 #[derive(Drop)]
 pub struct SessionNames {
     issued: ArrayVec<Name, MOST_SESSIONS>,
@@ -55,6 +55,21 @@ impl SessionNames {
         ensures { self.new ≡ self.old ++ name ∷ [] }
     {
         self.issued.push(name);
+    }
+
+    /// Keeps `name` as that of `session`, which was opened just now: its number is the next one, or was given out again, and then
+    /// whoever had it before has no name any more.
+    pub fn put(&mut self, session: SessionId, name: Name)
+        requires { session ≤ length self.old }
+        ensures next { session ≡ length self.old → self.new ≡ self.old ++ name ∷ [] }
+        ensures again { session < length self.old → self.new ≡ set self.old session name }
+    {
+        let number = usize::from(session.number());
+        if number < self.issued.len() {
+            self.issued.as_mut_slice()[number] = name;
+        } else {
+            self.issued.push(name);
+        }
     }
 }
 
