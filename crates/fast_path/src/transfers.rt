@@ -135,6 +135,7 @@ fn pass_in_database<T: PartTable, B: Board<T>, R: Wait>(
 }
 
 /// What a turn of a transfer found: a slot of another session that has the relation of the object.
+#[derive(Clone, Copy)]
 struct Turn<'a> {
     /// Whose slot it is.
     owner: SessionId,

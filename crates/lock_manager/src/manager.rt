@@ -7,7 +7,6 @@ ghost use Rattle.shared_rule.specs.declared.history.History.{History};
 ghost use Rattle.shared_rule.specs.Quiet.{quiet_told};
 ghost use Rattle.lock_manager.specs.Keeper.{PartView};
 ghost use Rattle.lock_manager.specs.Managers.{IsNew, IsOpenerOf, IsOpened, TakesBack, is_in_range};
-ghost use Rattle.modes_core.specs.Sessions.{most_sessions};
 
 use crate::config::Config;
 use crate::keeper::Part;
@@ -42,6 +41,7 @@ pub struct Manager {
 impl Model for Manager {
     ghost use Rattle.std.specs.Prelude.{◌≤◌};
     ghost use Rattle.lock_manager.specs.Managers.{ManagerView};
+    ghost use Rattle.modes_core.specs.Sessions.{most_sessions};
 
     ghost Value = { ManagerView };
 

@@ -43,6 +43,7 @@ impl<T: PartTable, B: Board<T>> Model for SessionPool<T, B> {
     ghost use Rattle.std.specs.Prelude.{◌≡◌, ◌≤◌, length};
     ghost use Rattle.std.specs.Vec.{vec_capacity};
     ghost use Rattle.lock_manager.specs.Pools.{PoolView};
+    ghost use Rattle.modes_core.specs.Sessions.{most_sessions};
 
     ghost Value = { PoolView B };
 

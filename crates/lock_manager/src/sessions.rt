@@ -106,6 +106,7 @@ impl<T: PartTable, B: Board<T>> Model for OwnSession<T, B> {
     ghost use Rattle.local_locks.specs.Owned.{IsWellOwned};
     ghost use Rattle.lock_manager.specs.Rest.{IsAtRest};
     ghost use Rattle.lock_manager.specs.Sessions.{SessionView};
+    ghost use Rattle.modes_core.specs.Sessions.{most_sessions};
 
     ghost Value = { SessionView B };
 

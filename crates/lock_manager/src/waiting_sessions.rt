@@ -15,7 +15,6 @@ ghost use Rattle.lock_manager.specs.WaitingSessions.{answer_polled, board_polled
 ghost use Rattle.lock_manager.specs.WaitingSessions.{was_granted, session_cancelled};
 ghost use Rattle.lock_manager.specs.WaitingSessions.{answer_waited, session_waited};
 ghost use Rattle.lock_manager.specs.WaitingSessions.{answer_locked, session_locked, Locks, HasBegun, WaitsOn, HasEnded};
-ghost use Rattle.modes_core.specs.Sessions.{most_sessions};
 
 mod looks;
 
@@ -51,6 +50,7 @@ impl<T: PartTable, B: Board<T>> Model for OwnWaiting<T, B> {
     ghost use Rattle.local_locks.specs.Owned.{IsWellOwned, IsReserved};
     ghost use Rattle.lock_manager.specs.Waiting.{IsWaiting};
     ghost use Rattle.lock_manager.specs.WaitingSessions.{WaitingView};
+    ghost use Rattle.modes_core.specs.Sessions.{most_sessions};
 
     ghost Value = { WaitingView B };
 

@@ -27,6 +27,7 @@ impl<S> Model for ByName<S> {
     ghost use Rattle.std.specs.Prelude.{◌≤◌, List, vec_capacity};
     ghost use Rattle.lock_script.specs.declared.sessions.Named.{Named};
     ghost use Rattle.lock_script.specs.Names.{IsByName};
+    ghost use Rattle.modes_core.specs.Sessions.{most_sessions};
 
     ghost Value = { List (Named S) };
 

@@ -33,6 +33,7 @@ impl<T: PartTable> Model for Opener<T> {
     ghost use Rattle.shared_rule.specs.Boards.{AreFree};
     ghost use Rattle.shared_rule.specs.Openers.{OpenerState};
     ghost use Rattle.shared_rule.specs.Plays.{HasGroups, IsSized};
+    ghost use Rattle.modes_core.specs.Sessions.{most_sessions};
 
     ghost Value = { OpenerState T };
 
