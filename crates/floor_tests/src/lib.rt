@@ -17,6 +17,8 @@ mod script;
 #[cfg(test)]
 mod shared;
 #[cfg(test)]
+mod slot_words;
+#[cfg(test)]
 mod tables;
 #[cfg(test)]
 mod words;

@@ -3,7 +3,8 @@ use Rattle.modes_core.specs.declared.modes.Mode.{Mode}
 use Rattle.modes_core.specs.declared.tags.Tag.{Tag}
 use Rattle.modes_core.specs.Conflict.{conflict}
 use Rattle.local_locks.specs.declared.records.Entry.{Entry}
-use Rattle.local_locks.specs.Owned.{Owned, has_entry, IsWellOwned}
+use Rattle.modes_core.specs.declared.sessions.Owner.{Owner}
+use Rattle.local_locks.specs.Owned.{Owned, has_entry, with_one_more, IsWellOwned}
 use Rattle.lock_world.specs.Account.{Account}
 use Rattle.shared_rule.specs.Boards.{Seated, Stack}
 use Rattle.shared_rule.specs.Quiet.{Quiet}
@@ -24,6 +25,13 @@ pub record KeepsOwn (seat : Seated) (old : Own) (seat_after : Seated) (new : Own
   pub database : new.database ≡ old.database
   pub max_local : new.locals.max_local ≡ old.locals.max_local
   pub well_owned : IsWellOwned new.locals
+
+-- What the session awaited is entered once more for the owner, and all else that it owns is as it was.
+pub record GainsAwaited (old : Owned) (tag : Tag) (mode : Mode) (owner : Owner) (new : Owned) : Type 0 where
+  pub entries : new.entries ≡ with_one_more old.entries tag mode owner
+  pub max_local : new.max_local ≡ old.max_local
+  pub levels : new.outer ≡ old.outer
+  pub well_owned : IsWellOwned new
 
 -- No entry of the one is of a mode that conflicts with the mode of an entry of the other on the same object.
 abbrev pub DontConflict : List Entry → List Entry → Type 0

@@ -1,9 +1,9 @@
 //! Acquires that wait for as long as their caller says, over any board.
 
 ghost use Rattle.std.specs.Prelude.{◌≡◌, ◌≤◌, true, IsOkUnless, IfErr, OnOk, OnErr};
-ghost use Rattle.local_locks.specs.Owned.{with_one_more, IsReserved, IsWellOwned};
+ghost use Rattle.local_locks.specs.Owned.{with_one_more, IsReserved};
 ghost use Rattle.lock_manager.specs.Rest.{IsAtRest};
-ghost use Rattle.lock_manager.specs.Sessions.{IsSame, KeepsOwn};
+ghost use Rattle.lock_manager.specs.Sessions.{GainsAwaited, IsSame, KeepsOwn};
 ghost use Rattle.lock_manager.specs.Acquires.{AnswersByOwned, IsOwnAnswer, IsRefusedForMemory};
 ghost use Rattle.lock_manager.specs.Waiting.{IsWaiting};
 ghost use Rattle.lock_manager.specs.Patience.{CancelsAs, WaitsWhile, LocksWhile};
@@ -39,10 +39,7 @@ fn give_up<T: PartTable, B: Board<T>, R: Wait>(
     ensures quiet { B.quiet board.new ≡ B.quiet board.old }
     ensures rest { IsAtRest (B.seat board.old).groups (B.seat board.old).limit own.old.database own.old.uses
         (B.view board.new) (B.stack board.new) own.new.locals.entries }
-    ensures entries { OnOk result (own.new.locals.entries ≡ with_one_more own.old.locals.entries tag mode owner) }
-    ensures max_local { OnOk result (own.new.locals.max_local ≡ own.old.locals.max_local) }
-    ensures levels { OnOk result (own.new.locals.outer ≡ own.old.locals.outer) }
-    ensures well_owned { OnOk result (IsWellOwned own.new.locals) }
+    ensures gained { OnOk result (GainsAwaited own.old.locals tag mode owner own.new.locals) }
     ensures same_own { OnErr result (own.new ≡ own.old) }
     ensures seat { B.seat board.new ≡ B.seat board.old }
     ensures database { own.new.database ≡ own.old.database }
@@ -76,10 +73,7 @@ fn wait_while<T: PartTable, B: Board<T>, R: Wait, K: FnMut() -> bool>(
     ensures quiet { B.quiet board.new ≡ B.quiet board.old }
     ensures rest { IsAtRest (B.seat board.old).groups (B.seat board.old).limit own.old.database own.old.uses
         (B.view board.new) (B.stack board.new) own.new.locals.entries }
-    ensures entries { OnOk result (own.new.locals.entries ≡ with_one_more own.old.locals.entries tag mode owner) }
-    ensures max_local { OnOk result (own.new.locals.max_local ≡ own.old.locals.max_local) }
-    ensures levels { OnOk result (own.new.locals.outer ≡ own.old.locals.outer) }
-    ensures well_owned { OnOk result (IsWellOwned own.new.locals) }
+    ensures gained { OnOk result (GainsAwaited own.old.locals tag mode owner own.new.locals) }
     ensures same_own { OnErr result (own.new ≡ own.old) }
     ensures seat { B.seat board.new ≡ B.seat board.old }
     ensures database { own.new.database ≡ own.old.database }

@@ -2,9 +2,9 @@
 
 ghost use Rattle.std.specs.Prelude.{◌≡◌, ◌≢◌, ◌≤◌, ◌↔◌, ◌==◌, [], false, true, None};
 ghost use Rattle.std.specs.Prelude.{IsErrOf, IsOkUnless, IfOk, IfErr, OnOk, OnErr};
-ghost use Rattle.local_locks.specs.Owned.{has_entry, with_one_more, IsReserved, IsWellOwned};
+ghost use Rattle.local_locks.specs.Owned.{has_entry, with_one_more, IsReserved};
 ghost use Rattle.lock_manager.specs.Rest.{IsAtRest};
-ghost use Rattle.lock_manager.specs.Sessions.{KeepsOwn};
+ghost use Rattle.lock_manager.specs.Sessions.{GainsAwaited, KeepsOwn};
 ghost use Rattle.lock_manager.specs.Acquires.{AnswersByOwned, IsOwnAnswer, IsRefusedForMemory};
 ghost use Rattle.lock_manager.specs.Waiting.{IsWaiting, HasLooked, Asks, LooksForWaiters};
 ghost use Rattle.lock_manager.specs.Waiting.{IsInWait, polled_as, Polls, Cancels, Waits, account_cancelled};
@@ -110,11 +110,7 @@ pub fn poll<T: PartTable, B: Board<T>>(
     ensures rest { result ≡ Looked.Granted →
         IsAtRest (B.seat board.old).groups (B.seat board.old).limit own.old.database own.old.uses
         (B.view board.new) (B.stack board.new) own.new.locals.entries }
-    ensures entries { result ≡ Looked.Granted →
-        own.new.locals.entries ≡ with_one_more own.old.locals.entries tag mode owner }
-    ensures max_local { result ≡ Looked.Granted → own.new.locals.max_local ≡ own.old.locals.max_local }
-    ensures levels { result ≡ Looked.Granted → own.new.locals.outer ≡ own.old.locals.outer }
-    ensures well_owned { result ≡ Looked.Granted → IsWellOwned own.new.locals }
+    ensures gained { result ≡ Looked.Granted → GainsAwaited own.old.locals tag mode owner own.new.locals }
     ensures waiting { result ≢ Looked.Granted →
         IsWaiting (B.seat board.old).groups (B.seat board.old).limit own.old.database own.old.uses
         (B.view board.new) (B.stack board.new) own.new.locals.entries tag mode }
@@ -145,11 +141,7 @@ fn take_up<T: PartTable, B: Board<T>>(
     ensures rest { result ≡ Looked.Granted →
         IsAtRest (B.seat board.old).groups (B.seat board.old).limit own.old.database own.old.uses
         (B.view board.new) (B.stack board.new) own.new.locals.entries }
-    ensures entries { result ≡ Looked.Granted →
-        own.new.locals.entries ≡ with_one_more own.old.locals.entries tag mode owner }
-    ensures max_local { result ≡ Looked.Granted → own.new.locals.max_local ≡ own.old.locals.max_local }
-    ensures levels { result ≡ Looked.Granted → own.new.locals.outer ≡ own.old.locals.outer }
-    ensures well_owned { result ≡ Looked.Granted → IsWellOwned own.new.locals }
+    ensures gained { result ≡ Looked.Granted → GainsAwaited own.old.locals tag mode owner own.new.locals }
     ensures waiting { result ≢ Looked.Granted →
         IsWaiting (B.seat board.old).groups (B.seat board.old).limit own.old.database own.old.uses
         (B.view board.new) (B.stack board.new) own.new.locals.entries tag mode }
@@ -189,11 +181,7 @@ pub fn cancel<T: PartTable, B: Board<T>, R: Wait>(
     ensures quiet { B.quiet board.new ≡ B.quiet board.old }
     ensures rest { IsAtRest (B.seat board.old).groups (B.seat board.old).limit own.old.database own.old.uses
         (B.view board.new) (B.stack board.new) own.new.locals.entries }
-    ensures entries { result ≡ true →
-        own.new.locals.entries ≡ with_one_more own.old.locals.entries tag mode owner }
-    ensures max_local { result ≡ true → own.new.locals.max_local ≡ own.old.locals.max_local }
-    ensures levels { result ≡ true → own.new.locals.outer ≡ own.old.locals.outer }
-    ensures well_owned { result ≡ true → IsWellOwned own.new.locals }
+    ensures gained { result ≡ true → GainsAwaited own.old.locals tag mode owner own.new.locals }
     ensures same_own { result ≡ false → own.new ≡ own.old }
     ensures seat { B.seat board.new ≡ B.seat board.old }
     ensures database { own.new.database ≡ own.old.database }
@@ -229,10 +217,7 @@ pub fn wait<T: PartTable, B: Board<T>, R: Wait>(
     ensures quiet { B.quiet board.new ≡ B.quiet board.old }
     ensures rest { IsAtRest (B.seat board.old).groups (B.seat board.old).limit own.old.database own.old.uses
         (B.view board.new) (B.stack board.new) own.new.locals.entries }
-    ensures entries { OnOk result (own.new.locals.entries ≡ with_one_more own.old.locals.entries tag mode owner) }
-    ensures max_local { OnOk result (own.new.locals.max_local ≡ own.old.locals.max_local) }
-    ensures levels { OnOk result (own.new.locals.outer ≡ own.old.locals.outer) }
-    ensures well_owned { OnOk result (IsWellOwned own.new.locals) }
+    ensures gained { OnOk result (GainsAwaited own.old.locals tag mode owner own.new.locals) }
     ensures same_own { OnErr result (own.new ≡ own.old) }
     ensures seat { B.seat board.new ≡ B.seat board.old }
     ensures database { own.new.database ≡ own.old.database }
