@@ -4,7 +4,7 @@ use Rattle.fast_path.proofs.transfers.move_modes.Given as goal
 
 abbrev pub invariant-loop-number : goal.invariant-loop-number
 invariant-loop-number g l = record {
-  moving : IsMoving (g.B.Board.view l.fn.board) l.owner l.slot l.fn.word l.tag
+  moving : IsMoving (g.B.Board.view l.fn.board) l.fn.turn.owner l.fn.turn.slot l.fn.turn.word l.fn.turn.tag.now
       (g.T.PartTable.content l.fn.content) l.number l.left (g.T.PartTable.content l.content)
       (g.B.Board.view l.board);
   begun : g.T.PartTable.begun l.content ≡ None;
