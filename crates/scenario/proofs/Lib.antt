@@ -1,5 +1,7 @@
 pub mod Deeds
+mod Numbers
 mod Hearing
+mod Lent
 mod Lines
 mod Playing
 mod Polling

@@ -1,6 +1,6 @@
 -- The lines of a script, one by one.
 use Rattle.std.proofs.Common.{◌≡◌, ◌∙◌, ℕ, ◌+◌, List, [], ◌∷◌, ◌++◌, append-nil, append_assoc, length, length-append, refl, sym, subst, ap, arith, suc, zero-add, add-zero, inl, inr, None, Some, IfSome, Ok, Err, Result}
-use Rattle.std.specs.Prelude.{IsErrAnd, Option}
+use Rattle.std.specs.Prelude.{Bool, IsErrAnd, Option}
 use Rattle.local_locks.specs.declared.records.Entry.{Entry}
 use Rattle.lock_manager.specs.Sessions.{SessionView}
 use Rattle.lock_script.specs.Lines.{Reads, after_line, reading_of}
@@ -65,34 +65,34 @@ bad-unheard hears number old new before now text NoMemory unheard = tt
 bad-unheard hears number old new before now text GateHeld unheard = absurd unheard
 
 module _
-    {B L : Type 0} (seat : B → Seated) (view : B → Account) (stack : B → Stack) (database_of : SessionView B → ℕ) (entries : SessionView B → List Entry)
+    {B L : Type 0} (seat : B → Seated) (view : B → Account) (stack : B → Stack) (again : Bool) (database_of : SessionView B → ℕ) (entries : SessionView B → List Entry)
     (hears : L → Heard → L → Type 0) where
   -- a line that has a command
   pub line-plays :
       (number : ℕ) (old new : Cast B) (before mid now : L) (text : List ℕ) (command : Command) → hears before (Line number text) mid →
-      Means old.sessions old.names.objects (words_in text) command → Hears hears mid now (λ heard. Plays seat view stack database_of entries old command heard new) →
-      Hears hears before now (λ heard. PlaysLine seat view stack database_of entries number old text heard new)
+      Means old.sessions old.names.objects (words_in text) command → Hears hears mid now (λ heard. Plays seat view stack again database_of entries old command heard new) →
+      Hears hears before now (λ heard. PlaysLine seat view stack again database_of entries number old text heard new)
   line-plays number old new before mid now text command line means (heard, plays, rest) =
       (Line number text ∷ heard, inr (command, means, (heard, refl, plays)), (mid, line, rest))
 
   -- one that has none
   pub line-silent :
       (number : ℕ) (old : Cast B) (before now : L) (text : List ℕ) → hears before (Line number text) now → IsSilent (words_in text) →
-      Hears hears before now (λ heard. PlaysLine seat view stack database_of entries number old text heard old)
+      Hears hears before now (λ heard. PlaysLine seat view stack again database_of entries number old text heard old)
   line-silent number old before now text line silent = (Line number text ∷ [], inl (silent, refl, refl), (now, line, refl))
 
   -- one more line is played
   pub plays-next :
       (number : ℕ) (old mid new : Cast B) (texts : List (List ℕ)) (heard : List Heard) (text : List ℕ) (here : List Heard) →
-      PlaysLines seat view stack database_of entries number old texts heard mid →
-      PlaysLine seat view stack database_of entries (number + length texts) mid text here new →
-      PlaysLines seat view stack database_of entries number old (texts ++ text ∷ []) (heard ++ here) new
+      PlaysLines seat view stack again database_of entries number old texts heard mid →
+      PlaysLine seat view stack again database_of entries (number + length texts) mid text here new →
+      PlaysLines seat view stack again database_of entries number old (texts ++ text ∷ []) (heard ++ here) new
   plays-next number old mid new [] heard text here (none, same) plays = (
     new,
     here,
     [],
-    subst (λ (n : ℕ). PlaysLine seat view stack database_of entries n old text here new) (add-zero number)
-        (subst (λ (from : Cast B). PlaysLine seat view stack database_of entries (number + 0) from text here new) same plays),
+    subst (λ (n : ℕ). PlaysLine seat view stack again database_of entries n old text here new) (add-zero number)
+        (subst (λ (from : Cast B). PlaysLine seat view stack again database_of entries (number + 0) from text here new) same plays),
     (refl, refl),
     ap (λ (those : List Heard). those ++ here) none ∙ sym (append-nil here),
   )
@@ -102,7 +102,7 @@ module _
     later ++ here,
     plays_one,
     plays-next (number + 1) next mid new texts later text here rest
-        (subst (λ (n : ℕ). PlaysLine seat view stack database_of entries n mid text here new) (moved number (length texts)) plays),
+        (subst (λ (n : ℕ). PlaysLine seat view stack again database_of entries n mid text here new) (moved number (length texts)) plays),
     ap (λ (those : List Heard). those ++ here) all ∙ append_assoc this later here,
   )
 
@@ -112,7 +112,7 @@ module _
     pub count : number ≡ length texts
     pub lines : AreFirstLines script texts left
     pub played : List Heard
-    pub plays : PlaysLines seat view stack database_of entries 1 first texts played new
+    pub plays : PlaysLines seat view stack again database_of entries 1 first texts played new
     pub hears_ : HearsAll hears before played now
 
   pub have-none : (script left : Option (List ℕ)) (first : Cast B) (before : L) → left ≡ script → HavePlayed script first before 0 left first before
@@ -129,7 +129,7 @@ module _
       (script : Option (List ℕ)) (first : Cast B) (before : L) (number number' : ℕ) (left left' : Option (List ℕ)) (old new : Cast B) (now then : L) (text : List ℕ) →
       HavePlayed script first before number left old now → IfSome left (λ unread. reading_of number unread ≡ Ok (Some text)) →
       IfSome left (λ unread. left' ≡ Some (after_line unread)) → number' ≡ number + 1 →
-      Hears hears now then (λ heard. PlaysLine seat view stack database_of entries number' old text heard new) →
+      Hears hears now then (λ heard. PlaysLine seat view stack again database_of entries number' old text heard new) →
       HavePlayed script first before number' left' new then
   have-more script first before number number' left left' old new now then text so_far reads rest next (here, plays, heard) =
       let one : number' ≡ 1 + length so_far.texts = omega (arith, next, so_far.count) in
@@ -140,7 +140,7 @@ module _
             (subst (λ (n : ℕ). IfSome left (λ unread. reading_of n unread ≡ Ok (Some text))) so_far.count reads) rest;
         played = so_far.played ++ here;
         plays = plays-next 1 first old new so_far.texts so_far.played text here so_far.plays
-            (subst (λ (n : ℕ). PlaysLine seat view stack database_of entries n old text here new) one plays);
+            (subst (λ (n : ℕ). PlaysLine seat view stack again database_of entries n old text here new) one plays);
         hears_ = hears-append hears before now then so_far.played here so_far.hears_ heard;
       }
 
@@ -148,7 +148,7 @@ module _
   pub ends-well :
       (script : Option (List ℕ)) (first : Cast B) (before : L) (number : ℕ) (left : Option (List ℕ)) (new : Cast B) (now : L) (ended : Unit {0}) →
       HavePlayed script first before number left new now → IfSome left (λ unread. reading_of number unread ≡ Ok None) →
-      IsScriptHeard seat view stack database_of entries hears script first before (Ok ended) now
+      IsScriptHeard seat view stack again database_of entries hears script first before (Ok ended) now
   ends-well script first before number left new now ended so_far reads = (
     so_far.played,
     record {
@@ -169,7 +169,7 @@ module _
   pub ends-unread :
       (script : Option (List ℕ)) (first : Cast B) (before : L) (number : ℕ) (left : Option (List ℕ)) (new : Cast B) (now : L) (fault : Fault) →
       HavePlayed script first before number left new now → IfSome left (λ unread. Reads (Err fault) number (reading_of number unread)) →
-      IsScriptHeard seat view stack database_of entries hears script first before (Err fault) now
+      IsScriptHeard seat view stack again database_of entries hears script first before (Err fault) now
   ends-unread script first before number left new now (BadLine line what) so_far reads = (
     so_far.played,
     record {
@@ -212,7 +212,7 @@ module _
       (script : Option (List ℕ)) (first : Cast B) (before : L) (number number' : ℕ) (left : Option (List ℕ)) (old new : Cast B) (now then : L) (text : List ℕ)
       (fault : Fault) → HavePlayed script first before number left old now → IfSome left (λ unread. reading_of number unread ≡ Ok (Some text)) →
       number' ≡ number + 1 → IsBadLine hears number' old now text fault new then →
-      IsScriptHeard seat view stack database_of entries hears script first before (Err fault) then
+      IsScriptHeard seat view stack again database_of entries hears script first before (Err fault) then
   ends-badly script first before number number' left old new now then text (BadLine line what) so_far reads next (at, defect, heard, same) =
       let one : line ≡ length so_far.texts + 1 = omega (arith, at, next, so_far.count) in (
         so_far.played ++ Line line text ∷ [],

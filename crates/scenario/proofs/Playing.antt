@@ -131,13 +131,13 @@ module _ {B L : Type 0} (seat : B → Seated) (view : B → Account) (stack : B 
   )
 
 module _
-    {B : Type 0} (seat : B → Seated) (view : B → Account) (stack : B → Stack) (database_of : SessionView B → ℕ) (entries : SessionView B → List Entry) where
+    {B : Type 0} (seat : B → Seated) (view : B → Account) (stack : B → Stack) (again : Bool) (database_of : SessionView B → ℕ) (entries : SessionView B → List Entry) where
   -- The answer, what follows it, the news of those who go on, and the end of the line.
   pub plays-whole :
       {L : Type 0} (hears : L → Heard → L → Type 0) (old after seen new : Cast B) (command : Command) (answer : Answer) (l0 l1 l2 l3 l4 : L) →
-      Answers seat view stack database_of entries old after command answer → HearsAll hears l0 (told_of after.names answer) l1 →
+      Answers seat view stack again database_of entries old after command answer → HearsAll hears l0 (told_of after.names answer) l1 →
       Hears hears l1 l2 (λ more. Follows seat view stack answer after more seen) → Hears hears l2 l3 (λ news. Settles seat view stack seen news new) → hears l3 Done l4 →
-      Hears hears l0 l4 (λ heard. Plays seat view stack database_of entries old command heard new)
+      Hears hears l0 l4 (λ heard. Plays seat view stack again database_of entries old command heard new)
   plays-whole hears old after seen new command answer l0 l1 l2 l3 l4 answers told (more, follows, h1) (news, settles, h2) done = (
     told_of after.names answer ++ more ++ news ++ Done ∷ [],
     record {

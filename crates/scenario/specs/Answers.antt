@@ -1,4 +1,4 @@
-use Rattle.std.specs.Prelude.{◌≡◌, ◌⊎◌, ℕ, ⊤, List, [], ◌∷◌, ◌++◌}
+use Rattle.std.specs.Prelude.{◌≡◌, ◌⊎◌, ℕ, ⊤, Bool, List, [], ◌∷◌, ◌++◌}
 use Rattle.std.specs.List.{HoldsAt}
 use Rattle.arrayvec.specs.declared.array_string.ArrayString.{ArrayString}
 use Rattle.local_locks.specs.declared.records.Entry.{Entry}
@@ -25,11 +25,12 @@ use Rattle.scenario.specs.declared.sessions.Deed.{Deed}
 use Rattle.scenario.specs.declared.sessions.Deed.TheVariants as deed
 use Rattle.scenario.specs.Answered.{AcquiresAt, CallsAt, ClosesAt, WaitsAt}
 use Rattle.scenario.specs.Calls.{IsDeedOf}
+use Rattle.scenario.specs.Numbers.{IsNamed}
 
 -- What a command is answered, and what it leaves of a script's sessions.
 
--- The sessions of a script: those that are open, and the names of all that were opened, in the order of their numbers,
--- beside those that it gave to objects.
+-- The sessions of a script: those that are open, and the names of those that were opened, by their numbers, beside those that it gave to
+-- objects.
 pub record Cast (B : Type 0) : Type 0 where
   pub sessions : OpenSessions (SessionView B) (WaitingView B)
   pub names : Names
@@ -45,8 +46,9 @@ IsOtherOf seat sessions (command.Blockers by other tag) number = IsNumberAt seat
 IsOtherOf seat sessions (command.Cancel by other) number = IsNumberAt seat sessions other.place number
 IsOtherOf seat sessions _ number = ⊤
 
--- A session was opened: it holds nothing, is told its number, and stands among those that don't wait.
-pub record Opens {B : Type 0} (seat : B → Seated) (database_of : SessionView B → ℕ) (entries : SessionView B → List Entry) (old new : Cast B)
+-- A session was opened: it holds nothing, is told its number, stands among those that don't wait, and is known by its name from then on.
+-- Where numbers are given out `again`, it may have that of a closed one.
+pub record Opens {B : Type 0} (seat : B → Seated) (again : Bool) (database_of : SessionView B → ℕ) (entries : SessionView B → List Entry) (old new : Cast B)
     (name : ArrayString 16) (database : ℕ) (it : Answer) : Type 0 where
   pub session : SessionView B
   pub of_database : database_of session ≡ database
@@ -54,7 +56,7 @@ pub record Opens {B : Type 0} (seat : B → Seated) (database_of : SessionView B
   pub answered : it ≡ answer.Said name (said.Opened (seat session.board).number database)
   pub joins : PutsIn old.sessions.resting (record { name = name; session = session }) new.sessions.resting
   pub waiting : new.sessions.waiting ≡ old.sessions.waiting
-  pub names : new.names.sessions ≡ old.names.sessions ++ name ∷ []
+  pub names : IsNamed again (seat session.board).number name old.names.sessions new.names.sessions
   pub objects : new.names.objects ≡ old.names.objects
 
 -- An object was given a name, or the script's memory didn't suffice, and then it has none.
@@ -71,11 +73,11 @@ pub record OpensNone {B : Type 0} (old new : Cast B) (name : ArrayString 16) (it
   pub same : new ≡ old
 
 module _
-    {B : Type 0} (seat : B → Seated) (view : B → Account) (stack : B → Stack) (database_of : SessionView B → ℕ) (entries : SessionView B → List Entry)
+    {B : Type 0} (seat : B → Seated) (view : B → Account) (stack : B → Stack) (again : Bool) (database_of : SessionView B → ℕ) (entries : SessionView B → List Entry)
     (old new : Cast B) where
   -- The sessions are left as the library's call leaves them, and its answer is told.
   abbrev pub IsDone : Deed → Answer → Type 0
-  IsDone (deed.Open name database) it = Opens seat database_of entries old new name database it ⊎ OpensNone old new name it
+  IsDone (deed.Open name database) it = Opens seat again database_of entries old new name database it ⊎ OpensNone old new name it
   IsDone (deed.Name name tag) it =
       NamesObject old.names.objects new.names.objects name tag it × (new.names.sessions ≡ old.names.sessions) × (new.sessions ≡ old.sessions)
   IsDone (deed.Close caller) it = ClosesAt seat view stack old.sessions new.sessions caller it × (new.names ≡ old.names)

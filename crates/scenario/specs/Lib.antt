@@ -5,6 +5,7 @@ pub mod Calls
 pub mod Made
 pub mod Waits
 pub mod Answered
+pub mod Numbers
 pub mod Answers
 pub mod Sizes
 pub mod Heard

@@ -65,12 +65,12 @@ module _ {B : Type 0} (seat : B → Seated) (view : B → Account) (stack : B �
     pub all : heard ≡ flat_map (λ those. those) rounds
 
 module _
-    {B : Type 0} (seat : B → Seated) (view : B → Account) (stack : B → Stack) (database_of : SessionView B → ℕ) (entries : SessionView B → List Entry) where
+    {B : Type 0} (seat : B → Seated) (view : B → Account) (stack : B → Stack) (again : Bool) (database_of : SessionView B → ℕ) (entries : SessionView B → List Entry) where
   -- A command is answered, and then those are heard who go on.
   pub record Plays (old : Cast B) (command : Command) (heard : List Heard) (new : Cast B) : Type 0 where
     pub answer : Answer
     pub after : Cast B
-    pub answers : Answers seat view stack database_of entries old after command answer
+    pub answers : Answers seat view stack again database_of entries old after command answer
     pub more : List Heard
     pub seen : Cast B
     pub follows : Follows seat view stack answer after more seen

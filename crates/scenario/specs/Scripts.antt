@@ -1,4 +1,4 @@
-use Rattle.std.specs.Prelude.{◌≡◌, ◌⊎◌, ℕ, ◌+◌, List, [], ◌∷◌, ◌++◌, length, take, ⊤, Option, Some, None, IfSome, Result, Ok, Err}
+use Rattle.std.specs.Prelude.{◌≡◌, ◌⊎◌, ℕ, ◌+◌, Bool, List, [], ◌∷◌, ◌++◌, length, take, ⊤, Option, Some, None, IfSome, Result, Ok, Err}
 use Rattle.local_locks.specs.declared.records.Entry.{Entry}
 use Rattle.lock_world.specs.Account.{Account}
 use Rattle.shared_rule.specs.Boards.{Seated, Stack}
@@ -59,13 +59,13 @@ IsBadLine hears number old before text NoMemory new now = ⊤
 IsBadLine hears number old before text GateHeld new now = ⊥
 
 module _
-    {B : Type 0} (seat : B → Seated) (view : B → Account) (stack : B → Stack) (database_of : SessionView B → ℕ) (entries : SessionView B → List Entry) where
+    {B : Type 0} (seat : B → Seated) (view : B → Account) (stack : B → Stack) (again : Bool) (database_of : SessionView B → ℕ) (entries : SessionView B → List Entry) where
   -- A line is heard, with its number, and then what its command is answered. A line with no word, and a comment, has none.
   abbrev pub PlaysLine : ℕ → Cast B → List ℕ → List Heard → Cast B → Type 0
   PlaysLine number old text heard new =
       (IsSilent (words_in text) × (heard ≡ Line number text ∷ []) × (new ≡ old))
       ⊎ ((command : Command) × Means old.sessions old.names.objects (words_in text) command
-      × ((answers : List Heard) × (heard ≡ Line number text ∷ answers) × Plays seat view stack database_of entries old command answers new))
+      × ((answers : List Heard) × (heard ≡ Line number text ∷ answers) × Plays seat view stack again database_of entries old command answers new))
 
   -- These lines are, one after another, each once. The first one has this number.
   abbrev pub PlaysLines : ℕ → Cast B → List (List ℕ) → List Heard → Cast B → Type 0

@@ -3,12 +3,13 @@ ghost use Rattle.std.specs.Prelude.{◌≡◌, []};
 ghost use Rattle.lock_manager.specs.Crews.{SeatsAre};
 ghost use Rattle.scenario.specs.Sizes.{IsForManager};
 
+use crate::desks::ScriptDesk;
 use crate::listener::Listener;
 use crate::opening::read_opening;
 use crate::run::Scene;
-use crate::runs::{Keeping, run_before, run_keeping_before};
+use crate::runs::{Keeping, Manner, act_out};
 use crate::sql_runs::Spoken;
-use lock_manager::{Config, Desk, OwnSession};
+use lock_manager::{Config, OwnSession};
 use lock_script::{ByName, Defect, Fault, KeptLine, KeptLines, LineReader, Name};
 use lock_table::PartTable;
 use shared_rule::Board;
@@ -16,16 +17,26 @@ use std::alloc::{AllocError, Global};
 use std::io::{Cursor, Read};
 use std::sync::Wait;
 
+/// How the lines of a script are run in turn.
+#[derive(Clone, Copy, Debug, PartialEq, Eq)]
+pub struct Turns {
+    /// Whether a line whose session waits is kept, and run once that goes on.
+    pub keep: bool,
+    /// Whether the numbers of closed sessions are given out again.
+    pub reuse: bool,
+}
+
 /// Runs the script that `reader` gives against a lock manager of its own, of the size `config`, and tells `listener` what each line is answered.
-/// Where `keep`, a line whose session waits is kept, and run once that goes on, after the lines of the session that were kept before it. A script
-/// whose first command is `schema` speaks SQL, and what the statements of its `do` lines lock is kept so in any case. Where lines are kept,
-/// `listener` is told at the end who is left waiting, and how many lines were not reached. The run ends with the input or the first fault.
+/// Where `turns` keeps lines, one whose session waits is kept, and run once that goes on, after the lines of the session that were kept before it.
+/// A script whose first command is `schema` speaks SQL, and what the statements of its `do` lines lock is kept so in any case. Where lines are kept,
+/// `listener` is told at the end who is left waiting, and how many lines were not reached. Where `turns` reuses numbers, a new session has the
+/// lowest one that no open session has. The run ends with the input or the first fault.
 pub fn run_in_turn<H: AllocGlobal + Wait, R: Read + Drop, L: Listener + Drop>(
     rt: &H,
     reader: R,
     listener: L,
     config: Config,
-    keep: bool,
+    turns: Turns,
 ) -> Result<(), Fault>
     requires { IsForManager config }
 {
@@ -33,15 +44,16 @@ pub fn run_in_turn<H: AllocGlobal + Wait, R: Read + Drop, L: Listener + Drop>(
     let alloc = rt.alloc();
     let opening = read_opening(alloc, &mut reader)?;
     let reader = Cursor::new(opening.front).chain(reader);
-    if !opening.speaks && !keep {
-        return run_before(rt, reader, listener, config);
-    }
-    let keeping = Keeping {
-        alloc,
-        speaks: opening.speaks,
-        keeps: keep,
+    let manner = if opening.speaks || turns.keep {
+        Manner::Keeping(Keeping {
+            alloc,
+            speaks: opening.speaks,
+            keeps: turns.keep,
+        })
+    } else {
+        Manner::Script
     };
-    run_keeping_before(rt, reader, listener, config, keeping)
+    act_out(rt, reader, listener, config, manner, turns.reuse)
 }
 
 /// A line of a script.
@@ -53,7 +65,7 @@ pub(crate) struct ReadLine<'a> {
     pub more: bool,
 }
 
-impl<T: PartTable, B: Board<T>, D: Desk<OwnSession<T, B>>, L: Listener> Scene<T, B, D, L> {
+impl<T: PartTable, B: Board<T>, D: ScriptDesk<OwnSession<T, B>>, L: Listener> Scene<T, B, D, L> {
     /// Plays the script that `reader` gives, whose lines are kept as `keeping` says, and then closes the sessions that are open.
     pub(crate) fn play_keeping<H: Wait, R: Read + Drop>(
         &mut self,

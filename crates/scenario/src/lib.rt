@@ -3,6 +3,7 @@
 
 mod answers;
 mod calls;
+mod desks;
 mod json;
 mod kept;
 mod listener;
@@ -21,8 +22,9 @@ mod written;
 
 pub use answers::{Answer, Row, Said};
 pub use calls::Call;
+pub use desks::{OnceDesk, ReusingDesk, ScriptDesk};
 pub use json::picture_line;
-pub use kept::run_in_turn;
+pub use kept::{Turns, run_in_turn};
 pub use listener::{Listener, tell_answer};
 pub use output::Output;
 pub use picture::Picture;

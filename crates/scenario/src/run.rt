@@ -8,10 +8,11 @@ ghost use Rattle.scenario.specs.Played.{DrawsPicture, Follows, IsPassHeard, IsPo
 ghost use Rattle.scenario.specs.Scripts.{IsBadLine, IsScriptHeard, PlaysLine};
 
 use crate::answers::{Answer, Said};
+use crate::desks::ScriptDesk;
 use crate::listener::{Listener, tell_answer};
 use crate::runs::Manner;
 use crate::sessions::Stage;
-use lock_manager::{Desk, OwnSession, TableRow};
+use lock_manager::{OwnSession, TableRow};
 use lock_script::{Caller, Command, Fault, LineReader, Name, parse};
 use lock_table::PartTable;
 use shared_rule::Board;
@@ -20,12 +21,12 @@ use std::io::Read;
 use std::sync::Wait;
 
 /// What the lines of a script act on: a desk with its sessions, and who hears the answers.
-pub struct Scene<T: PartTable, B: Board<T>, D: Desk<OwnSession<T, B>>, L: Listener> {
+pub struct Scene<T: PartTable, B: Board<T>, D: ScriptDesk<OwnSession<T, B>>, L: Listener> {
     pub stage: Stage<T, B, D>,
     pub listener: L,
 }
 
-impl<T: PartTable, B: Board<T>, D: Desk<OwnSession<T, B>>, L: Listener> Scene<T, B, D, L> {
+impl<T: PartTable, B: Board<T>, D: ScriptDesk<OwnSession<T, B>>, L: Listener> Scene<T, B, D, L> {
     /// A scene at `desk`, at which no session was opened yet, before `listener`. Both are let go where there is no memory
     /// for the list of sessions.
     pub fn new(alloc: Global, desk: D, listener: L) -> Result<Self, AllocError>
@@ -46,7 +47,7 @@ impl<T: PartTable, B: Board<T>, D: Desk<OwnSession<T, B>>, L: Listener> Scene<T,
     /// closes the sessions that are open.
     pub fn play<H: Wait, R: Read + Drop>(&mut self, rt: &H, reader: R) -> Result<(), Fault>
         requires seats { SeatsAre B.seat D.seat }
-        ensures played { IsScriptHeard B.seat B.view B.stack D.database_of D.entries L.hears (R.remaining reader)
+        ensures played { IsScriptHeard B.seat B.view B.stack D.again D.database_of D.entries L.hears (R.remaining reader)
             (record { sessions = self.old.stage.sessions; names = self.old.stage.names }) self.old.listener result self.new.listener }
         ensures manager { D.manager self.new.stage.desk ≡ D.manager self.old.stage.desk }
         ensures none_waits { self.new.stage.sessions.waiting ≡ [] }
@@ -112,7 +113,7 @@ impl<T: PartTable, B: Board<T>, D: Desk<OwnSession<T, B>>, L: Listener> Scene<T,
     /// Runs the lines of `reader`, to its end or to the first fault.
     fn run_lines<H: Wait, R: Read + Drop>(&mut self, rt: &H, reader: R) -> Result<(), Fault>
         requires seats { SeatsAre B.seat D.seat }
-        ensures played { IsScriptHeard B.seat B.view B.stack D.database_of D.entries L.hears (R.remaining reader)
+        ensures played { IsScriptHeard B.seat B.view B.stack D.again D.database_of D.entries L.hears (R.remaining reader)
             (record { sessions = self.old.stage.sessions; names = self.old.stage.names }) self.old.listener result self.new.listener }
         ensures manager { D.manager self.new.stage.desk ≡ D.manager self.old.stage.desk }
     {
@@ -135,7 +136,7 @@ impl<T: PartTable, B: Board<T>, D: Desk<OwnSession<T, B>>, L: Listener> Scene<T,
     ) -> Result<(), Fault>
         requires seats { SeatsAre B.seat D.seat }
         ensures played { OnOk result (Hears L.hears self.old.listener self.new.listener (λ heard.
-            PlaysLine B.seat B.view B.stack D.database_of D.entries number
+            PlaysLine B.seat B.view B.stack D.again D.database_of D.entries number
             (record { sessions = self.old.stage.sessions; names = self.old.stage.names }) line.now heard
             (record { sessions = self.new.stage.sessions; names = self.new.stage.names }))) }
         ensures bad { IfErr result (λ fault. IsBadLine L.hears number
@@ -161,7 +162,7 @@ impl<T: PartTable, B: Board<T>, D: Desk<OwnSession<T, B>>, L: Listener> Scene<T,
         requires counter { NamesCounter command }
         requires free { NamesFree self.old.stage.names.objects command }
         ensures played { OnOk result (Hears L.hears self.old.listener self.new.listener (λ heard.
-            Plays B.seat B.view B.stack D.database_of D.entries
+            Plays B.seat B.view B.stack D.again D.database_of D.entries
             (record { sessions = self.old.stage.sessions; names = self.old.stage.names }) command heard
             (record { sessions = self.new.stage.sessions; names = self.new.stage.names }))) }
         ensures unheard { IfErr result IsUnheard }

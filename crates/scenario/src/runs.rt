@@ -1,15 +1,17 @@
 //! Runs of whole scripts, each against a lock manager of its own.
-ghost use Rattle.std.specs.Prelude.{◌≡◌, IfOk};
+ghost use Rattle.std.specs.Prelude.{◌≡◌, [], IfOk};
 ghost use Rattle.lock_manager.specs.Crews.{SeatsAre};
+ghost use Rattle.scenario.specs.Numbers.{SeesSessions};
 ghost use Rattle.scenario.specs.Sizes.{IsForManager};
 
+use crate::desks::{OnceDesk, ReusingDesk};
 use crate::listener::Listener;
 use crate::output::Output;
 use crate::run::Scene;
 use crate::sessions::Stage;
 use crate::style::Style;
-use lock_manager::{Config, Desk, Manager, ManagerDesk, OwnSession};
-use lock_script::Fault;
+use lock_manager::{Config, Desk, Manager, ManagerDesk, OwnSession, SessionPool};
+use lock_script::{Fault, Names, OpenSessions};
 use lock_table::PartTable;
 use shared_rule::Board;
 use std::alloc::{AllocError, Global};
@@ -41,7 +43,7 @@ pub fn run_styled_script<H: AllocGlobal + Wait, R: Read + Drop, W: Write + Drop>
     requires { IsForManager config }
 {
     let output = Output::styled(rt.alloc(), writer, style);
-    act_out(rt, reader, output, config, Manner::Script)
+    act_out(rt, reader, output, config, Manner::Script, false)
 }
 
 /// Runs the script that `reader` gives against a lock manager of its own, of the size `config`, and tells `listener` what
@@ -54,21 +56,7 @@ pub fn run_before<H: AllocGlobal + Wait, R: Read + Drop, L: Listener + Drop>(
 ) -> Result<(), Fault>
     requires { IsForManager config }
 {
-    act_out(rt, reader, listener, config, Manner::Script)
-}
-
-/// Runs a script before `listener` whose lines are kept while their sessions wait, as `keeping` says, and run once these go on. Each session's
-/// lines are run in their order. Then `listener` is told who is left waiting, and how many lines were not reached.
-pub(crate) fn run_keeping_before<H: AllocGlobal + Wait, R: Read + Drop, L: Listener + Drop>(
-    rt: &H,
-    reader: R,
-    listener: L,
-    config: Config,
-    keeping: Keeping,
-) -> Result<(), Fault>
-    requires { IsForManager config }
-{
-    act_out(rt, reader, listener, config, Manner::Keeping(keeping))
+    act_out(rt, reader, listener, config, Manner::Script, false)
 }
 
 /// Which lines are kept while their sessions wait.
@@ -91,13 +79,15 @@ pub(crate) enum Manner {
     Keeping(Keeping),
 }
 
-/// Runs the lines of `reader` in this `manner` before `listener`, against a lock manager of its own of the size `config`.
-fn act_out<H: AllocGlobal + Wait, R: Read + Drop, L: Listener + Drop>(
+/// Runs the lines of `reader` in this `manner` before `listener`, against a lock manager of its own of the size `config`. Where `reuse`, the
+/// numbers of closed sessions are given out again.
+pub(crate) fn act_out<H: AllocGlobal + Wait, R: Read + Drop, L: Listener + Drop>(
     rt: &H,
     reader: R,
     listener: L,
     config: Config,
     manner: Manner,
+    reuse: bool,
 ) -> Result<(), Fault>
     requires { IsForManager config }
 {
@@ -106,7 +96,7 @@ fn act_out<H: AllocGlobal + Wait, R: Read + Drop, L: Listener + Drop>(
         return Err(Fault::NoMemory);
     };
     let desk = ManagerDesk::new(&manager, opener);
-    let Ok((desk, ended)) = play(rt, alloc, desk, reader, listener, manner) else {
+    let Ok((desk, ended)) = play(rt, alloc, desk, reader, listener, manner, reuse) else {
         return Err(Fault::NoMemory);
     };
     let opener = desk.into_opener();
@@ -115,8 +105,40 @@ fn act_out<H: AllocGlobal + Wait, R: Read + Drop, L: Listener + Drop>(
 }
 
 /// Runs the lines of `reader` in this `manner` before `listener`, with the sessions that `desk` opens, of which none is
-/// open after it. Nothing is run where there is no memory for the list of them.
+/// open after it. Where `reuse`, the numbers of closed ones are given out again. Nothing is run where there is no memory
+/// for the list of sessions.
 fn play<
+    T: PartTable,
+    B: Board<T>,
+    D: Desk<OwnSession<T, B>> + Drop,
+    H: Wait,
+    R: Read + Drop,
+    L: Listener + Drop,
+>(
+    rt: &H,
+    alloc: Global,
+    desk: D,
+    reader: R,
+    listener: L,
+    manner: Manner,
+    reuse: bool,
+) -> Result<(D, Result<(), Fault>), AllocError>
+    requires seats { SeatsAre B.seat D.seat }
+    requires sees { SeesSessions D.database_of D.entries }
+    requires none_issued { D.issued desk ≡ 0 }
+    requires none_live { D.live desk ≡ 0 }
+    ensures manager { IfOk result (λ played. D.manager played.0 ≡ D.manager desk) }
+    ensures none_live { IfOk result (λ played. D.live played.0 ≡ 0) }
+{
+    if reuse {
+        play_reusing(rt, alloc, desk, reader, listener, manner)
+    } else {
+        play_once(rt, alloc, desk, reader, listener, manner)
+    }
+}
+
+/// Runs the lines of `reader` as `play` does. Each number is given out once.
+fn play_once<
     T: PartTable,
     B: Board<T>,
     D: Desk<OwnSession<T, B>> + Drop,
@@ -137,7 +159,7 @@ fn play<
     ensures manager { IfOk result (λ played. D.manager played.0 ≡ D.manager desk) }
     ensures none_live { IfOk result (λ played. D.live played.0 ≡ 0) }
 {
-    let mut scene = Scene::new(alloc, desk, listener)?;
+    let mut scene = Scene::new(alloc, OnceDesk { desk }, listener)?;
     let ended = scene.act_out(rt, reader, manner);
     let Scene { stage, listener: _ } = scene;
     let Stage {
@@ -146,5 +168,76 @@ fn play<
         sessions,
     } = stage;
     sessions.finish();
+    Ok((desk.desk, ended))
+}
+
+impl<T: PartTable, B: Board<T>, D: Desk<OwnSession<T, B>>, L: Listener> Scene<
+    T,
+    B,
+    ReusingDesk<T, B, D>,
+    L,
+> {
+    /// A scene as `new` makes it, at a desk over `desk` that gives the numbers of closed sessions out again, before `listener`. Both are let go
+    /// where there is no memory for the lists of sessions.
+    pub fn reusing(alloc: Global, desk: D, listener: L) -> Result<Self, AllocError>
+    where
+        D: Drop,
+        L: Drop,
+        requires seats { SeatsAre B.seat D.seat }
+        requires sees { SeesSessions D.database_of D.entries }
+        requires none_issued { D.issued desk ≡ 0 }
+        requires none_live { D.live desk ≡ 0 }
+        ensures desk { IfOk result (λ scene. scene.stage.desk.desk ≡ desk) }
+        ensures none_waits { IfOk result (λ scene. scene.stage.sessions.waiting ≡ []) }
+        ensures none_open { IfOk result (λ scene. scene.stage.sessions.resting ≡ []) }
+    {
+        let sessions = OpenSessions::new(alloc)?;
+        let Ok(pool) = SessionPool::new(alloc) else {
+            sessions.finish();
+            return Err(AllocError);
+        };
+        let stage = Stage {
+            desk: ReusingDesk { desk, pool },
+            names: Names::new(alloc),
+            sessions,
+        };
+        Ok(Scene { stage, listener })
+    }
+}
+
+/// Runs the lines of `reader` as `play` does. The numbers of closed sessions are given out again.
+fn play_reusing<
+    T: PartTable,
+    B: Board<T>,
+    D: Desk<OwnSession<T, B>> + Drop,
+    H: Wait,
+    R: Read + Drop,
+    L: Listener + Drop,
+>(
+    rt: &H,
+    alloc: Global,
+    desk: D,
+    reader: R,
+    listener: L,
+    manner: Manner,
+) -> Result<(D, Result<(), Fault>), AllocError>
+    requires seats { SeatsAre B.seat D.seat }
+    requires sees { SeesSessions D.database_of D.entries }
+    requires none_issued { D.issued desk ≡ 0 }
+    requires none_live { D.live desk ≡ 0 }
+    ensures manager { IfOk result (λ played. D.manager played.0 ≡ D.manager desk) }
+    ensures none_live { IfOk result (λ played. D.live played.0 ≡ 0) }
+{
+    let mut scene = Scene::reusing(alloc, desk, listener)?;
+    let ended = scene.act_out(rt, reader, manner);
+    let Scene { stage, listener: _ } = scene;
+    let Stage {
+        desk,
+        names: _,
+        sessions,
+    } = stage;
+    sessions.finish();
+    let ReusingDesk { mut desk, pool } = desk;
+    pool.end(rt, &mut desk);
     Ok((desk, ended))
 }

@@ -10,14 +10,16 @@ ghost use Rattle.lock_manager.specs.Sessions.{SessionView};
 ghost use Rattle.lock_script.specs.Lending.{with_session};
 ghost use Rattle.scenario.specs.Calls.{IsDeedOf, ShowsCounter};
 ghost use Rattle.modes_core.specs.Sessions.{most_sessions};
+ghost use Rattle.scenario.specs.Numbers.{IsKnown};
 
 use crate::answers::{Answer, Row, Said};
 use crate::calls::{Call, draw, make};
+use crate::desks::ScriptDesk;
 use crate::picture::Picture;
 use crate::style::Pen;
 use crate::waits::{begin, cancel, poll_wait, tell_blocked};
 use lock_manager::{
-    Blocked, Desk, OwnSession, OwnWaiting, Owner, QueueRow, Refusal, SessionId, TableRow, Tag,
+    Blocked, OwnSession, OwnWaiting, Owner, QueueRow, Refusal, SessionId, TableRow, Tag,
 };
 use lock_script::{
     Caller, Command, Name, Named, NamedObject, Names, ObjectName, OpenSessions, Place, Target,
@@ -81,9 +83,9 @@ pub fn deed_of(command: Command, other: SessionId) -> Deed
     }
 }
 
-/// A desk, the names of all sessions that were opened there and of objects, and the open ones. Each of these is the desk's
-/// manager's, and the desk counts them. It is taken apart at its end, once no session is open.
-pub struct Stage<T: PartTable, B: Board<T>, D: Desk<OwnSession<T, B>>> {
+/// A desk, the names of sessions by the numbers that were given out there, and of objects, and the open sessions. Each of these is the desk's
+/// manager's, under one of these numbers, and the desk counts them. It is taken apart at its end, once no session is open.
+pub struct Stage<T: PartTable, B: Board<T>, D: ScriptDesk<OwnSession<T, B>>> {
     pub desk: D,
     pub names: Names,
     pub sessions: OpenSessions<OwnSession<T, B>, OwnWaiting<T, B>>,
@@ -91,11 +93,11 @@ pub struct Stage<T: PartTable, B: Board<T>, D: Desk<OwnSession<T, B>>> {
     ghost few: { D.issued desk ≤ most_sessions },
     ghost within: { D.live desk ≤ D.issued desk },
     ghost counted: { D.live desk ≡ length sessions.resting + length sessions.waiting },
-    ghost resting: { All (λ one. (B.seat one.session.board).table ≡ (D.manager desk).table) sessions.resting },
-    ghost waiting: { All (λ one. (B.seat one.session.board).table ≡ (D.manager desk).table) sessions.waiting },
+    ghost resting: { All (λ one. IsKnown (B.seat one.session.board) (D.manager desk) (D.issued desk)) sessions.resting },
+    ghost waiting: { All (λ one. IsKnown (B.seat one.session.board) (D.manager desk) (D.issued desk)) sessions.waiting },
 }
 
-impl<T: PartTable, B: Board<T>, D: Desk<OwnSession<T, B>>> Stage<T, B, D> {
+impl<T: PartTable, B: Board<T>, D: ScriptDesk<OwnSession<T, B>>> Stage<T, B, D> {
     ghost use Rattle.lock_script.specs.Sessions.{IsThere, MayAct};
 
     /// A stage of `desk`, at which no session was opened yet. The desk is let go where there is no memory for the list of
@@ -123,14 +125,14 @@ impl<T: PartTable, B: Board<T>, D: Desk<OwnSession<T, B>>> Stage<T, B, D> {
         requires addressed { Addresses self.old.sessions command }
         requires counter { NamesCounter command }
         requires free { NamesFree self.old.names.objects command }
-        ensures answered { Answers B.seat B.view B.stack D.database_of D.entries
+        ensures answered { Answers B.seat B.view B.stack D.again D.database_of D.entries
             (record { sessions = self.old.sessions; names = self.old.names })
             (record { sessions = self.new.sessions; names = self.new.names }) command result }
         ensures manager { D.manager self.new.desk ≡ D.manager self.old.desk }
     {
         let other = self.other_of(&command);
         match deed_of(command, other) {
-            Deed::Open(name, database) => self.open(name, database),
+            Deed::Open(name, database) => self.open(rt, name, database),
             Deed::Name(name, tag) => self.name_object(name, tag),
             Deed::Close(caller) => self.close(rt, caller),
             Deed::Lock(target, owner) => self.lock(rt, target, owner),
@@ -152,9 +154,9 @@ impl<T: PartTable, B: Board<T>, D: Desk<OwnSession<T, B>>> Stage<T, B, D> {
     }
 
     /// Opens a session of `database` under the name `name`.
-    fn open(&mut self, name: Name, database: u32) -> Answer
+    fn open<H: Wait>(&mut self, rt: &H, name: Name, database: u32) -> Answer
         requires seats { SeatsAre B.seat D.seat }
-        ensures opened { Opens B.seat D.database_of D.entries
+        ensures opened { Opens B.seat D.again D.database_of D.entries
             (record { sessions = self.old.sessions; names = self.old.names })
             (record { sessions = self.new.sessions; names = self.new.names }) name database result
             ⊎ OpensNone
@@ -162,10 +164,10 @@ impl<T: PartTable, B: Board<T>, D: Desk<OwnSession<T, B>>> Stage<T, B, D> {
             (record { sessions = self.new.sessions; names = self.new.names }) name result }
         ensures manager { D.manager self.new.desk ≡ D.manager self.old.desk }
     {
-        match self.desk.open(database) {
+        match self.desk.open(rt, database) {
             Ok(opened) => {
                 let session = opened.id();
-                self.names.sessions.push(name);
+                self.names.sessions.put(session, name);
                 self.sessions.resting.put(name, opened);
                 Answer::Said(name, Said::Opened { session, database })
             }
@@ -188,7 +190,7 @@ impl<T: PartTable, B: Board<T>, D: Desk<OwnSession<T, B>>> Stage<T, B, D> {
         }
     }
 
-    /// Closes the session `caller`. Its name is free again, and its number is not.
+    /// Closes the session `caller`. Its name is free again, and its number where the desk gives those of closed sessions out again.
     fn close<H: Wait>(&mut self, rt: &H, caller: Caller) -> Answer
         requires seats { SeatsAre B.seat D.seat }
         requires place { MayAct self.old.sessions caller.place }

@@ -2,11 +2,12 @@
 ghost use Rattle.std.specs.Prelude.{◌≡◌};
 ghost use Rattle.lock_manager.specs.Crews.{SeatsAre};
 
+use crate::desks::ScriptDesk;
 use crate::kept::ReadLine;
 use crate::listener::Listener;
 use crate::run::Scene;
 use crate::runs::Keeping;
-use lock_manager::{Desk, OwnSession};
+use lock_manager::OwnSession;
 use lock_script::{Defect, Fault, KeptLines, parse_object_name};
 use lock_table::PartTable;
 use shared_rule::Board;
@@ -48,7 +49,7 @@ impl Spoken {
     }
 }
 
-impl<T: PartTable, B: Board<T>, D: Desk<OwnSession<T, B>>, L: Listener> Scene<T, B, D, L> {
+impl<T: PartTable, B: Board<T>, D: ScriptDesk<OwnSession<T, B>>, L: Listener> Scene<T, B, D, L> {
     /// Runs `line`, which says what is `heard`. What is kept of it by `keeping` while its session waits goes to `kept`.
     pub(crate) fn run_heard<H: Wait>(
         &mut self,

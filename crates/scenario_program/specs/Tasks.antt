@@ -13,7 +13,7 @@ pub record HasSlotGroups (config : Config) : Type 0 where
 abbrev pub OfRun : Task → (Config → Type 0) → Type 0
 OfRun (task.Run config style) P = P config
 OfRun (task.Orders config options) P = P config
-OfRun (task.Shell config) P = P config
+OfRun (task.Shell config reuse) P = P config
 OfRun task.Sql P = Unit {0}
 OfRun (task.Hammer hammer) P = Unit {0}
 OfRun task.Modes P = Unit {0}
@@ -23,7 +23,7 @@ OfRun task.Man P = Unit {0}
 abbrev pub OfHammer : Task → (Hammer → Type 0) → Type 0
 OfHammer (task.Run config style) P = Unit {0}
 OfHammer (task.Orders config options) P = Unit {0}
-OfHammer (task.Shell config) P = Unit {0}
+OfHammer (task.Shell config reuse) P = Unit {0}
 OfHammer task.Sql P = Unit {0}
 OfHammer (task.Hammer hammer) P = P hammer
 OfHammer task.Modes P = Unit {0}

@@ -5,12 +5,12 @@ ghost use Rattle.scenario.specs.Sizes.{IsForManager};
 ghost use Rattle.scenario_program.specs.Tasks.{HasSlotGroups, OfHammer, OfRun};
 
 use crate::helps::{HAMMER_HELP, Helps, MODES_HELP, ORDERS_HELP, SHELL_HELP};
-use crate::options::{FAILURES, FailOn, RunOptions};
+use crate::options::RunOptions;
+use crate::run_words::{REUSE, reuse_argument, run_options_of, with_manners, with_styles};
 use clap::error::ErrorKind;
 use clap::{Arg, ArgAction, ArgMatches, Command, Error, value_parser};
 use lock_hammer::Hammer;
 use lock_manager::{Config, MOST_GROUPS, MOST_LOCAL, MOST_SESSIONS};
-use scenario::{DRAWINGS, Drawing, Style};
 use script_orders::OrdersOptions;
 use sql_report::{SQL, sql_command};
 use std::alloc::{AllocError, Global};
@@ -102,43 +102,6 @@ fn hammer_command<'a>(alloc: Global) -> Result<Command<'a>, AllocError> {
         .arg(rounds)
 }
 
-/// The subcommand `run` with the options of what it shows.
-fn with_styles<'a>(alloc: Global, run: Command<'a>) -> Result<Command<'a>, AllocError> {
-    let echo = Arg::new(alloc, "echo")
-        .long("echo")
-        .help("Print each line of the script before its answers")
-        .action(ArgAction::SetTrue);
-    let json = Arg::new(alloc, "json")
-        .long("json")
-        .help("Print an object of JSON for each line, instead of its text")
-        .action(ArgAction::SetTrue);
-    let graph = Arg::new(alloc, "graph")
-        .long("graph")
-        .value_name("LANGUAGE")
-        .help("Draw who waits for whom, behind each list or at the end, or the whole script")
-        .value_parser(DRAWINGS.as_slice());
-    run.arg(echo)?.arg(json)?.arg(graph)
-}
-
-/// The subcommand `run` with the options of how its script is run, what is told at its end, and what it fails for.
-fn with_manners<'a>(alloc: Global, run: Command<'a>) -> Result<Command<'a>, AllocError> {
-    let keep = Arg::new(alloc, "keep")
-        .long("keep")
-        .help("Keep a line whose session waits, and run it once that goes on")
-        .action(ArgAction::SetTrue);
-    let fail_on = Arg::new(alloc, "fail-on")
-        .long("fail-on")
-        .value_name("WHAT")
-        .help("End with status 4 on these, with commas between")
-        .value_delimiter(',')
-        .value_parser(FAILURES.as_slice());
-    let summary = Arg::new(alloc, "summary")
-        .long("summary")
-        .help("Tell at the end who waited, for what and behind whom")
-        .action(ArgAction::SetTrue);
-    run.arg(keep)?.arg(summary)?.arg(fail_on)
-}
-
 /// The subcommand `command` with the options of how large the lock manager is; it has `usual_sessions` where they don't say.
 fn with_config<'a>(
     alloc: Global,
@@ -195,10 +158,10 @@ fn orders_command<'a>(alloc: Global) -> Result<Command<'a>, AllocError> {
 }
 
 /// The command line: `run [--sessions N] [--max-local M] [--slot-groups G] [--echo] [--json] [--graph LANGUAGE]
-/// [--keep] [--summary] [--fail-on WHAT]`,
+/// [--keep] [--reuse] [--summary] [--fail-on WHAT]`,
 /// `orders [--sessions N] [--max-local M] [--slot-groups G] [--limit K] [--seed S] [--ends]`,
 /// `sql [--schema FILE] [--fail-on KIND] [--single-transaction]`,
-/// `shell [--sessions N] [--max-local M] [--slot-groups G]`, `modes`, `hammer --sessions N --rounds K`, or `--man`. Its help has `helps`.
+/// `shell [--sessions N] [--max-local M] [--slot-groups G] [--reuse]`, `modes`, `hammer --sessions N --rounds K`, or `--man`. Its help has `helps`.
 fn command<'a>(alloc: Global, helps: &'a Helps) -> Result<Command<'a>, AllocError> {
     let run = Command::new(alloc, "run")
         .about("Run the script on standard input")
@@ -210,7 +173,7 @@ fn command<'a>(alloc: Global, helps: &'a Helps) -> Result<Command<'a>, AllocErro
     let shell = Command::new(alloc, SHELL)
         .about("Run lines as they are typed, with help")
         .after_help(SHELL_HELP);
-    let shell = with_config(alloc, shell, SHELL_SESSIONS_SHOWN)?;
+    let shell = with_config(alloc, shell, SHELL_SESSIONS_SHOWN)?.arg(reuse_argument(alloc))?;
     let modes = Command::new(alloc, MODES)
         .about("Print which lock modes conflict")
         .after_help(MODES_HELP);
@@ -241,8 +204,8 @@ pub enum Task {
     Orders(Config, OrdersOptions),
     /// To say what the SQL statements on standard input lock, in the way that the words say.
     Sql,
-    /// To run lines as they are typed.
-    Shell(Config),
+    /// To run lines as they are typed, and whether the numbers of closed sessions are given out again.
+    Shell(Config, bool),
     /// To have sessions lock and unlock in threads.
     Hammer(Hammer),
     /// To print the conflict table.
@@ -331,7 +294,9 @@ fn task_of<'a>(alloc: Global, words: &'a [String]) -> Result<Task, Error>
         Some((name, _)) if name == MODES => Ok(Task::Modes),
         Some((name, _)) if name == SQL => Ok(Task::Sql),
         Some((name, hammer)) if name == HAMMER => Ok(Task::Hammer(hammer_of(hammer))),
-        Some((name, shell)) if name == SHELL => Ok(Task::Shell(config_of(shell))),
+        Some((name, shell)) if name == SHELL => {
+            Ok(Task::Shell(config_of(shell), shell.get_flag(REUSE)))
+        }
         Some((name, orders)) if name == ORDERS => {
             Ok(Task::Orders(config_of(orders), options_of(orders)))
         }
@@ -361,25 +326,6 @@ fn options_of(words: &ArgMatches) -> OrdersOptions {
         limit: words.get_one::<u32>("limit").unwrap_or(USUAL_ORDERS),
         seed: words.get_one::<u32>("seed").unwrap_or(USUAL_SEED),
         ends: words.get_flag("ends"),
-    }
-}
-
-/// How `words` ask for a run.
-fn run_options_of(words: &ArgMatches) -> RunOptions {
-    RunOptions {
-        style: style_of(words),
-        keep: words.get_flag("keep"),
-        summary: words.get_flag("summary"),
-        fail_on: FailOn::named(words.get_strs("fail-on").unwrap_or(&[])),
-    }
-}
-
-/// The style that `words` ask for.
-fn style_of(words: &ArgMatches) -> Style {
-    Style {
-        echo: words.get_flag("echo"),
-        json: words.get_flag("json"),
-        graph: words.get_one::<Drawing>("graph"),
     }
 }
 

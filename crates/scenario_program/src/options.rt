@@ -1,13 +1,12 @@
 //! How a script is run, and what the program's status says of it.
 
-use scenario::Style;
+use scenario::{Style, Turns};
 
 /// How a run goes, what it shows, and what it fails for.
 #[derive(Clone, Copy, Debug, PartialEq, Eq)]
 pub struct RunOptions {
     pub style: Style,
-    /// Whether a line whose session waits is kept, and run once that goes on.
-    pub keep: bool,
+    pub turns: Turns,
     /// Whether it is told at the end who waited, for what and behind whom.
     pub summary: bool,
     pub fail_on: FailOn,

@@ -10,7 +10,9 @@ use lock_manager::{
 };
 use lock_script::{Caller, Command, Fault, Name, Names, parse};
 use lock_table::PartTable;
-use scenario::{Listener, Pen, Picture, Row, RowText, Said, SaidText, Scene, Stage};
+use scenario::{
+    Listener, OnceDesk, Pen, Picture, Row, RowText, Said, SaidText, Scene, ScriptDesk, Stage,
+};
 use script_orders::{BadLine, News, Orders, Player, RefusedSession, Turn};
 use shared_rule::Board;
 use std::alloc::{AllocError, Global};
@@ -53,7 +55,7 @@ fn play_at<T: PartTable, B: Board<T>, D: Desk<OwnSession<T, B>> + Drop, H: Wait>
     ensures manager { IfOk result (λ played. D.manager played.0 ≡ D.manager desk) }
     ensures none_live { IfOk result (λ played. D.live played.0 ≡ 0) }
 {
-    let mut scene = Scene::new(alloc, desk, Spectator { orders })?;
+    let mut scene = Scene::new(alloc, OnceDesk { desk }, Spectator { orders })?;
     let ended = play_turns(rt, &mut scene);
     scene.stage.close_all(rt);
     let Scene { stage, listener: _ } = scene;
@@ -63,11 +65,11 @@ fn play_at<T: PartTable, B: Board<T>, D: Desk<OwnSession<T, B>> + Drop, H: Wait>
         sessions,
     } = stage;
     sessions.finish();
-    Ok((desk, ended))
+    Ok((desk.desk, ended))
 }
 
 /// Does in `scene` what its orders say, turn by turn, to their end or to the first fault.
-fn play_turns<T: PartTable, B: Board<T>, D: Desk<OwnSession<T, B>>, H: Wait>(
+fn play_turns<T: PartTable, B: Board<T>, D: ScriptDesk<OwnSession<T, B>>, H: Wait>(
     rt: &H,
     scene: &mut Scene<T, B, D, Spectator<'_, '_>>,
 ) -> Result<(), Fault>
@@ -86,7 +88,7 @@ fn play_turns<T: PartTable, B: Board<T>, D: Desk<OwnSession<T, B>>, H: Wait>(
 }
 
 /// Runs `line` in `scene`, and tells its orders what it is answered.
-fn play_line<T: PartTable, B: Board<T>, D: Desk<OwnSession<T, B>>, H: Wait>(
+fn play_line<T: PartTable, B: Board<T>, D: ScriptDesk<OwnSession<T, B>>, H: Wait>(
     rt: &H,
     scene: &mut Scene<T, B, D, Spectator<'_, '_>>,
     line: &str,
@@ -106,7 +108,7 @@ fn play_line<T: PartTable, B: Board<T>, D: Desk<OwnSession<T, B>>, H: Wait>(
 }
 
 /// Has all sessions of `stage` abort. Those that wait stop that before.
-fn let_all_go<T: PartTable, B: Board<T>, D: Desk<OwnSession<T, B>>, H: Wait>(
+fn let_all_go<T: PartTable, B: Board<T>, D: ScriptDesk<OwnSession<T, B>>, H: Wait>(
     rt: &H,
     stage: &mut Stage<T, B, D>,
 )

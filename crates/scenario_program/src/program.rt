@@ -9,7 +9,7 @@ use crate::modes::print_modes;
 use crate::options::RunOptions;
 use crate::orders::{OnManagers, bad_line_text, refused_session_text};
 use crate::outcome::{Outcome, Witness};
-use crate::shell::run_shell;
+use crate::shell::{ShellOptions, run_shell};
 use crate::timelines::draw_heard_script;
 use lock_hammer::{Hammer, OpenGate, ProgressLine, run_hammer, run_watched_hammer};
 use lock_manager::Config;
@@ -138,7 +138,7 @@ fn run_words<
             return run_input(rt, config, options, input, output, errors);
         }
         Ok(Task::Sql) => return Ok(run_statements(rt, words, input, output, errors)),
-        Ok(Task::Shell(config)) => run_typed(rt, config, input, output)?,
+        Ok(Task::Shell(config, reuse)) => run_typed(rt, config, reuse, input, output)?,
         Ok(Task::Orders(config, options)) => {
             run_all_orders(rt, config, options, input, output, errors)?
         }
@@ -181,7 +181,7 @@ fn run_input<H: AllocGlobal + Wait, R: Read + Drop, W: Write + Drop, E: Write>(
                 outcome: &mut outcome,
                 summary: options.summary.then(|| Summary::new(alloc)),
             };
-            run_in_turn(rt, input.reader, witness, config, options.keep)
+            run_in_turn(rt, input.reader, witness, config, options.turns)
         }
     };
     match ended {
@@ -240,17 +240,23 @@ fn run_all_orders<H: AllocGlobal + Wait, R: Read + Drop, W: Write + Drop, E: Wri
     }
 }
 
-/// Runs the lines of `input` as they are typed, against a lock manager of the size `config`.
+/// Runs the lines of `input` as they are typed, against a lock manager of the size `config`. Where `reuse`, the numbers of closed sessions are
+/// given out again.
 fn run_typed<H: AllocGlobal + Wait, R: Read + Drop, W: Write + Drop>(
     rt: &H,
     config: Config,
+    reuse: bool,
     input: Source<R>,
     output: W,
 ) -> Result<(), Fault>
     requires { IsForManager config }
 {
     let output = BufWriter::new(rt.alloc(), output).map_err(|_| Fault::NoMemory)?;
-    run_shell(rt, input.reader, output, config, input.is_terminal)
+    let options = ShellOptions {
+        is_terminal: input.is_terminal,
+        reuse,
+    };
+    run_shell(rt, input.reader, output, config, options)
 }
 
 /// Prints the man page to `output`.

@@ -1,6 +1,7 @@
 //! A shell: the lines of a script as somebody types them, with help, and with what is wrong with a bad one.
 ghost use Rattle.std.specs.Prelude.{◌≡◌, IfOk};
 ghost use Rattle.lock_manager.specs.Crews.{SeatsAre};
+ghost use Rattle.scenario.specs.Numbers.{SeesSessions};
 ghost use Rattle.scenario.specs.Sizes.{IsForManager};
 
 use crate::forms::ends_shell;
@@ -11,7 +12,7 @@ use lock_script::{
     Defect, Fault, LineReader, Name, NamedObject, ObjectNames, OpenSessions, parse, split_words,
 };
 use lock_table::PartTable;
-use scenario::{Listener, Output, Scene, Stage};
+use scenario::{Listener, OnceDesk, Output, ReusingDesk, Scene, ScriptDesk, Stage};
 use shared_rule::Board;
 use std::alloc::{AllocError, Global};
 use std::io::{Read, Write};
@@ -91,15 +92,25 @@ fn words_behind_first(alloc: Global, line: &str) -> Result<Vec<&str>, AllocError
     Ok(words)
 }
 
+/// How a shell is run.
+#[derive(Clone, Copy, Debug, PartialEq, Eq)]
+pub struct ShellOptions {
+    /// Whether somebody types the lines at a terminal, and has a prompt.
+    pub is_terminal: bool,
+    /// Whether the numbers of closed sessions are given out again.
+    pub reuse: bool,
+}
+
 /// Runs the lines that `reader` gives as a shell does, against a lock manager of the size `config`: a bad line is told
-/// to `writer`, with the nearest good word, and the shell goes on. Where `is_terminal` it has a prompt. It ends with the
-/// line `end`, the input, or another fault, and then the sessions that are open are closed in silence.
+/// to `writer`, with the nearest good word, and the shell goes on. Where `options` say that somebody types, it has a prompt; where they say so, a
+/// new session has the lowest number that no open session has. It ends with the line `end`, the input, or another fault, and then the sessions
+/// that are open are closed in silence.
 pub fn run_shell<H: AllocGlobal + Wait, R: Read + Drop, W: Write + Drop>(
     rt: &H,
     reader: R,
     writer: W,
     config: Config,
-    is_terminal: bool,
+    options: ShellOptions,
 ) -> Result<(), Fault>
     requires { IsForManager config }
 {
@@ -108,8 +119,12 @@ pub fn run_shell<H: AllocGlobal + Wait, R: Read + Drop, W: Write + Drop>(
         return Err(Fault::NoMemory);
     };
     let desk = ManagerDesk::new(&manager, opener);
-    let shell = Shell { alloc, is_terminal };
-    let Ok((desk, ended)) = converse_at(rt, desk, reader, Output::new(writer), shell) else {
+    let shell = Shell {
+        alloc,
+        is_terminal: options.is_terminal,
+    };
+    let output = Output::new(writer);
+    let Ok((desk, ended)) = converse_at(rt, desk, reader, output, shell, options.reuse) else {
         return Err(Fault::NoMemory);
     };
     let opener = desk.into_opener();
@@ -117,9 +132,40 @@ pub fn run_shell<H: AllocGlobal + Wait, R: Read + Drop, W: Write + Drop>(
     ended
 }
 
-/// Has `shell` answer the lines of `reader` before `listener`, with the sessions that `desk` opens, of which none is open after it. No line
-/// is read where there is no memory for the list of them.
+/// Has `shell` answer the lines of `reader` before `listener`, with the sessions that `desk` opens, of which none is open after it. Where
+/// `reuse`, the numbers of closed ones are given out again. No line is read where there is no memory for the list of them.
 fn converse_at<
+    T: PartTable,
+    B: Board<T>,
+    D: Desk<OwnSession<T, B>> + Drop,
+    H: Wait,
+    R: Read + Drop,
+    L: Listener + Drop,
+>(
+    rt: &H,
+    desk: D,
+    reader: R,
+    listener: L,
+    shell: Shell,
+    reuse: bool,
+) -> Result<(D, Result<(), Fault>), AllocError>
+    requires seats { SeatsAre B.seat D.seat }
+    requires sees { SeesSessions D.database_of D.entries }
+    requires none_issued { D.issued desk ≡ 0 }
+    requires none_live { D.live desk ≡ 0 }
+    ensures manager { IfOk result (λ played. D.manager played.0 ≡ D.manager desk) }
+    ensures none_live { IfOk result (λ played. D.live played.0 ≡ 0) }
+{
+    if reuse {
+        converse_reusing(rt, desk, reader, listener, shell)
+    } else {
+        converse_once(rt, desk, reader, listener, shell)
+    }
+}
+
+/// Has `shell` answer the lines of `reader` before `listener` as `converse_at` does, with the sessions that `desk` opens. Each number is given out
+/// once.
+fn converse_once<
     T: PartTable,
     B: Board<T>,
     D: Desk<OwnSession<T, B>> + Drop,
@@ -139,7 +185,7 @@ fn converse_at<
     ensures manager { IfOk result (λ played. D.manager played.0 ≡ D.manager desk) }
     ensures none_live { IfOk result (λ played. D.live played.0 ≡ 0) }
 {
-    let mut scene = Scene::new(shell.alloc, desk, listener)?;
+    let mut scene = Scene::new(shell.alloc, OnceDesk { desk }, listener)?;
     let ended = converse(rt, &mut scene, reader, shell);
     scene.stage.close_all(rt);
     let Scene { stage, listener: _ } = scene;
@@ -149,6 +195,44 @@ fn converse_at<
         sessions,
     } = stage;
     sessions.finish();
+    Ok((desk.desk, ended))
+}
+
+/// Has `shell` answer the lines of `reader` before `listener` as `converse_at` does, with the sessions that `desk` opens. The numbers of closed ones
+/// are given out again.
+fn converse_reusing<
+    T: PartTable,
+    B: Board<T>,
+    D: Desk<OwnSession<T, B>> + Drop,
+    H: Wait,
+    R: Read + Drop,
+    L: Listener + Drop,
+>(
+    rt: &H,
+    desk: D,
+    reader: R,
+    listener: L,
+    shell: Shell,
+) -> Result<(D, Result<(), Fault>), AllocError>
+    requires seats { SeatsAre B.seat D.seat }
+    requires sees { SeesSessions D.database_of D.entries }
+    requires none_issued { D.issued desk ≡ 0 }
+    requires none_live { D.live desk ≡ 0 }
+    ensures manager { IfOk result (λ played. D.manager played.0 ≡ D.manager desk) }
+    ensures none_live { IfOk result (λ played. D.live played.0 ≡ 0) }
+{
+    let mut scene = Scene::reusing(shell.alloc, desk, listener)?;
+    let ended = converse(rt, &mut scene, reader, shell);
+    scene.stage.close_all(rt);
+    let Scene { stage, listener: _ } = scene;
+    let Stage {
+        desk,
+        names: _,
+        sessions,
+    } = stage;
+    sessions.finish();
+    let ReusingDesk { mut desk, pool } = desk;
+    pool.end(rt, &mut desk);
     Ok((desk, ended))
 }
 
@@ -157,7 +241,7 @@ fn converse_at<
 fn converse<
     T: PartTable,
     B: Board<T>,
-    D: Desk<OwnSession<T, B>>,
+    D: ScriptDesk<OwnSession<T, B>>,
     L: Listener,
     H: Wait,
     R: Read + Drop,
@@ -204,7 +288,7 @@ fn pass_over<L: Listener>(listener: &mut L, fault: Fault) -> Result<(), Fault> {
 }
 
 /// Answers `line` in `scene` by `shell`, and says whether it ends that.
-fn answer<T: PartTable, B: Board<T>, D: Desk<OwnSession<T, B>>, L: Listener, H: Wait>(
+fn answer<T: PartTable, B: Board<T>, D: ScriptDesk<OwnSession<T, B>>, L: Listener, H: Wait>(
     rt: &H,
     scene: &mut Scene<T, B, D, L>,
     line: &str,
@@ -228,7 +312,7 @@ fn answer<T: PartTable, B: Board<T>, D: Desk<OwnSession<T, B>>, L: Listener, H: 
 }
 
 /// Runs `line`, one of a script, in `scene`, or tells by `shell` what is wrong with it.
-fn answer_line<T: PartTable, B: Board<T>, D: Desk<OwnSession<T, B>>, L: Listener, H: Wait>(
+fn answer_line<T: PartTable, B: Board<T>, D: ScriptDesk<OwnSession<T, B>>, L: Listener, H: Wait>(
     rt: &H,
     scene: &mut Scene<T, B, D, L>,
     line: &str,

@@ -118,7 +118,7 @@ pub fn push_refusals(text: &mut String) -> Result<(), AllocError> {
         (
             Refusal::NoMoreSessions,
             "",
-            "all that may be opened were opened",
+            "no number is left for the session",
         ),
         (Refusal::TooDeep, "", "of begin: 16 levels are the most"),
         (

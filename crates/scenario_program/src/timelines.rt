@@ -8,7 +8,9 @@ use lock_script::{
     Fault, Name, Names, ObjectNames, parse_name, parse_object, parse_owner, split_words,
 };
 use lock_timeline::Timeline;
-use scenario::{Drawing, Listener, Pen, Picture, Row, Said, Style, picture_line, run_in_turn};
+use scenario::{
+    Drawing, Listener, Pen, Picture, Row, Said, Style, Turns, picture_line, run_in_turn,
+};
 use std::alloc::{AllocError, Global};
 use std::io::{Read, Write};
 use std::sync::Wait;
@@ -27,14 +29,17 @@ pub fn draw_script<H: AllocGlobal + Wait, R: Read + Drop, W: Write + Drop>(
     let mut outcome = Outcome::new(rt.alloc());
     let options = RunOptions {
         style,
-        keep: false,
+        turns: Turns {
+            keep: false,
+            reuse: false,
+        },
         summary: false,
         fail_on: FailOn::named(&[]),
     };
     draw_heard_script(rt, reader, writer, config, options, &mut outcome)
 }
 
-/// Draws a script as `draw_script` does, and keeps lines where `options` do. What the run comes to is told to `outcome`.
+/// Draws a script as `draw_script` does, run in turn as `options` say. What the run comes to is told to `outcome`.
 pub fn draw_heard_script<H: AllocGlobal + Wait, R: Read + Drop, W: Write + Drop>(
     rt: &H,
     reader: R,
@@ -52,7 +57,7 @@ pub fn draw_heard_script<H: AllocGlobal + Wait, R: Read + Drop, W: Write + Drop>
         outcome,
         alloc,
     };
-    run_in_turn(rt, reader, draftsman, config, options.keep)?;
+    run_in_turn(rt, reader, draftsman, config, options.turns)?;
     write_sketch(alloc, writer, &sketch, options.style)
 }
 

@@ -43,6 +43,7 @@ Options:
       --json              Print an object of JSON for each line, instead of its text
       --graph <LANGUAGE>  Draw who waits for whom, behind each list or at the end, or the whole script [possible values: mermaid, dot, timeline, gantt]
       --keep              Keep a line whose session waits, and run it once that goes on
+      --reuse             Give the numbers of closed sessions to new ones, the lowest first
       --summary           Tell at the end who waited, for what and behind whom
       --fail-on <WHAT>    End with status 4 on these, with commas between [possible values: waits, refused, stuck]
   -h, --help              Print help

@@ -29,7 +29,7 @@ const TAIL: &str = ".SH REFUSALS\n.nf\n\
     refused 10 strong lock counted            of fast: at the relation\\(aqs counter\n\
     refused 11 not eligible                   of fast: no weak mode on a relation of\n\
     \u{20}                                         the session\\(aqs own database\n\
-    refused 12 no more sessions               all that may be opened were opened\n\
+    refused 12 no more sessions               no number is left for the session\n\
     refused 15 too deep                       of begin: 16 levels are the most\n\
     refused 16 no nested transaction          of subcommit, subabort: there is none\n\
     you don\\(aqt own a lock of type MODE         of unlock, waiters: the lock isn\\(aqt owned\n\

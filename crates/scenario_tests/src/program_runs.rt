@@ -31,7 +31,7 @@ keep writes waiting: 1, by line 1
 ";
 
 /// Words with a run of the program on them.
-pub static RUNS: [(&str, Run<'static>); 22] = [
+pub static RUNS: [(&str, Run<'static>); 27] = [
     ("lock_scenario modes", ("frob", false, 0, MODES, "")),
     ("lock_scenario modes --help", ("", false, 0, MODES_HELP, "")),
     (RUN, ("session a 5\n", false, 0, OPENED, "")),
@@ -42,6 +42,73 @@ pub static RUNS: [(&str, Run<'static>); 22] = [
             false,
             0,
             "a: session 0 database 5\nb: refused 12 no more sessions\n",
+            "",
+        ),
+    ),
+    (
+        "lock_scenario run --sessions 2",
+        (
+            "session a 5\nsession b 5\nclose a\nsession c 6\nlist b\n",
+            false,
+            0,
+            "a: session 0 database 5\nb: session 1 database 5\na: closed\nc: refused 12 no more sessions\nrows 0\n",
+            "",
+        ),
+    ),
+    // whoever has the number next has neither the locks nor the levels of the one before, and is known by its own name
+    (
+        "lock_scenario run --sessions 2 --reuse",
+        (
+            "session a 5\nsession b 5\ntry a 5/16384 AccessExclusiveLock session\nbegin a\nsession c 6\nclose a\n\
+             session c 6\nowned c 5/16384 AccessExclusiveLock\nsubcommit c\ntry c 5/16384 ShareLock\n\
+             try b 5/16384 RowExclusiveLock\nlock b 5/16384 ExclusiveLock\nlist c\nqueue c 5/16384\n\
+             blockers c b 5/16384\nsession d 5\nclose c\n",
+            false,
+            0,
+            "a: session 0 database 5\nb: session 1 database 5\na: granted\na: level 2\nc: refused 12 no more sessions\n\
+             a: closed\nc: session 0 database 6\nc: transaction 0 session 0\nc: refused 16 no nested transaction\n\
+             c: granted\nb: refused 1 conflict c ShareLock held\nb: waits\ntable c 5/16384 ShareLock granted\n\
+             table b 5/16384 ExclusiveLock awaited\nrows 2\nqueue b ExclusiveLock\nwaits 1\n\
+             b waits for c ShareLock held\nd: refused 12 no more sessions\nc: closed\nb: granted after waiting\n",
+            "",
+        ),
+    ),
+    // the lowest free number comes first, and a new one only where none is free
+    (
+        "lock_scenario run --sessions 4 --reuse",
+        (
+            "session a 1\nsession b 2\nsession c 3\nclose c\nclose a\nclose b\nsession d 4\nsession e 5\nsession f 6\n\
+             session g 7\nclose f\nsession h 8\n",
+            false,
+            0,
+            "a: session 0 database 1\nb: session 1 database 2\nc: session 2 database 3\nc: closed\na: closed\nb: closed\n\
+             d: session 0 database 4\ne: session 1 database 5\nf: session 2 database 6\ng: session 3 database 7\n\
+             f: closed\nh: session 2 database 8\n",
+            "",
+        ),
+    ),
+    (
+        "lock_scenario shell --sessions 1",
+        (
+            "session a 5\nclose a\nsession b 5\n",
+            false,
+            0,
+            "a: session 0 database 5\na: closed\nb: refused 12 no more sessions\n",
+            "",
+        ),
+    ),
+    // a bad line changes nothing of who has a number
+    (
+        "lock_scenario shell --sessions 1 --reuse",
+        (
+            "session a 5\ntry a 5/16384 ShareLock session\nsession b 5\nclose b\nclose a\nsession b 6\n\
+             owned b 5/16384 ShareLock\nclose a\nclose b\nsession a 5\n",
+            false,
+            0,
+            "a: session 0 database 5\na: granted\nb: refused 12 no more sessions\n\
+             bad line: no such session \"b\"; open sessions: a\na: closed\nb: session 0 database 6\n\
+             b: transaction 0 session 0\nbad line: no such session \"a\"; open sessions: b\nb: closed\n\
+             a: session 0 database 5\n",
             "",
         ),
     ),

@@ -5,7 +5,7 @@ ghost use Rattle.lock_manager.specs.Crews.{SeatsAre};
 use crate::scripts::{ALL_SESSIONS, expect_run};
 use lock_manager::{Desk, Manager, ManagerDesk, OwnSession};
 use lock_table::PartTable;
-use scenario::{Output, Scene, Stage};
+use scenario::{OnceDesk, Output, Scene, Stage};
 use shared_rule::Board;
 use std::alloc::Global;
 use std::process::Abort;
@@ -73,7 +73,7 @@ fn play_in_turn<T: PartTable, B: Board<T>, D: Desk<OwnSession<T, B>> + Drop, R: 
     requires none_issued { D.issued desk ≡ 0 }
     requires none_live { D.live desk ≡ 0 }
 {
-    let mut scene = Scene::new(alloc, desk, Output::new(output))?;
+    let mut scene = Scene::new(alloc, OnceDesk { desk }, Output::new(output))?;
     'turns: for turn in &IN_TURN {
         let (script, is_good) = *turn;
         let ended = scene.play(rt, script.as_bytes());

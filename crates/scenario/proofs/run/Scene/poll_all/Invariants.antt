@@ -4,7 +4,7 @@ use Rattle.scenario.proofs.run.Scene.poll_all.Given as goal
 
 abbrev pub invariant-passes : goal.invariant-passes
 invariant-passes g l = record {
-  manager : g.D.Desk.manager l.self.stage.desk ≡ g.D.Desk.manager l.fn.self.stage.desk;
+  manager : g.D.ScriptDesk.manager l.self.stage.desk ≡ g.D.ScriptDesk.manager l.fn.self.stage.desk;
   gone_on : HaveGoneOn g.B.Board.seat g.B.Board.view g.B.Board.stack g.L.Listener.hears (record { sessions = l.fn.self.stage.sessions; names = l.fn.self.stage.names }) l.fn.self.listener
       (record { sessions = l.self.stage.sessions; names = l.self.stage.names }) l.self.listener;
 }

@@ -4,7 +4,7 @@ use Rattle.scenario.proofs.run.Scene.poll_each.Given as goal
 
 abbrev pub invariant-places : goal.invariant-places
 invariant-places g l = record {
-  manager : g.D.Desk.manager l.self.stage.desk ≡ g.D.Desk.manager l.fn.self.stage.desk;
+  manager : g.D.ScriptDesk.manager l.self.stage.desk ≡ g.D.ScriptDesk.manager l.fn.self.stage.desk;
   no_more : length l.self.stage.sessions.waiting ≤ length l.fn.self.stage.sessions.waiting;
   fewer : l.went_on ≡ true → length l.self.stage.sessions.waiting < length l.fn.self.stage.sessions.waiting;
   names : l.self.stage.names ≡ l.fn.self.stage.names;

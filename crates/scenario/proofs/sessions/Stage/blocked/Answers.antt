@@ -1,10 +1,11 @@
 use Rattle.std.proofs.Common.{◌≡◌, ℕ, ◌+◌, ◌∙◌, ap, length, refl, subst, sym}
 use Rattle.std.proofs.lemmas.Result.{IfOk-weaker}
-use Rattle.shared_rule.specs.Boards.{Seated}
 use Rattle.lock_script.proofs.Lending.{All-called, length-with_session}
 use Rattle.lock_script.specs.Lending.{with_session}
 use Rattle.scenario.specs.Answered.{TellsBlockedAt}
 use Rattle.scenario.specs.Waits.{TellsBlocked}
+use Rattle.scenario.specs.Numbers.{IsKnown}
+use Rattle.scenario.proofs.Numbers.{kept-known}
 use Rattle.scenario.proofs.sessions.Stage.blocked.Goals as goal
 
 pub invariant_of-self-clause-counted : goal.invariant_of-self-clause-counted
@@ -14,8 +15,8 @@ invariant_of-self-clause-counted g c =
 pub invariant_of-self-clause-waiting : goal.invariant_of-self-clause-waiting
 invariant_of-self-clause-waiting g c =
     All-called c.args.self.now.sessions.waiting c.args.place c.session_mut-waiting.result.now c.tell_blocked.new.waiting c.requires c.session_mut-waiting.ensures.value
-    (λ waiting. (g.B.Board.seat waiting.board).table ≡ (g.D.Desk.manager c.args.self.now.desk).table) c.args.self.now.waiting
-    (λ h. ap (λ (seat : Seated). seat.table) c.tell_blocked.ensures.seat ∙ h)
+    (λ waiting. IsKnown (g.B.Board.seat waiting.board) (g.D.ScriptDesk.manager c.args.self.now.desk) (g.D.ScriptDesk.issued c.args.self.now.desk)) c.args.self.now.waiting
+    (λ h. kept-known _ _ _ _ c.tell_blocked.ensures.seat h)
 
 pub returns-clause-told : goal.returns-clause-told
 returns-clause-told g c = IfOk-weaker c.tell_blocked.result

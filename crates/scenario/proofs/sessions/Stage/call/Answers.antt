@@ -1,7 +1,8 @@
 use Rattle.std.proofs.Common.{◌≡◌, ℕ, ◌+◌, ◌∙◌, ap, length, refl, subst, sym}
-use Rattle.shared_rule.specs.Boards.{Seated}
 use Rattle.lock_script.proofs.Lending.{All-called, length-with_session}
 use Rattle.scenario.specs.Made.{IsMade}
+use Rattle.scenario.specs.Numbers.{IsKnown}
+use Rattle.scenario.proofs.Numbers.{kept-known}
 use Rattle.scenario.proofs.sessions.Stage.call.Goals as goal
 
 pub invariant_of-self-clause-counted : goal.invariant_of-self-clause-counted
@@ -11,8 +12,8 @@ invariant_of-self-clause-counted g c =
 pub invariant_of-self-clause-resting : goal.invariant_of-self-clause-resting
 invariant_of-self-clause-resting g c =
     All-called c.args.self.now.sessions.resting c.args.caller.place c.session_mut-session.result.now c.make.new.session c.requires.place c.session_mut-session.ensures.value
-    (λ session. (g.B.Board.seat session.board).table ≡ (g.D.Desk.manager c.args.self.now.desk).table) c.args.self.now.resting
-    (λ h. ap (λ (seat : Seated). seat.table) c.make.ensures.seat ∙ h)
+    (λ session. IsKnown (g.B.Board.seat session.board) (g.D.ScriptDesk.manager c.args.self.now.desk) (g.D.ScriptDesk.issued c.args.self.now.desk)) c.args.self.now.resting
+    (λ h. kept-known _ _ _ _ c.make.ensures.seat h)
 
 pub returns-clause-called : goal.returns-clause-called
 returns-clause-called g c = record {

@@ -1,16 +1,16 @@
 use Rattle.std.proofs.Common.{◌≡◌, ◌∙◌, ap, arith}
-use Rattle.shared_rule.specs.Boards.{Seated}
 use Rattle.lock_script.proofs.SessionLemmas.{All-first, All-rest, length-rest}
+use Rattle.scenario.specs.Numbers.{IsKnown}
+use Rattle.scenario.proofs.Numbers.{kept-known}
 use Rattle.scenario.proofs.sessions.Stage.close_all.Goals as goal
 
 pub close-requires : goal.close-requires
 close-requires g c =
-    let own =
-    ap (λ (seat : Seated). seat.table) (c.requires.seats c.in-Some.first.session) ∙
-    All-first c.sessions.self.sessions.resting c.take_first.new.self c.in-Some.first c.in-Some.ensures.first
-    (λ one. (g.B.Board.seat one.session.board).table ≡ (g.D.Desk.manager c.sessions.self.desk).table) c.sessions.self.resting
-    in
-    record { own = own }
+    let known = kept-known _ _ _ _ (c.requires.seats c.in-Some.first.session)
+    (All-first c.sessions.self.sessions.resting c.take_first.new.self c.in-Some.first c.in-Some.ensures.first
+    (λ one. IsKnown (g.B.Board.seat one.session.board) (g.D.ScriptDesk.manager c.sessions.self.desk) (g.D.ScriptDesk.issued c.sessions.self.desk)) c.sessions.self.resting) in
+    let left = length-rest c.sessions.self.sessions.resting c.take_first.new.self c.in-Some.first c.in-Some.ensures.first in
+    record { own = known.table; known = known.number; some = omega (arith, left, c.sessions.self.counted) }
 
 pub invariant_of-self-clause-counted : goal.invariant_of-self-clause-counted
 invariant_of-self-clause-counted g c =
@@ -19,9 +19,9 @@ invariant_of-self-clause-counted g c =
 
 pub invariant_of-self-clause-resting : goal.invariant_of-self-clause-resting
 invariant_of-self-clause-resting g c =
-    rw c.close.ensures.manager
+    rw (c.close.ensures.manager, c.close.ensures.issued)
     (All-rest c.sessions.self.sessions.resting c.take_first.new.self c.in-Some.first c.in-Some.ensures.first
-    (λ one. (g.B.Board.seat one.session.board).table ≡ (g.D.Desk.manager c.sessions.self.desk).table) c.sessions.self.resting)
+    (λ one. IsKnown (g.B.Board.seat one.session.board) (g.D.ScriptDesk.manager c.sessions.self.desk) (g.D.ScriptDesk.issued c.sessions.self.desk)) c.sessions.self.resting)
 
 pub invariant_of-self-clause-waiting : goal.invariant_of-self-clause-waiting
-invariant_of-self-clause-waiting g c = rw c.close.ensures.manager c.sessions.self.waiting
+invariant_of-self-clause-waiting g c = rw (c.close.ensures.manager, c.close.ensures.issued) c.sessions.self.waiting

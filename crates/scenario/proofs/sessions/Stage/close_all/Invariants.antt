@@ -3,7 +3,7 @@ use Rattle.scenario.proofs.sessions.Stage.close_all.Given as goal
 
 abbrev pub invariant-sessions : goal.invariant-sessions
 invariant-sessions g l = record {
-  manager : g.D.Desk.manager l.self.desk ≡ g.D.Desk.manager l.fn.self.desk;
+  manager : g.D.ScriptDesk.manager l.self.desk ≡ g.D.ScriptDesk.manager l.fn.self.desk;
   none_waits : l.self.sessions.waiting ≡ [];
 }
 

@@ -1,36 +1,82 @@
-use Rattle.std.proofs.Common.{◌≡◌, ◌∙◌, ℕ, ap, arith, inl, inr, refl, sym}
-use Rattle.shared_rule.specs.Boards.{Seated}
+use Rattle.std.proofs.Common.{◌≡◌, ◌∙◌, ℕ, ap, arith, inl, inr, refl, subst, sym}
+use Rattle.std.proofs.lemmas.List.Elements.{All-weaker}
 use Rattle.lock_script.proofs.SessionLemmas.{All-put, length-put}
+use Rattle.shared_rule.specs.Boards.{Seated}
+use Rattle.scenario.specs.Numbers.{IsKnown, IsNamed, IsNumbered}
 use Rattle.scenario.specs.declared.answers.Answer.TheVariants as answer
 use Rattle.scenario.specs.declared.answers.Said.TheVariants as said
+use Rattle.scenario.proofs.Numbers.{few-issued, issued-grows, known-later, length-named, named-so, number-within, number-within_names}
 use Rattle.scenario.proofs.sessions.Stage.open.Goals as goal
+
+pub put-requires : goal.put-requires
+put-requires g c =
+    let number = c.id-session.ensures ∙ ap (λ (seat : Seated). seat.number) (sym (c.requires.seats c.in-Ok.opened)) in
+    let below = number-within_names g.D.ScriptDesk.again _ _ _ c.in-Ok.ensures.numbered in
+    omega (arith, number, below, c.args.self.now.named)
+
+pub put-requires-in-Ok : goal.put-requires-in-Ok
+put-requires-in-Ok g c =
+    let few = few-issued g.D.ScriptDesk.again _ _ _ c.in-Ok.ensures.numbered c.args.self.now.few in
+    let within = c.in-Ok.ensures.within c.args.self.now.within in
+    omega (arith, few, within, c.in-Ok.ensures.live, c.args.self.now.counted)
+
+pub invariant_of-self-clause-named : goal.invariant_of-self-clause-named
+invariant_of-self-clause-named g c =
+    let number = c.id-session.ensures ∙ ap (λ (seat : Seated). seat.number) (sym (c.requires.seats c.in-Ok.opened)) in
+    let numbered = subst (λ (n : ℕ). IsNumbered g.D.ScriptDesk.again n (g.D.ScriptDesk.issued c.args.self.now.desk) (g.D.ScriptDesk.issued c.open.new.self))
+    (sym number) c.in-Ok.ensures.numbered in
+    length-named g.D.ScriptDesk.again c.id-session.result _ _ c.args.name c.args.self.now.names.sessions c.put.new.self numbered c.args.self.now.named
+    c.put.ensures.next c.put.ensures.again
+
+pub invariant_of-self-clause-few : goal.invariant_of-self-clause-few
+invariant_of-self-clause-few g c = few-issued g.D.ScriptDesk.again _ _ _ c.in-Ok.ensures.numbered c.args.self.now.few
+
+pub invariant_of-self-clause-within : goal.invariant_of-self-clause-within
+invariant_of-self-clause-within g c = c.in-Ok.ensures.within c.args.self.now.within
 
 pub invariant_of-self-clause-counted : goal.invariant_of-self-clause-counted
 invariant_of-self-clause-counted g c =
-    let more = length-put c.args.self.now.sessions.resting c.put.new.self (record { name = c.args.name; session = c.in-Ok.opened }) c.put.ensures in
+    let more = length-put c.args.self.now.sessions.resting c.put-in-Ok.new.self (record { name = c.args.name; session = c.in-Ok.opened }) c.put-in-Ok.ensures in
     omega (arith, c.in-Ok.ensures.live, more, c.args.self.now.counted)
 
 pub invariant_of-self-clause-resting : goal.invariant_of-self-clause-resting
 invariant_of-self-clause-resting g c =
-    rw c.open.ensures.manager
-    (All-put c.args.self.now.sessions.resting c.put.new.self (record { name = c.args.name; session = c.in-Ok.opened }) c.put.ensures
-    (λ one. (g.B.Board.seat one.session.board).table ≡ (g.D.Desk.manager c.args.self.now.desk).table) c.args.self.now.resting
-    (ap (λ (seat : Seated). seat.table) (sym (c.requires.seats c.in-Ok.opened)) ∙ c.in-Ok.ensures.own))
+    let seat = sym (c.requires.seats c.in-Ok.opened) in
+    let table = ap (λ (seat : Seated). seat.table) seat ∙ c.in-Ok.ensures.own ∙ sym (ap (λ manager. manager.table) c.open.ensures.manager) in
+    let below = number-within g.D.ScriptDesk.again _ _ _ c.in-Ok.ensures.numbered in
+    let number = ap (λ (seat : Seated). seat.number) seat in
+    All-put c.args.self.now.sessions.resting c.put-in-Ok.new.self (record { name = c.args.name; session = c.in-Ok.opened }) c.put-in-Ok.ensures
+    (λ one. IsKnown (g.B.Board.seat one.session.board) (g.D.ScriptDesk.manager c.open.new.self) (g.D.ScriptDesk.issued c.open.new.self))
+    (All-weaker (λ one. IsKnown (g.B.Board.seat one.session.board) (g.D.ScriptDesk.manager c.args.self.now.desk) (g.D.ScriptDesk.issued c.args.self.now.desk))
+    (λ one. IsKnown (g.B.Board.seat one.session.board) (g.D.ScriptDesk.manager c.open.new.self) (g.D.ScriptDesk.issued c.open.new.self))
+    (λ one known. known-later _ _ _ _ _ c.open.ensures.manager (issued-grows g.D.ScriptDesk.again _ _ _ c.in-Ok.ensures.numbered) known)
+    c.args.self.now.sessions.resting c.args.self.now.resting)
+    (record { table = table; number = omega (arith, below, number) })
 
 pub invariant_of-self-clause-waiting : goal.invariant_of-self-clause-waiting
-invariant_of-self-clause-waiting g c = rw c.open.ensures.manager c.args.self.now.waiting
+invariant_of-self-clause-waiting g c =
+    All-weaker (λ one. IsKnown (g.B.Board.seat one.session.board) (g.D.ScriptDesk.manager c.args.self.now.desk) (g.D.ScriptDesk.issued c.args.self.now.desk))
+    (λ one. IsKnown (g.B.Board.seat one.session.board) (g.D.ScriptDesk.manager c.open.new.self) (g.D.ScriptDesk.issued c.open.new.self))
+    (λ one known. known-later _ _ _ _ _ c.open.ensures.manager (issued-grows g.D.ScriptDesk.again _ _ _ c.in-Ok.ensures.numbered) known)
+    c.args.self.now.sessions.waiting c.args.self.now.waiting
 
 pub returns-in-Ok-clause-opened : goal.returns-in-Ok-clause-opened
-returns-in-Ok-clause-opened g c = inl (record {
-  session = c.in-Ok.opened;
-  of_database = c.in-Ok.ensures.database;
-  nothing = c.in-Ok.ensures.nothing;
-  answered = ap (λ (number : ℕ). answer.Said c.args.name (said.Opened number c.args.database)) c.id-session.ensures;
-  joins = c.put.ensures;
-  waiting = refl;
-  names = c.push.ensures;
-  objects = refl;
-})
+returns-in-Ok-clause-opened g c =
+    let number = c.id-session.ensures ∙ ap (λ (seat : Seated). seat.number) (sym (c.requires.seats c.in-Ok.opened)) in
+    let numbered = subst (λ (n : ℕ). IsNumbered g.D.ScriptDesk.again n (g.D.ScriptDesk.issued c.args.self.now.desk) (g.D.ScriptDesk.issued c.open.new.self))
+    (sym number) c.in-Ok.ensures.numbered in
+    let named = named-so g.D.ScriptDesk.again c.id-session.result _ _ c.args.name c.args.self.now.names.sessions c.put.new.self numbered c.args.self.now.named
+    c.put.ensures.next c.put.ensures.again in
+    inl (record {
+      session = c.in-Ok.opened;
+      of_database = c.in-Ok.ensures.database;
+      nothing = c.in-Ok.ensures.nothing;
+      answered = ap (λ (number : ℕ). answer.Said c.args.name (said.Opened number c.args.database)) c.id-session.ensures;
+      joins = c.put-in-Ok.ensures;
+      waiting = refl;
+      names = subst (λ (n : ℕ). IsNamed g.D.ScriptDesk.again n c.args.name c.args.self.now.names.sessions c.put.new.self) c.id-session.ensures named;
+      objects = refl;
+    })
 
 pub returns-in-Err-clause-opened : goal.returns-in-Err-clause-opened
 returns-in-Err-clause-opened g c = inr (record {

@@ -1,6 +1,7 @@
 use Rattle.std.proofs.Common.{◌≡◌, ℕ, ◌+◌, ◌∙◌, ap, length, refl, sym}
-use Rattle.shared_rule.specs.Boards.{Seated}
 use Rattle.lock_script.proofs.Lending.{All-called, length-with_session}
+use Rattle.scenario.specs.Numbers.{IsKnown}
+use Rattle.scenario.proofs.Numbers.{kept-known}
 use Rattle.scenario.proofs.sessions.Stage.picture.Goals as goal
 
 pub invariant_of-self-clause-counted : goal.invariant_of-self-clause-counted
@@ -10,8 +11,8 @@ invariant_of-self-clause-counted g c =
 pub invariant_of-self-clause-resting : goal.invariant_of-self-clause-resting
 invariant_of-self-clause-resting g c =
     All-called c.args.self.now.sessions.resting c.args.place c.session_mut-session.result.now c.draw.new.session c.requires c.session_mut-session.ensures.value
-    (λ session. (g.B.Board.seat session.board).table ≡ (g.D.Desk.manager c.args.self.now.desk).table) c.args.self.now.resting
-    (λ h. ap (λ (seat : Seated). seat.table) c.draw.ensures.seat ∙ h)
+    (λ session. IsKnown (g.B.Board.seat session.board) (g.D.ScriptDesk.manager c.args.self.now.desk) (g.D.ScriptDesk.issued c.args.self.now.desk)) c.args.self.now.resting
+    (λ h. kept-known _ _ _ _ c.draw.ensures.seat h)
 
 pub returns-clause-looked : goal.returns-clause-looked
 returns-clause-looked g c = (c.draw.new.session, refl)

@@ -1,8 +1,9 @@
 use Rattle.std.proofs.Common.{◌≡◌, ℕ, ◌+◌, ◌∙◌, ap, arith, length, refl, subst, sym}
-use Rattle.shared_rule.specs.Boards.{Seated}
 use Rattle.lock_script.proofs.Lending.{All-with_session, length-with_session, put_back-in_order, put_back-there}
 use Rattle.lock_script.proofs.SessionLemmas.{All-left, length-left, All-put, length-put, taken}
 use Rattle.scenario.specs.Waits.{GoesOn, LooksOn}
+use Rattle.scenario.specs.Numbers.{IsKnown}
+use Rattle.scenario.proofs.Numbers.{kept-known}
 use Rattle.scenario.proofs.sessions.Stage.poll.Goals as goal
 
 pub invariant_of-self-clause-counted : goal.invariant_of-self-clause-counted
@@ -14,13 +15,13 @@ invariant_of-self-clause-counted g c =
 pub invariant_of-self-clause-resting : goal.invariant_of-self-clause-resting
 invariant_of-self-clause-resting g c =
     All-put c.args.self.now.sessions.resting c.put.new.self (record { name = c.take-name.result.name; session = c.in-Ok.session }) c.put.ensures
-    (λ one. (g.B.Board.seat one.session.board).table ≡ (g.D.Desk.manager c.args.self.now.desk).table) c.args.self.now.resting
-    (ap (λ (seat : Seated). seat.table) c.in-Ok.ensures.rests ∙
-    taken (λ one. (g.B.Board.seat one.session.board).table ≡ (g.D.Desk.manager c.args.self.now.desk).table) c.args.self.now.sessions.waiting c.args.place c.take-name.result c.requires c.args.self.now.waiting c.take-name.ensures.taken)
+    (λ one. IsKnown (g.B.Board.seat one.session.board) (g.D.ScriptDesk.manager c.args.self.now.desk) (g.D.ScriptDesk.issued c.args.self.now.desk)) c.args.self.now.resting
+    (kept-known _ _ _ _ c.in-Ok.ensures.rests
+    (taken (λ one. IsKnown (g.B.Board.seat one.session.board) (g.D.ScriptDesk.manager c.args.self.now.desk) (g.D.ScriptDesk.issued c.args.self.now.desk)) c.args.self.now.sessions.waiting c.args.place c.take-name.result c.requires c.args.self.now.waiting c.take-name.ensures.taken))
 
 pub invariant_of-self-clause-waiting : goal.invariant_of-self-clause-waiting
 invariant_of-self-clause-waiting g c =
-    All-left c.args.self.now.sessions.waiting c.take-name.new.self c.args.place c.requires c.take-name.ensures.left (λ one. (g.B.Board.seat one.session.board).table ≡ (g.D.Desk.manager c.args.self.now.desk).table) c.args.self.now.waiting
+    All-left c.args.self.now.sessions.waiting c.take-name.new.self c.args.place c.requires c.take-name.ensures.left (λ one. IsKnown (g.B.Board.seat one.session.board) (g.D.ScriptDesk.manager c.args.self.now.desk) (g.D.ScriptDesk.issued c.args.self.now.desk)) c.args.self.now.waiting
 
 pub put_at-requires-clause-within : goal.put_at-requires-clause-within
 put_at-requires-clause-within g c =
@@ -45,10 +46,10 @@ invariant_of-self-in-Err-clause-waiting g c =
     c.take-name.ensures.taken c.take-name.ensures.left c.put_at.ensures in
     rw there
     (All-with_session c.args.self.now.sessions.waiting c.args.place c.in-Err.waiting
-    (λ session. (g.B.Board.seat session.board).table ≡ (g.D.Desk.manager c.args.self.now.desk).table) c.args.self.now.waiting
-    (ap (λ (seat : Seated). seat.table) c.in-Err.ensures.waits ∙
-    taken (λ one. (g.B.Board.seat one.session.board).table ≡ (g.D.Desk.manager c.args.self.now.desk).table) c.args.self.now.sessions.waiting c.args.place c.take-name.result c.requires
-    c.args.self.now.waiting c.take-name.ensures.taken))
+    (λ session. IsKnown (g.B.Board.seat session.board) (g.D.ScriptDesk.manager c.args.self.now.desk) (g.D.ScriptDesk.issued c.args.self.now.desk)) c.args.self.now.waiting
+    (kept-known _ _ _ _ c.in-Err.ensures.waits
+    (taken (λ one. IsKnown (g.B.Board.seat one.session.board) (g.D.ScriptDesk.manager c.args.self.now.desk) (g.D.ScriptDesk.issued c.args.self.now.desk)) c.args.self.now.sessions.waiting c.args.place c.take-name.result c.requires
+    c.args.self.now.waiting c.take-name.ensures.taken)))
 
 pub returns-in-Ok-clause-polled : goal.returns-in-Ok-clause-polled
 returns-in-Ok-clause-polled g c = record {

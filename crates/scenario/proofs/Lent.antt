@@ -1,0 +1,23 @@
+-- The sessions that nobody has, of which one is lent.
+use Rattle.std.proofs.Common.{◌≡◌, ℕ, ◌+◌, ap, arith, subst, sym, List, Some, length}
+use Rattle.std.specs.Prelude.{All, slice_get}
+use Rattle.std.specs.List.{remove}
+use Rattle.std.proofs.lemmas.List.Edits.{length-remove}
+use Rattle.std.proofs.lemmas.Option.{get_or_from_slice_get, slice_get_within}
+use Rattle.lock_script.proofs.SessionLemmas.{All-remove}
+
+module _ {X : Type 0} (P : X → Type 0) (free : List X) (place : ℕ) (lent : X) where
+  -- of the one that is lent
+  pub lent-so : slice_get free place ≡ Some lent → All P free → P lent
+  lent-so there each = subst P (get_or_from_slice_get free place lent lent there) (each place lent (slice_get_within free place lent there))
+
+  -- of those that are left
+  pub left-so : (left : List X) → slice_get free place ≡ Some lent → left ≡ remove free place → All P free → All P left
+  left-so left there e each = subst (λ (those : List X). All P those) (sym e) (All-remove P free place (slice_get_within free place lent there) each)
+
+-- which are one fewer
+pub one-less : {X : Type 0} (free left : List X) (place : ℕ) (lent : X) → slice_get free place ≡ Some lent → left ≡ remove free place → length left + 1 ≡ length free
+one-less {X} free left place lent there e =
+    let same = ap (λ (those : List X). length those) e in
+    let fewer = length-remove free place (slice_get_within free place lent there) in
+    omega (arith, same, fewer)

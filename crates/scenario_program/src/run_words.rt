@@ -1,0 +1,79 @@
+//! The words of `run` that say how its script is run, and what is shown and told of it.
+
+use crate::options::{FAILURES, FailOn, RunOptions};
+use clap::{Arg, ArgAction, ArgMatches, Command};
+use scenario::{DRAWINGS, Drawing, Style, Turns};
+use std::alloc::{AllocError, Global};
+
+/// The subcommand `run` with the options of what it shows.
+pub fn with_styles<'a>(alloc: Global, run: Command<'a>) -> Result<Command<'a>, AllocError> {
+    let echo = Arg::new(alloc, "echo")
+        .long("echo")
+        .help("Print each line of the script before its answers")
+        .action(ArgAction::SetTrue);
+    let json = Arg::new(alloc, "json")
+        .long("json")
+        .help("Print an object of JSON for each line, instead of its text")
+        .action(ArgAction::SetTrue);
+    let graph = Arg::new(alloc, "graph")
+        .long("graph")
+        .value_name("LANGUAGE")
+        .help("Draw who waits for whom, behind each list or at the end, or the whole script")
+        .value_parser(DRAWINGS.as_slice());
+    run.arg(echo)?.arg(json)?.arg(graph)
+}
+
+/// The option by which the numbers of closed sessions are given out again.
+pub const REUSE: &str = "reuse";
+
+/// The argument `--reuse`.
+pub fn reuse_argument<'a>(alloc: Global) -> Arg<'a> {
+    Arg::new(alloc, REUSE)
+        .long(REUSE)
+        .help("Give the numbers of closed sessions to new ones, the lowest first")
+        .action(ArgAction::SetTrue)
+}
+
+/// The subcommand `run` with the options of how its script is run, what is told at its end, and what it fails for.
+pub fn with_manners<'a>(alloc: Global, run: Command<'a>) -> Result<Command<'a>, AllocError> {
+    let keep = Arg::new(alloc, "keep")
+        .long("keep")
+        .help("Keep a line whose session waits, and run it once that goes on")
+        .action(ArgAction::SetTrue);
+    let fail_on = Arg::new(alloc, "fail-on")
+        .long("fail-on")
+        .value_name("WHAT")
+        .help("End with status 4 on these, with commas between")
+        .value_delimiter(',')
+        .value_parser(FAILURES.as_slice());
+    let summary = Arg::new(alloc, "summary")
+        .long("summary")
+        .help("Tell at the end who waited, for what and behind whom")
+        .action(ArgAction::SetTrue);
+    run.arg(keep)?
+        .arg(reuse_argument(alloc))?
+        .arg(summary)?
+        .arg(fail_on)
+}
+
+/// How `words` ask for a run.
+pub fn run_options_of(words: &ArgMatches) -> RunOptions {
+    RunOptions {
+        style: style_of(words),
+        turns: Turns {
+            keep: words.get_flag("keep"),
+            reuse: words.get_flag(REUSE),
+        },
+        summary: words.get_flag("summary"),
+        fail_on: FailOn::named(words.get_strs("fail-on").unwrap_or(&[])),
+    }
+}
+
+/// The style that `words` ask for.
+fn style_of(words: &ArgMatches) -> Style {
+    Style {
+        echo: words.get_flag("echo"),
+        json: words.get_flag("json"),
+        graph: words.get_one::<Drawing>("graph"),
+    }
+}
