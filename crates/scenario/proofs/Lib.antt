@@ -1,6 +1,7 @@
 pub mod Deeds
 mod Numbers
 mod Hearing
+mod InTurn
 mod Lent
 mod Lines
 mod Playing

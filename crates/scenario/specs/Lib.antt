@@ -12,6 +12,7 @@ pub mod Heard
 pub mod Polled
 pub mod Played
 pub mod Scripts
+pub mod InTurn
 pub mod Printed
 pub mod Written
 pub mod Summaries

@@ -17,6 +17,11 @@ use Rattle.scenario.specs.Played.{Plays}
 
 -- What is heard of a script: its lines one by one, in their order, and behind each what it is answered. A bad line ends it.
 
+-- a line of a script: its number and its text
+pub record ScriptLine : Type 0 where
+  pub number : ℕ
+  pub text : List ℕ
+
 -- the words of a line, as far as a command is long
 abbrev pub words_in : List ℕ → List (List ℕ)
 words_in text = take 6 (words_of text)
@@ -66,6 +71,10 @@ module _
       (IsSilent (words_in text) × (heard ≡ Line number text ∷ []) × (new ≡ old))
       ⊎ ((command : Command) × Means old.sessions old.names.objects (words_in text) command
       × ((answers : List Heard) × (heard ≡ Line number text ∷ answers) × Plays seat view stack again database_of entries old command answers new))
+
+  -- A line is run: it is heard and played, once.
+  abbrev pub RunsLine : Cast B → ScriptLine → Cast B → Type 0
+  RunsLine old line new = (heard : List Heard) × PlaysLine line.number old line.text heard new
 
   -- These lines are, one after another, each once. The first one has this number.
   abbrev pub PlaysLines : ℕ → Cast B → List (List ℕ) → List Heard → Cast B → Type 0

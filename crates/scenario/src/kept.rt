@@ -1,6 +1,8 @@
 //! Runs in which a line whose session waits is kept until that goes on.
-ghost use Rattle.std.specs.Prelude.{◌≡◌, []};
+ghost use Rattle.std.specs.Prelude.{◌≡◌, [], OnOk};
 ghost use Rattle.lock_manager.specs.Crews.{SeatsAre};
+ghost use Rattle.scenario.specs.InTurn.{IsKept, RunsKept, TakesIn};
+ghost use Rattle.scenario.specs.Scripts.{RunsLine};
 ghost use Rattle.scenario.specs.Sizes.{IsForManager};
 
 use crate::desks::ScriptDesk;
@@ -129,6 +131,9 @@ impl<T: PartTable, B: Board<T>, D: ScriptDesk<OwnSession<T, B>>, L: Listener> Sc
         line: ReadLine<'_>,
     ) -> Result<(), Fault>
         requires seats { SeatsAre B.seat D.seat }
+        ensures taken { OnOk result (TakesIn (RunsLine B.seat B.view B.stack D.again D.database_of D.entries)
+            (record { sessions = self.old.stage.sessions; names = self.old.stage.names }) kept.old (record { number = line.entry.number; text = line.entry.text.now })
+            (record { sessions = self.new.stage.sessions; names = self.new.stage.names }) kept.new) }
         ensures manager { D.manager self.new.stage.desk ≡ D.manager self.old.stage.desk }
     {
         match kept.session_before(line.text, &self.stage.sessions) {
@@ -148,6 +153,8 @@ impl<T: PartTable, B: Board<T>, D: ScriptDesk<OwnSession<T, B>>, L: Listener> Sc
         session: Name,
         line: ReadLine<'_>,
     ) -> Result<(), Fault>
+        ensures kept { OnOk result (IsKept kept.old (record { number = line.entry.number; text = line.entry.text.now }) kept.new) }
+        ensures stage { self.new.stage ≡ self.old.stage }
         ensures manager { D.manager self.new.stage.desk ≡ D.manager self.old.stage.desk }
     {
         let stage = &self.stage;
@@ -166,6 +173,9 @@ impl<T: PartTable, B: Board<T>, D: ScriptDesk<OwnSession<T, B>>, L: Listener> Sc
         more: bool,
     ) -> Result<(), Fault>
         requires seats { SeatsAre B.seat D.seat }
+        ensures ran { OnOk result (RunsKept (RunsLine B.seat B.view B.stack D.again D.database_of D.entries)
+            (record { sessions = self.old.stage.sessions; names = self.old.stage.names }) kept.old
+            (record { sessions = self.new.stage.sessions; names = self.new.stage.names }) kept.new) }
         ensures manager { D.manager self.new.stage.desk ≡ D.manager self.old.stage.desk }
     {
         'ready: for _ in 0..kept.len() {
@@ -196,7 +206,9 @@ fn kept_or_fault(
     session: Name,
     line: ReadLine<'_>,
     defect: Result<Option<Defect>, AllocError>,
-) -> Result<(), Fault> {
+) -> Result<(), Fault>
+    ensures { OnOk result (IsKept kept.old (record { number = line.entry.number; text = line.entry.text.now }) kept.new) }
+{
     let number = line.number;
     match defect {
         Ok(None) => {}
@@ -206,8 +218,10 @@ fn kept_or_fault(
     let Ok(text) = String::from_str(alloc, line.text) else {
         return Err(Fault::NoMemory);
     };
-    kept.keep(session, KeptLine { number, text })
-        .map_err(|_| Fault::NoMemory)
+    match kept.keep(session, KeptLine { number, text }) {
+        Ok(()) => Ok(()),
+        Err(_) => Err(Fault::NoMemory),
+    }
 }
 
 /// The names of `sessions`.

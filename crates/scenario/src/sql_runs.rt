@@ -1,6 +1,8 @@
 //! Runs of scripts that speak SQL: a schema makes tables, and a session plays what the statements of its `do` lines lock.
-ghost use Rattle.std.specs.Prelude.{◌≡◌};
+ghost use Rattle.std.specs.Prelude.{◌≡◌, OnOk, map, string_bytes};
 ghost use Rattle.lock_manager.specs.Crews.{SeatsAre};
+ghost use Rattle.scenario.specs.InTurn.{DoesLine, NamesTables, PlaysStatements, TakesIn, TakesInEach, lines_at};
+ghost use Rattle.scenario.specs.Scripts.{RunsLine};
 
 use crate::desks::ScriptDesk;
 use crate::kept::ReadLine;
@@ -11,7 +13,7 @@ use lock_manager::OwnSession;
 use lock_script::{Defect, Fault, KeptLines, parse_object_name};
 use lock_table::PartTable;
 use shared_rule::Board;
-use sql_script::{Heard, SqlScript, Statements, Table, Unplayed, lines_of};
+use sql_script::{Heard, SqlScript, Statements, Table, Turn, Unplayed, lines_of};
 use std::alloc::Global;
 use std::sync::Wait;
 
@@ -60,6 +62,9 @@ impl<T: PartTable, B: Board<T>, D: ScriptDesk<OwnSession<T, B>>, L: Listener> Sc
         heard: &Heard,
     ) -> Result<(), Fault>
         requires seats { SeatsAre B.seat D.seat }
+        ensures done { OnOk result (DoesLine (RunsLine B.seat B.view B.stack D.again D.database_of D.entries)
+            (record { sessions = self.old.stage.sessions; names = self.old.stage.names }) kept.old (record { number = line.entry.number; text = line.entry.text.now }) heard.now
+            (record { sessions = self.new.stage.sessions; names = self.new.stage.names }) kept.new) }
         ensures manager { D.manager self.new.stage.desk ≡ D.manager self.old.stage.desk }
     {
         match heard {
@@ -81,6 +86,9 @@ impl<T: PartTable, B: Board<T>, D: ScriptDesk<OwnSession<T, B>>, L: Listener> Sc
         line: ReadLine<'_>,
     ) -> Result<(), Fault>
         requires seats { SeatsAre B.seat D.seat }
+        ensures taken { OnOk result (TakesIn (RunsLine B.seat B.view B.stack D.again D.database_of D.entries)
+            (record { sessions = self.old.stage.sessions; names = self.old.stage.names }) kept.old (record { number = line.entry.number; text = line.entry.text.now })
+            (record { sessions = self.new.stage.sessions; names = self.new.stage.names }) kept.new) }
         ensures manager { D.manager self.new.stage.desk ≡ D.manager self.old.stage.desk }
     {
         if keeping.keeps {
@@ -92,6 +100,7 @@ impl<T: PartTable, B: Board<T>, D: ScriptDesk<OwnSession<T, B>>, L: Listener> Sc
 
     /// Tells the listener `line`, which asks for nothing by itself.
     fn show_line(&mut self, line: ReadLine<'_>) -> Result<(), Fault>
+        ensures stage { self.new.stage ≡ self.old.stage }
         ensures manager { D.manager self.new.stage.desk ≡ D.manager self.old.stage.desk }
     {
         self.listener.begin_line(line.number, line.text, line.more)?;
@@ -108,24 +117,65 @@ impl<T: PartTable, B: Board<T>, D: ScriptDesk<OwnSession<T, B>>, L: Listener> Sc
         statements: &Statements,
     ) -> Result<(), Fault>
         requires seats { SeatsAre B.seat D.seat }
+        ensures played { OnOk result (PlaysStatements (RunsLine B.seat B.view B.stack D.again D.database_of D.entries)
+            (record { sessions = self.old.stage.sessions; names = self.old.stage.names }) kept.old line.entry.number
+            (string_bytes statements.now.session) statements.now.turns.items
+            (record { sessions = self.new.stage.sessions; names = self.new.stage.names }) kept.new) }
         ensures manager { D.manager self.new.stage.desk ≡ D.manager self.old.stage.desk }
     {
-        'turns: for turn in &statements.turns {
-            'tables: for table in &turn.named {
-                self.name_table(rt, alloc, line, table)?;
-            }
-        }
+        self.name_tables(rt, alloc, line, &statements.turns)?;
         let session = statements.session.as_str();
         let Ok(played) = lines_of(alloc, session, statements.turns.as_slice()) else {
             return Err(Fault::NoMemory);
         };
-        'played: for text in &played {
+        self.take_in_each(rt, alloc, kept, line, &played)
+    }
+
+    /// Runs each of `texts`, as a line of the number of `line`, or keeps it in `kept` while its session waits.
+    fn take_in_each<H: Wait>(
+        &mut self,
+        rt: &H,
+        alloc: Global,
+        kept: &mut KeptLines,
+        line: ReadLine<'_>,
+        texts: &Vec<String>,
+    ) -> Result<(), Fault>
+        requires seats { SeatsAre B.seat D.seat }
+        ensures taken { OnOk result (TakesInEach (RunsLine B.seat B.view B.stack D.again D.database_of D.entries)
+            (record { sessions = self.old.stage.sessions; names = self.old.stage.names }) kept.old
+            (lines_at line.entry.number (map string_bytes texts.now.items))
+            (record { sessions = self.new.stage.sessions; names = self.new.stage.names }) kept.new) }
+        ensures manager { D.manager self.new.stage.desk ≡ D.manager self.old.stage.desk }
+    {
+        'texts: for text in texts {
             let next = ReadLine {
                 number: line.number,
                 text: text.as_str(),
                 more: line.more,
             };
             self.take_in(rt, alloc, kept, next)?;
+        }
+        Ok(())
+    }
+
+    /// Gives the tables of `turns` their names, by lines in place of `line`.
+    fn name_tables<H: Wait>(
+        &mut self,
+        rt: &H,
+        alloc: Global,
+        line: ReadLine<'_>,
+        turns: &Vec<Turn>,
+    ) -> Result<(), Fault>
+        requires seats { SeatsAre B.seat D.seat }
+        ensures named { OnOk result (NamesTables (RunsLine B.seat B.view B.stack D.again D.database_of D.entries)
+            (record { sessions = self.old.stage.sessions; names = self.old.stage.names }) line.entry.number
+            (record { sessions = self.new.stage.sessions; names = self.new.stage.names })) }
+        ensures manager { D.manager self.new.stage.desk ≡ D.manager self.old.stage.desk }
+    {
+        'turns: for turn in turns {
+            'tables: for table in &turn.named {
+                self.name_table(rt, alloc, line, table)?;
+            }
         }
         Ok(())
     }
@@ -139,6 +189,9 @@ impl<T: PartTable, B: Board<T>, D: ScriptDesk<OwnSession<T, B>>, L: Listener> Sc
         table: &Table,
     ) -> Result<(), Fault>
         requires seats { SeatsAre B.seat D.seat }
+        ensures named { OnOk result (NamesTables (RunsLine B.seat B.view B.stack D.again D.database_of D.entries)
+            (record { sessions = self.old.stage.sessions; names = self.old.stage.names }) line.entry.number
+            (record { sessions = self.new.stage.sessions; names = self.new.stage.names })) }
         ensures manager { D.manager self.new.stage.desk ≡ D.manager self.old.stage.desk }
     {
         let name = table.name.as_str();

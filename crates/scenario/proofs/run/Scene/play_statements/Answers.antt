@@ -1,0 +1,24 @@
+use Rattle.std.proofs.Common.{◌≡◌, ◌∙◌, List, ℕ, ap, map, string_bytes, subst}
+use Rattle.sql_script.specs.Steps.{line_text, steps_in}
+use Rattle.sql_script.specs.declared.turns.Turn.{Turn}
+use Rattle.scenario.specs.InTurn.{TakesInEach, lines_at}
+use Rattle.scenario.specs.Scripts.{RunsLine}
+use Rattle.scenario.proofs.InTurn.{on-ok}
+use Rattle.scenario.proofs.run.Scene.play_statements.Goals as goal
+
+pub returns-clause-played : goal.returns-clause-played
+returns-clause-played g c =
+    let texts = c.in-Ok.ensures
+    ∙ ap (λ (session : List ℕ). map (line_text session) (steps_in c.as_slice.result.now)) c.as_str-session.ensures.value
+    ∙ ap (λ (turns : List Turn). map (line_text (string_bytes c.args.statements.now.session)) (steps_in turns)) c.as_slice.ensures.value in
+    on-ok c.take_in_each.result
+    (λ taken. (
+      record { sessions = c.name_tables.new.self.stage.sessions; names = c.name_tables.new.self.stage.names },
+      c.in_ok-name_tables.ensures.named,
+      subst
+          (λ (texts : List (List ℕ)). TakesInEach (RunsLine g.B.Board.seat g.B.Board.view g.B.Board.stack g.D.ScriptDesk.again g.D.ScriptDesk.database_of g.D.ScriptDesk.entries)
+          (record { sessions = c.name_tables.new.self.stage.sessions; names = c.name_tables.new.self.stage.names })
+          c.args.kept.now (lines_at c.args.line.number texts)
+          (record { sessions = c.take_in_each.new.self.stage.sessions; names = c.take_in_each.new.self.stage.names })
+          c.take_in_each.new.kept) texts taken,
+    )) c.take_in_each.ensures.taken

@@ -1,0 +1,15 @@
+use Rattle.std.proofs.Common.{◌≡◌, inl}
+use Rattle.scenario.proofs.InTurn.{on-ok}
+use Rattle.scenario.proofs.Lines.{runs-heard}
+use Rattle.scenario.proofs.run.Scene.run_plain.Goals as goal
+
+pub returns-clause-taken : goal.returns-clause-taken
+returns-clause-taken g c =
+    on-ok c.run_ready.result
+    (λ ran. inl (
+      record { sessions = c.run_line.new.self.stage.sessions; names = c.run_line.new.self.stage.names },
+      runs-heard g.B.Board.seat g.B.Board.view g.B.Board.stack g.D.ScriptDesk.again g.D.ScriptDesk.database_of g.D.ScriptDesk.entries g.L.Listener.hears
+          c.args.line.number (record { sessions = c.args.self.now.stage.sessions; names = c.args.self.now.stage.names }) (record { sessions = c.run_line.new.self.stage.sessions; names = c.run_line.new.self.stage.names }) c.args.self.now.listener c.run_line.new.self.listener
+          c.args.line.text.now c.in_ok-run_line.ensures.played,
+      ran,
+    )) c.run_ready.ensures.ran
