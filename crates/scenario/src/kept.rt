@@ -132,7 +132,8 @@ impl<T: PartTable, B: Board<T>, D: ScriptDesk<OwnSession<T, B>>, L: Listener> Sc
     ) -> Result<(), Fault>
         requires seats { SeatsAre B.seat D.seat }
         ensures taken { OnOk result (TakesIn (RunsLine B.seat B.view B.stack D.again D.database_of D.entries)
-            (record { sessions = self.old.stage.sessions; names = self.old.stage.names }) kept.old (record { number = line.entry.number; text = line.entry.text.now })
+            (record { sessions = self.old.stage.sessions; names = self.old.stage.names }) kept.old
+            (record { number = line.entry.number; text = line.entry.text.now })
             (record { sessions = self.new.stage.sessions; names = self.new.stage.names }) kept.new) }
         ensures manager { D.manager self.new.stage.desk ≡ D.manager self.old.stage.desk }
     {
