@@ -13,7 +13,7 @@ use Rattle.shared_rule.specs.Boards.{Seated, Stack}
 use Rattle.scenario.specs.Answers.{Cast}
 use Rattle.scenario.specs.Heard.{Heard, Hears, HearsAll, IsUnheard, Line}
 use Rattle.scenario.specs.Played.{Plays}
-use Rattle.scenario.specs.Scripts.{AreFirstLines, AreNextLines, IsBadLine, IsScriptHeard, PlaysLine, PlaysLines, PlaysScript, RunsLine, words_in}
+use Rattle.scenario.specs.Scripts.{AreFirstLines, AreNextLines, IsBadLine, IsScriptHeard, PlaysLine, PlaysLines, RunsLine, words_in}
 use Rattle.scenario.proofs.Hearing.{hears-append}
 
 moved : (n k : ℕ) → n + suc k ≡ (n + 1) + k

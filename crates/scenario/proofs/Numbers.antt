@@ -1,5 +1,5 @@
 -- The sessions that a desk knows, and the names of their numbers.
-use Rattle.std.proofs.Common.{◌≡◌, ℕ, ◌+◌, ◌<◌, ◌≤◌, ◌⊎◌, inl, inr, ◌∙◌, ap, arith, subst, sym, List, [], ◌∷◌, ◌++◌, length, length-append, length-set, set}
+use Rattle.std.proofs.Common.{◌≡◌, ℕ, ◌+◌, ◌<◌, ◌≤◌, inl, inr, ◌∙◌, ap, arith, subst, sym, List, [], ◌∷◌, ◌++◌, length, length-append, length-set, set}
 use Rattle.std.specs.Prelude.{Bool}
 use Rattle.arrayvec.specs.declared.array_string.ArrayString.{ArrayString}
 use Rattle.modes_core.specs.Sessions.{most_sessions}

@@ -1,7 +1,6 @@
 -- Passes one after another, and a line as a whole.
 use Rattle.std.proofs.Common.{◌≡◌, ◌∙◌, ℕ, ◌+◌, ◌<◌, List, [], ◌∷◌, ◌++◌, append-nil, append_assoc, length, refl, sym, subst, ap, arith, length-append, true, false}
 use Rattle.std.specs.Prelude.{Bool, ◌≢◌, flat_map}
-use Rattle.arrayvec.specs.declared.array_string.ArrayString.{ArrayString}
 use Rattle.local_locks.specs.declared.records.Entry.{Entry}
 use Rattle.lock_script.specs.declared.sessions.Named.{Named}
 use Rattle.lock_manager.specs.Sessions.{SessionView}

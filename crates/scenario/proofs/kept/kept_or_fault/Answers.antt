@@ -1,5 +1,4 @@
-use Rattle.std.proofs.Common.{◌≡◌, ℕ, List, ap}
-use Rattle.scenario.specs.Scripts.{ScriptLine}
+use Rattle.std.proofs.Common.{ℕ, List, ap}
 use Rattle.scenario.proofs.InTurn.{is-kept}
 use Rattle.scenario.proofs.kept.kept_or_fault.Goals as goal
 

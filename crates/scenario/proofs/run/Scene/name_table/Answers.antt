@@ -1,4 +1,4 @@
-use Rattle.std.proofs.Common.{◌≡◌, ◌∙◌, ℕ, List, ◌++◌, ap}
+use Rattle.std.proofs.Common.{◌∙◌, ℕ, List, ◌++◌, ap}
 use Rattle.std.specs.Prelude.{codes}
 use Rattle.modes_core.specs.TagText.{tag_text}
 use Rattle.scenario.specs.Scripts.{RunsLine}

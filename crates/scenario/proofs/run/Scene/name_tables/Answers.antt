@@ -1,4 +1,4 @@
-use Rattle.std.proofs.Common.{◌≡◌, ◌∙◌}
+use Rattle.std.proofs.Common.{◌∙◌}
 use Rattle.scenario.specs.Scripts.{RunsLine}
 use Rattle.scenario.proofs.InTurn.{names-both}
 use Rattle.scenario.proofs.run.Scene.name_tables.Goals as goal

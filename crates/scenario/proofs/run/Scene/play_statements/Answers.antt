@@ -1,4 +1,4 @@
-use Rattle.std.proofs.Common.{◌≡◌, ◌∙◌, List, ℕ, ap, map, string_bytes, subst}
+use Rattle.std.proofs.Common.{◌∙◌, List, ℕ, ap, map, string_bytes, subst}
 use Rattle.sql_script.specs.Steps.{line_text, steps_in}
 use Rattle.sql_script.specs.declared.turns.Turn.{Turn}
 use Rattle.scenario.specs.InTurn.{TakesInEach, lines_at}

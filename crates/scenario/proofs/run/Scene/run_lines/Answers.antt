@@ -1,4 +1,4 @@
-use Rattle.std.proofs.Common.{◌≡◌, ◌∙◌, Result}
+use Rattle.std.proofs.Common.{◌∙◌, Result}
 use Rattle.lock_script.specs.declared.faults.Fault.{Fault}
 use Rattle.scenario.specs.Scripts.{IsScriptHeard}
 use Rattle.scenario.proofs.Lines.{ends-badly, ends-unread, have-more, of-error}

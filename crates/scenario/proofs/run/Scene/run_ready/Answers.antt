@@ -1,4 +1,4 @@
-use Rattle.std.proofs.Common.{◌≡◌, ◌∙◌, string_bytes}
+use Rattle.std.proofs.Common.{◌∙◌, string_bytes}
 use Rattle.scenario.specs.Scripts.{RunsLine}
 use Rattle.scenario.proofs.InTurn.{runs-one}
 use Rattle.scenario.proofs.Lines.{runs-heard}

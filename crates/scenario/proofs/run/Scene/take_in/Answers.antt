@@ -1,4 +1,4 @@
-use Rattle.std.proofs.Common.{◌≡◌, inl}
+use Rattle.std.proofs.Common.{inl}
 use Rattle.scenario.proofs.InTurn.{on-ok}
 use Rattle.scenario.proofs.Lines.{runs-heard}
 use Rattle.scenario.proofs.run.Scene.take_in.Goals as goal

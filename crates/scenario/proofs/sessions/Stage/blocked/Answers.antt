@@ -1,4 +1,4 @@
-use Rattle.std.proofs.Common.{◌≡◌, ℕ, ◌+◌, ◌∙◌, ap, length, refl, subst, sym}
+use Rattle.std.proofs.Common.{ℕ, ◌+◌, ◌∙◌, ap, length, refl, subst, sym}
 use Rattle.std.proofs.lemmas.Result.{IfOk-weaker}
 use Rattle.lock_script.proofs.Lending.{All-called, length-with_session}
 use Rattle.lock_script.specs.Lending.{with_session}

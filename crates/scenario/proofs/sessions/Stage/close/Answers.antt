@@ -1,4 +1,4 @@
-use Rattle.std.proofs.Common.{◌≡◌, ◌∙◌, ap, arith}
+use Rattle.std.proofs.Common.{arith}
 use Rattle.lock_script.proofs.SessionLemmas.{All-left, length-left, taken}
 use Rattle.scenario.specs.Numbers.{IsKnown}
 use Rattle.scenario.proofs.Numbers.{kept-known}

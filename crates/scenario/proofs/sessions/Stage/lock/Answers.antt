@@ -1,4 +1,4 @@
-use Rattle.std.proofs.Common.{◌≡◌, ℕ, ◌+◌, ◌∙◌, ap, arith, inl, inr, length, refl, remove, subst, sym}
+use Rattle.std.proofs.Common.{ℕ, ◌+◌, ◌∙◌, ap, arith, inl, inr, length, refl, remove, subst, sym}
 use Rattle.lock_script.proofs.SessionLemmas.{All-put_back, length-put_back, All-left, length-left, All-put, length-put, taken}
 use Rattle.lock_script.specs.Names.{PutsIn}
 use Rattle.scenario.specs.Waits.{IsBegun, IsQueued}

@@ -1,4 +1,4 @@
-use Rattle.std.proofs.Common.{◌≡◌, ◌∙◌, ℕ, ap, arith, inl, inr, refl, subst, sym}
+use Rattle.std.proofs.Common.{◌∙◌, ℕ, ap, arith, inl, inr, refl, subst, sym}
 use Rattle.std.proofs.lemmas.List.Elements.{All-weaker}
 use Rattle.lock_script.proofs.SessionLemmas.{All-put, length-put}
 use Rattle.shared_rule.specs.Boards.{Seated}

@@ -1,4 +1,4 @@
-use Rattle.std.proofs.Common.{◌≡◌, ℕ, ◌+◌, ◌∙◌, ap, arith, length, refl, subst, sym}
+use Rattle.std.proofs.Common.{ℕ, ◌+◌, ◌∙◌, ap, arith, length, refl, subst, sym}
 use Rattle.lock_script.proofs.Lending.{All-with_session, length-with_session, put_back-in_order, put_back-there}
 use Rattle.lock_script.proofs.SessionLemmas.{All-left, length-left, All-put, length-put, taken}
 use Rattle.scenario.specs.Waits.{GoesOn, LooksOn}
