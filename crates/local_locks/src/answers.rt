@@ -7,7 +7,7 @@ pub enum Acquired {
     AlreadyHeld,
 }
 
-/// What a release left.
+/// What a release left to the session of the mode that it released.
 #[derive(Clone, Copy, Debug, PartialEq, Eq)]
 pub enum Unlocked {
     /// The last count was released: the session no longer has the mode.

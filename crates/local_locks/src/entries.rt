@@ -23,7 +23,7 @@ impl<'a> Model for Entries<'a> {
 impl<'a> Entries<'a> {
     ghost use Rattle.local_locks.specs.Slots.{opened, present};
 
-    /// The entries of `slots`.
+    /// The local entries that stand in `slots`, the slots of a local table, without the empty ones.
     pub(crate) fn of(slots: &'a [Entry]) -> Self
         ensures { result ≡ present (opened slots.now) }
     {

@@ -13,9 +13,9 @@ const MULTIPLIER: u64 = 0x6A09_E667_9E37_79B9;
 
 /// What a glance at an index says of an object and mode.
 pub(crate) enum Glance {
-    /// The index has no entry for them.
+    /// The index has no entry for the object and mode.
     Nothing,
-    /// Their slot is at this place, which may be empty.
+    /// The slot of the object and mode is at this place, which may be empty.
     Place(u32),
     /// Only a whole look says.
     Unknown,

@@ -174,7 +174,7 @@ impl Entry {
         }
     }
 
-    /// The entry with no count.
+    /// The entry with both counts at 0: that of the transaction and that of the session.
     pub(crate) fn without_counts(self) -> Entry
         ensures { result ≡ after_end Close self }
     {
@@ -185,7 +185,7 @@ impl Entry {
         }
     }
 
-    /// Takes both counts away.
+    /// Sets both counts of the entry to 0: that of the transaction and that of the session.
     #[inline(always)]
     pub(crate) fn clear(&mut self)
         ensures { self.new ≡ after_end Close self.old }

@@ -21,7 +21,7 @@ impl Model for Pending {
 unsafe impl Send for Pending {}
 
 impl Pending {
-    /// No request.
+    /// No request: clauses read `request` as none.
     #[inline(always)]
     pub(crate) fn nothing() -> Pending
         ensures { result.request ≡ None }
@@ -29,7 +29,7 @@ impl Pending {
         Pending {}
     }
 
-    /// This request.
+    /// The request `_request`, which clauses read as `request`.
     #[inline(always)]
     pub(crate) fn of(_request: &Request) -> Pending
         ensures { result.request ≡ Some _request.now }

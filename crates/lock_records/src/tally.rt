@@ -29,7 +29,7 @@ impl Model for Tally {
 }
 
 impl Tally {
-    /// Nothing of any mode.
+    /// A tally in which each mode's number is 0.
     pub fn new() -> Self
         ensures { (mode : _) → counts_in result mode ≡ 0 }
     {

@@ -53,7 +53,7 @@ impl Model for WaitQueues {
 }
 
 impl WaitQueues {
-    /// No queue.
+    /// The queue records of a partition in which nobody waits. Later ones take memory by `alloc`.
     pub fn new(alloc: Global) -> Self
         ensures { result.slots ≡ [] }
     {
@@ -74,7 +74,7 @@ impl WaitQueues {
         Ok(())
     }
 
-    /// How many wait.
+    /// How many waits all queues of the partition have together.
     #[inline(always)]
     pub(crate) fn waiting(&self) -> usize
         ensures { result ≡ waiting_in self.now.slots }

@@ -18,11 +18,11 @@ pub use walk::{first_against, is_against};
 /// What is in the way of a request: another session, with its mode.
 #[derive(Clone, Copy)]
 pub struct Clash {
-    /// The other session.
+    /// The session in the way of the one that asks.
     pub session: SessionId,
-    /// Its mode, which conflicts with the one asked for.
+    /// The mode of `session` that conflicts with the one asked for.
     pub mode: Mode,
-    /// Whether it holds that mode or waits for it.
+    /// Whether `session` holds that mode or waits for it.
     pub how: How,
 }
 
@@ -97,12 +97,12 @@ fn waiter_against<P: PartTable>(part: &P, tag: &Tag, mode: Mode) -> Option<Waite
 /// What a request that may wait is answered.
 #[derive(Clone, Copy, Debug, PartialEq, Eq)]
 pub enum Answer {
-    /// It is to have its hold.
+    /// The session that asks is to have its hold.
     Granted,
-    /// It is to wait before the waiter at this place of the queue, counted from the front, and behind all
-    /// where the place is the number of its waiters.
+    /// The session that asks is to wait before the waiter at this place of the queue, counted from the front, and after
+    /// all where the place is the number of waiters.
     Queued(usize),
-    /// It is refused: it and this session would wait for one another.
+    /// The session that asks is refused: it and this session would wait for one another.
     SimpleDeadlock(SessionId),
 }
 

@@ -3,21 +3,19 @@ use modes_core::{Mode, Tag};
 /// What a session does to a partition's content between taking it and putting it back.
 #[derive(Clone, Copy, Debug, PartialEq, Eq)]
 pub enum Move {
-    /// Nothing.
+    /// The session leaves the content as it is.
     Keep,
-    /// It adds a hold of its own (`GrantLock` in lock.c).
+    /// The session adds a hold of its own (`GrantLock` in lock.c).
     Grant { tag: Tag, mode: Mode },
-    /// It joins the object's wait queue at its place, with the modes of the object that it holds
+    /// The session joins the object's wait queue at its place, with the modes of the object that it holds
     /// (`JoinWaitQueue`, in version 16 a part of `ProcSleep` in proc.c).
     Join { tag: Tag, mode: Mode },
-    /// It takes a hold of its own away, and wakes who may go then (`UnGrantLock` and `CleanUpLock` in
-    /// lock.c).
+    /// The session takes a hold of its own away, and wakes who may go then (`UnGrantLock` and `CleanUpLock` in lock.c).
     Release { tag: Tag, mode: Mode },
-    /// It takes its wait out of the object's queue, and wakes who may go then (`RemoveFromWaitQueue` in
-    /// lock.c).
+    /// The session takes its wait out of the object's queue, and wakes who may go then (`RemoveFromWaitQueue` in lock.c).
     Leave { tag: Tag },
-    /// It adds holds of the session with this number, which may be its own, that stood in one of that session's
-    /// fast-path slots. No single step does so: each step that moves a mode out of the slot adds one
+    /// The session adds holds of the session numbered `owner`, which may be itself, that stood in the fast-path slot
+    /// `slot` of that session. No single step does so: each step that moves a mode out of the slot adds one
     /// (`FastPathTransferRelationLocks` in lock.c).
     Adopt { owner: u8, slot: u8 },
 }

@@ -230,7 +230,7 @@ fn index_of_hold(holds: &[Request], session: SessionId, tag: &Tag, mode: Mode) -
     unreachable!()
 }
 
-/// The lower of two holders, by session and then by mode.
+/// The lower of the holder `lowest`, if there is one, and the hold of `session` in `mode`: by session and then by mode.
 fn lower_holder(
     lowest: Option<(SessionId, Mode)>,
     session: SessionId,

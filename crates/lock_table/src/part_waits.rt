@@ -22,7 +22,7 @@ use modes_core::{Mode, ModeSet, SessionId, Tag, conflicts};
 /// A wait of a partition: on which object, and what the object's queue has of it.
 #[derive(Clone, Copy, Debug, PartialEq, Eq)]
 pub struct PartWait {
-    /// The object.
+    /// The object that the wait is for.
     pub tag: Tag,
     /// What the object's queue has of the wait.
     pub waiter: Waiter,

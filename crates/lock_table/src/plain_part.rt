@@ -45,7 +45,7 @@ impl PlainPart {
         Ok(PlainPart { lists })
     }
 
-    /// Whether `session` holds anything.
+    /// Whether `session` has a hold in the partition's content.
     pub fn has_hold_of(&self, session: SessionId) -> bool
         ensures { result ≡ list_any (λ hold. hold.session == session) self.now.holds }
     {

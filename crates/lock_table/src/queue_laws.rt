@@ -49,19 +49,19 @@ pub fn a_wakeup_splits_the_queue()
         Wakes before tag granted after → IsSplitOf (before.waits tag) granted (after.waits tag) }
 {}
 
-/// There is one answer to a request that may wait.
+/// A request that may wait has one answer alone.
 pub fn there_is_one_answer()
     ensures { (content : Content) (session : ℕ) (tag : Tag) (mode : Mode) (answer other : Answer) →
         WaitingAnswer content session tag mode answer → WaitingAnswer content session tag mode other → answer ≡ other }
 {}
 
-/// There is one wakeup of a queue.
+/// A queue has one wakeup alone.
 pub fn there_is_one_wakeup()
     ensures { (before after its : Content) (tag : Tag) (granted other : List Wait) →
         Wakes before tag granted after → Wakes before tag other its → (granted ≡ other) × (after ≡ its) }
 {}
 
-/// Waking again changes nothing.
+/// A second wakeup of a queue, right after the first one, grants nobody and changes nothing.
 pub fn waking_again_changes_nothing()
     ensures { (before after again : Content) (tag : Tag) (granted more : List Wait) →
         Wakes before tag granted after → Wakes after tag more again → (more ≡ []) × (again ≡ after) }

@@ -9,7 +9,7 @@ use modes_core::{Mode, ModeSet, SessionId, Tag};
 pub struct Request {
     /// The session that asks for it or has it.
     pub session: SessionId,
-    /// The object.
+    /// The object of the request.
     pub tag: Tag,
     /// The mode.
     pub mode: Mode,

@@ -6,13 +6,13 @@ use modes_core::{Mode, SessionId, Tag};
 /// One row of a listing (`pg_locks`): a session holds an object in a mode, or awaits it.
 #[derive(Clone, Copy, Debug, PartialEq, Eq)]
 pub struct TableRow {
-    /// The session.
+    /// The session that holds the object or awaits it.
     pub session: SessionId,
-    /// The object.
+    /// The object that is held or awaited.
     pub tag: Tag,
     /// The mode.
     pub mode: Mode,
-    /// Whether it holds the object, and doesn't await it.
+    /// Whether `session` holds the object, and doesn't await it.
     pub granted: bool,
 }
 
@@ -29,11 +29,11 @@ impl TableRow {
 /// slot (`pg_locks` with `fastpath`), numbered from 0.
 #[derive(Clone, Copy, Debug, PartialEq, Eq)]
 pub struct SlotRow {
-    /// The session.
+    /// The session whose fast-path slot it is.
     pub session: SessionId,
-    /// The number of the slot.
+    /// The number of the fast-path slot.
     pub slot: u8,
-    /// The object.
+    /// The relation that the slot has.
     pub tag: Tag,
     /// The mode.
     pub mode: Mode,

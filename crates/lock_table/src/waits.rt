@@ -7,11 +7,11 @@ use modes_core::{MOST_SESSIONS, Mode, ModeSet, SessionId};
 /// waits, for which mode, and the modes of the object that it held when it joined.
 #[derive(Clone, Copy, Debug, PartialEq, Eq)]
 pub struct Waiter {
-    /// Who waits.
+    /// The session that waits.
     pub session: SessionId,
-    /// The mode that it waits for.
+    /// The mode that the session waits for.
     pub mode: Mode,
-    /// The modes of the object that it held when it joined.
+    /// The modes of the object that the session held when it joined.
     pub held: ModeSet,
 }
 
@@ -29,5 +29,5 @@ impl Default for Waiter {
 /// How many sessions a wakeup can grant: all that there are, each once.
 const MOST_WOKEN: usize = MOST_SESSIONS as usize;
 
-/// Those whom a wakeup granted, with their modes, in the order of granting. Each session waits once at most.
+/// The sessions whom a wakeup granted, with their modes, in the order of granting. Each session waits once at most.
 pub type Woken = ArrayVec<(SessionId, Mode), MOST_WOKEN>;

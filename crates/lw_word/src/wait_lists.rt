@@ -10,7 +10,7 @@ use std::marker::Model;
 /// A session that waits for a lightweight lock, and how it wants to take it (`lwWaitMode` of a `PGPROC` in proc.h).
 #[derive(Clone, Copy, Debug, Default, PartialEq, Eq)]
 pub struct LwWaiter {
-    /// Who waits.
+    /// The session that waits for the lightweight lock.
     pub session: SessionId,
     /// How it wants to take the lock.
     pub mode: LwMode,
@@ -19,13 +19,13 @@ pub struct LwWaiter {
 /// How many sessions can stand in a wait list: all that there are, each once.
 const MOST_WAITERS: usize = MOST_SESSIONS as usize;
 
-/// Those whom a wakeup took off a wait list, in the order in which they stood. Each session stands in a list once at most.
+/// The sessions whom a wakeup took off a wait list, in the order of the list. Each session is in a list once at most.
 pub type TakenOff = ArrayVec<LwWaiter, MOST_WAITERS>;
 
 /// What a wakeup leads to.
 #[derive(Debug, Drop)]
 pub struct Wakeup {
-    /// Whom to wake.
+    /// The sessions to wake, which were taken off the wait list.
     pub taken: TakenOff,
     /// What release-ok is to be from now on: set where there was nobody to take off. Else it is set again by
     /// one of those taken off, as it goes on.
@@ -55,7 +55,7 @@ impl WaitList {
     ghost use Rattle.std.specs.Prelude.{◌≡◌, ◌↔◌, ◌∷◌, ◌++◌, [], false, IsTrue};
     ghost use Rattle.lw_word.specs.WaitList.{EachStandsOnce, stands_in, without, taken_off, left_waiting};
 
-    /// The empty list.
+    /// A wait list in which nobody waits.
     pub fn new() -> Self
         ensures { result ≡ [] }
     {
@@ -72,7 +72,7 @@ impl WaitList {
         self.waiters.as_slice()
     }
 
-    /// Whether nobody waits.
+    /// Whether nobody waits in the list.
     pub fn is_empty(&self) -> bool
         ensures { IsTrue result ↔ (self.now ≡ []) }
     {

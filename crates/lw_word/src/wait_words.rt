@@ -1,16 +1,16 @@
-//! What sessions' own words say: the wait word of its wait in the queue of an object, and the sleep word of its wait in
-//! the list of a lightweight lock.
+//! What sessions' own words say: the wait word of a session's wait in the queue of an object, and the sleep word of its
+//! wait in the list of a lightweight lock.
 
 ghost use Rattle.std.specs.Prelude.{◌≡◌, ◌%◌, ◌/◌, ◌==◌};
 
 /// What bits 0 to 1 of a session's wait word say of its wait in the queue of an object (`ProcWaitStatus` in proc.h).
 #[derive(Clone, Copy, Debug, PartialEq, Eq)]
 pub enum WaitState {
-    /// It doesn't wait.
+    /// The session doesn't wait in the queue of an object.
     NotWaiting = 0,
-    /// It waits (`PROC_WAIT_STATUS_WAITING`).
+    /// The session waits in the queue of an object (`PROC_WAIT_STATUS_WAITING`).
     Waiting = 1,
-    /// Its wait was granted (`PROC_WAIT_STATUS_OK`), and it has not seen that yet.
+    /// The session's wait was granted (`PROC_WAIT_STATUS_OK`), and the session has not seen that yet.
     Granted = 2,
 }
 
@@ -20,11 +20,11 @@ pub const CANCEL_ASKED: u64 = 4;
 /// What a session's sleep word says of its wait in the list of a lightweight lock (`LWLockWaitState` in lwlock.h).
 #[derive(Clone, Copy, Debug, PartialEq, Eq)]
 pub enum SleepState {
-    /// It stands in no list, and is told if it was taken off one (`LW_WS_NOT_WAITING`).
+    /// The session is in no wait list, and no wakeup of it is under way (`LW_WS_NOT_WAITING`).
     NotWaiting = 0,
-    /// It stands in a list (`LW_WS_WAITING`).
+    /// The session is in the wait list of a lightweight lock (`LW_WS_WAITING`).
     Waiting = 1,
-    /// It was taken off a list, and is yet to be told (`LW_WS_PENDING_WAKEUP`).
+    /// The session was taken off a wait list, and is yet to be woken (`LW_WS_PENDING_WAKEUP`).
     PendingWakeup = 2,
 }
 

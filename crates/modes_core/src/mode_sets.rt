@@ -41,7 +41,7 @@ impl ModeSet {
         }
     }
 
-    /// The set without `mode`.
+    /// The modes of this set without `mode`.
     pub fn without(self, mode: Mode) -> Self
         ensures { set_has result ≡ λ other. not (mode_eq other mode) && set_has self other }
     {

@@ -34,9 +34,9 @@ pub enum Refusal {
     /// A conditional request met a conflicting hold or wait of another session.
     #[error("conflict: session {session} {how} {mode}")]
     Conflict {
-        /// The other session.
+        /// The session whose hold or wait is in the way.
         session: SessionId,
-        /// Its mode that stands in the way.
+        /// The mode of `session` that conflicts with the one asked for.
         mode: Mode,
         /// Whether `session` holds that mode or waits for it.
         how: How,
@@ -57,7 +57,7 @@ pub enum Refusal {
         /// The session that waits, or would wait, for this one.
         session: SessionId,
     },
-    /// The wait was cancelled.
+    /// The session's wait was cancelled before it was granted.
     #[error("the wait was cancelled")]
     Cancelled,
     /// The owner doesn't hold the mode.
@@ -81,10 +81,10 @@ pub enum Refusal {
     /// A number of the configuration is out of its range.
     #[error("the configuration is out of range")]
     BadConfig,
-    /// As many transactions are nested in one another as can be.
+    /// The session's transactions are nested as deep as they can be.
     #[error("transactions are nested too deep")]
     TooDeep,
-    /// No transaction is nested in another.
+    /// The session's transaction has no transaction nested in it.
     #[error("there is no nested transaction")]
     NoNested,
 }

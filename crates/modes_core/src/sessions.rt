@@ -39,7 +39,7 @@ impl SessionId {
         }
     }
 
-    /// The session's number.
+    /// The session's number, as a number below `MOST_SESSIONS`.
     pub fn number(self) -> u8
         ensures value { result ≡ self }
         ensures within { result < most_sessions }

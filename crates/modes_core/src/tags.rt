@@ -23,9 +23,9 @@ pub const STRONG_COUNTERS: u32 = 1024;
 /// abort leaves to the session.
 #[derive(Clone, Copy, Debug, PartialEq, Eq)]
 pub enum LockMethod {
-    /// `DEFAULT_LOCKMETHOD`.
+    /// The lock method of the server's own locks (`DEFAULT_LOCKMETHOD`).
     Default,
-    /// `USER_LOCKMETHOD`.
+    /// The lock method of locks that applications name (`USER_LOCKMETHOD`).
     User,
 }
 
@@ -35,31 +35,31 @@ pub enum LockMethod {
 pub enum Tag {
     /// A table or an index (`LOCKTAG_RELATION`).
     Relation {
-        /// The database that it is in.
+        /// The number of the database that the relation is in.
         database: u32,
-        /// Its number in the database.
+        /// The number of the relation in `database`.
         relation: u32,
     },
     /// Any other object of a catalog (`LOCKTAG_OBJECT`).
     Object {
-        /// The number of a part of it, 0 for the whole.
+        /// The number of a part of the object, 0 for the whole.
         sub_object: u16,
-        /// The database that it is in.
+        /// The number of the database that the object is in.
         database: u32,
-        /// The catalogue that it is in.
+        /// The number of the catalogue that the object is in.
         class: u32,
-        /// Its number there.
+        /// The number of the object in the catalogue `class`.
         object: u32,
     },
     /// What only the application knows, named by numbers of its own (`LOCKTAG_ADVISORY`, of `USER_LOCKMETHOD`).
     Advisory {
-        /// The third number, 1 or 2 in PostgreSQL.
+        /// The third number that names the lock, 1 or 2 in PostgreSQL.
         sub: u16,
-        /// The database that it is in.
+        /// The number of the database in which the application takes the lock.
         database: u32,
-        /// The application's first number.
+        /// The first number by which the application names the lock.
         key1: u32,
-        /// The application's second number.
+        /// The second number by which the application names the lock.
         key2: u32,
     },
 }

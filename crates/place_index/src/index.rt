@@ -108,7 +108,7 @@ impl PlaceIndex {
         self.len
     }
 
-    /// Whether `place` is noted.
+    /// Whether `place` is noted in the index, under any hash.
     pub fn has(&self, place: u32) -> bool
         ensures noted { result ≡ true → IsNoted self.now place }
         ensures free { result ≡ false → IsFree self.now place }

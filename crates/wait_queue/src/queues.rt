@@ -34,10 +34,10 @@ pub fn queue_of<P: PartTable>(alloc: Global, part: &P, tag: &Tag) -> Result<Vec<
     Ok(rows)
 }
 
-/// Those in the way of the wait of `session` on `tag` in the content of `part` (`GetBlockerStatusData` in lock.c, for
-/// `pg_blocking_pids`): sessions that hold a mode in conflict with the awaited one, by session and mode, and then those
-/// that await one before it in the queue. Nobody where the session doesn't wait there. Refused only where memory ran
-/// out.
+/// The sessions in the way of the wait of `session` on `tag` in the content of `part` (`GetBlockerStatusData` in
+/// lock.c, for `pg_blocking_pids`): sessions that hold a mode in conflict with the awaited one, by session and mode,
+/// and then those that await one before it in the queue. Nobody where the session doesn't wait there. Refused only
+/// where memory ran out.
 pub fn blockers_of<P: PartTable>(
     alloc: Global,
     part: &P,

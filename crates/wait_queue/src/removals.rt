@@ -10,9 +10,9 @@ use modes_core::{SessionId, Tag};
 /// What became of a wait that was to be taken out.
 #[derive(Debug, Drop)]
 pub struct Removed {
-    /// There was no wait: it had been granted already.
+    /// Whether the wait had been granted already, so that there was none to take out.
     pub was_granted: bool,
-    /// Those who were granted since the wait is gone, in order.
+    /// The sessions that were granted once the wait was gone, in order.
     pub woken: Woken,
 }
 
