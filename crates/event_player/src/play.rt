@@ -25,12 +25,12 @@ struct Test {
     events: Vec<Event>,
 }
 
-/// What a line was.
+/// What playing a line of a script of events came to.
 enum Played {
     Well,
-    /// The machine shows something else.
+    /// The machine shows something else than the line says.
     Wrong,
-    /// There is no such line.
+    /// The line could not be read: a script has no such line.
     Unread,
 }
 

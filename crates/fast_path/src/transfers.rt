@@ -137,15 +137,15 @@ fn pass_in_database<T: PartTable, B: Board<T>, R: Wait>(
 /// What a turn of a transfer found: a slot of another session that has the relation of the object.
 #[derive(Clone, Copy)]
 struct Turn<'a> {
-    /// Whose slot it is.
+    /// The session whose fast-path slot this is.
     owner: SessionId,
-    /// The slot's number.
+    /// The number of the fast-path slot among those of `owner`.
     slot: u8,
-    /// What the slot shows.
+    /// The word that the fast-path slot shows.
     word: SlotWord,
-    /// The object.
+    /// The object of the strong lock: the relation that the slot has.
     tag: &'a Tag,
-    /// The mode of the strong lock on it that the session counted.
+    /// The mode of the strong lock on `tag` that the transferring session counted.
     strong: Mode,
 }
 

@@ -22,7 +22,7 @@ pub enum Word {
     Sleep(SessionId),
 }
 
-/// One atomic step.
+/// An atomic step of a session on one word of the shared table.
 #[derive(Clone, Copy, Debug, PartialEq, Eq)]
 pub enum Step {
     /// Take a lightweight lock exclusively, by a compare-exchange; the content of a partition comes
@@ -79,18 +79,17 @@ pub enum Step {
         /// The session that is asked.
         other: SessionId,
     },
-    /// Load its own wait word, which shows this value (`waitStatus` in proc.h, as `ProcSleep` in proc.c
-    /// reads it).
+    /// Load the session's own wait word, which shows this value (`waitStatus` in proc.h, as `ProcSleep` in proc.c reads it).
     LoadWait {
-        /// What the word shows.
+        /// The value that the session's wait word shows.
         shown: u8,
     },
-    /// Store in its own wait word that the session waits, with the object's partition in hand: its join is
-    /// made (`ProcSleep` in proc.c sets `waitStatus` so).
+    /// Store in the session's own wait word that it waits, with the object's partition in hand: its join is made
+    /// (`ProcSleep` in proc.c sets `waitStatus` so).
     SetWaiting {
-        /// The object that it waits for.
+        /// The object that the session waits for.
         tag: Tag,
-        /// The mode that it waits for.
+        /// The mode that the session waits for.
         mode: Mode,
     },
     /// Add 1 to another session's wait word, which turns waiting into granted, with the partition in hand:
@@ -101,9 +100,9 @@ pub enum Step {
         /// The move that granted it.
         done: Move,
     },
-    /// Clear its own wait word: the wait is over, and what was granted is the session's own from then on.
-    /// With `leaving` this very step takes the wait out of the queue, with the partition in hand
-    /// (`LockErrorCleanup` in proc.c).
+    /// Clear the session's own wait word: the wait is over, and what was granted is the session's own from then on.
+    /// With `leaving` this very step takes the wait out of the queue, with the partition in hand (`LockErrorCleanup` in
+    /// proc.c).
     ClearWait {
         /// Whether this step takes the wait out of the queue.
         leaving: bool,
@@ -113,54 +112,54 @@ pub enum Step {
     LoadStrong {
         /// The index of the counter.
         index: u16,
-        /// What the word shows.
+        /// The value that the strong lock counter shows.
         shown: u64,
     },
-    /// Load a word, which shows this value: any slot, any session's database, or the lock of its own fast-path
-    /// slots.
+    /// Load a word, which shows this value: any slot, any session's database, or the lock of the session's own
+    /// fast-path slots.
     LoadWord {
-        /// The word.
+        /// The word that is loaded.
         word: Word,
-        /// What the word shows.
+        /// The value that `word` shows.
         shown: u64,
     },
-    /// Store in one of its own fast-path slots that the session holds the mode, with the lock of its slots held
+    /// Store in one of the session's own fast-path slots that it holds the mode, with the lock of its slots held
     /// (`FastPathGrantRelationLock` in lock.c).
     SetSlot {
         /// The place of the slot.
         slot: u8,
-        /// The object.
+        /// The relation of the slot.
         tag: Tag,
         /// The mode.
         mode: Mode,
     },
-    /// Store in one of its own fast-path slots that the session holds the mode no more, with the lock of its slots held
-    /// (`FastPathUnGrantRelationLock` in lock.c).
+    /// Store in one of the session's own fast-path slots that it holds the mode no more, with the lock of its slots
+    /// held (`FastPathUnGrantRelationLock` in lock.c).
     ClearSlot {
         /// The place of the slot.
         slot: u8,
-        /// The object.
+        /// The relation of the slot.
         tag: Tag,
         /// The mode.
         mode: Mode,
     },
-    /// Store its own database, with no slot in use (`InitPostgres` in postinit.c).
+    /// Store the session's own database, with no slot in use (`InitPostgres` in postinit.c).
     StoreDatabase {
-        /// The database.
+        /// The number of the database that is stored.
         database: u32,
     },
     /// Add 1 to the strong lock counter of the object: the mode is counted, past nobody yet
     /// (`BeginStrongLockAcquire` in lock.c).
     Count {
-        /// The object.
+        /// The object of the strong lock that is counted.
         tag: Tag,
         /// The mode.
         mode: Mode,
     },
-    /// Take 1 from it: the mode, neither had nor awaited, is counted no more (`AbortStrongLockAcquire` and
-    /// `RemoveLocalLock` in lock.c).
+    /// Take 1 from the strong lock counter of the object: the mode, neither had nor awaited, is counted no more
+    /// (`AbortStrongLockAcquire` and `RemoveLocalLock` in lock.c).
     Uncount {
-        /// The object.
+        /// The object of the strong lock that is counted no more.
         tag: Tag,
         /// The mode.
         mode: Mode,
@@ -173,7 +172,7 @@ pub enum Step {
         owner: SessionId,
         /// The place of the slot.
         slot: u8,
-        /// The object.
+        /// The object of the strong lock, which is the relation of the slot.
         tag: Tag,
         /// The mode that is moved.
         mode: Mode,
@@ -196,14 +195,14 @@ pub enum Step {
         /// Whether release-ok is to stay.
         release_ok: bool,
     },
-    /// Store in its own sleep word that the session waits, and join the wait list in hand, after all others
+    /// Store in the session's own sleep word that it waits, and join the wait list in hand, after all others
     /// (`LWLockQueueSelf` in lwlock.c).
     JoinList {
-        /// How it wants to take the lock.
+        /// How the session wants to take the lock.
         mode: LwMode,
     },
-    /// Store in its own sleep word that the session waits no more, and leave the wait list in hand, where it still
-    /// stands in it (`LWLockDequeueSelf` in lwlock.c).
+    /// Store in the session's own sleep word that it waits no more, and leave the wait list in hand, where it is still
+    /// in that list (`LWLockDequeueSelf` in lwlock.c).
     LeaveList,
     /// Store in another session's sleep word that it is taken off and to be told, and take it off the wait list in hand
     /// (the first loop of `LWLockWakeup` in lwlock.c, which sets `LW_WS_PENDING_WAKEUP`).
@@ -214,12 +213,12 @@ pub enum Step {
     /// Store in the sleep word of a session that this one took off that it waits no more (the second loop of
     /// `LWLockWakeup`).
     Tell {
-        /// The session that is told.
+        /// The session that was taken off, in whose sleep word the step stores.
         other: SessionId,
     },
-    /// Load its own sleep word, which shows this value (the sleep in `LWLockAcquire`).
+    /// Load the session's own sleep word, which shows this value (the sleep in `LWLockAcquire`).
     LoadSleep {
-        /// What the word shows.
+        /// The value that the session's sleep word shows.
         shown: u8,
     },
     /// Set release-ok in the word of a lightweight lock, by a fetch-or; it showed this value before (`LWLockAcquire`,
@@ -227,7 +226,7 @@ pub enum Step {
     SetReleaseOk {
         /// The word of the lock.
         word: Word,
-        /// What the word shows.
+        /// The value that `word` showed before.
         shown: u64,
     },
     /// Set has-waiters in the word of the lightweight lock whose wait list is in hand, by a fetch-or; it showed this
@@ -235,7 +234,7 @@ pub enum Step {
     SetHasWaiters {
         /// The word of the lock.
         word: Word,
-        /// What the word shows.
+        /// The value that `word` showed before.
         shown: u64,
     },
 }
@@ -243,8 +242,8 @@ pub enum Step {
 /// One atomic step of one session.
 #[derive(Clone, Copy, Debug, PartialEq, Eq)]
 pub struct Event {
-    /// The session that makes it.
+    /// The session that makes the step.
     pub session: SessionId,
-    /// The step.
+    /// The step that `session` makes.
     pub step: Step,
 }

@@ -14,9 +14,9 @@ pub enum WordMark {
     TookFast {
         /// The session whose slots they are.
         owner: u8,
-        /// Its database.
+        /// The number that the database word of `owner` shows.
         database: u64,
-        /// The words of its slots.
+        /// The words of the fast-path slots of `owner`.
         words: [u64; 0],
     },
     /// The session put the lock of a session's fast-path slots, whose word showed this before.
@@ -30,9 +30,9 @@ pub enum WordMark {
     SharedFast {
         /// The session whose slots they are.
         owner: u8,
-        /// Its database.
+        /// The number that the database word of `owner` shows.
         database: u64,
-        /// The words of its slots.
+        /// The words of the fast-path slots of `owner`.
         words: [u64; 0],
     },
     /// The session gave back what it shared of the lock of a session's slots, whose word showed this before.
@@ -56,28 +56,28 @@ pub enum WordMark {
     },
     /// The session counted a strong lock.
     Counted {
-        /// Its object.
+        /// The object of the strong lock.
         tag: Tag,
-        /// Its mode.
+        /// The mode of the strong lock.
         mode: Mode,
     },
     /// The session counts the strong lock no more.
     Uncounted {
-        /// Its object.
+        /// The object of the strong lock.
         tag: Tag,
-        /// Its mode.
+        /// The mode of the strong lock.
         mode: Mode,
     },
     /// The session loaded its own wait word, which showed this.
     LoadedWait {
-        /// What was shown.
+        /// What the session's wait word showed.
         shown: u64,
     },
     /// The session asked a session to cancel, whose wait word showed this before.
     Asked {
         /// The session that was asked.
         other: u8,
-        /// What its wait word showed.
+        /// What the wait word of `other` showed.
         before: u64,
     },
     /// The session cleared its own wait word.
@@ -86,7 +86,7 @@ pub enum WordMark {
     LoadedDatabase {
         /// The session whose slots they are.
         owner: u8,
-        /// What was shown.
+        /// What the database word of `owner` showed.
         shown: u64,
     },
     /// The session loaded a slot of a session, which showed this.
@@ -95,26 +95,26 @@ pub enum WordMark {
         owner: u8,
         /// The number of the slot.
         slot: u8,
-        /// What was shown.
+        /// What the fast-path slot showed.
         shown: u64,
     },
     /// The session loaded the word of the lock of its own slots, which showed this.
     LoadedFast {
-        /// What was shown.
+        /// What the lock's word showed.
         shown: u64,
     },
     /// The session loaded a strong lock counter, which showed this.
     LoadedStrong {
         /// The index of the counter.
         index: u16,
-        /// What was shown.
+        /// What the strong lock counter showed.
         shown: u64,
     },
     /// The session set a mode in a slot of its own.
     SetSlot {
         /// The number of the slot.
         slot: u8,
-        /// The object.
+        /// The relation of the slot.
         tag: Tag,
         /// The mode.
         mode: Mode,
@@ -123,7 +123,7 @@ pub enum WordMark {
     ClearedSlot {
         /// The number of the slot.
         slot: u8,
-        /// The object.
+        /// The relation of the slot.
         tag: Tag,
         /// The mode.
         mode: Mode,
@@ -134,28 +134,28 @@ pub enum WordMark {
         owner: u8,
         /// The number of the slot.
         slot: u8,
-        /// The object.
+        /// The relation of the slot.
         tag: Tag,
         /// The mode.
         mode: Mode,
     },
     /// The session stored its own database.
     StoredDatabase {
-        /// The database.
+        /// The number of the database that was stored.
         database: u32,
     },
-    /// The session locked the wait list of the lightweight lock with this number, in which these stand.
+    /// The session locked the wait list of the lightweight lock with this number, in which these waiters are.
     LockedList {
         /// The number of the lock.
         lock: u8,
-        /// Who stands in the list.
+        /// The waiters in the list.
         waiters: [LwWaiter; 0],
     },
     /// The session put the list home and unlocked it.
     UnlockedList,
     /// The session stands in the list in hand, last, to take the lock in this mode.
     JoinedList {
-        /// How it wants to take the lock.
+        /// How the session wants to take the lock.
         mode: LwMode,
     },
     /// The session left the list in hand.
@@ -165,14 +165,14 @@ pub enum WordMark {
         /// The session that was taken off.
         other: u8,
     },
-    /// The session told a session that it took off.
+    /// The session told a session that it took off the list: it stored in that session's sleep word.
     Told {
         /// The session that was told.
         other: u8,
     },
     /// The session loaded its own sleep word, which showed this.
     LoadedSleep {
-        /// What was shown.
+        /// What the session's sleep word showed.
         shown: u64,
     },
     /// The session set release-ok in the word of the lock with this number.
@@ -180,7 +180,7 @@ pub enum WordMark {
         /// The number of the lock.
         lock: u8,
     },
-    /// The session set has-waiters there.
+    /// The session set has-waiters in the word of the lock with this number.
     SetHasWaiters {
         /// The number of the lock.
         lock: u8,
@@ -213,7 +213,7 @@ pub enum Mark<T> {
     TookPart {
         /// The number of the partition.
         part: u8,
-        /// Its content.
+        /// The content of the partition.
         taken: T,
     },
     /// The session put the partition home with this content, after this move that it made as it put it. The word of its lock
@@ -221,20 +221,20 @@ pub enum Mark<T> {
     PutPart {
         /// The number of the partition.
         part: u8,
-        /// The move.
+        /// The move that the session made on the content.
         done: Move,
-        /// The content after it.
+        /// The content of the partition after the move.
         put: T,
         /// What the lock's word showed.
         found: u64,
     },
-    /// Its wait word was set to waiting, and the content in hand is this, after its join.
+    /// The session set its wait word to waiting, and the content in hand is this, after the session's join.
     SetWaiting {
-        /// The object that it waits for.
+        /// The object that the session waits for.
         tag: Tag,
-        /// The mode that it waits for.
+        /// The mode that the session waits for.
         mode: Mode,
-        /// The content in hand.
+        /// The content in hand after the join.
         now: T,
     },
     /// The session marked the wait of a session granted. Its move, by which the content in hand is this, granted the waits of
@@ -244,11 +244,11 @@ pub enum Mark<T> {
         part: u8,
         /// The session whose wait was granted.
         other: u8,
-        /// The move.
+        /// The move that granted the waits.
         done: Move,
         /// The sessions whose waits were granted.
         woken: [u8; 0],
-        /// The content in hand.
+        /// The content in hand after the move.
         now: T,
     },
     /// The session cleared its own wait word and left the queue, by which the content in hand is this, and the waits of these
@@ -256,10 +256,10 @@ pub enum Mark<T> {
     LeftQueue {
         /// The sessions whose waits were granted.
         woken: [u8; 0],
-        /// The content in hand.
+        /// The content in hand after the session left the queue.
         now: T,
     },
-    /// Any other.
+    /// Any other step, which tells of no content.
     OfWords(WordMark),
 }
 
@@ -267,7 +267,7 @@ pub enum Mark<T> {
 pub struct History<T> {
     /// The number of the session.
     pub number: u8,
-    /// Its steps, the last one first.
+    /// The steps of the session, the last one first.
     pub marks: [Mark<T>; 0],
 }
 
@@ -280,6 +280,6 @@ pub struct View<T> {
     pub next: Option<u8>,
     /// The histories of the sessions that closed, the last one first.
     pub closed: LinkedList<History<T>>,
-    /// The histories of the sessions that it is for, the first of which makes its steps.
+    /// The histories of the sessions that the seat is for, the first of which makes its steps.
     pub sessions: LinkedList<History<T>>,
 }

@@ -17,7 +17,7 @@ ghost use Rattle.shared_rule.specs.Layout.{content_shelf_of, list_shelf_of, lock
 
 use modes_core::{MOST_SESSIONS, PARTITIONS, STRONG_COUNTERS, SessionId};
 
-/// 128 bytes, in words.
+/// How far words are apart that share no cache line: 128 bytes, counted in words.
 pub(crate) const GAP: usize = 16;
 
 /// The counters come after the 16 partition words, each with its gap.

@@ -11,14 +11,14 @@ use modes_core::SessionId;
 /// A lightweight lock, with a word and a wait list of its own (`LWLock` in lwlock.h).
 #[derive(Drop)]
 pub(crate) enum LwLock {
-    /// That of a partition (`LockHashPartitionLock` in lock.h).
+    /// The lightweight lock of a partition (`LockHashPartitionLock` in lock.h).
     OfPart(u8),
-    /// That of a session's fast-path slots (`fpInfoLock` in proc.h).
+    /// The lightweight lock of a session's fast-path slots (`fpInfoLock` in proc.h).
     OfSlots(SessionId),
 }
 
 impl LwLock {
-    /// The index of its word.
+    /// The index of the lock's word.
     pub(crate) fn word(&self) -> usize
         requires there { LockIsInTable self.now }
         ensures index { result ≡ index_of_word (word_of_lock self.now) }

@@ -97,7 +97,8 @@ impl<T: PartTable, G: Grouping> Play<Kept<T>, View<T>> for SharesSlots<G> {
     ghost then = { SharedSlotsOr T.content G.groups unnoted };
 }
 
-/// The same as `TakesSlots` of its own slots, where a lost exchange is noted as a load of the word.
+/// An exchange that takes the lock of the session's own slots, as `TakesSlots` does, where a lost exchange is noted as
+/// a load of the word.
 pub struct TriesSlots<G> {
     of: PhantomData<G>,
 }

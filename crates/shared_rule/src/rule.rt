@@ -5,8 +5,8 @@ use crate::kept::Kept;
 use atomic_table::{Shared, TableRule};
 use lock_table::PartTable;
 
-/// What the table is told once: how many sessions there can be, and how many groups of fast-path slots each has
-/// (`MaxBackends` and, in version 18, `FastPathLockGroupsPerBackend`).
+/// The sizes that a shared table is made with: how many sessions there can be, and how many groups of fast-path slots
+/// each has (`MaxBackends` and, in version 18, `FastPathLockGroupsPerBackend`).
 #[derive(Clone, Copy, Debug, PartialEq, Eq)]
 pub struct TableSizes {
     /// How many sessions there can be.
@@ -15,7 +15,7 @@ pub struct TableSizes {
     pub groups: u8,
 }
 
-/// The rule.
+/// The rule of the shared table, which holds between any two steps.
 pub struct LockTableRule;
 
 /// Each partition's content, and each lightweight lock's wait list, has a shelf of its own, and lies there while nobody
@@ -32,5 +32,5 @@ impl<T: PartTable> TableRule<Kept<T>, View<T>, TableSizes> for LockTableRule {
 /// The table as sessions share it: its words, with the shelves for contents and wait lists.
 pub type SharedWords<T> = Shared<Kept<T>, View<T>, TableSizes, LockTableRule>;
 
-/// A seat at it: one session's, or the opener's.
+/// A seat at the shared table: one session's, or the opener's.
 pub type Seat<T> = atomic_table::Seat<Kept<T>, View<T>>;

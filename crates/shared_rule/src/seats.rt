@@ -52,7 +52,7 @@ impl<T> Join<View<T>> for KeepsApart {
     ghost spent = { spent_view };
 }
 
-/// It goes on by itself: a seat with its history comes back.
+/// A session that was kept apart goes on by itself: a seat with its history comes back.
 struct HandsBack;
 
 impl<T> Split<View<T>> for HandsBack {

@@ -13,7 +13,7 @@ use modes_core::SessionId;
 /// A partition in a session's hand.
 #[derive(Clone, Copy)]
 pub struct InHand {
-    /// Whose hand it is.
+    /// The session that has the partition in hand.
     pub holder: SessionId,
     /// The move that the session has made on the content, if any.
     pub recorded: Option<Move>,
@@ -22,21 +22,21 @@ pub struct InHand {
 }
 
 impl InHand {
-    /// Whether nobody is unmarked.
+    /// Whether the wait words of all sessions whom the recorded move granted are marked.
     pub fn none_unmarked(&self) -> bool
         ensures { result ≡ none_unmarked self.now.unmarked }
     {
         !self.unmarked.contains(&true)
     }
 
-    /// Whether `session` is unmarked.
+    /// Whether the recorded move granted `session` and its wait word is not yet marked.
     pub fn is_unmarked(&self, session: SessionId) -> bool
         ensures { result ≡ is_unmarked_in self.now.unmarked session }
     {
         self.unmarked[usize::from(session.number())]
     }
 
-    /// Whether `done` is recorded.
+    /// Whether `done` is the recorded move.
     pub fn has_made(&self, done: &Move) -> bool
         ensures { result ≡ has_made self.now.recorded done.now }
     {

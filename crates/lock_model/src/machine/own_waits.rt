@@ -7,9 +7,9 @@ use modes_core::{Mode, SessionId, Tag};
 /// What a session waits for.
 #[derive(Clone, Copy, Debug, PartialEq, Eq)]
 pub struct Awaited {
-    /// The object.
+    /// The object that the session waits for.
     pub tag: Tag,
-    /// The mode.
+    /// The mode that the session waits for.
     pub mode: Mode,
 }
 

@@ -7,7 +7,7 @@ use modes_core::{Mode, ModeSet, SessionId, Tag};
 pub enum Spot {
     /// In a fast-path slot of its session.
     Slot(u8),
-    /// In the lock table.
+    /// In the lock table, not in a slot.
     Table,
 }
 
@@ -15,11 +15,11 @@ pub enum Spot {
 /// their places: the fast-path slots by their places, and the lock table after them.
 #[derive(Clone, Copy, Debug, PartialEq, Eq, PartialOrd, Ord)]
 pub struct Hold {
-    /// The session.
+    /// The session that has the hold.
     pub session: SessionId,
-    /// The object.
+    /// The object of the hold.
     pub tag: Tag,
-    /// The mode.
+    /// The mode of the hold.
     pub mode: Mode,
     /// Where the hold is recorded.
     pub spot: Spot,
@@ -28,13 +28,13 @@ pub struct Hold {
 /// A wait in an object's queue, with the modes that its session held when it joined.
 #[derive(Clone, Copy, Debug, PartialEq, Eq)]
 pub struct QueuedWait {
-    /// The session.
+    /// The session that waits.
     pub session: SessionId,
-    /// The object.
+    /// The object that the session waits for.
     pub tag: Tag,
-    /// The mode that it waits for.
+    /// The mode that the session waits for.
     pub mode: Mode,
-    /// The modes of the object that it held when it joined.
+    /// The modes of the object that the session held when it joined.
     pub held: ModeSet,
 }
 

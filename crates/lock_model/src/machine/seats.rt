@@ -63,7 +63,7 @@ impl Machine {
         }
     }
 
-    /// Closes `session`.
+    /// Closes `session`, where it has nothing left: no hold, no wait, no lightweight lock and no counted strong lock.
     fn close(&mut self, session: SessionId)
         ensures { Follows self.old session (Step.JoinSeat None) self.new }
     {

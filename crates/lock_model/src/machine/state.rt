@@ -43,7 +43,7 @@ pub struct Words {
 pub struct Locks {
     /// Who holds the lock of a session's fast-path slots exclusively.
     pub fast_holders: [[bool; 64]; 64],
-    /// Who shares it.
+    /// Who shares the lock of a session's fast-path slots.
     pub fast_sharers: [[bool; 64]; 64],
     /// Who shares the lock of a partition.
     pub partition_sharers: [[bool; 64]; 16],
@@ -107,11 +107,11 @@ impl FastPath {
 /// A strong lock that a session has counted, and the position up to which the session has gone past others.
 #[derive(Clone, Copy, Debug)]
 pub struct CountedBy {
-    /// The session.
+    /// The session that has counted the strong lock.
     pub session: SessionId,
-    /// The object.
+    /// The object of the strong lock.
     pub tag: Tag,
-    /// The mode.
+    /// The mode of the strong lock.
     pub mode: Mode,
     /// The session is past each one below this number.
     pub position: u8,
