@@ -14,7 +14,7 @@ const COMMITTED: u32 = 10;
 /// How many relations are locked by slots where a session has eight groups of these.
 const ALL_SLOTS: u32 = 128;
 
-/// What keys are of.
+/// What the keys of a row are: relations or other objects, and their modes.
 #[derive(Clone, Copy)]
 pub enum Kind {
     /// Relations, each in this mode.
@@ -39,7 +39,7 @@ pub struct Size {
 }
 
 impl Size {
-    /// For `sessions` sessions with one group of slots each, where a few relations are `few`, and nothing is held.
+    /// The size for `sessions` sessions with one group of slots each, where a few relations are `few`, and nothing is held.
     pub fn of(sessions: u32, few: u32) -> Self {
         Size {
             sessions,
@@ -74,7 +74,7 @@ pub enum KeyList {
     Ten,
     /// A hundred other relations, each in AccessShareLock.
     Hundred,
-    /// As many other relations as there can be slots, each in AccessShareLock.
+    /// Other relations, as many as a session's fast-path slots in eight groups, each in AccessShareLock.
     AllSlots,
     /// The objects that the other session has, each in AccessShareLock.
     Refused,

@@ -20,7 +20,7 @@ const REFUSED: &str = "a call of the local table was refused";
 pub enum Work {
     /// A call that does nothing.
     OneEmptyCall,
-    /// Two of them.
+    /// Two calls that do nothing.
     TwoEmptyCalls,
     /// The key is acquired and released.
     Pair,

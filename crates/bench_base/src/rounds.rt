@@ -19,7 +19,7 @@ pub fn wall_nanos(rt: &impl Clock) -> Result<u64> {
     Ok(nanos(rt.monotonic()?))
 }
 
-/// The nanoseconds of `time`.
+/// The length of `time` in nanoseconds.
 fn nanos(time: Duration) -> u64 {
     time.as_secs()
         .saturating_mul(1_000_000_000)

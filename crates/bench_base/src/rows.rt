@@ -13,9 +13,9 @@ const STEPS_FOR_CHECKED: u32 = 100;
 /// A row of a table of times.
 #[derive(Drop)]
 pub struct Row<W> {
-    /// What it times.
+    /// The name of the row: what the row times.
     pub name: &'static str,
-    /// What it does with each key of its list.
+    /// What the row does with each key of its list.
     pub work: W,
     pub list: KeyList,
     /// How many steps a round has, at least.

@@ -50,7 +50,7 @@ where another page is named.
 Example:
   lock_bench workloads --csv workloads.csv --svg workloads.svg";
 
-/// A page.
+/// A page of figures that the program prints.
 #[derive(Clone, Copy, PartialEq, Eq)]
 pub enum Page {
     Local,

@@ -16,10 +16,10 @@ use std::sync::Wait;
 use std::thread::Threads;
 use std::time::{Clock, CpuClock};
 
-/// What sessions do.
+/// The cases that sessions of a manager run, beside each other.
 static OF_SESSIONS: [Case; 3] = [Case::OneObject, Case::OnePartition, Case::Listing];
 
-/// What is done without any.
+/// The case that threads run without any session, under a standard mutex.
 static OF_MUTEX: [Case; 1] = [Case::Mutex];
 
 /// How many threads there are.

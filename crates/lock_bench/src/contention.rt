@@ -79,7 +79,7 @@ impl Job {
     }
 }
 
-/// Works for `nanos` nanoseconds.
+/// Keeps the processor busy for `nanos` nanoseconds of the clock of `rt`.
 fn work(rt: &impl Clock, nanos: u64) {
     let from = now(rt);
     for _ in 0..READINGS {

@@ -26,7 +26,7 @@ use std::time::CpuClock;
 pub enum Work {
     /// A call that does nothing.
     OneEmptyCall,
-    /// Two of them.
+    /// Two calls that do nothing.
     TwoEmptyCalls,
     /// The key is locked and unlocked.
     Pair,

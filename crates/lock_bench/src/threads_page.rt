@@ -17,7 +17,7 @@ use std::sync::{Mutex, Wait};
 use std::thread::Threads;
 use std::time::Clock;
 
-/// What the threads take.
+/// Which objects the threads of a row take.
 #[derive(Clone, Copy)]
 enum Case {
     OneObject,

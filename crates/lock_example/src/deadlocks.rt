@@ -5,7 +5,7 @@ ghost use Rattle.lock_manager.specs.Crews.{KeepsSeat};
 use lock_manager::{Blocked, Board, MOST_SESSIONS, OwnSession, Part, SessionId};
 use std::sync::Wait;
 
-/// By session numbers.
+/// The length of a list that has a place for each session number.
 const NUMBERS: usize = MOST_SESSIONS as usize;
 
 /// Asks, in the name of `session`, one session of a circle of waits to cancel, if there is such a circle. Without memory for the

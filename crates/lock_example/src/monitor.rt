@@ -18,7 +18,7 @@ use std::time::{Clock, Duration};
 /// How many milliseconds the monitor sleeps between two looks.
 const PAUSE: u64 = 5;
 
-/// By session numbers.
+/// The length of a list that has a place for each session number.
 const NUMBERS: usize = MOST_SESSIONS as usize;
 
 /// Looks again and again at who waits, and logs each wait once, until `is_over`. `monitor` is a session of the

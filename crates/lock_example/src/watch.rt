@@ -15,7 +15,7 @@ use std::time::{Clock, Duration};
 /// long.
 const PAUSE: u64 = 2;
 
-/// By session numbers.
+/// The length of a list that has a place for each session number.
 const NUMBERS: usize = MOST_SESSIONS as usize;
 
 /// What the threads of a day show the watchdog.
@@ -42,7 +42,7 @@ impl Watch {
         }
     }
 
-    /// So many threads, `working`, begin to work.
+    /// Sets the number of threads that work to `working`.
     pub fn begin(&self, working: u64) {
         self.working.store(working, Ordering::SeqCst);
     }
@@ -60,7 +60,7 @@ impl Watch {
         self.working.fetch_sub(1, Ordering::SeqCst);
     }
 
-    /// Whether all have.
+    /// Whether all threads have done their work.
     pub fn is_over(&self) -> bool {
         self.working.load(Ordering::SeqCst) == 0
     }

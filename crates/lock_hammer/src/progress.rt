@@ -90,7 +90,7 @@ impl<'a, C: Clock, E: Write> Progress for ProgressLine<'a, C, E> {
 #[derive(Drop)]
 struct Line<'a, E> {
     writer: &'a mut E,
-    /// When the rounds began.
+    /// The moment when the rounds began.
     begun: Instant,
     /// When it was written last, or else the rounds began.
     written: Instant,

@@ -38,19 +38,19 @@ impl Gate for OpenGate {
     }
 }
 
-/// What the workers tell of themselves.
+/// What the workers report of themselves.
 #[derive(Drop)]
 pub struct Reports<'a, P> {
-    /// A gate didn't let one of them pass.
+    /// A gate didn't let one of the workers pass.
     is_held: AtomicBool,
-    /// One of them was refused memory.
+    /// A call of one of the workers was refused memory.
     is_short: AtomicBool,
-    /// How far they are.
+    /// What counts the rounds that the workers have played.
     progress: &'a P,
 }
 
 impl<'a, P: Progress> Reports<'a, P> {
-    /// Reports of nothing yet, which tell `progress` of each round.
+    /// Reports of nothing yet, which count each round with `progress`.
     pub fn new(progress: &'a P) -> Self {
         Reports {
             is_held: AtomicBool::new(false),
@@ -59,28 +59,28 @@ impl<'a, P: Progress> Reports<'a, P> {
         }
     }
 
-    /// A gate didn't let one pass.
+    /// Notes that a gate didn't let a worker pass.
     fn hold(&self) {
         self.is_held.store(true, Ordering::SeqCst);
     }
 
-    /// One was refused memory.
+    /// Notes that a call of a worker was refused memory.
     fn run_short(&self) {
         self.is_short.store(true, Ordering::SeqCst);
     }
 
-    /// One has played a round.
+    /// Counts that a worker has played a round.
     fn count_round(&self) {
         self.progress.count_round();
     }
 
-    /// All have ended. Answers the fault that they come to.
+    /// Ends the progress, once all workers have ended, and answers the fault that they come to.
     pub fn end(&self) -> Result<(), Fault> {
         self.progress.end();
         self.outcome()
     }
 
-    /// The fault that they come to.
+    /// The fault that the workers have come to: a gate that didn't let one pass, or refused memory.
     pub fn outcome(&self) -> Result<(), Fault> {
         if self.is_held.load(Ordering::SeqCst) {
             Err(Fault::GateHeld)
@@ -92,18 +92,18 @@ impl<'a, P: Progress> Reports<'a, P> {
     }
 }
 
-/// What all sessions do.
+/// What all workers do in one part of the hammer.
 #[derive(Clone, Copy, Debug, PartialEq, Eq)]
 pub enum Act {
-    /// Each asks the gate and plays so many rounds, beside the others.
+    /// Each worker asks the gate and plays this number of rounds, beside the others.
     Rounds(u32),
-    /// Each in turn takes a weak mode.
+    /// Each worker in turn takes a weak mode.
     Weak,
-    /// The first one takes a strong mode.
+    /// The first worker takes a strong mode.
     Strong,
 }
 
-/// The relation of `round`.
+/// The relation that round number `round` takes.
 fn relation(round: u32) -> Tag {
     Tag::relation(DATABASE, FIRST_RELATION + round % RELATIONS)
 }

@@ -17,13 +17,13 @@ use wait_queue::{Blocker, blockers_of};
 /// A session that waits, with all who are in its way.
 #[derive(Debug, Drop)]
 pub struct Blocked {
-    /// Who waits.
+    /// The session that waits.
     pub session: SessionId,
-    /// For which object.
+    /// The object that `session` waits for.
     pub tag: Tag,
-    /// For which mode.
+    /// The mode that `session` waits for.
     pub mode: Mode,
-    /// Who is in its way, as `blockers` says.
+    /// Who is in the way of `session`, as `blockers` says.
     pub blockers: Vec<Blocker>,
 }
 

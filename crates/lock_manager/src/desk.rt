@@ -40,10 +40,10 @@ pub trait Desk<S> {
     ghost use Rattle.lock_manager.specs.Keeper.{PartView};
     ghost use Rattle.lock_manager.specs.Managers.{ManagerView};
 
-    // Whose sessions they are.
+    // The manager whose sessions the desk opens and closes.
     ghost manager: { Self → ManagerView };
 
-    // How many of them were opened, how many are open, and the histories of those that have closed.
+    // How many of the manager's sessions were opened, how many are open, and the histories of those that have closed.
     ghost issued: { Self → ℕ };
 
     ghost live: { Self → ℕ };
@@ -89,7 +89,7 @@ pub trait Desk<S> {
         ensures quiet { IfOk result (λ session. quiet session ≡ []) }
         ensures none_closed { closed self.new ≡ closed self.old };
 
-    /// How many are open.
+    /// How many sessions of the manager are open.
     fn live(&self) -> u32
         ensures { result ≡ live self.now };
 
@@ -165,7 +165,7 @@ impl<'a> ManagerDesk<'a> {
         ManagerDesk { manager, opener }
     }
 
-    /// The manager's opener.
+    /// The opener of the desk's manager, for which the desk is given up.
     pub fn into_opener(self) -> Opener
         ensures opener { result ≡ self.entry.opener }
         ensures own { IsOpenerOf result self.entry.manager.now }

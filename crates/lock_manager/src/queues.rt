@@ -43,7 +43,7 @@ fn queue<T: PartTable, B: Board<T>, R: Wait>(
     }
 }
 
-/// Those in the way of the wait of `session` on `tag` at one moment.
+/// The sessions in the way of the wait of `session` on `tag` at one moment.
 fn blockers<T: PartTable, B: Board<T>, R: Wait>(
     rt: &R,
     board: &mut B,
@@ -71,7 +71,7 @@ fn blockers<T: PartTable, B: Board<T>, R: Wait>(
     }
 }
 
-/// Those in the way of the session's own wait for `mode` on `tag` at one moment.
+/// The sessions in the way of the session's own wait for `mode` on `tag` at one moment.
 pub fn blockers_of_own<T: PartTable, B: Board<T>, R: Wait>(
     rt: &R,
     board: &mut B,
@@ -148,12 +148,12 @@ impl<T: PartTable, B: Board<T>> OwnSession<T, B> {
         queue(rt, &mut self.board, &self.own, tag)
     }
 
-    /// Those in the way of `session`, which waits on `tag` (`GetBlockerStatusData` in lock.c, for
-    /// `pg_blocking_pids`): by session and mode those who hold a mode that conflicts with the awaited one, and then,
-    /// in the order of the queue, those before it who await one. Nobody where the session doesn't wait there. The
-    /// answer is of one episode in the object's partition, which changes nothing. A hold in a fast-path slot is in
-    /// nobody's way: it is moved to the table before a mode that conflicts with it can wait. Only the list of the
-    /// answer takes memory; refused where that runs out.
+    /// The sessions in the way of `session`, which waits on `tag` (`GetBlockerStatusData` in lock.c, for
+    /// `pg_blocking_pids`): by session and mode those who hold a mode that conflicts with the awaited one, and then, in
+    /// the order of the queue, those before it who await one. Nobody where the session doesn't wait there. The answer
+    /// is of one episode in the object's partition, which changes nothing. A hold in a fast-path slot is in nobody's
+    /// way: it is moved to the table before a mode that conflicts with it can wait. Only the list of the answer takes
+    /// memory; refused where that runs out.
     pub fn blockers<R: Wait>(
         &mut self,
         rt: &R,

@@ -148,7 +148,7 @@ impl<T: PartTable, B: Board<T>> OwnSession<T, B> {
         }
     }
 
-    /// The session's number.
+    /// The number of the session.
     pub fn id(&self) -> SessionId
         ensures { result ≡ (B.seat self.now.board).number }
     {

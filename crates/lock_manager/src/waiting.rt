@@ -26,20 +26,20 @@ use wait_queue::{Kind, awaited_in_conflict, remove_waiter};
 /// What an asked session was doing.
 #[derive(Clone, Copy, Debug, PartialEq, Eq)]
 pub enum Asked {
-    /// It waits, and finds that it was asked when it looks.
+    /// The asked session waits, and finds that it was asked when it looks.
     Waiting,
-    /// It doesn't wait, or was granted what it waits for.
+    /// The asked session doesn't wait, or was granted what it waits for.
     NotWaiting,
 }
 
 /// What a session that waits finds when it looks.
 #[derive(Clone, Copy, Debug, PartialEq, Eq)]
 pub enum Looked {
-    /// Its wait was granted, and has ended.
+    /// The session's wait was granted, and has ended.
     Granted,
-    /// It waits still.
+    /// The session waits still, and nobody asked it to cancel.
     Still,
-    /// It waits still, and was asked to cancel.
+    /// The session waits still, and was asked to cancel.
     CancelAsked,
 }
 

@@ -75,53 +75,53 @@ impl<T: PartTable, B: Board<T>> Model for OwnWaiting<T, B> {
 /// How an acquire that may wait began, with the session.
 #[derive(Drop)]
 pub enum Started<S, W> {
-    /// It has the mode newly.
+    /// The session has the mode newly.
     Granted(S),
-    /// It had the mode before, and has it once more.
+    /// The session had the mode before, and has it once more.
     AlreadyHeld(S),
-    /// It waits for it.
+    /// The session waits for the mode.
     Queued(W),
-    /// It holds what it held.
+    /// The session holds what it held before.
     Refused(S, Refusal),
 }
 
 /// What an acquire that waits is answered, with the session.
 #[derive(Drop)]
 pub enum Locked<S> {
-    /// It has the mode newly.
+    /// The session has the mode newly.
     Granted(S),
-    /// It had the mode before, and has it once more.
+    /// The session had the mode before, and has it once more.
     AlreadyHeld(S),
-    /// It holds what it held.
+    /// The session holds what it held before.
     Refused(S, Refusal),
 }
 
 /// What a session that waits finds when it looks, with the session.
 #[derive(Drop)]
 pub enum Polled<S, W> {
-    /// Its wait was granted, and has ended.
+    /// The session's wait was granted, and has ended.
     Granted(S),
-    /// It waits still.
+    /// The session waits still, and nobody asked it to cancel.
     Still(W),
-    /// It waits still, and was asked to cancel.
+    /// The session waits still, and was asked to cancel.
     CancelAsked(W),
 }
 
 /// How a wait ended that its session cancelled, with the session.
 #[derive(Drop)]
 pub enum Cancelled<S> {
-    /// It is out of the queue, and holds what it held.
+    /// The session is out of the wait queue, and holds what it held before.
     Removed(S),
-    /// It had been granted, and has the mode.
+    /// The session had been granted what it waited for, and has the mode.
     WasGranted(S),
 }
 
 /// How a wait ended, with the session.
 #[derive(Drop)]
 pub enum Waited<S> {
-    /// It has the mode.
+    /// The session has the mode that it waited for.
     Granted(S),
-    /// It is out of the queue, and holds what it held.
+    /// The session is out of the wait queue, and holds what it held before.
     Refused(S, Refusal),
 }
 

@@ -25,7 +25,7 @@ pub struct Taken {
 }
 
 impl Taken {
-    /// What no thread took.
+    /// What threads took before any of them took something: no time, and no granted request.
     pub fn none() -> Self {
         Taken {
             from: u64::MAX,
@@ -85,7 +85,7 @@ impl Round {
         }
     }
 
-    /// What its threads took.
+    /// What the threads of the round took.
     pub fn into_taken(self) -> Taken {
         self.taken.into_inner()
     }

@@ -16,7 +16,7 @@ use std::sync::Wait;
 use wait_queue::Blocker;
 
 impl<T: PartTable, B: Board<T>> OwnWaiting<T, B> {
-    /// The session's number.
+    /// The number of the session.
     pub fn id(&self) -> SessionId
         ensures { result ≡ (B.seat self.now.board).number }
     {
@@ -51,11 +51,11 @@ impl<T: PartTable, B: Board<T>> OwnWaiting<T, B> {
         modes_held(&self.own.locals, tag)
     }
 
-    /// Those in the way of the session's own wait (what `ProcSleep` in proc.c logs of a long wait, by `log_lock_waits`),
-    /// as `blockers` of another session has them: by session and mode those who hold a mode that conflicts with the
-    /// awaited one, and then, in the order of the queue, those before it who await one. Nobody where it was granted
-    /// meanwhile. The answer is of one episode in the object's partition, which changes nothing. Only the list of the
-    /// answer takes memory; refused where that runs out.
+    /// The sessions in the way of the session's own wait (what `ProcSleep` in proc.c logs of a long wait, by
+    /// `log_lock_waits`), as `blockers` of another session has them: by session and mode those who hold a mode that
+    /// conflicts with the awaited one, and then, in the order of the queue, those before it who await one. Nobody where
+    /// it was granted meanwhile. The answer is of one episode in the object's partition, which changes nothing. Only
+    /// the list of the answer takes memory; refused where that runs out.
     pub fn blockers<R: Wait>(&mut self, rt: &R) -> Result<Vec<Blocker>, Refusal>
         // What it is answered.
         ensures looked { LooksAt (λ taken. IfOk result (λ found.
