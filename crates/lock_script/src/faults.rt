@@ -48,7 +48,7 @@ pub enum Fault {
     /// The reader failed, or gave too few bytes at a time.
     #[error("read failed")]
     ReadFailed,
-    /// The writer failed.
+    /// The writer of the answers failed.
     #[error("write failed")]
     WriteFailed,
     /// A growth of the program's own, or in the making of the lock manager, was refused.

@@ -62,7 +62,7 @@ impl KeptQueue {
 #[derive(Drop)]
 pub struct KeptLines {
     alloc: Global,
-    /// There is one for each session that ever had lines here, of which there are as many as sessions at most.
+    /// The queues of kept lines: one for each session that ever had lines here, so as many as there are sessions at most.
     queues: Vec<KeptQueue>,
 }
 
@@ -76,7 +76,7 @@ impl Model for KeptLines {
 }
 
 impl KeptLines {
-    /// No lines.
+    /// No kept line of any session. Lines take memory by `alloc`.
     pub fn new(alloc: Global) -> Self
         ensures { result ≡ [] }
     {
@@ -86,7 +86,7 @@ impl KeptLines {
         }
     }
 
-    /// How many there are.
+    /// How many lines all sessions have here together.
     pub fn len(&self) -> usize {
         let mut lines: usize = 0;
         for queue in &self.queues {

@@ -37,7 +37,7 @@ impl Model for Line {
 }
 
 impl Line {
-    /// The text.
+    /// The text of the line.
     pub fn as_str(&self) -> &str
         ensures { result.now ≡ self.now }
     {

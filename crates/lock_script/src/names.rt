@@ -8,10 +8,10 @@ use modes_core::SessionId;
 use std::alloc::Global;
 use std::marker::Model;
 
-/// How many sessions there are at most.
+/// How many sessions a script has open at a time at most.
 pub(crate) const MOST_SESSIONS: usize = modes_core::MOST_SESSIONS as usize;
 
-/// A session's name.
+/// The name of a session, of up to 16 bytes.
 pub type Name = ArrayString<16>;
 
 /// The names of the sessions that were opened, by their numbers. Of a number that was given out again it is the last one.
@@ -30,7 +30,7 @@ impl Model for SessionNames {
 }
 
 impl SessionNames {
-    /// No names.
+    /// The names of no session.
     pub fn new() -> Self
         ensures { result ≡ [] }
     {
@@ -82,7 +82,7 @@ pub struct Names {
 }
 
 impl Names {
-    /// No names.
+    /// The names of no session and no object. Those of objects take memory by `alloc`.
     pub fn new(alloc: Global) -> Self
         ensures sessions { result.sessions ≡ [] }
         ensures objects { result.objects ≡ [] }

@@ -48,7 +48,7 @@ impl ObjectNames {
         }
     }
 
-    /// All of them, in the order in which they were named.
+    /// All named objects, in the order in which they were named.
     pub fn as_slice(&self) -> &[NamedObject]
         ensures { result.now ≡ self.now }
     {

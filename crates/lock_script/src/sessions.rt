@@ -48,7 +48,7 @@ impl<S> ByName<S> {
         Ok(ByName { sessions })
     }
 
-    /// How many there are.
+    /// How many sessions the list has.
     pub fn len(&self) -> usize
         ensures { result ≡ length self.now }
     {

@@ -10,15 +10,15 @@ const LETTERS_OF_A_STEP: usize = 6;
 /// A lock of a session, from the step in which it was asked for to the one in which it went.
 #[derive(Debug, Drop)]
 pub struct Bar {
-    /// The number of its session's lane.
+    /// The number of the lane of the bar's session.
     pub lane: u32,
-    /// The row of that lane in which it is drawn.
+    /// The row of that lane in which the bar is drawn.
     pub row: u32,
     pub tag: Tag,
     pub mode: Mode,
     /// The object and the mode as text.
     pub label: String,
-    /// The step in which its session asked for the lock.
+    /// The step in which the session asked for the lock.
     pub asked: u32,
     /// The step in which the session got it, if it did.
     pub got: Option<u32>,
@@ -48,16 +48,16 @@ impl Bar {
     }
 }
 
-/// How a bar is in the way of one that waits.
+/// How the other bar is in the way of one that waits.
 #[derive(Clone, Copy, Debug, PartialEq, Eq)]
 pub enum Way {
-    /// Its session holds a conflicting mode.
+    /// The session of the other bar holds a conflicting mode.
     Holds,
-    /// Its session awaits a conflicting mode, and comes before it in the queue.
+    /// The session of the other bar awaits a conflicting mode, and comes before the one that waits in the queue.
     StandsBefore,
 }
 
-/// That a bar, when its wait began, had another one in its way.
+/// An arrow from a bar to one that was in its way when its wait began.
 #[derive(Clone, Copy, Debug, PartialEq, Eq)]
 pub struct Arrow {
     /// The number of the bar that waits.

@@ -4,7 +4,7 @@ ghost use Rattle.std.specs.Prelude.{◌≡◌, ◌≤◌, false};
 use arrayvec::ArrayString;
 use std::alloc::{AllocError, Global};
 
-/// A session's name.
+/// The name of a session, of up to 16 bytes.
 pub type Name = ArrayString<16>;
 
 /// The step from which on a row is free while a bar is in it: none.

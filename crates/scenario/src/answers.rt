@@ -27,28 +27,28 @@ pub enum Said {
     Cancelled,
     /// The other session, which waits, was asked to stop.
     Asked(Name),
-    /// Whether somebody waits for what it holds.
+    /// Whether somebody waits for what the session holds.
     Waiters(bool),
     /// The session gave one count of a lock back.
     Unlocked(Unlocked),
-    /// The session gave its advisory locks back: so many modes on objects, which it has no longer.
+    /// The session gave its advisory locks back: this number of modes on objects, which it has no longer.
     UnlockedAll(u32),
-    /// Its transaction ended with success.
+    /// The session's transaction ended with success.
     Committed,
-    /// Its transaction ended with failure.
+    /// The session's transaction ended with failure.
     Aborted,
-    /// The session was closed.
+    /// The session was closed, and has no locks any more.
     Closed,
-    /// Its transaction is at this level.
+    /// The session's transaction is nested at this level: 1 where no transaction is nested in another.
     Level(u8),
-    /// How often each of its owners has a lock.
+    /// How often each owner of the session has a lock.
     Owned {
         of_transaction: u16,
         of_session: u16,
     },
     /// The session doesn't own the lock, in this mode, that it gives back.
     NotOwned(Mode),
-    /// Its call was refused.
+    /// The session's call was refused.
     Refused(Refusal),
 }
 
@@ -65,7 +65,7 @@ pub enum Row {
     Wait(QueueRow),
     /// How many waits a queue has.
     Waits(u64),
-    /// One that is in the way of the session of this name.
+    /// A blocker: a session in the way of the session of this name.
     InTheWay(Name, Blocker),
     /// The session of this name doesn't wait, so that nothing was asked of it.
     NotWaiting(Name),
@@ -82,13 +82,13 @@ pub enum Row {
 pub enum Answer {
     /// The session of this name is told this.
     Said(Name, Said),
-    /// A row by itself.
+    /// A row alone, which is no session's own.
     Row(Row),
     /// All that is held and awaited.
     Listing(Listing),
     /// The waits on an object, in the order of its queue.
     Queue(Vec<QueueRow>),
-    /// Those who stand in the way of the session of this name.
+    /// The sessions in the way of the session of this name.
     Blockers(Name, Vec<Blocker>),
     /// The script's own memory didn't suffice, which ends it.
     NoMemory,

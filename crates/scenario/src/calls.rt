@@ -243,8 +243,8 @@ fn queue<T: PartTable, B: Board<T>, H: Wait>(
     of_queue(name, session.queue(rt, tag))
 }
 
-/// Those in the way of the wait on `tag` of the session `other`, whose number is `number`, as `session` sees them. The
-/// answer is told to `name`.
+/// The sessions in the way of the wait on `tag` of the session `other`, whose number is `number`, as `session` sees
+/// them. The answer is told to `name`.
 fn blockers<T: PartTable, B: Board<T>, H: Wait>(
     rt: &H,
     session: &mut OwnSession<T, B>,

@@ -225,7 +225,7 @@ fn kept_or_fault(
     }
 }
 
-/// The names of `sessions`.
+/// The names of all of `sessions`, in their order.
 fn names_in<S>(alloc: Global, sessions: &ByName<S>) -> Result<Vec<Name>, AllocError> {
     let mut names = Vec::new(alloc);
     for place in 0..sessions.len() {

@@ -39,7 +39,7 @@ pub trait Listener {
         ensures heard { OnOk result (hears self.old Drawn self.new) }
         ensures unheard { IfErr result IsUnheard };
 
-    /// Whether it hears of each wait, as it begins, who is in its way. Nobody is asked otherwise.
+    /// Whether the listener hears of each wait, as it begins, who is in its way. Nobody is asked otherwise.
     fn wants_waits(&self) -> bool {
         false
     }
@@ -59,8 +59,8 @@ pub trait Listener {
         ensures heard { OnOk result (hears self.old Done self.new) }
         ensures unheard { IfErr result IsUnheard };
 
-    /// A line was read, its `text` with this `number`, which is kept until its session goes on. It is answered then. Where `more`, the next
-    /// line is at hand.
+    /// Hears of a line that was read, with its text `_text` and its number `_number`, and is kept until its session
+    /// goes on. The line is answered then. Where `_more`, the next line is at hand.
     fn keep_line(&mut self, _number: u32, _text: &str, _more: bool) -> Result<(), Fault>
         ensures unheard { IfErr result IsUnheard }
     {
@@ -80,8 +80,8 @@ pub trait Listener {
         Ok(())
     }
 
-    /// The script has ended where lines are kept: those of the names `waiting` wait, and so many `lines` were kept and not
-    /// reached.
+    /// Hears that the script has ended where lines are kept: the sessions of the names `_waiting` wait, and `_lines`
+    /// lines were kept and not reached.
     fn left(&mut self, _waiting: &[Name], _lines: u64) -> Result<(), Fault>
         ensures unheard { IfErr result IsUnheard }
     {

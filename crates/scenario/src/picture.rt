@@ -319,7 +319,8 @@ impl Picture {
         false
     }
 
-    /// Those that wait in a circle, as a set of bits by their numbers: by the arrows they come back to themselves.
+    /// The sessions that wait in a circle, as a set of bits by their numbers: by the arrows each of them comes back to
+    /// itself.
     fn circles(&self) -> u64 {
         let mut reached = [0_u64; 64];
         for arrow in &self.arrows {

@@ -62,7 +62,7 @@ pub fn run_before<H: AllocGlobal + Wait, R: Read + Drop, L: Listener + Drop>(
 /// Which lines are kept while their sessions wait.
 #[derive(Clone, Copy)]
 pub(crate) struct Keeping {
-    /// The memory for them.
+    /// The memory for the kept lines.
     pub alloc: Global,
     /// Whether the script speaks SQL, of which each line that it comes to is kept.
     pub speaks: bool,
@@ -70,12 +70,12 @@ pub(crate) struct Keeping {
     pub keeps: bool,
 }
 
-/// How lines are run.
+/// In which manner the lines of a script are run.
 #[derive(Clone, Copy)]
 pub(crate) enum Manner {
-    /// One after the other, to the first fault.
+    /// The lines are run one after the other, to the first fault.
     Script,
-    /// One after the other, but that lines whose sessions wait are kept.
+    /// The lines are run one after the other, but lines whose sessions wait are kept.
     Keeping(Keeping),
 }
 

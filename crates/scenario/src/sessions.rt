@@ -36,7 +36,7 @@ pub enum Deed {
     Open(Name, u32),
     /// An object is given a name.
     Name(ObjectName, Tag),
-    /// A session is closed.
+    /// The session of this caller is closed.
     Close(Caller),
     /// A session asks for a lock for an owner, and waits for it if need be.
     Lock(Target, Owner),

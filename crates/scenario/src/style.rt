@@ -9,13 +9,13 @@ pub static DRAWINGS: [&str; 4] = ["mermaid", "dot", "timeline", "gantt"];
 /// The language of a picture.
 #[derive(Clone, Copy, Debug, PartialEq, Eq)]
 pub enum Drawing {
-    /// Mermaid's, which GitHub draws.
+    /// The language of Mermaid, which GitHub draws.
     Mermaid,
-    /// Graphviz's.
+    /// The language of Graphviz, `dot`.
     Dot,
     /// SVG: what each session held and awaited, from line to line.
     Timeline,
-    /// Mermaid's chart of the same.
+    /// Mermaid's chart of what each session held and awaited, from line to line.
     Gantt,
 }
 
@@ -25,7 +25,7 @@ impl Drawing {
         matches!(self, Drawing::Timeline | Drawing::Gantt)
     }
 
-    /// Its name.
+    /// The name of the language, as the command line has it.
     pub fn name(self) -> &'static str {
         match self {
             Drawing::Mermaid => "mermaid",
@@ -77,9 +77,9 @@ impl Style {
 /// In which form a line is printed.
 #[derive(Clone, Copy)]
 pub enum Form {
-    /// As text.
+    /// The line is printed as text.
     Text,
-    /// As an object of JSON, with the memory for it.
+    /// The line is printed as an object of JSON, with this memory for it.
     Json(Global),
 }
 

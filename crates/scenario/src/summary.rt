@@ -19,10 +19,10 @@ pub struct Obstacle {
     pub how: How,
 }
 
-/// How a wait ended.
+/// How a wait of a run ended, and after which line.
 #[derive(Clone, Copy, Debug)]
 pub struct WaitEnd {
-    /// The line of the script behind which it ended.
+    /// The number of the script's line after which the wait ended.
     pub line: u32,
     /// Whether the session had its lock then, and was not asked to stop.
     pub granted: bool,
@@ -32,13 +32,13 @@ pub struct WaitEnd {
 #[derive(Drop)]
 pub struct WaitRow {
     pub session: Name,
-    /// The line of the script that asked for the lock.
+    /// The number of the script's line that asked for the lock.
     pub from: u32,
-    /// `None` while it waits.
+    /// How the wait ended, or `None` while it lasts.
     pub ended: Option<WaitEnd>,
     pub tag: Tag,
     pub mode: Mode,
-    /// Who was in its way when it began.
+    /// Who was in the way of the wait when it began.
     pub behind: Vec<Obstacle>,
 }
 
@@ -46,7 +46,7 @@ pub struct WaitRow {
 #[derive(Drop)]
 pub struct Summary {
     alloc: Global,
-    /// The line of the script that is run.
+    /// The number of the script's line that is run.
     pub line: u32,
     pub waits: Vec<WaitRow>,
 }
@@ -127,7 +127,7 @@ impl Summary {
     }
 }
 
-/// Those `found` in the way of a wait, by their `names`.
+/// The obstacles of a wait: those of `found`, with their sessions by `names`.
 fn obstacles(alloc: Global, names: &Names, found: &[Blocker]) -> Result<Vec<Obstacle>, AllocError>
     ensures { IfOk result (λ those. map shown_obstacle those.items ≡ map (obstacle_in names.now) found.now) }
 {

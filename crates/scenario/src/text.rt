@@ -115,7 +115,7 @@ impl fmt::Display for SaidText<'_> {
     }
 }
 
-/// A refusal, as text.
+/// The text of `refusal`, in which sessions go by `names`.
 #[derive(Clone, Copy, Drop)]
 struct RefusedText<'a> {
     names: &'a Names,

@@ -33,13 +33,13 @@ const USUAL_GROUPS: u32 = 1;
 
 const USUAL_GROUPS_SHOWN: &str = "1";
 
-/// The program's name.
+/// The name of the program.
 pub const PROGRAM: &str = "lock_scenario";
 
 /// The version that `--version` shows.
 pub const VERSION: &str = "0.1.0";
 
-/// What `--help` says first.
+/// What `--help` says in its first line.
 pub const ABOUT: &str = "Run scripts against PostgreSQL's lock manager";
 
 /// The option that prints the man page.
@@ -217,11 +217,11 @@ pub enum Task {
 /// What words come to that ask for no run.
 #[derive(Debug, Drop)]
 pub enum NoRun {
-    /// They ask for this text, a help or the version.
+    /// The words ask for this text, a help or the version.
     Text(String),
-    /// They are refused, and this says why.
+    /// The words are refused, and this text says why.
     Refused(String),
-    /// There was no memory to read them, or for the text.
+    /// Memory ran out where the words were read, or for the text.
     NoMemory,
 }
 

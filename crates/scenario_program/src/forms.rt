@@ -207,7 +207,7 @@ impl Wrapped {
         Ok(())
     }
 
-    /// The lines.
+    /// The text of the lines, for which the words are given up.
     pub fn finish(self) -> String {
         self.text
     }

@@ -35,7 +35,7 @@ impl Helps {
     }
 }
 
-/// The example of `--help`.
+/// The example that `--help` shows.
 const PROGRAM_EXAMPLE: &str = "Example:
   lock_scenario run --sessions 2 < scenarios/object_lock.scn";
 

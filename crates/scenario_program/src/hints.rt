@@ -26,7 +26,7 @@ static SQL_WORDS: [(&str, &str); 7] = [
     ("release", "unlock"),
 ];
 
-/// The same of who is used to other shells.
+/// What somebody may type who is used to other shells, and the word with which such a line begins here.
 static SHELL_WORDS: [(&str, &str); 5] = [
     ("quit", "end"),
     ("exit", "end"),

@@ -28,11 +28,11 @@ pub static FAILURES: [&str; 3] = ["waits", "refused", "stuck"];
 /// What a run fails for, though its script has no bad line.
 #[derive(Clone, Copy, Debug, PartialEq, Eq)]
 pub struct FailOn {
-    /// A session waits.
+    /// The run fails where a session waits.
     pub waits: bool,
-    /// A call is refused.
+    /// The run fails where a call is refused.
     pub refused: bool,
-    /// A session is left waiting at the end.
+    /// The run fails where a session is left waiting at its end.
     pub stuck: bool,
 }
 

@@ -18,11 +18,11 @@ pub struct Outcome {
     /// The names of the sessions that are open, and the objects that have names.
     open: Vec<Name>,
     objects: Vec<NamedObject>,
-    /// Whether somebody waited.
+    /// Whether a session waited in the run.
     waited: bool,
     /// Whether a call was refused.
     was_refused: bool,
-    /// How many sessions wait.
+    /// How many sessions wait now.
     waiting: u32,
 }
 
@@ -76,14 +76,14 @@ impl Outcome {
         Ok(text)
     }
 
-    /// A line was read, its `text` with this `number`.
+    /// Hears of a line that was read: keeps its `text` and its `number`.
     pub fn read(&mut self, number: u32, text: &str) -> Result<(), AllocError> {
         self.text = String::from_str(self.alloc, text)?;
         self.number = number;
         Ok(())
     }
 
-    /// The session `name` was told what `said` is.
+    /// Hears of `said`, what the session `name` was answered.
     pub fn hear(&mut self, name: &Name, said: &Said) -> Result<(), AllocError> {
         match said {
             Said::Opened { .. } => self.open.push(*name)?,
@@ -101,7 +101,7 @@ impl Outcome {
         Ok(())
     }
 
-    /// The session `name` is not open any more.
+    /// Forgets the session `name`, which is not open any more.
     fn forget(&mut self, name: &Name) {
         let place = self
             .open
@@ -114,7 +114,7 @@ impl Outcome {
         }
     }
 
-    /// A `row` was told.
+    /// Hears of `row`, a row of an answer: where it gives an object a name, the name is kept.
     pub fn hear_row(&mut self, row: &Row) -> Result<(), AllocError> {
         if let Row::Named(object) = row {
             self.objects.push(*object)?;

@@ -37,7 +37,7 @@ const FAILED: u8 = 4;
 #[derive(Drop)]
 pub struct Source<R: Drop> {
     pub reader: R,
-    /// Whether somebody types it.
+    /// Whether a person types the script at a terminal.
     pub is_terminal: bool,
 }
 
@@ -45,7 +45,7 @@ pub struct Source<R: Drop> {
 #[derive(Drop)]
 pub struct Errors<'a, E> {
     pub writer: &'a mut E,
-    /// Whether somebody reads it at a terminal.
+    /// Whether a person reads what is written at a terminal.
     pub is_terminal: bool,
 }
 

@@ -34,16 +34,16 @@ pub struct Shell {
 
 /// What a line that somebody typed asks of a shell.
 enum Typed {
-    /// To end.
+    /// The line asks the shell to end.
     End,
-    /// For help: this text.
+    /// The line asks for help, which is this text.
     Help(String),
     /// A line of a script.
     Line,
 }
 
 impl Shell {
-    /// What `line` asks for.
+    /// What `line` asks of the shell.
     fn understand(self, line: &str) -> Result<Typed, AllocError> {
         let words = split_words(line);
         match words.as_slice().split_first() {

@@ -110,12 +110,12 @@ pub struct Endings {
     given_up: u32,
 }
 
-/// Which orders were run.
+/// Which orders of a script were run.
 #[derive(Clone, Copy, Debug, PartialEq, Eq)]
 pub enum Extent {
-    /// All, but for those that differ only in neighbouring lines that have nothing to do with one another.
+    /// All orders, but for those that differ only in neighbouring lines that have nothing to do with one another.
     All,
-    /// The first `first` ones, and others that were drawn by `seed`.
+    /// The first `first` orders, and others that were drawn by `seed`.
     Drawn { first: u64, seed: u32 },
 }
 

@@ -27,24 +27,24 @@ const ORDERS_A_MANAGER: u32 = 128;
 /// What a player is to do next.
 #[derive(Clone, Copy, Debug, PartialEq, Eq)]
 pub enum Turn<'a> {
-    /// To play this line.
+    /// The player is to play this line.
     Line(&'a str),
-    /// To let all go that the sessions hold and await. Another order begins with the same sessions.
+    /// The player is to let all go that the sessions hold and await. Another order begins with the same sessions.
     Anew,
-    /// To end.
+    /// The player is to end, since no order is left.
     End,
 }
 
 /// Which orders are run now.
 #[derive(Clone, Copy, Debug, PartialEq, Eq)]
 enum Phase {
-    /// The script's own, in which the lines of a session that waits are put off until it goes on.
+    /// The script's own order, in which the lines of a session that waits are put off until it goes on.
     Own,
-    /// All, one after another.
+    /// All orders, one after another.
     All,
-    /// Some, as they are drawn.
+    /// Some orders, as they are drawn.
     Drawn,
-    /// None is left to be run.
+    /// No order is left to be run.
     Over,
 }
 
@@ -53,7 +53,7 @@ enum Phase {
 enum Given {
     /// The line with this place among those that come before all orders.
     Opening(usize),
-    /// A session's line.
+    /// A line of a session, which is this step of the order.
     Step(Step),
 }
 
@@ -139,7 +139,7 @@ impl<'a> Orders<'a> {
         self.go_on()
     }
 
-    /// Answers the next turn.
+    /// Answers the player's next turn: a line to play, another order, or the end.
     fn go_on(&mut self) -> Result<Turn<'a>, AllocError>
         ensures goes { IfOk result (Goes self.old self.new) }
         ensures same_story { self.new.story.now ≡ self.old.story.now }

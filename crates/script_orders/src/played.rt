@@ -8,13 +8,13 @@ use std::fmt::Display;
 /// What an answer says of its session.
 #[derive(Clone, Copy, Debug, PartialEq, Eq)]
 pub enum News {
-    /// The session was opened.
+    /// The session was opened, and is open.
     Opened,
     /// No session was opened: all that may be were.
     NotOpened,
-    /// The session waits.
+    /// The session waits for a lock.
     Waits,
-    /// The session was closed.
+    /// The session was closed, and is not open.
     Closed,
     /// The session is open, and doesn't wait.
     Rests,

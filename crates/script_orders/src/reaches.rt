@@ -53,20 +53,21 @@ impl Objects {
 /// What a line has to do with.
 #[derive(Clone, Copy, Debug, PartialEq, Eq)]
 struct Reach {
-    /// Whether that is every line.
+    /// Whether the line has to do with every line.
     is_all: bool,
-    /// Whether it opens a session, whose number depends on who opened one before.
+    /// Whether the line opens a session, whose number depends on who opened one before.
     opens: bool,
-    /// What it asks for, looks at or lets go.
+    /// The objects that the line asks for, looks at or lets go.
     objects: Objects,
-    /// What it asks for in a strong mode.
+    /// The objects that the line asks for in a strong mode.
     strong: Objects,
-    /// What its session asked for before, where it asks for a lock: of these, slots may have been moved.
+    /// The objects that the line's session asked for before, where the line asks for a lock: slots of these may have
+    /// been moved.
     in_slots: Objects,
 }
 
 impl Reach {
-    /// Nothing.
+    /// What a line reaches that has to do with no other line.
     const NONE: Reach = Reach {
         is_all: false,
         opens: false,
@@ -75,7 +76,7 @@ impl Reach {
         in_slots: Objects::NONE,
     };
 
-    /// Every line.
+    /// What a line reaches that has to do with every line.
     const ALL: Reach = Reach {
         is_all: true,
         ..Reach::NONE

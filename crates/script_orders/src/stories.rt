@@ -47,7 +47,7 @@ enum LineKind<'a> {
     Of(&'a str),
 }
 
-/// The kind of `line`.
+/// What `line` is to the orders.
 fn kind_of(line: &str) -> LineKind<'_> {
     let words = split_words(line);
     let Some((verb, words)) = words.as_slice().split_first() else {
@@ -246,7 +246,7 @@ impl Story {
     }
 }
 
-/// Adds `line` to `script`.
+/// Adds the text of `line` to `script`, with a line feed.
 fn add_text(script: &mut String, line: &StoryLine) -> Result<(), AllocError> {
     script.push_str(line.text.as_str())?;
     script.push('\n')

@@ -7,18 +7,18 @@ use std::alloc::AllocError;
 
 /// Whose line comes next in an order.
 pub(super) enum Choice {
-    /// This session's.
+    /// The next line is this session's.
     Of(usize),
-    /// Nobody's: nobody who has lines left can go on.
+    /// The order has ended: no session that has lines left can go on.
     Ended,
-    /// Nobody's: the rest of this order is run in another one's place.
+    /// The order is given up: its rest is run in another one's place.
     GivenUp,
 }
 
 impl Orders<'_> {
     ghost use Rattle.script_orders.specs.Turns.{KeepsOrder};
 
-    /// Whose line comes next.
+    /// Answers whose line comes next in the order that is run now.
     pub(super) fn choose(&mut self) -> Result<Choice, AllocError>
         ensures { KeepsOrder self.old self.new }
     {
