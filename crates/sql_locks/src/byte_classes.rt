@@ -7,7 +7,7 @@ ghost use Rattle.sql_locks.specs.Text.{is_in_class};
 pub enum ByteClass {
     /// Spaces, tabs and ends of lines.
     Blank,
-    /// Decimal digits.
+    /// The decimal digits `0` to `9`.
     Digit,
     /// What a number is made of, behind its first digit or point: digits, letters, points and underscores.
     Number,

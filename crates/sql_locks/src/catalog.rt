@@ -7,7 +7,7 @@ ghost use Rattle.sql_locks.specs.Catalog.{SameNames, is_other_link, is_apart};
 use std::alloc::{AllocError, Global};
 use std::collections::BTreeMap;
 
-/// What a relation is.
+/// The kind of a relation.
 #[derive(Clone, Copy, Debug, PartialEq, Eq)]
 pub enum RelationKind {
     Table,
@@ -17,7 +17,7 @@ pub enum RelationKind {
     MaterializedView,
 }
 
-/// A relation.
+/// A relation that a statement made, with its name and its kind.
 #[derive(Debug, Drop)]
 pub struct Relation {
     pub name: String,
@@ -73,7 +73,7 @@ impl Link {
     }
 }
 
-/// A foreign key.
+/// A foreign key of a table.
 #[derive(Debug, Drop)]
 pub struct ForeignKey {
     pub name: String,
@@ -102,7 +102,7 @@ pub struct Catalog {
 }
 
 impl Catalog {
-    /// A catalog of nothing.
+    /// A catalog without relations. What is added takes memory by `alloc`.
     pub fn new(alloc: Global) -> Self
         ensures names { (name : List ℕ) → get_by_text result.names name ≡ None }
         ensures links { result.links.items ≡ [] }

@@ -3,7 +3,7 @@
 use crate::commands::SqlCommand;
 use crate::forms::{Form, Start};
 
-/// All of them.
+/// The SQL commands, each with the form of its statements.
 pub static COMMANDS: [SqlCommand; 105] = [
     SqlCommand {
         sql: "SELECT",

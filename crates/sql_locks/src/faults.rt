@@ -57,7 +57,7 @@ pub enum SqlFault {
         /// How many bytes stand before the word.
         from: usize,
     },
-    /// There was no memory.
+    /// Memory ran out for what is read.
     NoMemory,
 }
 

@@ -12,7 +12,7 @@ pub fn all_rows() -> [&'static [FormRow]; 4] {
     [&QUERY_ROWS, &RELATION_ROWS, &ALTER_TABLE_ROWS, &OTHER_ROWS]
 }
 
-/// The row of `form`.
+/// The row of `form` in the table of the forms, if it has one.
 pub fn row_of(form: Form) -> Option<&'static FormRow>
     ensures { IfSome result (λ row. row.now.form ≡ form) }
 {

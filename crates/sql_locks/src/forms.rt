@@ -7,7 +7,7 @@ use modes_core::Mode;
 pub enum Start {
     /// The relation that the form is about.
     Target,
-    /// The other relation that it names.
+    /// The other relation that the statement names.
     Other,
 }
 
@@ -29,7 +29,7 @@ pub enum Along {
 /// The last step of a path.
 #[derive(Clone, Copy, Debug, PartialEq, Eq)]
 pub enum Hop {
-    /// None.
+    /// No step: the path ends where it has got to.
     Stay,
     /// To the indexes of a table.
     Indexes,
@@ -65,13 +65,13 @@ pub struct Part {
 /// How long the work takes that is done under the locks.
 #[derive(Clone, Copy, Debug, PartialEq, Eq)]
 pub enum Work {
-    /// As long for a large table as for a small one.
+    /// The work takes as long for a large table as for a small one.
     Moment,
-    /// As many rows as the statement reads or changes.
+    /// The work takes longer the more rows the statement reads or changes.
     Rows,
-    /// The rows are read.
+    /// All rows of the table are read.
     Scan,
-    /// The rows are read, and an index is made of them.
+    /// All rows of the table are read, and an index is made of them.
     Build,
     /// The table is written anew, with its indexes.
     Rewrite,
@@ -80,9 +80,9 @@ pub enum Work {
 /// Until when locks are held.
 #[derive(Clone, Copy, Debug, PartialEq, Eq)]
 pub enum Until {
-    /// The transaction's end.
+    /// The locks are held until the transaction's end.
     Commit,
-    /// The statement's own end: no transaction may be open around it.
+    /// The locks are held until the statement's own end: no transaction may be open around it.
     OwnEnd,
 }
 

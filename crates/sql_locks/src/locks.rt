@@ -24,7 +24,7 @@ pub struct Act {
 /// A lock on a relation.
 #[derive(Clone, Copy, Debug)]
 pub struct Lock {
-    /// The relation's number.
+    /// The number of the relation in the catalog.
     pub relation: usize,
     pub mode: Mode,
 }
@@ -145,7 +145,7 @@ fn hop_from(
     }
 }
 
-/// The relation `number`, alone.
+/// A list of the relation `number` alone.
 fn alone(alloc: Global, number: usize) -> Result<Vec<usize>, AllocError>
     ensures { IfOk result (λ ends. ends.items ≡ number ∷ []) }
 {

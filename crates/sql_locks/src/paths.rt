@@ -2,28 +2,28 @@
 
 use crate::forms::{Along, Hop, Path, Start};
 
-/// The relation itself.
+/// The path to the relation that the form is about, and no further.
 pub const TARGET: Path = Path {
     start: Start::Target,
     along: Along::Nothing,
     hop: Hop::Stay,
 };
 
-/// The other relation.
+/// The path to the other relation that the statement names, and no further.
 pub const OTHER: Path = Path {
     start: Start::Other,
     along: Along::Nothing,
     hop: Hop::Stay,
 };
 
-/// The relation with its children and partitions.
+/// The path to the relation with its children and partitions.
 pub const FAMILY: Path = Path {
     start: Start::Target,
     along: Along::Family,
     hop: Hop::Stay,
 };
 
-/// The indexes of all these.
+/// The path to the indexes of the relation and of its children and partitions.
 pub const FAMILY_INDEXES: Path = Path {
     start: Start::Target,
     along: Along::Family,

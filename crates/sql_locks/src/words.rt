@@ -22,11 +22,11 @@ pub enum WordKind {
     QuotedName,
     /// A text in single quotes or between two dollar tags, with its prefix, as `E'..'`.
     Text,
-    /// A number.
+    /// A number, as `12` or `1.5e3`.
     Number,
-    /// A parameter, as `$1`.
+    /// A parameter of a statement, as `$1`.
     Parameter,
-    /// An operator, as `>=`.
+    /// A word that is an operator, as `>=`.
     Operator,
     /// A parenthesis, a bracket, a comma, a point or a colon.
     Mark,
@@ -55,7 +55,7 @@ enum CopyProgress {
     Other,
     /// `COPY`, and whatever is not `FROM` behind it.
     Copy,
-    /// `COPY .. FROM`.
+    /// `COPY .. FROM`, and nothing after that yet.
     From,
     /// `COPY .. FROM STDIN`, and what stands behind it.
     Stdin,

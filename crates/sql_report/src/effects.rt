@@ -14,7 +14,7 @@ struct Others {
     before: &'static str,
 }
 
-/// All kinds of sessions.
+/// The kinds of sessions that a report names, by the modes that they take.
 static OTHERS: [Others; 5] = [
     Others {
         mode: Mode::AccessShare,

@@ -24,18 +24,18 @@ pub struct SqlOptions {
     pub is_single: bool,
 }
 
-/// What words come to.
+/// What the words after `lock_scenario sql` come to.
 #[derive(Debug, Drop)]
 pub enum SqlTask {
     Report(SqlOptions),
-    /// They ask for this text.
+    /// The words ask for this text.
     Text(String),
-    /// They are refused, and this says why.
+    /// The words are refused, and this text says why.
     Refused(String),
     NoMemory,
 }
 
-/// What `--fail-on` may name.
+/// The kinds of waits that `--fail-on` may name.
 static KINDS: [&str; 2] = ["reads", "writes"];
 
 /// What `lock_scenario sql --help` shows beside its options.

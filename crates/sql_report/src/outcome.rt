@@ -13,10 +13,10 @@ use std::alloc::Global;
 /// What a statement comes to.
 #[derive(Drop)]
 pub struct Outcome {
-    /// Its locks, in the order in which they are taken.
+    /// The locks of the statement, in the order in which they are taken.
     pub locks: Vec<Lock>,
     pub effort: Effort,
-    /// The modes that its locks on relations that others know keep waiting.
+    /// The modes that the statement's locks on relations that others know keep waiting.
     pub stopped: ModeSet,
 }
 

@@ -15,13 +15,13 @@ use std::alloc::{AllocError, Global};
 /// What is said of one statement.
 #[derive(Debug, Drop)]
 pub struct Answer {
-    /// The line on which it begins, from 1.
+    /// The line on which the statement begins, from 1.
     pub line: usize,
-    /// Its locks, in the order in which they are taken.
+    /// The locks of the statement, in the order in which they are taken.
     pub locks: Vec<Lock>,
-    /// The modes that it keeps waiting on relations that others know.
+    /// The modes that the statement keeps waiting on relations that others know.
     pub stopped: ModeSet,
-    /// All that is printed of it.
+    /// All that is printed of the statement.
     pub text: String,
 }
 
@@ -47,7 +47,7 @@ pub struct Refused {
 }
 
 impl Refused {
-    /// There was no memory.
+    /// The refusal of a text for want of memory.
     fn of_memory(alloc: Global) -> Self {
         Refused {
             text: String::new(alloc),

@@ -26,7 +26,7 @@ pub enum AttachedKind {
 pub struct Attached {
     pub kind: AttachedKind,
     pub name: String,
-    /// The table's number.
+    /// The number of the table to which the thing belongs.
     pub table: usize,
 }
 
@@ -64,7 +64,7 @@ pub struct Belongings {
 }
 
 impl Belongings {
-    /// Nothing was said.
+    /// Belongings of no relation. What is said of one takes memory by `alloc`.
     pub fn new(alloc: Global) -> Self {
         Belongings {
             attached: Vec::new(alloc),
@@ -184,7 +184,7 @@ pub fn are_same(names: &Vec<String>, others: &Vec<String>) -> bool {
     true
 }
 
-/// A copy of `names`.
+/// A copy of the list `names`, which takes memory by `alloc`.
 pub fn copy_names(alloc: Global, names: &Vec<String>) -> Result<Vec<String>, AllocError> {
     let mut copied = Vec::new(alloc);
     for name in names {

@@ -5,7 +5,7 @@ use crate::indexes::IndexWords;
 use crate::reader::{Change, StatementReader};
 use sql_locks::{ForeignKey, Form, LinkKind, RelationKind, SqlFault};
 
-/// What a constraint demands.
+/// The kind of a constraint: what the constraint demands.
 #[derive(Clone, Copy, Debug, PartialEq, Eq)]
 pub enum ConstraintKind {
     /// A primary key, a unique key or an exclusion, which has an index.
@@ -17,11 +17,11 @@ pub enum ConstraintKind {
     Check,
 }
 
-/// A constraint.
+/// A constraint of a table, as a statement says it.
 #[derive(Debug, Drop)]
 pub struct Constraint {
     pub kind: ConstraintKind,
-    /// Its name, where it was said.
+    /// The name of the constraint, where it was said.
     pub name: String,
     /// What the server puts behind the name that it makes itself.
     pub suffix: &'static str,

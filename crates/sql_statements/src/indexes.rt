@@ -212,7 +212,7 @@ impl StatementReader {
         Ok(parts)
     }
 
-    /// The table of `index`.
+    /// The number of the table of `index`, if that is known as an index.
     pub fn table_of_index(&self, index: usize) -> Option<usize> {
         for of in &self.belongings.indexes {
             if of.index == index {
@@ -222,7 +222,7 @@ impl StatementReader {
         None
     }
 
-    /// The columns of `index`.
+    /// The names of the columns of `index`.
     pub fn columns_of_index(&self, index: usize) -> Result<Vec<String>, AllocError> {
         for of in &self.belongings.indexes {
             if of.index == index {

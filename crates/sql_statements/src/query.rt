@@ -149,7 +149,7 @@ impl Query {
         self.read_key_word(reader)
     }
 
-    /// Goes into parentheses.
+    /// Goes into parentheses: what is in them is read on a level of its own.
     fn open(&mut self) -> Result<(), AllocError> {
         let inner = self.level.within(self.readings.len());
         self.level.expects_relation = false;
@@ -158,7 +158,7 @@ impl Query {
         Ok(())
     }
 
-    /// Goes out of parentheses.
+    /// Goes out of parentheses: what comes next is read on the level outside them.
     fn close(&mut self) {
         if let Some(outer) = self.outer.pop() {
             self.level = outer;

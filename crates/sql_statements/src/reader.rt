@@ -9,11 +9,11 @@ use std::alloc::{AllocError, Global};
 /// What a statement changes in the catalog once its locks are held.
 #[derive(Debug, Drop)]
 pub enum Change {
-    /// A relation goes.
+    /// The relation of this number is dropped.
     Drop(usize),
     /// A relation gets another name.
     Rename(usize, String),
-    /// Two relations are linked.
+    /// Two relations are linked, in this way: from the first one to the second one.
     Link(LinkKind, usize, usize),
     /// Two relations are linked no more.
     Unlink(LinkKind, usize, usize),
@@ -32,7 +32,7 @@ pub enum Change {
 /// What a statement does to the transaction.
 #[derive(Clone, Copy, Debug, PartialEq, Eq)]
 pub enum Control {
-    /// Nothing.
+    /// The statement leaves the transaction as it is.
     Stay,
     Begin,
     Commit,
@@ -329,7 +329,7 @@ impl StatementReader {
         Ok(())
     }
 
-    /// Makes the change `change`.
+    /// Makes `change` in the catalog and in what is kept beside it.
     fn settle_change(&mut self, change: Change) -> Result<(), AllocError> {
         match change {
             Change::Drop(number) => {

@@ -27,7 +27,7 @@ static LOCK_NOTHING: [&str; 17] = [
 ];
 
 impl StatementReader {
-    /// Reads a statement.
+    /// Reads the statement that the cursor is at.
     pub fn read(&mut self) -> Result<(), SqlFault> {
         if self.is_query() {
             return self.read_query(Form::Select);

@@ -84,7 +84,7 @@ struct Parted {
 }
 
 impl Parted {
-    /// Nothing was read.
+    /// No statements, of a text of which nothing was read yet.
     fn new(alloc: Global) -> Self
         ensures words { result.words.items ≡ [] }
         ensures statements { result.statements.items ≡ [] }
@@ -198,7 +198,7 @@ impl Parted {
         }
     }
 
-    /// Ends the statement.
+    /// Ends the statement that is gathered: it is added to the statements, if it has a word.
     fn end(&mut self, alloc: Global) -> Result<(), AllocError>
         ensures said { OnOk result (kept_of_all self.new.statements.items ≡ gathered self.old) }
         ensures words { self.new.words.items ≡ [] }
