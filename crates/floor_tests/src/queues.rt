@@ -31,11 +31,11 @@ enum Step {
 enum Told {
     Granted,
     Queued,
-    /// This session holds this mode.
+    /// Refused, for the session with this number holds this mode.
     Held(u8, Mode),
-    /// This session waits for this mode.
+    /// Refused, for the session with this number waits for this mode.
     Ahead(u8, Mode),
-    /// The session and this one would wait for one another.
+    /// Refused, for the session that asks and the one with this number would wait for one another.
     Deadlock(u8),
 }
 

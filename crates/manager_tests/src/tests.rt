@@ -56,29 +56,29 @@ use unsteady::Crew;
 #[derive(Clone, Copy)]
 enum Story<'a> {
     OfTwo(Scene<'a>),
-    /// One takes many modes and gives them back, where memory may run out once.
+    /// One session takes many modes and gives them back, where memory may run out once.
     GoesOn,
-    /// Three are lent to audits, where memory may run out once.
+    /// Three sessions are lent to audits, where memory may run out once.
     Audits,
-    /// As many sessions as `Limits` says have all local entries that they may have.
+    /// Sessions, as many as `Limits` allows, have all local entries that they may have.
     Holds(Limits),
-    /// This number of sessions ask for the same objects, each in a thread of its own.
+    /// Sessions, of this number, ask for the objects of this plan, each in a thread of its own.
     Asks(u32, Plan),
     /// All sessions but one sleep in one queue for this mode, each in a thread of its own.
     Queue(Mode),
-    /// One waits for what another gives back while a third one asks it to cancel, in this number of rounds.
+    /// One session waits for what another one gives back while a third one asks it to cancel, in this number of rounds.
     Asked(u32),
-    /// One lists while three lock and unlock, each in a thread of its own.
+    /// One session lists while three lock and unlock, each in a thread of its own.
     Watch,
-    /// As many as there can be lock and unlock on one partition.
+    /// Sessions, as many as there can be, lock and unlock on one partition.
     Crowd,
-    /// One sleeps in a queue until the wait ahead of it is cancelled.
+    /// One session sleeps in a wait queue until the wait ahead of it is cancelled.
     LetGoByCancel,
-    /// One sleeps in a queue until it is asked to cancel.
+    /// One session sleeps in a wait queue until it is asked to cancel.
     WokenAsAsked,
-    /// This number of connections come and go, one after another.
+    /// Connections, of this number, come and go one after another.
     Lives(u32),
-    /// This number of connections come and go while one session lists and another one takes strong modes, each in a
+    /// Connections, of this number, come and go while one session lists and another one takes strong modes, each in a
     /// thread of its own.
     BusyLives(u32),
 }

@@ -14,9 +14,9 @@ use std::sync::Wait;
 /// What happens at the desk of a manager.
 #[derive(Clone, Copy)]
 pub enum Act<'a> {
-    /// A tale is run.
+    /// The sessions at the desk run a tale.
     Tells(&'a Tale),
-    /// An audit counts.
+    /// An audit counts what three sessions have.
     Audits,
     /// A session looks at a queue, or at who is in the way there.
     Looks(Look),

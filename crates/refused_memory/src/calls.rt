@@ -20,7 +20,7 @@ pub enum Call {
     List,
 }
 
-/// What it is answered.
+/// What a call of a session is answered.
 #[derive(Clone, Copy, PartialEq, Eq)]
 pub enum Answer {
     Granted,
@@ -34,7 +34,7 @@ pub enum Answer {
 }
 
 impl Answer {
-    /// Whether memory ran out.
+    /// Whether the call was refused for want of memory.
     pub fn ran_out(self) -> bool {
         self == Answer::Refused(Refusal::NoMemory.number())
     }
@@ -106,7 +106,7 @@ pub fn queue<T: PartTable, B: Board<T>, R: Wait>(
     }
 }
 
-/// Cancels the wait `waiting`.
+/// Cancels the wait of `waiting`, and answers its session.
 pub fn end_wait<T: PartTable, B: Board<T>, R: Wait>(
     rt: &R,
     waiting: OwnWaiting<T, B>,
@@ -160,7 +160,7 @@ fn list<T: PartTable, B: Board<T>, R: Wait>(rt: &R, mut session: OwnSession<T, B
     (session, answer)
 }
 
-/// Makes `call` with `session`.
+/// Makes `call` with `session`, which comes back with the answer.
 pub fn make<T: PartTable, B: Board<T>, R: Wait>(
     rt: &R,
     session: OwnSession<T, B>,

@@ -21,14 +21,14 @@ const OBJECT: Tag = Tag::Object {
     sub_object: 0,
 };
 
-/// A call that looks.
+/// A call by which a session looks at waits.
 #[derive(Clone, Copy)]
 pub enum Look {
-    /// `queue`.
+    /// A call of `queue`: the waits on an object.
     Queue,
-    /// `blockers`.
+    /// A call of `blockers`: who is in the way of a wait.
     Blockers,
-    /// `waits`.
+    /// A call of `waits`: all waits, each with who is in its way.
     Waits,
 }
 

@@ -11,21 +11,21 @@ use std::sync::Wait;
 /// A call that may take memory, with what comes before it.
 #[derive(Clone, Copy)]
 pub enum Story<'a> {
-    /// `Manager::new`.
+    /// A call of `Manager::new`.
     MakesManager,
-    /// `Opener::session`.
+    /// A call of `Opener::session`.
     OpensSession,
-    /// `LocalTable::new`.
+    /// A call of `LocalTable::new`.
     MakesLocalTable,
-    /// `LocalTable::reserve`.
+    /// A call of `LocalTable::reserve`.
     Reserves,
-    /// Of a part with records.
+    /// A call of a part with records.
     OfRecords(PartCall),
-    /// Of a plain one.
+    /// A call of a plain part, without records.
     OfPlain(PartCall),
-    /// `run_events`.
+    /// A call of `run_events`.
     RunsEvents,
-    /// At the desk of a manager.
+    /// What happens at the desk of a manager.
     AtDesk(Act<'a>),
 }
 

@@ -4,18 +4,18 @@ use crate::calls::{Answer, Call};
 use lock_manager::Mode::{AccessExclusive, AccessShare, Exclusive, RowExclusive, Share};
 use lock_manager::{Mode, Tag};
 
-/// What a session has.
+/// What a session has: an object and a mode.
 pub type Hold = (Tag, Mode);
 
 /// A session asks for something, beside three others and those that wait.
 #[derive(Clone, Copy)]
 pub struct Tale {
     pub name: &'static str,
-    /// What each of the others has.
+    /// What each of the three other sessions has.
     pub others: [Option<Hold>; 3],
-    /// How many objects the asking one has, each in a mode that none of these asks for.
+    /// How many objects the asking session has, each in a mode that no waiter asks for.
     pub own: u32,
-    /// How many further sessions wait for one of these objects, each for another one.
+    /// How many further sessions wait for an object of the asking session, each for another one.
     pub waiters: u32,
     pub call: Call,
     pub answer: Answer,
@@ -29,7 +29,7 @@ pub const TABLE: Tag = Tag::Relation {
     relation: 16_384,
 };
 
-/// The relation after `TABLE`.
+/// The relation numbered one above `TABLE`.
 pub const ANOTHER_TABLE: Tag = Tag::Relation {
     database: 5,
     relation: 16_385,
@@ -42,7 +42,7 @@ const OBJECT: Tag = Tag::Object {
     sub_object: 0,
 };
 
-/// One more in the partition of `TABLE`.
+/// An object in the partition of `TABLE`.
 const MANY: Tag = Tag::Object {
     database: 5,
     class: 2_600,
@@ -65,13 +65,13 @@ const READERS: [Option<Hold>; 3] = [
     Some((TABLE, AccessShare)),
 ];
 
-/// The first one has an object that the asking one wants, in a partition that has no other.
+/// The first other session has an object that the asking session wants, in a partition that has no other.
 const ONE: [Option<Hold>; 3] = [Some((OBJECT, Exclusive)), None, None];
 
-/// The first one has an object in the partition of those that the asking one has.
+/// The first other session has an object in the partition of those that the asking session has.
 const ONE_OF_MANY: [Option<Hold>; 3] = [Some((MANY, Exclusive)), None, None];
 
-/// All tales.
+/// The tales that are run with sessions.
 pub static TALES: [Tale; 15] = [
     // Three in a partition that has had nothing yet: a lock record, a holder record, and room for a queue.
     Tale {

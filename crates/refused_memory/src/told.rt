@@ -1,13 +1,13 @@
 //! What came of a call for which a growth was to be refused.
 
-/// How a call went.
+/// How a call went for which a growth was to be refused.
 #[derive(Clone, Copy, Debug, PartialEq, Eq)]
 pub enum Told {
-    /// No growth of it was refused, and it answered as it is to.
+    /// No growth of the call was refused, and it answered as it is to.
     Answered,
-    /// One was. The call answered that memory ran out, left all as it was, and made again answered as it is to.
+    /// A growth was refused: the call answered that memory ran out, left all as it was, and made again answered as it is to.
     Refused,
-    /// The call went otherwise.
+    /// The call went otherwise than it is to.
     Otherwise,
 }
 

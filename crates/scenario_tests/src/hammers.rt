@@ -122,7 +122,7 @@ static HAMMERS: [(u32, u32, &str); 4] = [
     ),
 ];
 
-/// What four sessions print.
+/// What a hammer of four sessions prints.
 const FOUR: &str = "audit fast 4 table 1 strong 1\nfinal fast 0 table 0 strong 0\n";
 
 #[test]
@@ -285,7 +285,7 @@ fn expect_line(rt: &(impl Abort + AllocGlobal + Threads + Wait + Sync), row: (u3
     );
 }
 
-/// What one session prints.
+/// What a hammer of one session prints.
 const ONE: &str = "audit fast 1 table 1 strong 1\nfinal fast 0 table 0 strong 0\n";
 
 #[test]

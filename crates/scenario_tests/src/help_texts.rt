@@ -1,6 +1,6 @@
 //! The texts that the program prints where it is asked for help, or for the conflict table.
 
-/// The text of `--help`.
+/// The text that `--help` prints.
 pub const HELP: &str = "\
 Run scripts against PostgreSQL's lock manager
 
@@ -121,7 +121,7 @@ Example:
   lock_scenario modes
 ";
 
-/// What `modes` prints.
+/// What the subcommand `modes` prints: the conflict table.
 pub const MODES: &str = "\
 1 AccessShareLock 100
 2 RowShareLock 180

@@ -95,7 +95,7 @@ fn a_shell_tells_whose_a_name_is(rt: HostRuntime) -> Result<(), Fail> {
 const TWO: &str = "session a 5\nname accounts 5/16385\nfast a accounts AccessShareLock\n\
     lock a 5/16384 ShareLock\nlist a\n";
 
-/// Its objects of JSON.
+/// What the script `TWO` prints as objects of JSON.
 const TWO_OBJECTS: &str = "\
 {\"answer\":\"opened\",\"database\":5,\"line\":1,\"number\":0,\"session\":\"a\"}
 {\"line\":2,\"name\":\"accounts\",\"tag\":\"5/16385\"}

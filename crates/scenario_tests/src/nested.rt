@@ -89,7 +89,7 @@ pub const COUNTS: Copies<'static> = (
     try a 5/1 ShareLock session\n",
 );
 
-/// What that prints.
+/// What the script `COUNTS` prints.
 pub const COUNTED: Copies<'static> = (
     "a: session 0 database 5\na: granted\n",
     65_533,

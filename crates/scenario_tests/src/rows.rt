@@ -517,10 +517,10 @@ pub static ONE_SESSION: [Row<'static>; 1] = [(
     "line 4: no such session",
 )];
 
-/// The hash of 5/16384.
+/// The hash of 5/16384, as a script prints it.
 const HASHED: Copies<'static> = ("hash 2389211932 partition 12 strong 796\n", 0, "", "");
 
-/// Nothing.
+/// The output of a script that prints nothing.
 const NOTHING: Copies<'static> = ("", 0, "", "");
 
 const TOO_LONG: &str = "line 1: line too long";
@@ -551,7 +551,7 @@ pub const COUNTS: Copies<'static> = (
     "try a 5/1 ShareLock session\ncommit a\nowned a 5/1 ShareLock\n",
 );
 
-/// What that prints.
+/// What the script `COUNTS` prints.
 pub const COUNTED: Copies<'static> = (
     "a: session 0 database 5\na: granted\n",
     65_534,
@@ -559,10 +559,10 @@ pub const COUNTED: Copies<'static> = (
     "a: refused 4 count full\na: already held\na: committed\na: transaction 0 session 1\n",
 );
 
-/// As many lines as there may be.
+/// A script with as many lines as there may be.
 pub const ALL_LINES: Copies<'static> = ("", 1_000_000, "\n", "");
 
-/// One line more, which is no text, and an empty one more.
+/// Scripts with one line too many: a line that is no text, and an empty one.
 pub static TOO_MANY_LINES: [Copies<'static>; 2] = [
     ("", 1_000_000, "\n", "\u{e9}"),
     ("", 1_000_001, "\n", ""),

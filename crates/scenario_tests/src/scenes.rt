@@ -57,7 +57,7 @@ static IN_TURN: [(&str, bool); 3] = [
     ),
 ];
 
-/// What they print.
+/// What the scripts of `IN_TURN` print.
 const PRINTED: &str = "b: session 0 database 5\na: session 1 database 5\nc: session 2 database 5\n\
     b: granted\na: granted\na: waits\nc: waits\na: session 3 database 6\na: granted\n\
     a: session 4 database 7\nrows 0\na: granted\n";

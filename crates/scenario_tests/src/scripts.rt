@@ -63,7 +63,7 @@ const TWO_GROUPS: Config = Config {
     slot_groups: 2,
 };
 
-/// As many groups as there can be.
+/// A configuration with as many groups of fast-path slots as a session can have.
 const ALL_GROUPS: Config = Config {
     sessions: 2,
     max_local: 1024,

@@ -304,7 +304,7 @@ const NOBODY_LAST: StyledRow<'static> = (
     "a: session 0 database 5\nb: session 1 database 5\na: granted\nb: waits\na: committed\nb: granted after waiting\n",
 );
 
-/// All of them.
+/// The scripts that are run in a style, with what they print.
 static STYLED: [StyledRow<'static>; 9] = [
     ECHOED,
     OBJECTS,

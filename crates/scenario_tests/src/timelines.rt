@@ -214,7 +214,7 @@ lock b 5/1 ExclusiveLock
 ",
 );
 
-/// An empty script.
+/// An empty script, whose timeline has no session.
 const NOBODY: StyledRow<'static> = (
     TIMELINE,
     "\
@@ -240,7 +240,7 @@ text { font: 10.5px ui-monospace, 'DejaVu Sans Mono', monospace; fill: #222 }
 ",
 );
 
-/// All of them.
+/// The scripts whose timelines are drawn, with the pictures.
 static ROWS: [StyledRow<'static>; 6] = [BARS, PICTURE, OWNERS, EARLY, OBJECT, NOBODY];
 
 #[test]

@@ -101,7 +101,7 @@ pub static WAITS: [Row<'static>; 9] = [
     ),
 ];
 
-/// Places in the queue.
+/// Scripts about the places of waits in the wait queue.
 pub static PLACES: [Row<'static>; 5] = [
     // a holder passes whom it keeps waiting, if nothing else is in its way
     (
@@ -156,7 +156,7 @@ pub static PLACES: [Row<'static>; 5] = [
     ),
 ];
 
-/// Waits that are cancelled.
+/// Scripts about waits that are cancelled.
 pub static CANCELS: [Row<'static>; 7] = [
     // a cancel lets another go in the same pass
     (
@@ -227,10 +227,10 @@ pub static CANCELS: [Row<'static>; 7] = [
     ),
 ];
 
-/// `b` waits for `a`.
+/// Lines by which the session `b` waits for the session `a`.
 pub const B_WAITS: &str = "try a 5/16384 AccessExclusiveLock\nlock b 5/16384 AccessShareLock\n";
 
-/// What that prints.
+/// What the lines `B_WAITS` print.
 pub const B_IS_QUEUED: &str = "a: granted\nb: waits\n";
 
 /// A session that waits, which is `b`, is addressed by a cancel alone.

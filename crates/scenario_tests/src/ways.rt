@@ -16,10 +16,10 @@ use std::time::Clock;
 /// The sessions of a small script.
 static NAMES: [&str; 3] = ["a", "b", "c"];
 
-/// What opens them.
+/// The lines that open the sessions of a small script.
 const OPENING: &str = "session a 5\nsession b 5\nsession c 5\n";
 
-/// How many lines a small script has at most beside these.
+/// How many lines a small script has at most beside those that open its sessions.
 const MOST_LINES: u32 = 4;
 
 /// The lines of small scripts: what stands before the session's name and behind it.
@@ -147,7 +147,7 @@ impl Shown {
         Ok(())
     }
 
-    /// Whether `session` waits.
+    /// Whether the session numbered `session` waits, as its last answer says.
     fn waits(&self, session: usize) -> bool {
         self.waits.get(session).copied().unwrap_or(false)
     }

@@ -1,6 +1,6 @@
 //! Statements of each SQL command whose locks a help tells.
 
-/// What the examples find.
+/// The schema that the examples are run on.
 pub const SCHEMA: &str = "CREATE TABLE accounts (id int, owner text);
 CREATE INDEX accounts_owner ON accounts (owner);
 CREATE TABLE customers (id int PRIMARY KEY);

@@ -4,7 +4,7 @@ use sql_report::make_report;
 use std::alloc::Global;
 use std::test::Fail;
 
-/// What the migrations find.
+/// The schema that the migrations are run on.
 const SCHEMA: &str = "
 CREATE TABLE customers (id int PRIMARY KEY, name text);
 CREATE TABLE orders (id int PRIMARY KEY, customer int REFERENCES customers);

@@ -5,7 +5,7 @@ use std::alloc::Global;
 use std::process::Abort;
 use std::test::Fail;
 
-/// What the scripts find.
+/// The schema that the scripts speak of.
 const SCHEMA: &str = "CREATE TABLE customers (id int PRIMARY KEY, name text);
 CREATE TABLE orders (id int PRIMARY KEY, customer int REFERENCES customers);
 CREATE TABLE plain (id int);";

@@ -58,15 +58,15 @@ fn clear(index: &mut PlaceIndex) -> bool {
 #[derive(Clone, Copy)]
 enum Step {
     Note(u32, u16),
-    /// Whether it was noted.
+    /// Forget a place under a hash, and say whether the place was noted under that hash.
     Forget(u32, u16, bool),
-    /// Whether it is noted.
+    /// Find a place under a hash, and say whether the place is noted under that hash.
     Find(u32, u16, bool),
     /// The place that a look for the hash comes to first.
     First(u32, Option<u32>),
-    /// Whether it is noted under some hash.
+    /// Whether a place is noted under some hash.
     Has(u32, bool),
-    /// How many there are.
+    /// How many places are noted in the index.
     Count(usize),
     Clear,
 }

@@ -9,21 +9,21 @@ use std::process::Abort;
 /// A call of a local table.
 #[derive(Clone, Copy)]
 pub enum Call {
-    /// By `reserve` and `add`.
+    /// An acquire by `reserve` and `add`.
     Acquire(Tag, Mode, Owner),
     AddHeld(Tag, Mode, Owner),
     AddAtOnce(Tag, Mode, Owner),
-    /// Whether one more can be made with neither a refusal nor a growth.
+    /// Whether one more local entry can be made with neither a refusal nor a growth.
     CanAdd,
     Drop(Tag, Mode, Owner),
     DropAtOnce(Tag, Mode, Owner),
-    /// How often the owner has it.
+    /// How often the owner has the mode on the object.
     Count(Tag, Mode, Owner),
-    /// How often both owners have it.
+    /// How often both owners together have the mode on the object.
     Total(Tag, Mode),
-    /// The next that the end takes away.
+    /// The next local entry that the end takes away.
     Next(End),
-    /// How many entries there are.
+    /// How many local entries the table has.
     Entries,
 }
 

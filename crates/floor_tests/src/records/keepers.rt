@@ -31,12 +31,12 @@ fn object(number: u32) -> Tag {
     }
 }
 
-/// A mode, from `number`.
+/// A lock mode chosen by `number`: equal numbers choose equal modes.
 fn mode_of(rt: &impl Abort, number: u32) -> Mode {
     Mode::from_number((number % 8) as u8 + 1).expect(rt, "a mode")
 }
 
-/// A session, from `number`.
+/// A session chosen by `number`, one of sixteen: equal numbers choose equal sessions.
 fn session_of(rt: &impl Abort, number: u32) -> SessionId {
     SessionId::new((number % 16) as u8).expect(rt, "a session")
 }

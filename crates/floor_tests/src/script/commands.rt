@@ -41,7 +41,7 @@ const ADVISORY: Tag = Tag::Advisory {
     sub: 8,
 };
 
-/// This name of an object. With a text that is none, the test ends by `rt`.
+/// The object name that `text` is. Where `text` is no name of an object, the test ends by `rt`.
 fn object_name(rt: &impl Abort, text: &str) -> ObjectName {
     ObjectName::from(text).expect(rt, "an object's name")
 }
@@ -149,8 +149,8 @@ fn expect_silence(rt: &impl Abort, sessions: &OpenSessions<u32, u32>, objects: &
     }
 }
 
-/// Ends the test where a line that gives an object a name isn't answered so, or one whose name is too long isn't
-/// refused.
+/// Ends the test where a line that gives an object a name isn't answered with that command, or one whose name is too
+/// long isn't refused, with sessions called as in `sessions` and objects as in `objects`.
 fn expect_namings<H: AllocGlobal + Abort>(
     rt: &H,
     sessions: &OpenSessions<u32, u32>,

@@ -23,7 +23,7 @@ const DEFECTS: [(Defect, &str); 15] = [
     (Defect::BadOwner, "line 7: bad owner"),
 ];
 
-/// The other faults.
+/// Each fault that is not of a line, and its text.
 const FAULTS: [(Fault, &str); 4] = [
     (Fault::ReadFailed, "read failed"),
     (Fault::WriteFailed, "write failed"),

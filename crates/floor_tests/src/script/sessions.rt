@@ -8,7 +8,7 @@ use std::alloc::{AllocError, Global};
 use std::process::Abort;
 use std::test::Fail;
 
-/// The name `text`.
+/// The session name that `text` is. Where `text` is no name, the test ends by `rt`.
 pub fn name(rt: &impl Abort, text: &str) -> Name {
     Name::from(text).expect(rt, "a name")
 }

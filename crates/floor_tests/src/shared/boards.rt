@@ -72,7 +72,7 @@ fn in_two_threads<B: Board<PlainPart> + Send, R: Threads + Wait + Sync>(
 /// What two sessions do side by side.
 #[derive(Clone, Copy)]
 enum SideBySide {
-    /// Both take one partition over and over.
+    /// The two sessions take one partition over and over.
     Together,
     /// One comes for a lock as the other one puts it.
     Latecomer,

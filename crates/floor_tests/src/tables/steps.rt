@@ -206,7 +206,7 @@ pub fn play<P: PartTable>(rt: &impl Abort, part: &mut P, steps: &[Step]) -> Resu
     Ok(())
 }
 
-/// A part after `steps`.
+/// A new part with which all of `steps` were played, in order.
 pub fn part_after(rt: &impl Abort, alloc: Global, steps: &[Step]) -> Result<PlainPart, NoMemory>
     ensures { IfOk result (λ part. part.begun ≡ None) }
 {

@@ -33,7 +33,7 @@ const LENT: u8 = 3;
 /// Of how many connections one waits, and is asked to cancel.
 const WAITS: u32 = 16;
 
-/// The first connection's table.
+/// The relation before that of connection 1: connection `life` takes the relation numbered `FIRST + life`.
 const FIRST: u32 = 20_000;
 
 /// What the threads show each other.

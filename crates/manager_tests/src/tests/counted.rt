@@ -23,7 +23,7 @@ use std::sync::Wait;
 use std::sync::atomic::{AtomicU64, Ordering};
 use std::test::Fail;
 
-/// How much was done on a board.
+/// How many calls were made on a board.
 #[derive(Drop)]
 struct Steps {
     made: AtomicU64,
@@ -36,12 +36,12 @@ impl Steps {
         }
     }
 
-    /// One thing more is done.
+    /// Counts one call more on the board.
     fn count(&self) {
         self.made.fetch_add(1, Ordering::SeqCst);
     }
 
-    /// How many.
+    /// How many calls on the board were counted.
     fn made(&self) -> u64 {
         self.made.load(Ordering::SeqCst)
     }

@@ -18,23 +18,23 @@ use std::thread::{Threads, join_mut};
 /// What a session does with the table.
 #[derive(Clone, Copy)]
 pub enum Deed {
-    /// Asks for a mode by a slot.
+    /// Asks for the table in a mode by a fast-path slot.
     TryFast(Mode),
-    /// Asks for a mode.
+    /// Asks for the table in a mode, without a wait.
     Try(Mode),
-    /// Gives all back.
+    /// Ends the transaction, which gives back all that it has.
     Commit,
-    /// Asks for a mode, and sleeps until the wait is over.
+    /// Asks for the table in a mode, and sleeps until the wait is over.
     Lock(Mode),
     /// Asks this session to cancel until it is heard, which is once that one waits.
     AskUntilHeard(SessionId),
-    /// Asks it once its wait shows.
+    /// Asks this session to cancel once its wait shows.
     AskOnceAwaited(SessionId),
-    /// Gives a mode back once its wait shows.
+    /// Gives this mode back once the wait of this session shows.
     GiveBackOnceAwaited(SessionId, Mode),
     /// Tries a weak mode by a slot until the slots are found busy, and says so.
     TryUntilBusy,
-    /// Takes a strong mode over and over until that is said.
+    /// Takes a strong mode over and over until another session says that it found the slots busy.
     TakeUntilSeen,
 }
 

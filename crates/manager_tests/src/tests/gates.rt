@@ -32,7 +32,7 @@ impl Gate {
         }
     }
 
-    /// How many have come.
+    /// How many times a thread has come to the gate so far.
     fn come_so_far(&self) -> u64 {
         self.come.load(Ordering::SeqCst)
     }
@@ -108,12 +108,12 @@ impl Wins {
         }
     }
 
-    /// The first side won.
+    /// Counts that the first side of the race won.
     pub fn first(&self) {
         self.first.fetch_add(1, Ordering::SeqCst);
     }
 
-    /// The second one did.
+    /// Counts that the second side of the race won.
     pub fn second(&self) {
         self.second.fetch_add(1, Ordering::SeqCst);
     }

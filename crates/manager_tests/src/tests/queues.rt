@@ -20,7 +20,7 @@ use std::sync::atomic::{AtomicBool, AtomicU64, Ordering};
 use std::thread;
 use std::thread::{Threads, for_each_mut};
 
-/// How many wait.
+/// How many sessions sleep in the queue, beside the one that holds the table.
 pub const MANY: u32 = 32;
 
 /// The mode that all wait for, and how many of them were woken.

@@ -20,7 +20,8 @@ use std::thread::{Threads, join_mut};
 pub enum Race {
     /// The first one takes a weak mode by a slot, the second one a strong mode.
     WeakAgainstStrong(Mode, Mode),
-    /// Both have a mode in a slot, and ask for a strong mode. The mode of the one is in the way of the other.
+    /// The two sessions have a mode in a slot each, and ask for a strong mode. The mode of the one is in the way of the
+    /// other.
     StrongOverWeak(Mode, Mode),
     /// The second one cancels its wait for a mode while the first one gives back what is in the way.
     CancelAgainstRelease(Mode, Mode),
@@ -29,7 +30,7 @@ pub enum Race {
 }
 
 impl Race {
-    /// What is said of it, with how often each side won.
+    /// The name of the race, as it is printed with how often each side won.
     fn name(self) -> &'static str {
         match self {
             Race::WeakAgainstStrong(_, _) => "a weak mode against a strong one",
@@ -40,7 +41,7 @@ impl Race {
         }
     }
 
-    /// Whether it has two sides that may win.
+    /// Whether the race has two sides that may win.
     fn has_sides(self) -> bool {
         !matches!(self, Race::AskAgainstSleep)
     }

@@ -12,10 +12,10 @@ use std::process::Abort;
 use std::sync::Wait;
 use std::thread::Threads;
 
-/// What two sessions do.
+/// What two sessions of one manager do.
 #[derive(Clone, Copy)]
 pub enum Scene<'a> {
-    /// They take turns, over and over.
+    /// The sessions take turns, the given ones, over and over.
     Turns(&'a [Turn], u32),
     EachModeBesideEach,
     LeavesAsAsked,
@@ -26,17 +26,17 @@ pub enum Scene<'a> {
     WaitsForNothing,
     AnsweredAtOnce,
     SimpleDeadlock,
-    /// One sleeps until the other one gives back, or asks it to cancel.
+    /// One session sleeps until the other one gives back what it has, or, where `asks`, asks it to cancel.
     Sleeps { asks: bool },
     ListsMany,
-    /// They race for something, over and over.
+    /// The sessions race for something, over and over.
     Races(Race, u32),
     FindsSlotsBusy,
-    /// One's strong mode moves the other's weak ones, where memory may run out once.
+    /// The strong mode of one session moves the weak modes of the other one, where memory may run out once.
     MovesAtLast,
 }
 
-/// Plays `scene` with `pair`.
+/// Plays `scene` with the two sessions of `pair`, and answers them.
 pub fn perform<B: Board<Part> + Send, R: Abort + Threads + Wait + Sync + Print>(
     rt: &R,
     mut pair: Pair<Part, B>,

@@ -18,17 +18,17 @@ use std::sync::{Mutex, Wait};
 use std::thread;
 use std::thread::{Threads, for_each_mut};
 
-/// How many have an object in each mode.
+/// How many sessions have an object in each mode.
 type Modes = [u32; 8];
 
-/// How many have each of four objects.
+/// How many sessions have each of four objects in each mode.
 type Holders = [Modes; 4];
 
-/// What each thread does.
+/// What each thread does with the session that it has.
 #[derive(Clone, Copy)]
 pub struct Plan {
     rounds: u32,
-    /// How many objects, or relations, they ask for, 1 to 4.
+    /// How many objects, or relations, the sessions ask for, 1 to 4.
     objects: u32,
     relations: bool,
     ghost some: { 1 ≤ objects },

@@ -347,7 +347,7 @@ const BY_SLOT: [Turn; 27] = [
 
 const READ_EACH: Call = FastOnEach(AccessShare, Transaction);
 
-/// The fourth of them.
+/// The fourth of the relations that `READ_EACH` locks.
 const FOURTH: Tag = Tag::Relation {
     database: 5,
     relation: 16_387,
@@ -400,7 +400,7 @@ pub struct List {
     pub turns: &'static [Turn],
 }
 
-/// All lists.
+/// The lists of turns, each with its name.
 pub static LISTS: [List; 12] = [
     List {
         name: "given up",

@@ -12,13 +12,13 @@ use std::sync::Wait;
 #[derive(Clone, Copy)]
 pub enum Call {
     Try(Tag, Mode, Owner),
-    /// The same, with a wait where it must.
+    /// An acquire like `Try`, with a wait where something is in its way.
     Acquire(Tag, Mode, Owner),
-    /// As `Acquire`, with so many looks at the wait at most.
+    /// An acquire like `Acquire`, with at most this number of looks at the wait.
     AcquireInLooks(Tag, Mode, Owner, u32),
-    /// By a slot or not at all.
+    /// An acquire by a fast-path slot or not at all.
     Fast(Tag, Mode, Owner),
-    /// The same, each time on another relation of the sessions' database.
+    /// An acquire like `Fast`, each time on another relation of the sessions' database.
     FastOnEach(Mode, Owner),
     Unlock(Tag, Mode, Owner),
     /// All advisory locks of the session are given back.
@@ -27,10 +27,10 @@ pub enum Call {
     Abort,
     Held(Tag),
     Count(Tag, Mode, Owner),
-    /// The strong lock counter of the object.
+    /// A look at the strong lock counter of the object.
     Strong(Tag),
     Database,
-    /// How many rows a listing has.
+    /// A listing, of which the number of rows is answered.
     Rows,
 }
 
@@ -45,7 +45,7 @@ pub enum Answer {
     /// The refusal of this number.
     Refused(u8),
     Ended,
-    /// The mask of modes.
+    /// The modes of the object that the session has, as a mask.
     Modes(u16),
     Times(u16),
     Counted(u64),
@@ -53,7 +53,7 @@ pub enum Answer {
     Rows { fast: usize, table: usize },
 }
 
-/// A session makes a call so many times, and is answered this each time.
+/// A turn: this session makes this call, this number of times, and is answered this each time.
 pub type Turn = (Who, u32, Call, Answer);
 
 #[derive(Clone, Copy)]

@@ -85,11 +85,11 @@ impl Watch for Pauses {
 /// What more than two sessions do.
 #[derive(Clone, Copy)]
 pub enum Crew {
-    /// One waits for what another gives back while a third one asks it to cancel, so many times.
+    /// One session waits for what another one gives back while a third one asks it to cancel, this number of times.
     Asked(u32),
-    /// One lists while three lock and unlock.
+    /// One session lists while three lock and unlock.
     Watch,
-    /// As many as there can be lock and unlock on one partition.
+    /// Sessions, as many as there can be, lock and unlock on one partition.
     Crowd,
 }
 
@@ -194,7 +194,7 @@ fn close<'a, R: Wait>(rt: &R, opener: &mut Opener<Part>, session: Unsteady<'a>)
     opener.close(session.into_board(rt).into_watched());
 }
 
-/// Closes all of `sessions`.
+/// Closes all of `sessions` at the table of `opener`.
 fn close_all<'a, R: Wait>(rt: &R, opener: &mut Opener<Part>, mut sessions: Vec<Unsteady<'a>>)
     requires own { let B = ⟦<WatchedBoard<SeatBoard<'a, Part>, Pauses> as Board<Part>>⟧ in
         All (λ session. (B.seat session.board).table ≡ opener.old.table) sessions.items }

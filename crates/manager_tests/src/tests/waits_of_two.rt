@@ -61,7 +61,7 @@ fn wait_as<T: PartTable, B: Board<T>, R: Abort + Wait>(
     session
 }
 
-/// Finds `waiting` granted.
+/// Ends the wait of `waiting` by one look, which must find it granted, and answers the session. Else the test ends.
 fn find_granted<T: PartTable, B: Board<T>, R: Abort>(
     rt: &R,
     waiting: OwnWaiting<T, B>,

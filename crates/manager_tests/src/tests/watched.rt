@@ -10,10 +10,10 @@ use std::sync::Wait;
 
 /// Hears of each call on a board.
 pub trait Watch {
-    /// A call begins.
+    /// Hears that a call on the board begins.
     fn before(&self);
 
-    /// A call has ended.
+    /// Hears that a call on the board has ended.
     fn after(&self);
 }
 
