@@ -31,11 +31,12 @@ MayGetSlots Exclusive a owner = Unit {0}
 MayGetSlots Shared a owner = MayShareFastBy a owner
 
 module _ {T : Type 0} (content : T → Content) where
-  -- It got nothing: the account, and what is in hand, are as before, and this is to do.
+  -- The session got nothing: the account, and what is in hand, are as before, and this is to do.
   pub record GotNothing (before after : Seat (Kept T) (View T)) (todo : Todo) : Type 0 where
     pub led : LedTo content before after (account_at content before) todo
     pub shelves : after.me.1 ≡ before.me.1
 
+  -- The session got nothing, and has as much to do for those who wait as before.
   abbrev pub IsAsBefore : Seat (Kept T) (View T) → Seat (Kept T) (View T) → Type 0
   IsAsBefore before after = GotNothing before after (todo_at before)
 

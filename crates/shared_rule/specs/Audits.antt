@@ -32,11 +32,11 @@ account_after a steps = record a { trace = a.trace ++ steps }
 abbrev pub counter_loads : ℕ → (ℕ → ℕ) → List TraceEntry
 counter_loads count shown = joined count (λ index. Loaded (Strong index) (shown index) ∷ [])
 
--- the loads of the first so many of a session's slots, which show these words, and of all slots of all sessions below the limit,
--- each with so many groups of slots
+-- the loads of a session's slots, of as many as `count` says from the first one on, which show these words
 abbrev pub slot_loads_of : ℕ → ℕ → (ℕ → ℕ) → List TraceEntry
 slot_loads_of owner count word = joined count (λ slot. Loaded (Slot owner slot) (word slot) ∷ [])
 
+-- the loads of all slots of all sessions below the limit, each with this number of groups of slots, which show these words
 abbrev pub all_slot_loads : ℕ → ℕ → (ℕ → ℕ → ℕ) → List TraceEntry
 all_slot_loads limit groups word = joined limit (λ owner. slot_loads_of owner (group_size * groups) (word owner))
 
@@ -51,8 +51,9 @@ holding_steps partition (content ∷ contents) inner =
 abbrev pub audit_steps : ℕ → ℕ → (ℕ → ℕ) → (ℕ → ℕ → ℕ) → List Content → List TraceEntry
 audit_steps limit groups counters word contents = counter_loads 1024 counters ++ holding_steps 0 contents (all_slot_loads limit groups word)
 
--- It is the same seat after steps of its first session, none of which is quiet.
+-- How the view of a seat changes by steps of its first session.
 module _ {T : Type 0} where
+  -- It is the view of the same seat after steps of its first session, none of which is quiet.
   pub record IsFurther (before after : View T) : Type 0 where
     pub next : after.next ≡ before.next
     pub closed : after.closed ≡ before.closed

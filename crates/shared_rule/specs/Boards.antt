@@ -27,27 +27,32 @@ pub record Stack : Type 0 where
   pub parts : List ℕ
   pub owed : List ℕ
 
+-- the stack of a session that has nothing to put and nobody to wake
 abbrev pub nothing_due : Stack
 nothing_due = record { parts = []; owed = [] }
 
--- a partition taken, and the last one put
+-- the stack once a partition was taken
 abbrev pub stack_taking : Stack → ℕ → Stack
 stack_taking stack part = record { parts = part ∷ stack.parts; owed = stack.owed }
 
+-- a list without its first element
 abbrev pub all_but_first : List ℕ → List ℕ
 all_but_first [] = []
 all_but_first (first ∷ others) = others
 
+-- the stack once the partition was put that was taken last
 abbrev pub stack_putting : Stack → Stack
 stack_putting stack = record { parts = all_but_first stack.parts; owed = stack.owed }
 
--- a session let go, one asked to cancel whose wait word showed this, and one woken
+-- the stack once a session was let go, which is to be woken
 abbrev pub stack_owing : Stack → ℕ → Stack
 stack_owing stack other = record { parts = stack.parts; owed = owing stack.owed other }
 
+-- the stack once a session was asked to cancel whose wait word showed this
 abbrev pub stack_asking : Stack → ℕ → ℕ → Stack
 stack_asking stack other shown = record { parts = stack.parts; owed = asking stack.owed other shown }
 
+-- the stack once a session was woken
 abbrev pub stack_waking : Stack → ℕ → Stack
 stack_waking stack other = record { parts = stack.parts; owed = waking stack.owed other }
 

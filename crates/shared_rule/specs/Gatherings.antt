@@ -57,10 +57,11 @@ module _ {T : Type 0} where
     pub all : length view.sessions + length view.closed ≡ issued
 
 module _ {T : Type 0} (content : T → Content) where
-  -- who is at a seat
+  -- a session at a seat, with its account, by its history
   abbrev pub gathered_as : History T → Gathered
   gathered_as history = record { number = history.number; account = told content history.number history.marks }
 
+  -- the sessions at a seat, with their accounts, by their histories
   abbrev pub gathered_in : List (History T) → List Gathered
   gathered_in sessions = map gathered_as sessions
 

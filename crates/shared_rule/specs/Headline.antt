@@ -83,10 +83,11 @@ pub record ShowsNoCircle {T : Type 0} (content : T → Content) (begun : T → O
   pub in_order : OrderIsKept (waking world beside.duties)
   pub somebody_runs : NotAllSleep (waking world beside.duties)
 
--- By its history this session has the other to wake, which waits for a lock of the table; or to call, which it took off a wait list.
+-- By its history this session has the other to wake, which waits for a lock of the table.
 abbrev pub HasToWake : {T : Type 0} → History T → ℕ → Type 0
 HasToWake history other = is_among (owed_told history.marks) other ≡ true
 
+-- By its history this session has the other to call, which it took off a wait list.
 abbrev pub HasToCall : {T : Type 0} → History T → ℕ → Type 0
 HasToCall history other = (todo_told_by history.number history.marks).calls other ≡ true
 

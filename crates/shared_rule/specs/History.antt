@@ -81,6 +81,7 @@ account_granting_by None a part mine other done woken now =
 account_granting_by (Some made) a part mine other done woken now =
     account_marking a part mine mine.now Keep made (unmarked_but mine.unmarked other)
 
+-- what marking a session granted makes of the account, by the move that is recorded of the partition in hand
 abbrev pub account_granting : Account → ℕ → InHand → ℕ → Move → List ℕ → Content → Account
 account_granting a part mine other done woken now = account_granting_by mine.recorded a part mine other done woken now
 
@@ -88,11 +89,12 @@ account_granting a part mine other done woken now = account_granting_by mine.rec
 abbrev pub is_granted : ℕ → Account → OwnWait → Bool
 is_granted number a wait = a.seen || (in_hand (a.hand (partition_of wait.tag))).now.holds number wait.tag wait.mode
 
--- what clearing its own wait word makes of it, and what leaving the queue by that does
+-- what clearing its own wait word makes of the account of a session with this wait, if it has one
 abbrev pub account_cleared : ℕ → Account → Option OwnWait → Account
 account_cleared number a None = a
 account_cleared number a (Some wait) = account_clearing a wait (is_granted number a wait)
 
+-- what leaving the queue, by clearing its own wait word, makes of the account of a session with this wait, if it has one
 abbrev pub account_left : Account → Option OwnWait → Content → List ℕ → Account
 account_left a None now woken = a
 account_left a (Some wait) now woken =
@@ -203,10 +205,11 @@ module _ {T : Type 0} where
   abbrev pub noting : View T → Mark T → View T
   noting view mark = record { next = view.next; closed = view.closed; sessions = noting_first view.sessions mark }
 
-  -- the view of the opener's seat before the first session, and of one session's seat
+  -- the view of the opener's seat before the first session
   abbrev pub opening_view : View T
   opening_view = record { next = Some 0; closed = []; sessions = [] }
 
+  -- the view of the seat of one session, with this number and these steps
   abbrev pub lone : ℕ → List (Mark T) → View T
   lone number marks = record { next = None; closed = []; sessions = record { number = number; marks = marks } ∷ [] }
 

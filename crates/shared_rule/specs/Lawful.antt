@@ -30,14 +30,14 @@ abbrev pub MayMarkBy : ℕ → ℕ → Account → ℕ → InHand → Move → L
 MayMarkBy limit number a partition mine done granted content other =
     MayMarkFirstBy limit number a partition mine done granted content other ⊎ MayMarkNextBy a partition mine done other
 
--- Putting a partition: after a move that is made as it is put, or, with nothing changed since, after the one that
--- stands recorded.
+-- Putting a partition with nothing changed since the move that stands recorded.
 pub record PutsRecorded (a : Account) (partition : ℕ) (mine : InHand) (done : Move) (content : Content) : Type 0 where
   pub made : Move
   pub may_put : MayPutRecordedBy a partition mine made
   pub keeps : done ≡ Keep
   pub same : content ≡ mine.now
 
+-- Putting a partition: after a move that is made as it is put, or, with nothing changed since, after the one that stands recorded.
 abbrev pub MayPutPart : ℕ → ℕ → Account → ℕ → InHand → Move → Content → Type 0
 MayPutPart limit number a partition mine done content =
     MayPutBy limit number a partition mine done content ⊎ PutsRecorded a partition mine done content

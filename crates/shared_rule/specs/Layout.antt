@@ -13,13 +13,15 @@ use Rattle.modes_core.specs.Sessions.{most_sessions}
 abbrev pub block_start : ℕ → ℕ
 block_start session = 1296 + 36 * session
 
--- how long an area of blocks is, and how many words the table has for so many groups of slots
+-- how many words an area of blocks has
 abbrev pub area_words : ℕ
 area_words = 2304
 
+-- how many words the table has for this number of groups of slots
 abbrev pub words_of_groups : ℕ → ℕ
 words_of_groups groups = 1296 + area_words * groups
 
+-- the index of a word in the table
 abbrev pub index_of_word : Word → ℕ
 index_of_word (Partition p) = 16 * p
 index_of_word (Strong index) = 256 + index

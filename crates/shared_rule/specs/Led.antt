@@ -30,9 +30,10 @@ pub record LedBy {T : Type 0} (content : T → Content) (before after : Seat (Ke
   pub owed : owed_at after ≡ owed_at before
   pub others : KeepsOthers before.me.0 after.me.0
 
--- A call that made no quiet step, and one that leaves as much to do as there was.
+-- A call that made no quiet step, and leaves this to do.
 abbrev pub LedTo : {T : Type 0} → (T → Content) → Seat (Kept T) (View T) → Seat (Kept T) (View T) → Account → Todo → Type 0
 LedTo content before after a todo = LedBy content before after a (quiet_at before) todo
 
+-- A call that made no quiet step, and leaves as much to do as there was.
 abbrev pub Led : {T : Type 0} → (T → Content) → Seat (Kept T) (View T) → Seat (Kept T) (View T) → Account → Type 0
 Led content before after a = LedTo content before after a (todo_at before)

@@ -11,10 +11,11 @@ pub record OwnLooks : Type 0 where
   pub on_wait : Option ℕ
   pub on_sleep : Option ℕ
 
+-- the looks of a session that has loaded neither of its own words
 abbrev pub no_looks : OwnLooks
 no_looks = record { on_wait = None; on_sleep = None }
 
--- what a step makes of it
+-- what a step that tells of no content makes of a session's looks
 abbrev pub looks_words : OwnLooks → WordMark → OwnLooks
 looks_words looks (LoadedWait shown) = record looks { on_wait = Some shown }
 looks_words looks ClearedWait = record looks { on_wait = None }
@@ -24,6 +25,7 @@ looks_words looks LeftList = record looks { on_sleep = None }
 looks_words looks mark = looks
 
 module _ {T : Type 0} where
+  -- what a step makes of a session's looks
   abbrev pub looks_noted : OwnLooks → Mark T → OwnLooks
   looks_noted looks (SetWaiting tag mode now) = record looks { on_wait = None }
   looks_noted looks (LeftQueue woken now) = record looks { on_wait = None }

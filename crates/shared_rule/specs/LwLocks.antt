@@ -7,12 +7,13 @@ use Rattle.shared_rule.specs.declared.lw_locks.LwLock.{LwLock}
 use Rattle.shared_rule.specs.declared.lw_locks.LwLock.TheVariants.{OfPart, OfSlots}
 use Rattle.modes_core.specs.Sessions.{most_sessions}
 
--- The lightweight locks of the table: each has a word and, by its number, a wait list.
+-- The lightweight locks of the table: the word of each.
 
 abbrev pub word_of_lock : LwLock → Word
 word_of_lock (OfPart partition) = Partition partition
 word_of_lock (OfSlots owner) = Fast owner
 
+-- the number of a lightweight lock, by which its wait list is known
 abbrev pub lock_number : LwLock → ℕ
 lock_number (OfPart partition) = partition_lock partition
 lock_number (OfSlots owner) = fast_lock owner

@@ -22,13 +22,14 @@ abbrev pub waking : List ℕ → ℕ → List ℕ
 waking [] other = []
 waking (first ∷ others) other = if first == other then others else first ∷ waking others other
 
--- what a step, or a call, makes of it
+-- what a step that tells of no content, or a call, makes of those whom a session has to wake
 abbrev pub owed_words : List ℕ → WordMark → List ℕ
 owed_words owed (Asked other shown) = asking owed other shown
 owed_words owed (CalledWaiter other) = waking owed other
 owed_words owed mark = owed
 
 module _ {T : Type 0} where
+  -- what a step, or a call, makes of those whom a session has to wake
   abbrev pub owed_noted : List ℕ → Mark T → List ℕ
   owed_noted owed (MarkedGranted part other done woken now) = owing owed other
   owed_noted owed (OfWords mark) = owed_words owed mark

@@ -48,25 +48,27 @@ pub record HasGroups (table : TableId) (groups : ℕ) : Type 0 where
   pub few : groups ≤ most_groups
 
 module _ {T : Type 0} where
-  -- the number of the session that makes its steps with the seat, and its account
+  -- the number of the session that makes its steps with the seat
   abbrev pub number_at : Seat (Kept T) (View T) → ℕ
   number_at seat = first_number seat.me.0.sessions
 
+  -- the account of the session that makes its steps with the seat
   abbrev pub account_at : (T → Content) → Seat (Kept T) (View T) → Account
   account_at content seat = first_account content seat.me.0.sessions
 
-  -- and its quiet steps
+  -- the quiet steps of the session that makes its steps with the seat
   abbrev pub quiet_at : Seat (Kept T) (View T) → List Quiet
   quiet_at seat = first_quiet seat.me.0.sessions
 
-  -- and what it has to do for those who wait; whether it has set has-waiters in the word of the list that it locked last
+  -- what the session that makes its steps with the seat has to do for those who wait
   abbrev pub todo_at : Seat (Kept T) (View T) → Todo
   todo_at seat = first_todo seat.me.0.sessions
 
+  -- whether the session that makes its steps with the seat has set has-waiters in the word of the list that it locked last
   abbrev pub flagged_at : Seat (Kept T) (View T) → Bool
   flagged_at seat = first_flagged seat.me.0.sessions
 
-  -- and whom it has to wake, of those who wait for a lock of the table
+  -- whom the session that makes its steps with the seat has to wake, of those who wait for a lock of the table
   abbrev pub owed_at : Seat (Kept T) (View T) → List ℕ
   owed_at seat = first_owed seat.me.0.sessions
 
@@ -102,8 +104,8 @@ module _ {T : Type 0} (content : T → Content) where
       × ((word : Word) → MayBeInTable word → step.word ≡ index_of_word word
       → KnowsWord (first_number before.0.sessions) (first_account content before.0.sessions) word found)
 
-  -- The lock of a session's slots, of so many groups, came into hand, or is shared: what they show was noted by this mark, and
-  -- the session knows of it what its account tells.
+  -- What the slots of a session show, of this number of groups, was noted by this mark as the lock of them came into
+  -- hand or is shared, and the session knows of it what its account tells.
   pub record SeesSlots (groups : ℕ) (mark : ℕ → ℕ → List ℕ → Mark T) (owner : ℕ) (before after : Side T) : Type 0 where
     pub database : ℕ
     pub words : List ℕ
@@ -112,13 +114,15 @@ module _ {T : Type 0} (content : T → Content) where
         KnowsSlots groups (first_number before.0.sessions) (first_account content before.0.sessions) owner
         (slots_shown database words)
 
+  -- The lock of a session's slots, of this number of groups, came into hand.
   abbrev pub TookSlots : ℕ → ℕ → Side T → Side T → Type 0
   TookSlots groups = SeesSlots groups TookFast
 
+  -- The lock of a session's slots, of this number of groups, is shared.
   abbrev pub SharedSlots : ℕ → ℕ → Side T → Side T → Type 0
   SharedSlots groups = SeesSlots groups SharedFast
 
-  -- An exchange does so where it finds the number that it expects, and else leaves the view so.
+  -- An exchange takes or shares the lock of a session's slots where it finds the number that it expects, and else leaves the view so.
   abbrev pub SeesSlotsOr :
       ℕ → (ℕ → ℕ → List ℕ → Mark T) → (ℕ → View T → View T) → Step (Kept T) → Side T → ℕ → Side T → Type 0
   SeesSlotsOr groups mark lost step before found after =
@@ -126,9 +130,11 @@ module _ {T : Type 0} (content : T → Content) where
       → SeesSlots groups mark owner before after)
       × (found ≢ step.first → after ≡ (lost found before.0, before.1))
 
+  -- An exchange takes the lock of a session's slots where it finds the number that it expects, and else leaves the view so.
   abbrev pub TookSlotsOr : ℕ → (ℕ → View T → View T) → Step (Kept T) → Side T → ℕ → Side T → Type 0
   TookSlotsOr groups = SeesSlotsOr groups TookFast
 
+  -- An exchange shares the lock of a session's slots where it finds the number that it expects, and else leaves the view so.
   abbrev pub SharedSlotsOr : ℕ → (ℕ → View T → View T) → Step (Kept T) → Side T → ℕ → Side T → Type 0
   SharedSlotsOr groups = SeesSlotsOr groups SharedFast
 
@@ -163,10 +169,11 @@ module _ {T : Type 0} where
       × ((IsHeldByNobody found → ⊥) → (lock : LwLock) → LockIsInTable lock → step.word ≡ index_of_word (word_of_lock lock)
       → after ≡ (noting before.0 (SawHeld (lock_number lock)), before.1))
 
-  -- A lost exchange is not noted, or is noted as a load of its own word.
+  -- A lost exchange is not noted.
   abbrev pub unnoted : ℕ → View T → View T
   unnoted found view = view
 
+  -- A lost exchange is noted as a load of the word of the lock of the session's own slots.
   abbrev pub noted_load : ℕ → View T → View T
   noted_load found view = noting view (LoadedFast found)
 
@@ -179,6 +186,7 @@ module _ {T : Type 0} (content : T → Content) (begun : T → Option Request) w
     pub none_begun : begun part ≡ None
     pub knows : KnowsContent (first_number before.0.sessions) (first_account content before.0.sessions) p (content part)
 
+  -- An exchange takes a partition in hand where it finds the number that it expects, and else changes nothing.
   abbrev pub TookPartition : Step (Kept T) → Side T → ℕ → Side T → Type 0
   TookPartition step before found after =
       (found ≡ step.first → (p : ℕ) → p < 16 → step.word ≡ index_of_word (Partition p) → TookContent p before after)

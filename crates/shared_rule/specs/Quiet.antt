@@ -33,7 +33,7 @@ abbrev pub quiet_trying : {T E : Type 0} → ℕ → Result T E → List Quiet �
 quiet_trying number (Ok done) before = TakesSlots number ∷ before
 quiet_trying number (Err refusal) before = before
 
--- those of a history: each step that is one joins them
+-- the quiet steps of a history once a step that tells of no content joins it
 abbrev pub quiet_words : List Quiet → WordMark → List Quiet
 quiet_words before (TookFast owner database words) = TakesSlots owner ∷ before
 quiet_words before (SharedFast owner database words) = SharesSlots owner ∷ before
@@ -42,20 +42,22 @@ quiet_words before (Counted tag mode) = CountsStrong tag mode ∷ before
 quiet_words before its = before
 
 module _ {T : Type 0} where
+  -- the quiet steps of a history once a step joins it
   abbrev pub quiet_noted : List Quiet → Mark T → List Quiet
   quiet_noted before (OfWords its) = quiet_words before its
   quiet_noted before its = before
 
+  -- the quiet steps of a history with these steps, the last one first
   abbrev pub quiet_told : List (Mark T) → List Quiet
   quiet_told [] = []
   quiet_told (mark ∷ marks) = quiet_noted (quiet_told marks) mark
 
-  -- those of the session that makes its steps with the seat
+  -- the quiet steps of the session that makes its steps with the seat
   abbrev pub first_quiet : List (History T) → List Quiet
   first_quiet [] = []
   first_quiet (history ∷ others) = quiet_told history.marks
 
--- those of these steps of a run, the first one first, behind these
+-- the quiet steps of a run once a step joins it
 abbrev pub quiet_after : List Quiet → Step → List Quiet
 quiet_after before (step.TakeExclusive (Fast owner)) = TakesSlots owner ∷ before
 quiet_after before (step.TakeShared (Fast owner)) = SharesSlots owner ∷ before
@@ -63,6 +65,7 @@ quiet_after before (step.SetSlot slot tag mode) = SetsSlot tag mode ∷ before
 quiet_after before (step.Count tag mode) = CountsStrong tag mode ∷ before
 quiet_after before its = before
 
+-- the quiet steps of a run once these steps join it, the first one first
 abbrev pub quiet_of : List Quiet → List Step → List Quiet
 quiet_of before [] = before
 quiet_of before (its ∷ steps) = quiet_of (quiet_after before its) steps

@@ -46,10 +46,12 @@ module _ {T : Type 0} (content : T → Content) (begun : T → Option Request) w
     pub is_content : content part ≡ now
     pub none_begun : begun part ≡ None
 
+  -- The partition has its content at home, unless a session has it in hand.
   abbrev pub IsHomeUnlessInHand : Option Hand → Content → maybe.Option (maybe.Option (Kept T)) → Type 0
   IsHomeUnlessInHand None now there = IsAtHome now there
   IsHomeUnlessInHand (Some hand) now there = Unit {0}
 
+  -- Each partition has its content at home, unless a session has it in hand.
   abbrev pub ContentsAreHome : List (maybe.Option (Kept T)) → Contents → Type 0
   ContentsAreHome homes contents =
       (p : ℕ) → p < 16 → IsHomeUnlessInHand (contents.hand p) (contents.now p) (get_elem? homes (content_shelf_of p))
@@ -65,6 +67,7 @@ module _ {T : Type 0} where
     pub at_home : there ≡ some (some (kept.List list))
     pub is_list : list.value ≡ waiters
 
+  -- Where nobody has it in hand, the list of each lock is at home, with those who wait for it.
   abbrev pub ListsAreHome : List (maybe.Option (Kept T)) → (ℕ → Option ℕ) → (ℕ → List LwWaiter) → Type 0
   ListsAreHome homes has_list list =
       (lock : ℕ) → lock < lock_count → IsInNoHand lock has_list
@@ -86,8 +89,9 @@ module _ {T : Type 0} where
       (seat : ℕ) (view : View T) (number : ℕ) → get_elem? views seat ≡ some view → view.next ≡ Some number
       → ClosedAreCounted numbers view.closed
 
--- Where histories stand in the views of the seats: among these of a seat's view.
+-- Where histories stand in the views of the seats.
 module _ {T : Type 0} where
+  -- The history stands among these of one seat's view.
   pub record StandsAmong (these : View T → List (History T)) (views : List (View T)) (history : History T) : Type 0 where
     pub seat : ℕ
     pub place : ℕ
@@ -95,10 +99,11 @@ module _ {T : Type 0} where
     pub there : get_elem? views seat ≡ some view
     pub stands : slice_get (these view) place ≡ Some history
 
-  -- among the sessions that a seat is for, and among those that have closed
+  -- The history stands among those of the sessions that a seat is for.
   abbrev pub StandsAtSeat : List (View T) → History T → Type 0
   StandsAtSeat views history = StandsAmong (λ view. view.sessions) views history
 
+  -- The history stands among those of the sessions that have closed.
   abbrev pub StandsClosed : List (View T) → History T → Type 0
   StandsClosed views history = StandsAmong (λ view. view.closed) views history
 
@@ -172,6 +177,7 @@ module _ {T : Type 0} (content : T → Content) where
     pub whose : history.number ≡ session
     pub behind : place_in joiner < place_in session
 
+  -- The seats show the World's sessions: who is open, who is kept apart by whom, who has closed, and which number comes next.
   pub record SeatsAreShown (views : List (View T)) (w : World) : Type 0 where
     -- in which seat's view each session's history stands, and at which place
     pub seat_of : ℕ → ℕ
@@ -195,7 +201,7 @@ module _ {T : Type 0} (content : T → Content) where
     -- a number not yet given out has an account with nothing in it
     pub not_issued : (number : ℕ) → w.numbers.issued ≤ number → account w number ≡ blank_account
 
--- What one session has to do for those who wait for lightweight locks, of what all have.
+-- what one session has to do for those who wait for lightweight locks, by the duties of all and by the sessions that it has to call
 abbrev pub todo_with : Duties → (ℕ → Bool) → ℕ → Todo
 todo_with duties calls number = record {
   due = duties.due number;
@@ -204,6 +210,7 @@ todo_with duties calls number = record {
   calls = calls;
 }
 
+-- what one session has to do for those who wait for lightweight locks, of what all have
 abbrev pub todo_of : Beside → ℕ → Todo
 todo_of beside number = todo_with beside.duties (beside.sleeps.owed number) number
 
@@ -243,8 +250,9 @@ pub record WakesAreKept {T : Type 0} (sizes : TableSizes) (views : List (View T)
   pub none_flagged : (number : ℕ) → w.numbers.issued ≤ number → false ≡ beside.duties.flagged number
   pub none_owed : (number : ℕ) → w.numbers.issued ≤ number → OwesAsTold beside number []
 
--- The rule.
+-- The rule, by the content that a keeper stands for and the request that is begun in it.
 module _ {T : Type 0} (content : T → Content) (begun : T → Option Request) where
+  -- The rule of the table: its words, its contents and all histories show a World that is safe.
   pub record Ruled (sizes : TableSizes) (state : State (Kept T) (View T)) : Type 0 where
     pub world : World
     -- each step is its event: these lead here from the World before the first step,

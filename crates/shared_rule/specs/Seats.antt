@@ -45,40 +45,44 @@ abbrev pub DoNotConflict : Account → Account → Type 0
 DoNotConflict a b =
     (tag : Tag) (mode its : Mode) → a.own tag mode ≡ true → b.own tag its ≡ true → conflict mode its ≡ false
 
--- the number that the next session gets, and the one after that
+-- the number that the next session gets
 abbrev pub number_in : Option ℕ → ℕ
 number_in None = 0
 number_in (Some number) = number
 
+-- the number that the session after the next one gets
 abbrev pub number_after : Option ℕ → Option ℕ
 number_after None = None
 number_after (Some number) = Some (number + 1)
 
--- a list without its last element, and that one alone
+-- a list without its last element
 abbrev pub all_but_last : {A : Type 0} → List A → List A
 all_but_last [] = []
 all_but_last (x ∷ []) = []
 all_but_last (x ∷ y ∷ others) = x ∷ all_but_last (y ∷ others)
 
+-- the last element of a list, alone
 abbrev pub last_of : {A : Type 0} → List A → List A
 last_of [] = []
 last_of (x ∷ []) = x ∷ []
 last_of (x ∷ y ∷ others) = last_of (y ∷ others)
 
 module _ {T : Type 0} where
-  -- the history of the session that makes its steps with the seat, and those behind it
+  -- the history of the session that makes its steps with the seat
   abbrev pub first_of : List (History T) → List (History T)
   first_of [] = []
   first_of (history ∷ others) = history ∷ []
 
+  -- the histories behind that of the session that makes its steps with the seat
   abbrev pub behind_of : List (History T) → List (History T)
   behind_of [] = []
   behind_of (history ∷ others) = others
 
-  -- the view of the opener's seat once it has given a number out, and the view of the session that got it
+  -- the view of the opener's seat once it has given a number out
   abbrev pub opened : View T → View T
   opened view = record { next = number_after view.next; closed = view.closed; sessions = view.sessions }
 
+  -- the view of the session that got a number from the opener's seat
   abbrev pub newcomer : View T → View T
   newcomer view = lone (number_in view.next) []
 
@@ -94,10 +98,11 @@ module _ {T : Type 0} where
   abbrev pub met : View T → View T → View T
   met view other = record { next = view.next; closed = view.closed; sessions = view.sessions ++ other.sessions }
 
-  -- the view without its last session, and the view of that one
+  -- the view of a seat without its last session
   abbrev pub parted : View T → View T
   parted view = record { next = view.next; closed = view.closed; sessions = all_but_last view.sessions }
 
+  -- the view of the last session of a seat, once it goes on by itself
   abbrev pub handed_back : View T → View T
   handed_back view = record { next = None; closed = []; sessions = last_of view.sessions }
 

@@ -47,15 +47,17 @@ pub record FoundItChanged (number : ℕ) (a b : Account) : Type 0 where
   pub changed : other ≢ shown
   pub account : b ≡ account_tracing (account_tracing a (Loaded (Fast number) shown)) (Loaded (Fast number) other)
 
+-- A session tries for the lock of its own slots: it took the lock, or found it held, or the exchange found another number.
 abbrev pub TriesFast : {T E : Type 0} → ℕ → ℕ → Account → Result T E → Account → Type 0
 TriesFast groups number a result b =
     MatchResult result (λ _. TookItFree groups number a b) (λ _. FoundItHeld number a b ⊎ FoundItChanged number a b)
 
--- What it knows of a number that it finds in a word: the slots that it has in hand or shares show it, its database is its own,
--- and its own wait word shows no wait where it has none.
+-- The session has these slots of the owner in hand, or shares them.
 abbrev pub HasOrShares : Account → ℕ → SlotsInHand → Type 0
 HasOrShares a owner slots = (a.fast.slots owner ≡ Some slots) ⊎ (a.fast.shared_slots owner ≡ Some slots)
 
+-- What the session knows of a number that it finds in a word: the slots that it has in hand or shares show it, its
+-- database is its own, and its own wait word shows no wait where it has none.
 abbrev pub KnowsWord : ℕ → Account → Word → ℕ → Type 0
 KnowsWord number a (Partition p) found = Unit {0}
 KnowsWord number a (Fast owner) found = Unit {0}

@@ -77,14 +77,16 @@ is_of_seats step.SplitSeat = true
 is_of_seats (step.JoinSeat joiner) = true
 is_of_seats its = false
 
--- the steps of a session among these events, in order, those of seats aside
+-- whether the event is a step of this session, and none of seats
 abbrev pub is_step_of : ℕ → Event → Bool
 is_step_of number event = (event.session == number) && not (is_of_seats event.step)
 
+-- the steps of a session among these events, in order, those of seats aside
 abbrev pub steps_of : ℕ → List Event → List Step
 steps_of number events = map (λ event. event.step) (filter (is_step_of number) events)
 
 module _ {T : Type 0} where
+  -- The mark tells of this step.
   abbrev pub Tells : ℕ → Mark T → Step → Type 0
   Tells number (TookPart part taken) its = its ≡ step.TakeExclusive (Partition part)
   Tells number (PutPart part done put found) its = Puts part done its
@@ -119,7 +121,7 @@ events_of (saw_held session lock ∷ turns) = events_of turns
 events_of (called_waiter session other ∷ turns) = events_of turns
 events_of (called_sleeper session other ∷ turns) = events_of turns
 
--- the turns of a session, in order, those of seats aside
+-- whether the turn is one of this session, and none of seats
 abbrev pub is_turn_of : ℕ → Turn → Bool
 is_turn_of number (happened event) = is_step_of number event
 is_turn_of number (saw_list_locked session lock) = session == number
@@ -127,6 +129,7 @@ is_turn_of number (saw_held session lock) = session == number
 is_turn_of number (called_waiter session other) = session == number
 is_turn_of number (called_sleeper session other) = session == number
 
+-- the turns of a session, in order, those of seats aside
 abbrev pub turns_of : ℕ → List Turn → List Turn
 turns_of number turns = filter (is_turn_of number) turns
 

@@ -34,13 +34,15 @@ pub record Todo : Type 0 where
   -- whom it has taken off a list, and has not called since
   pub calls : ℕ → Bool
 
+-- what a session has to do that has nothing to do
 abbrev pub nothing_to_do : Todo
 nothing_to_do = record { due = None; tries = None; owes_release_ok = None; calls = λ _. false }
 
--- the lock was taken, or seen held; its list was looked at
+-- the lock was taken, or seen held
 abbrev pub todo_attempted : Todo → Todo
 todo_attempted todo = record todo { tries = None }
 
+-- the wait list of the lock was looked at
 abbrev pub todo_looked : Todo → Todo
 todo_looked todo = record todo { due = None }
 
@@ -48,17 +50,19 @@ todo_looked todo = record todo { due = None }
 abbrev pub todo_putting : Todo → ℕ → LockState → Todo
 todo_putting todo lock state = record todo { due = if must_wake state then Some lock else None }
 
--- the list in hand was joined, or left
+-- the list in hand was joined
 abbrev pub todo_queueing : Todo → Option ℕ → Todo
 todo_queueing todo lock = record todo { tries = lock; owes_release_ok = lock }
 
+-- the list in hand was left
 abbrev pub todo_leaving : Todo → Todo
 todo_leaving todo = record todo { owes_release_ok = None }
 
--- a session was taken off a list, or told: its sleep word was changed; and it was called
+-- a session was taken off a list, or told: its sleep word was changed
 abbrev pub todo_owing : Todo → ℕ → Todo
 todo_owing todo other = record todo { calls = set_at todo.calls other true }
 
+-- a session was called
 abbrev pub todo_calling : Todo → ℕ → Todo
 todo_calling todo other = record todo { calls = set_at todo.calls other false }
 
@@ -67,14 +71,15 @@ abbrev pub lock_of_list : Option ListInHand → Option ℕ
 lock_of_list None = None
 lock_of_list (Some mine) = Some mine.lock
 
--- Release-ok was set, by a session that owes it: it was told, and attempts the lock next; or it has the list in hand, and finds itself
--- off it.
+-- Release-ok was set by a session that owes it, and was told: it attempts the lock next.
 abbrev pub todo_told : Todo → ℕ → Todo
 todo_told todo lock = record todo { tries = Some lock; owes_release_ok = None }
 
+-- whether the session has the list of this lock in hand, and is not in it
 abbrev pub is_off_list_in_hand : ℕ → Option ListInHand → ℕ → Bool
 is_off_list_in_hand number in_hand lock = is_lock (lock_of_list in_hand) lock && not (stands_in number (list_here in_hand).waiters)
 
+-- Release-ok of this lock was set: a session that owes it was told, and attempts the lock next; or it has the list in hand, and is not in it.
 abbrev pub todo_setting_ok : ℕ → ListAccount → Todo → ℕ → Todo
 todo_setting_ok number lists todo lock =
     if is_lock todo.owes_release_ok lock
@@ -84,7 +89,7 @@ todo_setting_ok number lists todo lock =
     else (if is_off_list_in_hand number lists.in_hand lock then todo_leaving todo else todo))
     else todo
 
--- What a step makes of it, of the session of this number, which knows this of lists.
+-- What a step that tells of no content makes of what the session of this number has to do, which knows this of lists.
 abbrev pub todo_words : ℕ → ListAccount → Todo → WordMark → Todo
 todo_words number lists todo (TookFast owner database words) = todo_attempted todo
 todo_words number lists todo (SharedFast owner database words) = todo_attempted todo
@@ -102,7 +107,7 @@ todo_words number lists todo (CalledSleeper other) = todo_calling todo other
 todo_words number lists todo (SetReleaseOk lock) = todo_setting_ok number lists todo lock
 todo_words number lists todo mark = todo
 
--- whether it has set has-waiters in the word of the list that it locked last
+-- whether the session has set has-waiters in the word of the list that it locked last, after a step that tells of no content
 abbrev pub flagged_words : Bool → WordMark → Bool
 flagged_words flagged (LockedList lock waiters) = false
 flagged_words flagged (SetHasWaiters lock) = true
@@ -113,6 +118,7 @@ abbrev pub no_content : {T : Type 0} → T → Content
 no_content part = empty_content
 
 module _ {T : Type 0} where
+  -- What a step makes of what the session of this number has to do, which knows this of lists.
   abbrev pub todo_noted : ℕ → ListAccount → Todo → Mark T → Todo
   todo_noted number lists todo (TookPart part taken) = todo_attempted todo
   todo_noted number lists todo (PutPart part done put found) =
@@ -120,15 +126,17 @@ module _ {T : Type 0} where
   todo_noted number lists todo (OfWords step) = todo_words number lists todo step
   todo_noted number lists todo mark = todo
 
+  -- whether the session has set has-waiters in the word of the list that it locked last, after a step
   abbrev pub flagged_noted : Bool → Mark T → Bool
   flagged_noted flagged (OfWords step) = flagged_words flagged step
   flagged_noted flagged mark = flagged
 
-  -- what these steps tell of it, the last one first
+  -- what the session of this number has to do by these steps of its own, the last one first
   abbrev pub todo_told_by : ℕ → List (Mark T) → Todo
   todo_told_by number [] = nothing_to_do
   todo_told_by number (mark ∷ marks) = todo_noted number (told no_content number marks).lists (todo_told_by number marks) mark
 
+  -- whether the session has set has-waiters in the word of the list that it locked last, by these steps of its own, the last one first
   abbrev pub flagged_told_by : List (Mark T) → Bool
   flagged_told_by [] = false
   flagged_told_by (mark ∷ marks) = flagged_noted (flagged_told_by marks) mark
@@ -138,6 +146,7 @@ module _ {T : Type 0} where
   first_todo [] = nothing_to_do
   first_todo (history ∷ others) = todo_told_by history.number history.marks
 
+  -- whether the session that makes its steps with the seat has set has-waiters in the word of the list that it locked last
   abbrev pub first_flagged : List (History T) → Bool
   first_flagged [] = false
   first_flagged (history ∷ others) = flagged_told_by history.marks
@@ -149,13 +158,15 @@ pub record TriesAtMost (lock : ℕ) (todo : Todo) : Type 0 where
   pub no_ok : todo.owes_release_ok ≡ None
   pub calls_nobody : todo.calls ≡ (λ _. false)
 
--- What it has to do once it stands in the list of a lock, and once it has got the lock then, and once it was told and is back.
+-- What a session has to do once it stands in the list of a lock.
 abbrev pub todo_in_list : ℕ → Todo
 todo_in_list lock = record { due = None; tries = Some lock; owes_release_ok = Some lock; calls = λ _. false }
 
+-- What a session has to do once it stood in the list of a lock, and has got the lock.
 abbrev pub todo_got : ℕ → Todo
 todo_got lock = record { due = None; tries = None; owes_release_ok = Some lock; calls = λ _. false }
 
+-- What a session has to do once it stood in the list of a lock, was told, and is back.
 abbrev pub todo_back : ℕ → Todo
 todo_back lock = record { due = None; tries = Some lock; owes_release_ok = None; calls = λ _. false }
 
@@ -183,13 +194,13 @@ pub record MaySleepBy (a : Account) (todo : Todo) : Type 0 where
   pub tells_nobody : TellsNobodyBy a
   pub calls_nobody : (other : ℕ) → todo.calls other ≡ false
 
--- By its account the session has earlier lightweight locks alone: partitions below this one, or no lock at all where it is that of a
--- session's slots.
+-- By its account the session has no lightweight lock, but for partitions that it shares.
 pub record HasNoLock (a : Account) : Type 0 where
   pub no_partition : (part : ℕ) → a.hand part ≡ None
   pub no_slots : (owner : ℕ) → a.fast.slots owner ≡ None
   pub no_shared_slots : (owner : ℕ) → a.fast.shared_slots owner ≡ None
 
+-- By its account the session has earlier lightweight locks alone: partitions below this one, or no lock at all where it is that of a session's slots.
 abbrev pub IsLatestBy : Account → LwLock → Type 0
 IsLatestBy a (OfPart part) = IsAboveHand a part
 IsLatestBy a (OfSlots owner) = HasNoLock a

@@ -24,6 +24,7 @@ pub record Sought : Type 0 where
   pub lock : LwLock
   pub mode : LwMode
 
+-- the session that comes for a lock, by its parts
 abbrev pub sought_of : ℕ → TableId → ℕ → LwLock → LwMode → Sought
 sought_of limit table number lock mode = record { limit = limit; table = table; number = number; lock = lock; mode = mode }
 
