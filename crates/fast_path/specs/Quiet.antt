@@ -19,11 +19,12 @@ abbrev pub quiet_ungranting : ℕ → ℕ → List Quiet → List Quiet
 quiet_ungranting number zero before = before
 quiet_ungranting number (suc count) before = TakesSlots number ∷ before
 
--- taking the lock of each session's slots in its turn, of those with numbers below this one, in rising order; and sharing it
+-- taking the lock of each session's slots in its turn, of those with numbers below this one, in rising order, after these steps
 abbrev pub quiet_turns : ℕ → List Quiet → List Quiet
 quiet_turns zero before = before
 quiet_turns (suc owner) before = TakesSlots owner ∷ quiet_turns owner before
 
+-- sharing the lock of each session's slots in its turn, of those with numbers below this one, in rising order, after these steps
 abbrev pub quiet_sharing : ℕ → List Quiet → List Quiet
 quiet_sharing zero before = before
 quiet_sharing (suc owner) before = SharesSlots owner ∷ quiet_sharing owner before

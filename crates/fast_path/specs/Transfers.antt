@@ -95,33 +95,36 @@ pub record IsAfterScan (a : Account) (counted : List Counted) (steps : List Trac
     trace = a.trace ++ steps;
   }
 
--- The strong lock is counted, and past every session; or memory ran out, and it is counted no more. What was moved
--- until then stays moved.
+-- The strong lock is counted, and past every session.
 pub record Transfers (groups limit : ℕ) (a : Account) (tag : Tag) (mode : Mode) (b : Account) : Type 0 where
   pub steps : List TraceEntry
   pub turns : AreTurns groups limit tag steps
   pub after : IsAfterScan a (a.fast.counted ++ record { tag = tag; mode = mode; position = limit } ∷ []) steps b
 
+-- Memory ran out: the strong lock is counted no more. What was moved until then stays moved.
 pub record IsCutShort (groups limit : ℕ) (a : Account) (tag : Tag) (b : Account) : Type 0 where
   pub steps : List TraceEntry
   pub cut : CutsShort groups limit tag steps
   pub after : IsAfterScan a a.fast.counted steps b
 
+-- What a transfer comes to by its result: the strong lock is past every session, or the transfer was cut short.
 abbrev pub TransfersOrNot : ℕ → ℕ → Account → Tag → Mode → Result (Unit {0}) NoMemory → Account → Type 0
 TransfersOrNot groups limit a tag mode (Ok done) b = Transfers groups limit a tag mode b
 TransfersOrNot groups limit a tag mode (Err refusal) b = IsCutShort groups limit a tag b
 
--- One turn of it.
+-- One turn of a transfer: the strong lock is past this session too.
 pub record Passes (groups : ℕ) (a : Account) (owner : ℕ) (tag : Tag) (mode : Mode) (b : Account) : Type 0 where
   pub steps : List TraceEntry
   pub turn : IsTurn groups owner tag steps
   pub after : IsAfterScan a (passing a.fast.counted tag mode owner) steps b
 
+-- Memory ran out in the turn of this session. What was moved until then stays moved.
 pub record StopsAt (groups : ℕ) (a : Account) (owner : ℕ) (tag : Tag) (b : Account) : Type 0 where
   pub steps : List TraceEntry
   pub turn : StopsTurn groups owner tag steps
   pub after : IsAfterScan a a.fast.counted steps b
 
+-- What a turn of a transfer comes to by its result: the strong lock is past the session, or the turn stopped.
 abbrev pub PassesOrNot : ℕ → Account → ℕ → Tag → Mode → Result (Unit {0}) NoMemory → Account → Type 0
 PassesOrNot groups a owner tag mode (Ok done) b = Passes groups a owner tag mode b
 PassesOrNot groups a owner tag mode (Err refusal) b = StopsAt groups a owner tag b

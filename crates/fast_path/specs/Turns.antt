@@ -96,19 +96,20 @@ pub record MovesBelow (a : Account) (owner slot word : ℕ) (tag : Tag) (taken :
     hand = set_at a.hand (partition_of tag) (Some (hand_moving taken now recorded));
   }
 
--- They are moved as far as before the mode that there was no memory for.
+-- The modes of the slot are moved as far as before the mode that there was no memory for.
 pub record MovesSome (a : Account) (owner slot word : ℕ) (tag : Tag) (taken now : Content) (b : Account) :
     Type 0 where
   pub refused : Mode
   pub in_slot : has_mode word refused ≡ true
   pub moves : MovesBelow a owner slot word tag taken (number_of refused) now b
 
+-- What moving the modes of a slot comes to by its result: all of them are moved, or those before the one that memory ran out for.
 abbrev pub MovesOrNot :
     Account → ℕ → ℕ → ℕ → Tag → Content → Result (Unit {0}) NoMemory → Content → Account → Type 0
 MovesOrNot a owner slot word tag taken (Ok done) now b = MovesBelow a owner slot word tag taken 4 now b
 MovesOrNot a owner slot word tag taken (Err refusal) now b = MovesSome a owner slot word tag taken now b
 
--- The episode in which they are moved.
+-- The episode in which the modes of the slot with numbers below this one are moved.
 pub record AdoptsBelow (a : Account) (owner word : ℕ) (tag : Tag) (below : ℕ) (b : Account) : Type 0 where
   pub taken : Content
   pub rest : SlotsInHand
@@ -119,11 +120,13 @@ pub record AdoptsBelow (a : Account) (owner word : ℕ) (tag : Tag) (below : ℕ
         ∷ Episode (partition_of tag) taken (adopting taken owner tag word below) ∷ [];
   }
 
+-- The episode in which the modes of the slot are moved as far as before the mode that there was no memory for.
 pub record AdoptsSome (a : Account) (owner word : ℕ) (tag : Tag) (b : Account) : Type 0 where
   pub refused : Mode
   pub in_slot : has_mode word refused ≡ true
   pub adopts : AdoptsBelow a owner word tag (number_of refused) b
 
+-- What such an episode comes to by its result: all modes of the slot are moved, or those before the one that memory ran out for.
 abbrev pub AdoptsOrNot : Account → ℕ → ℕ → Tag → Result (Unit {0}) NoMemory → Account → Type 0
 AdoptsOrNot a owner word tag (Ok done) b = AdoptsBelow a owner word tag 4 b
 AdoptsOrNot a owner word tag (Err refusal) b = AdoptsSome a owner word tag b

@@ -95,12 +95,13 @@ Begins kind seat owned a uses tag mode (Err NoMemory) b left =
     ⊎ Requests kind seat a uses tag mode (Err NoMemory) b left
 Begins kind seat owned a uses tag mode (Err refusal) b left = Requests kind seat a uses tag mode (Err refusal) b left
 
--- One that doesn't wait is over as it has begun.
+-- An acquire that doesn't wait is over as it has begun.
 abbrev pub begun_at_once : Result Acquired Refusal → Result Begun Refusal
 begun_at_once (Ok acquired.Granted) = Ok Granted
 begun_at_once (Ok acquired.AlreadyHeld) = Ok AlreadyHeld
 begun_at_once (Err refusal) = Err refusal
 
+-- What joins the trace of an acquire that doesn't wait, by its answer.
 abbrev pub Acquires :
     Seated → Owned → Account → UseCounts → Tag → Mode → Result Acquired Refusal → Account → UseCounts → Type 0
 Acquires seat owned a uses tag mode result b left =

@@ -29,11 +29,13 @@ pub record MayCount (left : ℕ) (opener : OpenerState PartView) : Type 0 where
   pub nobody_waits : NoneWaits (gathered_in content_of opener.gathered)
   pub nothing_in_hand : MayBeKeptApartBy (first_account content_of opener.gathered)
 
--- how many local entries sessions with these have, and how many of them are of strong modes
+-- Sums over sessions, of which these are the local entries.
 module _ {S : Type 0} (entries : S → List Entry) where
+  -- how many local entries the sessions have together
   abbrev pub entries_owned : List S → ℕ
   entries_owned sessions = sum_by (λ session. length (entries session)) sessions
 
+  -- how many local entries of strong modes the sessions have together
   abbrev pub strong_owned : List S → ℕ
   strong_owned sessions = sum_by (λ session. length (filter (λ entry. is_strong_on entry.tag entry.mode) (entries session))) sessions
 

@@ -137,6 +137,7 @@ pub record StopsAtSlots (groups limit : ℕ) (a : Account) (result : Result List
   pub within : loaded ≤ limit
   pub trace : b.trace ≡ a.trace ++ loads_of_all groups loaded database word
 
+-- What a listing leads to by its result: it goes through all slots and partitions, or memory ran out for its slot rows.
 abbrev pub Lists : ℕ → ℕ → ℕ → Account → Result Listing Refusal → Account → Type 0
 Lists groups limit number a result b = ListsAll groups limit number a result b ⊎ StopsAtSlots groups limit a result b
 

@@ -20,17 +20,17 @@ use Rattle.modes_core.specs.Sessions.{most_sessions}
 
 pub record ManagerView : Type 0 where
   pub table : TableId
-  -- how many sessions it may open, how many groups of fast-path slots each has, and how many local entries each may have
+  -- how many sessions the manager may open, how many groups of fast-path slots each has, and how many local entries each may have
   pub limit : ℕ
   pub groups : ℕ
   pub max_local : ℕ
 
+-- What contracts see of the opener of a manager: table, sizes, and the sessions that it has given out.
 pub record OpenerView : Type 0 where
   pub table : TableId
   pub limit : ℕ
   pub groups : ℕ
-  -- how many sessions it has given out, how many of these are open, and the histories of those that have closed, the
-  -- last one first
+  -- how many sessions the opener has given out, how many of these are open, and the histories of those that have closed, the last one first
   pub issued : ℕ
   pub live : ℕ
   pub closed : List (History PartView)

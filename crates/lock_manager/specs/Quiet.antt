@@ -30,13 +30,14 @@ pub record QuietOfStrong (limit : ℕ) (tag : Tag) (mode : Mode) (before after :
   pub within : reached ≤ limit
   pub quiet : after ≡ quiet_turns reached (CountsStrong tag mode ∷ before)
 
--- Any other makes no quiet step.
+-- A request that goes by the table alone makes no quiet step.
 pub record QuietOfTable (groups : ℕ) (a : Account) (uses : UseCounts) (tag : Tag) (mode : Mode) (before after : List Quiet) :
     Type 0 where
   pub weak : is_strong_on tag mode ≡ false
   pub not_tried : (is_eligible_for a.fast.database tag mode ≡ false) ⊎ IsFull groups uses tag
   pub quiet : after ≡ before
 
+-- The quiet steps of a request: those of a strong mode, those of a try in a slot, or none where the request goes by the table alone.
 pub data QuietOfRequest (seat : Seated) (a : Account) (uses : UseCounts) (tag : Tag) (mode : Mode) (before after : List Quiet) :
     Type 0 where
   OfStrong : QuietOfStrong seat.limit tag mode before after → QuietOfRequest seat a uses tag mode before after

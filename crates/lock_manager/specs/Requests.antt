@@ -64,6 +64,7 @@ pub record MovesSlots (groups limit : ℕ) (tag : Tag) (mode : Mode) (steps : Li
   pub strong : is_strong_on tag mode ≡ true
   pub turns : AreTurns groups limit tag steps
 
+-- What goes before the episode: nothing, the load that finds a strong lock counted, or the turns of a strong mode.
 abbrev pub LeadsToTable : ℕ → ℕ → Account → UseCounts → Tag → Mode → List TraceEntry → Type 0
 LeadsToTable groups limit a uses tag mode steps =
     GoesByTable groups a uses tag mode steps

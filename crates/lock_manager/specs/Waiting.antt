@@ -40,6 +40,7 @@ account_in_wait limit database remembered entries tag mode held trace =
       };
     }
 
+-- By its account the session waits for the mode on the object, is in no call, and has nothing else to do.
 pub record IsWaiting (groups limit database : ℕ) (uses : UseCounts) (a : Account) (stack : Stack) (entries : List Entry)
     (tag : Tag) (mode : Mode) : Type 0 where
   pub held : Mode → Bool

@@ -50,19 +50,21 @@ answer_started (started.AlreadyHeld session) = Ok begun.AlreadyHeld
 answer_started (started.Queued waiting) = Ok begun.Queued
 answer_started (started.Refused session refusal) = Err refusal
 
--- what the session that comes back has, whether it waits or not
+-- the board of the session that comes back, whether it waits or not
 abbrev pub board_started : {B : Type 0} → Started (SessionView B) (WaitingView B) → B
 board_started (started.Granted session) = session.board
 board_started (started.AlreadyHeld session) = session.board
 board_started (started.Queued waiting) = waiting.board
 board_started (started.Refused session refusal) = session.board
 
+-- the use counts of the session that comes back, whether it waits or not
 abbrev pub uses_started : {B : Type 0} → Started (SessionView B) (WaitingView B) → UseCounts
 uses_started (started.Granted session) = session.uses
 uses_started (started.AlreadyHeld session) = session.uses
 uses_started (started.Queued waiting) = waiting.uses
 uses_started (started.Refused session refusal) = session.uses
 
+-- what the session that comes back owns, whether it waits or not
 abbrev pub owned_started : {B : Type 0} → Started (SessionView B) (WaitingView B) → Owned
 owned_started (started.Granted session) = session.owned
 owned_started (started.AlreadyHeld session) = session.owned
@@ -97,6 +99,7 @@ answer_polled (polled.Granted session) = looked.Granted
 answer_polled (polled.Still waiting) = looked.Still
 answer_polled (polled.CancelAsked waiting) = looked.CancelAsked
 
+-- the board of the session that comes back from a look, whether it waits still or not
 abbrev pub board_polled : {B : Type 0} → Polled (SessionView B) (WaitingView B) → B
 board_polled (polled.Granted session) = session.board
 board_polled (polled.Still waiting) = waiting.board
@@ -127,6 +130,7 @@ abbrev pub was_granted : {S : Type 0} → Cancelled S → Bool
 was_granted (cancelled.Removed session) = false
 was_granted (cancelled.WasGranted session) = true
 
+-- the session that comes back once it has cancelled its wait
 abbrev pub session_cancelled : {S : Type 0} → Cancelled S → S
 session_cancelled (cancelled.Removed session) = session
 session_cancelled (cancelled.WasGranted session) = session
@@ -136,10 +140,12 @@ abbrev pub acquired_despite : Bool → Result Acquired Refusal
 acquired_despite false = Err refusal_.Cancelled
 acquired_despite true = Ok acquired.Granted
 
+-- how a wait ended: with the mode, or refused
 abbrev pub answer_waited : {S : Type 0} → Waited S → Result (Unit {0}) Refusal
 answer_waited (waited.Granted session) = Ok tt
 answer_waited (waited.Refused session refusal) = Err refusal
 
+-- the session that comes back once its wait has ended
 abbrev pub session_waited : {S : Type 0} → Waited S → S
 session_waited (waited.Granted session) = session
 session_waited (waited.Refused session refusal) = session
@@ -156,6 +162,7 @@ answer_locked (locked.Granted session) = Ok acquired.Granted
 answer_locked (locked.AlreadyHeld session) = Ok acquired.AlreadyHeld
 answer_locked (locked.Refused session refusal) = Err refusal
 
+-- the session that comes back from an acquire that waits as long as it must
 abbrev pub session_locked : {S : Type 0} → Locked S → S
 session_locked (locked.Granted session) = session
 session_locked (locked.AlreadyHeld session) = session

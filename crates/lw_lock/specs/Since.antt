@@ -20,5 +20,6 @@ Gains {S} comes has before after got = (first : S) → comes first before → ha
 abbrev pub IsSinceWith : {S G : Type 0} → (S → S → G → Type 0) → S → Type 0
 IsSinceWith {S} {G} has now = (first : S) × (got : G) × has first now got
 
+-- What is in hand is carried on until it turns into this.
 abbrev pub Carries : {S G : Type 0} → (S → S → G → Type 0) → (S → S → G → Type 0) → S → S → Type 0
 Carries {S} {G} has turns before after = (first : S) (got : G) → has first before got → turns first after got

@@ -34,6 +34,7 @@ line_object line fields = object (members ((codes "line", count line) ∷ fields
 abbrev pub line_data : ℕ → List ℕ → Data
 line_data line text = line_object line ((codes "echo", string text) ∷ [])
 
+-- a picture of who waits for whom, in the language `drawing`
 abbrev pub picture_data : ℕ → List ℕ → List ℕ → Data
 picture_data line drawing text = line_object line ((codes "graph", string drawing) ∷ (codes "text", string text) ∷ [])
 
@@ -53,6 +54,7 @@ refused_fields names (Conflict session mode how) =
 refused_fields names (SimpleDeadlock session) = (codes "other", string (name_in names session)) ∷ []
 refused_fields names _ = []
 
+-- the refusal of a session's call
 abbrev pub refused_data : ℕ → Names → ArrayString 16 → Refusal → Data
 refused_data line names name refusal =
     refused_with line name (refusal_number refusal) (refusal_text refusal) (refused_fields names refusal)
@@ -65,6 +67,7 @@ not_owned_data line name mode = told_data line name (codes "not owned") ((codes 
 abbrev pub unlocked_all_data : ℕ → ArrayString 16 → ℕ → Data
 unlocked_all_data line name released = told_data line name (codes "released all") ((codes "released", count released) ∷ [])
 
+-- what a session is told
 abbrev pub said_data : ℕ → Names → ArrayString 16 → Said → Data
 said_data line names name (said.Opened session database) =
     told_data line name (codes "opened") ((codes "number", count session) ∷ (codes "database", count database) ∷ [])

@@ -41,6 +41,7 @@ use Rattle.scenario.specs.Told.{acquire_told, blockers_told, cancel_told, level_
 -- What a session's call comes to in a script: the library's own clauses, of the session before and after, and of what it was answered.
 
 module _ {B : Type 0} (seat : B → Seated) (view : B → Account) (stack : B → Stack) (old new : SessionView B) where
+  -- What `try` comes to: an acquire that doesn't wait.
   pub record Tries (tag : Tag) (mode : Mode) (owner : Owner) (result : Result Acquired Refusal) : Type 0 where
     pub answers : AnswersByOwned old.owned tag mode owner AlreadyHeld true result
     pub steps : Acquires (seat old.board) old.owned (view old.board) old.uses tag mode result (view new.board) new.uses
@@ -49,6 +50,7 @@ module _ {B : Type 0} (seat : B → Seated) (view : B → Account) (stack : B �
     pub levels : new.owned.outer ≡ old.owned.outer
     pub same : IsSame seat view stack old new
 
+  -- What `fast` comes to: an acquire by a slot or not at all.
   pub record TriesSlot (tag : Tag) (mode : Mode) (owner : Owner) (result : Result Acquired Refusal) : Type 0 where
     pub answers : AnswersByOwned old.owned tag mode owner AlreadyHeld (is_eligible_for old.database tag mode) result
     pub steps :
@@ -59,6 +61,7 @@ module _ {B : Type 0} (seat : B → Seated) (view : B → Account) (stack : B �
     pub levels : new.owned.outer ≡ old.owned.outer
     pub same : IsSame seat view stack old new
 
+  -- What `unlock` comes to: one count of a lock is given back.
   pub record Unlocks (tag : Tag) (mode : Mode) (owner : Owner) (result : Result Unlocked Refusal) : Type 0 where
     pub not_held : IsErrOf result NotHeld ↔ (own_count_of old.owned tag mode owner ≡ 0)
     pub still_held :
@@ -90,6 +93,7 @@ module _ {B : Type 0} (seat : B → Seated) (view : B → Account) (stack : B �
     pub first_level : new.owned.outer ≡ []
     pub same : IsSame seat view stack old new
 
+  -- What `begin` comes to: a transaction begins that is nested in the one at hand.
   pub record BeginsLevel (result : Result ℕ Refusal) : Type 0 where
     pub too_deep : IsErrOf result TooDeep ↔ (level_of old.owned ≡ max_level)
     pub level : IfOk result (λ level. level ≡ level_of new.owned)
@@ -97,6 +101,7 @@ module _ {B : Type 0} (seat : B → Seated) (view : B → Account) (stack : B �
     pub entries : new.owned.entries ≡ old.owned.entries
     pub untouched : new.board ≡ old.board
 
+  -- What `subcommit` comes to: the innermost transaction ends, and hands its locks to the one around it.
   pub record HandsUp (result : Result ℕ Refusal) : Type 0 where
     pub no_nested : IsErrOf result NoNested ↔ (level_of old.owned ≡ 1)
     pub level : IfOk result (λ level. level ≡ level_of new.owned)
@@ -104,6 +109,7 @@ module _ {B : Type 0} (seat : B → Seated) (view : B → Account) (stack : B �
     pub entries : new.owned.entries ≡ old.owned.entries
     pub untouched : new.board ≡ old.board
 
+  -- What `subabort` comes to: the innermost transaction ends, and gives its locks back.
   pub record EndsLevel (result : Result ℕ Refusal) : Type 0 where
     pub no_nested : IsErrOf result NoNested ↔ (level_of old.owned ≡ 1)
     pub level : IfOk result (λ level. level ≡ level_of new.owned)
@@ -119,23 +125,28 @@ module _ {B : Type 0} (seat : B → Seated) (view : B → Account) (stack : B �
     pub uses : new.uses ≡ old.uses
     pub same : IsSame seat view stack old new
 
+  -- What `waiters` comes to: whether somebody waits for what the session holds in this mode.
   abbrev pub SeesWaiters : Tag → Mode → Result Bool Refusal → Type 0
   SeesWaiters tag mode result =
       (IsErrOf result NotHeld ↔ (has_entry old.owned.entries tag mode ≡ false))
       × IfOk result (λ is_awaited. LooksForWaiters (view old.board).trace tag mode is_awaited (view new.board).trace)
 
+  -- What `queue` comes to: the waits on the object, in the order of its queue.
   abbrev pub SeesQueue : Tag → Result (Vec Waiter) Refusal → Type 0
   SeesQueue tag result =
       LooksAt (λ taken. IfOk result (λ rows. IsQueue tag rows.items taken)) (view old.board).trace tag (view new.board).trace
 
+  -- What `blockers` comes to: who is in the way of the wait of this session on the object.
   abbrev pub SeesBlockers : Tag → ℕ → Result (Vec Blocker) Refusal → Type 0
   SeesBlockers tag session result =
       LooksAt (λ taken. IfOk result (λ found. AreBlockers tag session found.items taken)) (view old.board).trace tag (view new.board).trace
 
+  -- What `list` comes to: all that is held and awaited.
   abbrev pub SeesAll : Result Listing Refusal → Type 0
   SeesAll result =
       Lists (seat old.board).groups (seat old.board).limit (seat old.board).number (view old.board) result (view new.board)
 
+  -- What `count` comes to: the strong lock counter of this index was loaded.
   abbrev pub SeesCount : ℕ → ℕ → Type 0
   SeesCount index shown = (view new.board).trace ≡ (view old.board).trace ++ Loaded (Strong index) shown ∷ []
 

@@ -16,9 +16,11 @@ abbrev pub line_at : ℕ → Heard → ℕ
 line_at line (Line number text) = number
 line_at line _ = line
 
+-- a line of the output: the text, and a line feed
 abbrev pub text_line : List ℕ → List ℕ
 text_line text = text ++ 10 ∷ []
 
+-- a line of the output: an object of JSON, and a line feed
 abbrev pub data_line : Data → List ℕ
 data_line shown = compact_text shown ++ 10 ∷ []
 

@@ -11,10 +11,11 @@ use Rattle.scenario.specs.Texts.{name_in}
 
 -- The rows of a summary.
 
--- who is in the way of a wait, by which mode, and how
+-- who is in the way of a wait, by which mode, and how, by a blocker that the library found
 abbrev pub obstacle_in : Names → Blocker → List ℕ × Mode × How
 obstacle_in names it = (name_in names it.session, it.mode, it.how)
 
+-- who is in the way of a wait, by which mode, and how, by an obstacle of the summary
 abbrev pub shown_obstacle : Obstacle → List ℕ × Mode × How
 shown_obstacle it = (it.session.bytes, it.mode, it.how)
 

@@ -59,6 +59,7 @@ refused_of names (Conflict session mode how) =
 refused_of names (SimpleDeadlock session) = codes " " ++ name_in names session
 refused_of names _ = []
 
+-- the text of a refusal, with its number and what it names
 abbrev pub refused_text : Names → Refusal → List ℕ
 refused_text names refusal =
     codes "refused " ++ decimal (refusal_number refusal) ++ codes " " ++ refusal_text refusal ++ refused_of names refusal

@@ -6,6 +6,7 @@ use Rattle.sql_locks.specs.declared.byte_classes.ByteClass.TheVariants.{Blank, D
 abbrev pub is_line_feed : ℕ → Bool
 is_line_feed b = b == 10
 
+-- whether the byte is one from the low one to the high one
 abbrev pub is_between : ℕ → ℕ → ℕ → Bool
 is_between low high b = nat_le low b && nat_le b high
 

@@ -7,10 +7,11 @@ use Rattle.lock_world.specs.WaitWord.{wait_state}
 
 -- Calls: a session parks on a word of its own, wait word or sleep word, and a session that changes that word calls it.
 
--- What a session parks on: a wait word that shows that it waits, and a sleep word that does not show that it was told.
+-- What a session parks on: its wait word shows that it waits.
 abbrev pub ShowsWaiting : ℕ → Type 0
 ShowsWaiting shown = wait_state shown ≡ 1
 
+-- What a session parks on: its sleep word does not show that it was told.
 abbrev pub ShowsUntold : ℕ → Type 0
 ShowsUntold shown = shown ≢ 0
 
