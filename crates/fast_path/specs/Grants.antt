@@ -20,10 +20,10 @@ use Rattle.fast_path.specs.Slots.{count_in, one_more_in, AreCounted, AreUseCount
 -- Grants by the fast path, as the session's account and its trace have them.
 
 -- The mode is set in the slot that the relation has, or in the highest-numbered one of its group that is not in use,
--- and the group's use count is raised in the second case alone. With the lock of its own slots in hand, the one load of
--- the object's counter shows 0, and then so many of the group's slots are loaded, from the highest-numbered one down: as
--- far as the relation's, or as one not in use above which as many are in use as the use count says, or else all. No
--- other step joins the trace; `before` is what it had until that lock was taken.
+-- and the group's use count is raised in the second case alone. With the lock of the session's own slots in hand, the
+-- one load of the object's counter shows 0, and then `seen` of the group's slots are loaded, from the highest-numbered
+-- one down: as far as the relation's, or as one not in use above which as many are in use as the use count says, or
+-- else all. No other step joins the trace; `before` is what it had until that lock was taken.
 pub record GrantsInSlot (groups number : ℕ) (a : Account) (before : List TraceEntry) (uses : UseCounts) (tag : Tag)
     (mode : Mode) (b : Account) (left : UseCounts) : Type 0 where
   pub word : ℕ → ℕ

@@ -34,7 +34,7 @@ rows_of_slot session database slot word =
     mode_row session database slot word AccessShare
     ++ (mode_row session database slot word RowShare ++ mode_row session database slot word RowExclusive)
 
--- so many lists of rows, one behind another
+-- the lists of rows with numbers below this one, one after another
 unfoldable pub rows_below : ℕ → (ℕ → List SlotRow) → List SlotRow
 rows_below zero rows = []
 rows_below (suc limit) rows = rows_below limit rows ++ rows limit

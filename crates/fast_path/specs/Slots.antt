@@ -20,7 +20,7 @@ use Rattle.fast_path.specs.declared.use_counts.UseCounts.{UseCounts}
 abbrev pub IsOfGroup : ℕ → ℕ → Type 0
 IsOfGroup group slot = slot / group_size ≡ group
 
--- the group of the object's relation, of so many
+-- the group of the object's relation, of this number of groups
 abbrev pub group_of_tag : ℕ → Tag → ℕ
 group_of_tag groups tag = group_of_relation groups (relation_of tag)
 
@@ -62,7 +62,7 @@ pub record SightsForGrant (group : ℕ) (word : ℕ → ℕ) (relation : ℕ) (s
   pub unused : IfSome seen.highest_unused (IsSeenUnused group word)
   pub full : IfNone seen.of_relation (IfNone seen.highest_unused (IsAllInUse group word))
 
--- the loads of the first so many of these slots of a session, which show these words
+-- the loads of a session's slots at these places, of as many as this number says from the first place on, which show these words
 unfoldable pub slot_loads : ℕ → (ℕ → ℕ) → (ℕ → ℕ) → ℕ → List TraceEntry
 slot_loads owner which word zero = []
 slot_loads owner which word (suc k) =
@@ -72,19 +72,19 @@ slot_loads owner which word (suc k) =
 abbrev pub slot_from_top : ℕ → ℕ → ℕ
 slot_from_top group step = place_in_group group (group_size - 1 - step)
 
--- the loads of so many of a group's slots from there down,
+-- the loads of this number of a group's slots from there down,
 abbrev pub top_loads : ℕ → ℕ → (ℕ → ℕ) → ℕ → List TraceEntry
 top_loads owner group word seen = slot_loads owner (slot_from_top group) word seen
 
--- those of all slots of a group,
+-- the loads of all slots of a group,
 abbrev pub group_loads : ℕ → ℕ → (ℕ → ℕ) → List TraceEntry
 group_loads owner group word = slot_loads owner (place_in_group group) word group_size
 
--- and those of all slots of so many groups
+-- the loads of all slots of this number of groups
 abbrev pub all_loads : ℕ → ℕ → (ℕ → ℕ) → List TraceEntry
 all_loads groups owner word = slot_loads owner (λ slot. slot) word (group_size * groups)
 
--- the account after so many of them
+-- the account after this number of such loads
 abbrev pub account_loading : Account → ℕ → (ℕ → ℕ) → (ℕ → ℕ) → ℕ → Account
 account_loading a owner which word count = record a { trace = a.trace ++ slot_loads owner which word count }
 
@@ -92,7 +92,7 @@ account_loading a owner which word count = record a { trace = a.trace ++ slot_lo
 abbrev pub count_in : UseCounts → ℕ → ℕ
 count_in uses group = slice_index_or uses.counts group 0
 
--- so many in this group, and in others as before
+-- the use counts with this count in the group, and in others as before
 abbrev pub counting : UseCounts → ℕ → ℕ → ℕ → ℕ
 counting uses group count = set_at (count_in uses) group count
 

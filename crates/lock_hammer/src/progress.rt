@@ -5,10 +5,10 @@ use std::sync::Mutex;
 use std::sync::atomic::{AtomicU64, Ordering};
 use std::time::{Clock, Duration, Instant};
 
-/// After so many rounds, whoever played them, the clock is read.
+/// After how many rounds of all workers together the clock is read.
 const ROUNDS_A_LOOK: u64 = 64;
 
-/// The line is written anew after so many milliseconds at the soonest.
+/// After how many milliseconds, at the soonest, the line is written anew.
 const PAUSE: u128 = 250;
 
 /// What the workers of a hammer tell while they play.

@@ -19,7 +19,7 @@ const FIRST_RELATION: u32 = 16_384;
 
 const RELATIONS: u32 = 4;
 
-/// Every so many rounds a worker waits for its lock, where it would else be refused.
+/// Of how many rounds one is such that a worker waits for its lock, where it would else be refused.
 const PATIENCE: u32 = 16;
 
 /// What a worker of a hammer passes before its first round.

@@ -140,9 +140,9 @@ impl<T: PartTable, B: Board<T>> SessionPool<T, B> {
         }
     }
 
-    /// Has `session` ask whoever is `other` to cancel its wait, as `OwnSession::ask_cancel` does (`processCancelRequest` in postmaster.c,
-    /// which compares the key of whoever is to be cancelled). Where that life is over nothing is done, and nobody else's wait ends: the
-    /// pool is borrowed meanwhile, so no number goes on to another life.
+    /// Has `session` ask the session of the life `other` to cancel its wait, as `OwnSession::ask_cancel` does (`processCancelRequest` in
+    /// postmaster.c, which compares the key of the session that is to be cancelled). Where that life is over nothing is done, and nobody else's wait
+    /// ends: the pool is borrowed meanwhile, so no number goes on to another life.
     pub fn ask_cancel(&self, session: &mut OwnSession<T, B>, other: SessionLife) -> Asked
         ensures over { life_of self.now.lives other.number ≢ other.life →
             (result ≡ Asked.NotWaiting) × (session.new ≡ session.old) }

@@ -52,7 +52,7 @@ IsChain slots tag at (k ∷ ks) =
     (at ≡ k) × (IsIn k ks → ⊥)
     × ((holder : HolderRecord) × (holder_at slots k ≡ Some holder) × (holder.tag ≡ tag) × IsChain slots tag holder.next ks)
 
--- The holder records of the object are in a chain of so many that begins at this place.
+-- The holder records of the object are in a chain of `count` records that begins at this place.
 pub record IsHolderChain (slots : List (Option HolderRecord)) (tag : Tag) (first count : ℕ) : Type 0 where
   pub places : List ℕ
   pub linked : IsChain slots tag first places

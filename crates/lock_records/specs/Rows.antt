@@ -8,7 +8,7 @@ use Rattle.lock_records.specs.declared.wait_queues.QueueRecord.{QueueRecord}
 use Rattle.lock_records.specs.Holders.{holder_at, slot_holds}
 use Rattle.lock_records.specs.Queues.{queue_at}
 
--- The list has rows behind what it had, of each row so many.
+-- The list has rows after those that it had, each row as many times as `times` says.
 pub record AppendsRows (old new : List TableRow) (times : TableRow → ℕ) : Type 0 where
   pub added : List TableRow
   pub behind : new ≡ old ++ added

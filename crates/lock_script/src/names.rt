@@ -57,8 +57,8 @@ impl SessionNames {
         self.issued.push(name);
     }
 
-    /// Keeps `name` as that of `session`, which was opened just now: its number is the next one, or was given out again, and then
-    /// whoever had it before has no name any more.
+    /// Keeps `name` as that of `session`, which was opened just now: its number is the next one, or was given out again, and then the session that
+    /// had it before has no name any more.
     pub fn put(&mut self, session: SessionId, name: Name)
         requires { session ≤ length self.old }
         ensures next { session ≡ length self.old → self.new ≡ self.old ++ name ∷ [] }

@@ -1,5 +1,5 @@
-//! What a `PlainPart` has on the heap. Whoever looks through a list copies the tag first, so that it is not read
-//! again at each place.
+//! What a `PlainPart` has on the heap. A function that looks through a list copies the tag first, so that it is not
+//! read again at each place.
 
 ghost use Rattle.std.specs.Prelude.{◌≡◌, ◌<◌, true, length};
 ghost use Rattle.std.specs.List.{list_any, HoldsAt};

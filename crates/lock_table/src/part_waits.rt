@@ -1,5 +1,5 @@
-//! The waits of a partition, in one list. The queue of an object is the sub-list of its own. Whoever compares the
-//! tag at each place of a list copies it first, so that it is not read again there.
+//! The waits of a partition, in one list. The queue of an object is the sub-list of its own. A function that compares
+//! the tag at each place of a list copies it first, so that it is not read again there.
 
 ghost use Rattle.std.specs.Prelude.{◌≡◌, ◌≤◌, ◌<◌, ◌+◌, ℕ, List, not, length, take, map, filter, find, option_map, slice_get, vec_len, vec_capacity};
 ghost use Rattle.std.specs.List.{list_any};

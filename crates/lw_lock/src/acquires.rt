@@ -3,7 +3,7 @@
 //! An uncontended acquire is one attempt. A session that loses it attempts the lock a few times more, with pauses, then
 //! joins the lock's list and attempts the lock again. Where it sees somebody in the way there, it sleeps until it was
 //! taken off the list and told so; then it begins again. The attempt after the queueing is what no wake-up is lost by:
-//! whoever puts the lock from then on sees has-waiters, and whoever put it before is no more in the way.
+//! a session that puts the lock from then on sees has-waiters, and one that put it before is no more in the way.
 
 ghost use Rattle.std.specs.Prelude.{IfSome, IfNone};
 ghost use Rattle.lw_lock.specs.Since.{IsSince, StaysSince, TurnsInto, Gains};

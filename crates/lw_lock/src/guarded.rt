@@ -44,8 +44,8 @@ pub trait Guarded<S, G> {
         ensures won { IfSome result (Gains (queued self.now) (won_queued self.now) state.old state.new) }
         ensures lost { IfNone result (StaysSince (queued self.now) state.old state.new) };
 
-    /// Whether the word shows that somebody is in the way of the session in `state`: whoever holds the lock then sees
-    /// has-waiters as it puts it.
+    /// Whether the word shows that somebody is in the way of the session in `state`: a session that holds the lock then
+    /// sees has-waiters as it puts it.
     fn is_held(&self, state: &mut S) -> bool
         requires { IsSince (queued self.now) state.old }
         ensures held { OnTrue result (TurnsInto (queued self.now) (saw_held self.now) state.old state.new) }

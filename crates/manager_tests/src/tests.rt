@@ -332,7 +332,8 @@ fn many_sessions_do_as_the_stories_say(rt: HostRuntime) -> Result<(), Fail> {
     Ok(())
 }
 
-/// How many sessions there are, with how many entries each: all that one may have, and all that so many may have.
+/// How many sessions there are, with how many entries each: all that one session may have, and all that this number of
+/// sessions may have.
 static LIMITS: [Limits; 2] = [
     Limits {
         sessions: 1,

@@ -63,7 +63,7 @@ refused_data line names name refusal =
 abbrev pub not_owned_data : ℕ → ArrayString 16 → List ℕ → Data
 not_owned_data line name mode = told_data line name (codes "not owned") ((codes "mode", string mode) ∷ [])
 
--- all its advisory locks were released, so many holds
+-- all advisory locks of the session were released, this number of holds
 abbrev pub unlocked_all_data : ℕ → ArrayString 16 → ℕ → Data
 unlocked_all_data line name released = told_data line name (codes "released all") ((codes "released", count released) ∷ [])
 

@@ -74,7 +74,7 @@ module _ {B : Type 0} (seat : B → Seated) (view : B → Account) (stack : B �
     pub same_entries : OnErr result (new.owned.entries ≡ old.owned.entries)
     pub same : IsSame seat view stack old new
 
-  -- All advisory locks that the session owns itself go, so many of them for good.
+  -- All advisory locks that the session owns itself go, `released` of them for good.
   pub record UnlocksAll (released : ℕ) : Type 0 where
     pub count : released ≡ length (unlocked_by_all old.owned.entries)
     pub entries : new.owned.entries ≡ left_by_unlock_all old.owned.entries

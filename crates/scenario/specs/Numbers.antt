@@ -8,8 +8,8 @@ use Rattle.lock_manager.specs.Sessions.{SessionView}
 
 -- Which numbers the sessions of a script have, and which names these are known by.
 
--- A session was opened under this number, where so many numbers were given out before it and after it: the next one, or, where those of
--- closed sessions are given out again, one of these.
+-- A session was opened under this number, where this number of numbers was given out before and after it: the next one, or, where those of closed
+-- sessions are given out again, one of these.
 abbrev pub IsNumbered : Bool → ℕ → ℕ → ℕ → Type 0
 IsNumbered again number before after =
     ((number ≡ before) × (before < most_sessions) × (after ≡ before + 1))
@@ -20,8 +20,8 @@ abbrev pub IsFull : Bool → ℕ → ℕ → ℕ → Type 0
 IsFull true issued live limit = live ≡ limit
 IsFull false issued live limit = issued ≡ limit
 
--- The name of the session that was opened under this number stands behind those of the numbers before it. Where the number was given out
--- again it stands in place of the name of whoever had it.
+-- The name of the session that was opened under this number stands behind those of the numbers before it. Where the number was given out again it
+-- stands in place of the name of the session that had it.
 abbrev pub IsNamed : Bool → ℕ → ArrayString 16 → List (ArrayString 16) → List (ArrayString 16) → Type 0
 IsNamed again number name old new =
     ((number ≡ length old) × (new ≡ old ++ name ∷ []))

@@ -26,7 +26,7 @@ pub record ScriptLine : Type 0 where
 abbrev pub words_in : List ℕ → List (List ℕ)
 words_in text = take 6 (words_of text)
 
--- These are the next lines of a script, where so many were read before, and this is left behind them.
+-- These are the next lines of a script, where this number of lines was read before, and this is left after them.
 abbrev pub AreNextLines : ℕ → List ℕ → List (List ℕ) → List ℕ → Type 0
 AreNextLines number script [] unread = unread ≡ script
 AreNextLines number script (text ∷ texts) unread =
@@ -38,14 +38,14 @@ AreFirstLines None texts left = ⊤
 AreFirstLines (Some script) texts None = ⊥
 AreFirstLines (Some script) texts (Some unread) = AreNextLines 0 script texts unread
 
--- Behind so many lines comes one that is bad: its text is, and it isn't heard; or its words are, and it is heard alone.
+-- After this number of lines comes one that is bad: its text is, and it isn't heard; or its words are, and it is heard alone.
 abbrev pub EndsBadly : {B : Type 0} → ℕ → Option (List ℕ) → Cast B → ℕ → Defect → List Heard → Type 0
 EndsBadly lines left cast line what heard =
     (IfSome left (λ unread. (line ≡ lines + 1) × (reading_of lines unread ≡ Err what)) × (heard ≡ []))
     ⊎ ((text : List ℕ) × IfSome left (λ unread. reading_of lines unread ≡ Ok (Some text)) × (line ≡ lines + 1)
     × IsDefectOf cast.sessions cast.names.objects (words_in text) what × (heard ≡ Line line text ∷ []))
 
--- Why a script ends behind so many lines, with this left of it, and what is heard behind them.
+-- Why a script ends after this number of lines, with this left of it, and what is heard after them.
 abbrev pub EndsSo : {B : Type 0} → ℕ → Option (List ℕ) → Cast B → Result (Unit {0}) Fault → List Heard → Type 0
 EndsSo lines left cast (Ok ended) heard = IfSome left (λ unread. reading_of lines unread ≡ Ok None) × (heard ≡ [])
 EndsSo lines left cast (Err (BadLine line what)) heard = EndsBadly lines left cast line what heard

@@ -148,7 +148,7 @@ impl Picture {
         self.queues.len()
     }
 
-    /// Whose queue was added at `place`, if so many were added.
+    /// The object whose queue was added at `place`, if more than `place` queues were added.
     pub fn queue_at(&self, place: usize) -> Option<Tag> {
         Some(self.queues.get(place)?.tag)
     }

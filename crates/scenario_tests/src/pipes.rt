@@ -1,7 +1,7 @@
 //! A writer that fails.
 use std::io::{self, ErrorKind, Write};
 
-/// A writer that takes so many lines, and a flush only if it is to.
+/// A writer that takes a number of lines, and a flush only if it is to.
 #[derive(Drop)]
 pub struct Pipe {
     pub lines: u32,

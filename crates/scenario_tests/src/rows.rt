@@ -7,7 +7,7 @@ pub type Row<'a> = (usize, &'a str, &'a str, &'a str);
 /// A line, and the fault that it is.
 pub type BadRow<'a> = (&'a str, &'a str);
 
-/// A text with so many copies of a piece in its middle.
+/// A text with copies of a piece in its middle: what comes before them, their number, the piece, and what comes after them.
 pub type Copies<'a> = (&'a str, u32, &'a str, &'a str);
 
 const OPENED: &str = "a: session 0 database 5\n";

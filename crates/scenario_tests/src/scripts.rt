@@ -14,7 +14,7 @@ use std::process::Abort;
 use std::sync::Wait;
 use std::test::Fail;
 
-/// A reader of a text that gives so many bytes a read, and is interrupted before each.
+/// A reader of a text that gives a fixed number of bytes a read, and is interrupted before each.
 #[derive(Drop)]
 struct Script<'a> {
     text: &'a [u8],
@@ -299,7 +299,7 @@ fn a_bad_line_ends_a_script(rt: HostRuntime) -> Result<(), Fail> {
     expect_bad_lines(&rt, waiting, &waiting::WAITING_LINES)
 }
 
-/// A text of `copies`: what comes before, so many copies of a piece, and what comes after.
+/// A text of `copies`: what comes before, the copies of a piece, and what comes after.
 fn text_of(alloc: Global, copies: Copies<'_>) -> Result<String, Fail> {
     let (before, count, piece, after) = copies;
     let mut text = String::from_str(alloc, before)?;

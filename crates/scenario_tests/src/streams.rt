@@ -9,7 +9,7 @@ use std::process::Abort;
 use std::sync::Wait;
 use std::test::Fail;
 
-/// A reader of a text that gives so many bytes a read, and fails after so many reads.
+/// A reader of a text that gives a fixed number of bytes a read, and fails after a number of reads.
 #[derive(Drop)]
 struct BrokenReader<'a> {
     text: &'a [u8],
@@ -28,7 +28,7 @@ impl Read for BrokenReader<'_> {
     }
 }
 
-/// A writer that takes a byte a write, and fails after so many writes.
+/// A writer that takes a byte a write, and fails after a number of writes.
 #[derive(Drop)]
 struct BrokenWriter<'a> {
     taken: &'a mut Vec<u8>,

@@ -61,7 +61,7 @@ module _ {T : Type 0} where
     pub number : first_number after.sessions ≡ first_number before.sessions
     pub quiet : first_quiet after.sessions ≡ first_quiet before.sessions
     pub some : HasSession after
-    -- whoever has nothing to do for those who wait has nothing to do still
+    -- a session that had nothing to do for those who wait has nothing to do still
     pub free : first_todo before.sessions ≡ nothing_to_do → first_todo after.sessions ≡ nothing_to_do
     -- and whom it has to wake it has to wake still
     pub owed : first_owed after.sessions ≡ first_owed before.sessions
@@ -71,7 +71,7 @@ abbrev pub HasPartInHand : Account → ℕ → Content → Type 0
 HasPartInHand a partition content = (mine : InHand) × (a.hand partition ≡ Some mine) × (mine.now ≡ content)
 
 module _ {T : Type 0} (content : T → Content) where
-  -- The first so many of the counters were loaded, and show what those gathered have counted.
+  -- The first `count` counters were loaded, and show what those gathered have counted.
   pub record CountersSeen (count : ℕ) (before after : View T) (sum : ℕ) : Type 0 where
     pub further : IsFurther before after
     pub account :
@@ -81,7 +81,7 @@ module _ {T : Type 0} (content : T → Content) where
     pub sum_ : sum ≡ total count (λ index. counted_at index (gathered_in content before.sessions))
     pub few : sum ≤ 4194304 * count
 
-  -- The words of the first so many of a session's slots were loaded, and show, with all partitions in hand, what is left to them.
+  -- The words of the first `count` slots of a session were loaded, and show, with all partitions in hand, what is left to them.
   pub record SeesSlots (owner count : ℕ) (before after : View T) (sum : ℕ) : Type 0 where
     pub word : ℕ → ℕ
     pub further : IsFurther before after
@@ -136,7 +136,7 @@ module _ {T : Type 0} (content : T → Content) where
         → ((k : ℕ) → k < length contents → all (partition + k) ≡ content_at contents k)
         → Finds groups issued limit before all word
 
--- Each owns so many.
+-- Each of the gathered sessions owns as many modes as the list says.
 abbrev pub OwnSoMany : List Gathered → List ℕ → Type 0
 OwnSoMany [] [] = Unit {0}
 OwnSoMany [] (many ∷ others) = ⊥

@@ -51,7 +51,7 @@ HasAllInHand a contents =
     (partition : ℕ) → partition < 16 → (mine : InHand) × (a.hand partition ≡ Some mine) × (mine.now ≡ contents partition)
 
 module _ {T : Type 0} where
-  -- They are all that there are: of so many numbers given out each is at the seat, or has closed.
+  -- The gathered sessions are all that there are: of the numbers given out, `issued` of them, each is at the seat, or has closed.
   pub record AreAll (issued : ℕ) (view : View T) : Type 0 where
     pub next : view.next ≡ Some issued
     pub all : length view.sessions + length view.closed ≡ issued
@@ -85,8 +85,8 @@ module _ {T : Type 0} (content : T → Content) where
       × ((word : Word) (issued : ℕ) → MayBeInTable word → step.word ≡ index_of_word word → AreAll issued before.0
       → KnowsOfAll before.0 word found)
 
-  -- What the seat knows where they are all that there are, each with so many groups of slots: who they are, and, with all
-  -- partitions in hand and nobody waiting, where each one's own holds stand.
+  -- What the seat knows where the gathered sessions are all that there are, each with `groups` groups of slots: who
+  -- they are, and, with all partitions in hand and nobody waiting, where each one's own holds stand.
   pub record KnowsAll (groups issued : ℕ) (view : View T) : Type 0 where
     pub distinct : AreDistinct issued (gathered_in view.sessions)
     pub stand :

@@ -51,10 +51,10 @@ pub record ShowsReasons {T : Type 0} (content : T → Content) (begun : T → Op
       (session : ℕ) (wait : OwnWait) → world.sessions.awaited session ≡ Some wait → world.contents.hand (partition_of wait.tag) ≡ None
       → HasReason (world.contents.now (partition_of wait.tag)) session wait ⊎ (wait_state (world.words.wait session) ≡ 2)
 
--- No sleeper is forgotten: the table shows such a World, with what stands beside it as the histories of all sessions tell that have a
--- seat. Where the wait list of a lightweight lock has a waiter, a session has the lock or something to do for it. A session that sleeps
--- stands in its list, and one that makes steps has that lock or something to do for it; or the sleeper was taken off, and one that
--- makes steps has it to tell. Whoever makes no step has no lightweight lock, and nothing to do.
+-- No sleeper is forgotten: the table shows such a World, with what stands beside it as the histories of all sessions tell that have a seat. Where the
+-- wait list of a lightweight lock has a waiter, a session has the lock or something to do for it. A session that sleeps stands in its list, and one
+-- that makes steps has that lock or something to do for it; or the sleeper was taken off, and one that makes steps has it to tell. A session that
+-- makes no step has no lightweight lock, and nothing to do.
 pub record ShowsSleepers {T : Type 0} (content : T → Content) (begun : T → Option Request) (sizes : TableSizes)
     (state : State (Kept T) (View T)) : Type 0 where
   pub world : World
@@ -98,10 +98,10 @@ pub record IsOwedBy {T : Type 0} (Has : History T → ℕ → Type 0) (views : L
   pub makes : MakesSteps w.numbers history.number
   pub owes : Has history other
 
--- No call is lost: the table shows such a World, to which turns of all sessions led, events, looks and calls. The turns of each session
--- are those that its history tells, one for each mark and in order. A session parks on its wait word, as it loaded it last by its history,
--- where that shows that it waits, and on its sleep word where that does not show that it was told; a call since then wakes it. Whoever is parked on what its
--- word no more shows has a session that makes steps and, as its history tells, has that one to wake.
+-- No call is lost: the table shows such a World, to which turns of all sessions led, events, looks and calls. The turns of each session are those
+-- that its history tells, one for each mark and in order. A session parks on its wait word, as it loaded it last by its history, where that shows
+-- that it waits, and on its sleep word where that does not show that it was told; a call since then wakes it. For each session that is parked on what
+-- its word no more shows there is a session that makes steps and, as its history tells, has that one to wake.
 pub record ShowsCalls {T : Type 0} (content : T → Content) (begun : T → Option Request) (sizes : TableSizes)
     (state : State (Kept T) (View T)) : Type 0 where
   pub world : World

@@ -41,7 +41,7 @@ SessionHasWords (Slot session slot) = session < most_sessions
 SessionHasWords (Wait session) = session < most_sessions
 SessionHasWords (Sleep session) = session < most_sessions
 
--- The table for so many groups of slots has this word.
+-- The table for this number of groups of slots has this word.
 abbrev pub IsInTable : ℕ → Word → Type 0
 IsInTable groups word = WordExists groups word × SessionHasWords word
 

@@ -18,7 +18,7 @@ abbrev pub lock_number : LwLock → ℕ
 lock_number (OfPart partition) = partition_lock partition
 lock_number (OfSlots owner) = fast_lock owner
 
--- There is this lock where there can be so many sessions,
+-- There is this lock where there can be this number of sessions,
 abbrev pub LockExists : ℕ → LwLock → Type 0
 LockExists limit (OfPart partition) = partition < 16
 LockExists limit (OfSlots owner) = owner < limit

@@ -14,8 +14,8 @@ abbrev pub trace_told : {T : Type 0} → (T → Content) → History T → List 
 trace_told content history = (told content history.number history.marks).trace
 
 module _ {T : Type 0} where
-  -- The sessions of these histories have closed, where so many numbers were given out: each is there once, its number was
-  -- given out, and they are no more than were.
+  -- The sessions of these histories have closed, where `issued` numbers were given out: each is there once, its number
+  -- was given out, and they are no more than were.
   pub record HaveClosed (issued : ℕ) (closed : List (History T)) : Type 0 where
     pub once : (number : ℕ) → count_by (λ history. history.number == number) closed ≤ 1
     pub given_out :

@@ -41,7 +41,7 @@ pub record IsSized (table : TableId) : Type 0 where
   pub words : TABLE_WORDS ≤ table.words
   pub shelves : table.slots ≡ TABLE_SHELVES
 
--- It has all words for so many groups of slots, 1 to 8.
+-- The table has all words for this number of groups of slots, 1 to 8.
 pub record HasGroups (table : TableId) (groups : ℕ) : Type 0 where
   pub words : table.words ≡ words_of_groups groups
   pub some : 0 < groups

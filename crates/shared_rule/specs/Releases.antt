@@ -26,7 +26,7 @@ use Rattle.shared_rule.specs.Todos.{nothing_to_do, todo_putting}
 
 -- What a release of a lightweight lock leads to: the members of the lock's trait (`Held` of lw_lock).
 
--- Of a lock of a table for so many sessions:
+-- Of a lock of a table for `limit` sessions:
 module _ {T : Type 0} (content : T → Content) (limit : ℕ) (table : TableId) (lock : LwLock) where
   -- A session may put it, as far as that is the same for all locks.
   pub record MayPut (seat : Seat (Kept T) (View T)) : Type 0 where

@@ -33,7 +33,7 @@ use Rattle.modes_core.specs.Sessions.{most_sessions}
 -- The rule of the table: there is a World which its words, its contents at home and the histories of all sessions show,
 -- to which a list of events leads from the World before the first step, and which is safe.
 
--- A session has the slots of so many groups: whatever stands beyond them shows 0.
+-- A session has the slots of this number of groups: each slot beyond them shows 0.
 abbrev pub NoneBeyondSlots : ℕ → Words → Type 0
 NoneBeyondSlots groups words = (session slot : ℕ) → group_size * groups ≤ slot → words.slot session slot ≡ 0
 
@@ -131,8 +131,8 @@ module _ {T : Type 0} where
     pub there : get_elem? views seat ≡ some view
     pub next : view.next ≡ Some issued
 
-  -- Of the session of each number, those that seats are for and those that have closed, the steps among the events are those that its
-  -- history tells, and no other; a number not given out has made none. Whoever is live has its seat, and the opener has its own.
+  -- Of the session of each number, those that seats are for and those that have closed, the steps among the events are those that its history tells,
+  -- and no other; a number not given out has made none. Each live session has its seat, and the opener has its own.
   pub record StepsAreTold (views : List (View T)) (numbers : Numbers) (events : List Event) : Type 0 where
     pub opener : HasOpener views numbers.issued
     pub live : (number : ℕ) → numbers.live number ≡ true → HasSeat views number
@@ -167,7 +167,7 @@ module _ {T : Type 0} (content : T → Content) where
     pub seat : seat_of history.number ≡ its_seat
     pub place : place_in history.number ≡ its_place
 
-  -- Whoever is kept apart stands behind its keeper.
+  -- A session that is kept apart stands behind its keeper.
   pub record IsBehind (views : List (View T)) (seat_of place_in : ℕ → ℕ) (session joiner : ℕ) : Type 0 where
     pub view : View T
     pub there : get_elem? views (seat_of joiner) ≡ some view
@@ -214,7 +214,7 @@ todo_with duties calls number = record {
 abbrev pub todo_of : Beside → ℕ → Todo
 todo_of beside number = todo_with beside.duties (beside.sleeps.owed number) number
 
--- Whoever waits for a lock of the table and is owed a call by this session is among those whom it has to wake.
+-- Each session that waits for a lock of the table and is owed a call by this session is among those whom this one has to wake.
 abbrev pub OwesAsTold : Beside → ℕ → List ℕ → Type 0
 OwesAsTold beside number owed = (other : ℕ) → beside.waits.owed number other ≡ true → is_among owed other ≡ true
 

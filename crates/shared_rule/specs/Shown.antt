@@ -5,8 +5,8 @@ use Rattle.lock_table.specs.Put.{set_at}
 use Rattle.lock_world.specs.World.{Words, word_in}
 use Rattle.shared_rule.specs.Layout.{words_of_groups, index_of_word, MayBeInTable, IsGap}
 
--- What the table's words say of a World with so many groups of slots: each word shows what it shows there. Where the table has
--- no such word, for want of groups, 0 is read.
+-- What the table's words say of a World with this number of groups of slots: each word shows what it shows in that World. Where the table has no such
+-- word, for want of groups, 0 is read.
 
 pub record WordsAreShown (groups : ℕ) (table : List ℕ) (words : Words) : Type 0 where
   pub as_many : length table ≡ words_of_groups groups

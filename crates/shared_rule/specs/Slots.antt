@@ -10,8 +10,8 @@ use Rattle.lock_world.specs.Account.{Account, SlotsInHand}
 use Rattle.lock_world.specs.AccountSteps.{account_tracing, account_taking_fast, account_sharing_fast}
 use Rattle.lock_world.specs.AccountFacts.{KnowsSlots}
 
--- What steps on slots tell the session of this number, whose account is `a` before them and `b` after them, where each has so many
--- groups of slots.
+-- What steps on slots tell the session of this number, whose account is `a` before them and `b` after them, where each has this number of groups of
+-- slots.
 
 -- It took the lock of the owner's slots, has them in hand, and knows of them what its account tells.
 pub record TakesFast (groups number : ℕ) (a : Account) (owner : ℕ) (b : Account) : Type 0 where

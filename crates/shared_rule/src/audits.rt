@@ -107,8 +107,8 @@ fn look_over_strong<T: PartTable, M: Marking<T>>(
     look_over_as::<T, M>(words, seat, strong_word(index))
 }
 
-// Tells who is there, each with so many groups of slots, and where each one's own holds stand. It loads a word, and
-// ignores what it finds.
+// Has clauses learn which sessions are at `seat`, each with as many groups of slots as `G` says, and where each one's
+// own holds are. Loads a word of `words`, and ignores what it finds.
 fn tell_all_as<T: PartTable, G: Grouping>(words: &SharedWords<T>, seat: &mut Seat<T>)
     requires table { FitsTable seat.old words.now.table_id }
     requires session { HasSession seat.old.me.0 }
@@ -121,7 +121,7 @@ fn tell_all_as<T: PartTable, G: Grouping>(words: &SharedWords<T>, seat: &mut Sea
     words.load::<TellsAll<G>>(seat, 0);
 }
 
-// The same with as many groups as there are.
+// Has clauses learn what `tell_all_as` does, with as many groups of slots as the table has.
 fn tell_all<T: PartTable>(words: &SharedWords<T>, seat: &mut Seat<T>)
     requires table { FitsTable seat.old words.now.table_id }
     requires session { HasSession seat.old.me.0 }
@@ -159,7 +159,7 @@ pub(crate) fn count_counters<T: PartTable>(words: &SharedWords<T>, seat: &mut Se
     sum
 }
 
-// How many modes a session's slots show, those of so many groups, each loaded once.
+// How many modes a session's slots show, each of whose groups is loaded once.
 fn count_slots_of<T: PartTable>(
     words: &SharedWords<T>,
     seat: &mut Seat<T>,
@@ -227,7 +227,7 @@ fn take_next<T: PartTable, R: Wait>(
     take_part_alone(rt, words, seat, part)
 }
 
-// Puts a partition back as it was taken. Whoever is told to wait for its lock is woken, though all sessions are gathered.
+// Puts a partition back as it was taken. A session that waits for its lock is woken, though all sessions are gathered.
 fn put_back<T: PartTable>(words: &SharedWords<T>, seat: &mut Seat<T>, part: u8, content: T)
     requires table { FitsTable seat.old words.now.table_id }
     requires exists { part < 16 }

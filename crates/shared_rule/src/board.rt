@@ -43,9 +43,9 @@ use std::sync::Wait;
 /// One session's board. Contracts see the session's account: its holds, what it has in hand and counted, its trace. They also
 /// see its quiet steps, which leave no trace: each call says which of them it makes.
 ///
-/// All sessions take lightweight locks in one order: the lock of a session's slots only with no other one in hand, and
-/// then partitions in rising order. Partitions go home in the opposite order of their taking. Whoever lets another
-/// session go, or asks it to cancel its wait, owes it a wake, and takes no lock before.
+/// All sessions take lightweight locks in one order: the lock of a session's slots only with no other one in hand, and then partitions in rising
+/// order. Partitions go home in the opposite order of their taking. A session that lets another one go, or asks it to cancel its wait, owes it a
+/// wake, and takes no lock before.
 pub trait Board<T: PartTable> {
     // Whose board it is, how many sessions there can be, how many groups of slots each has, and at which table.
     ghost seat: { Self → Seated };

@@ -32,8 +32,8 @@ use lock_table::PartTable;
 
 /// A table that keeps the rule, as it does between any two steps of all threads, shows a World to which events have led
 /// from the opening one, and which has the headline: no two sessions stand with conflicting modes on one object, and
-/// what goes with that. Whoever a conditional request was refused for stood with the mode named on the object, or
-/// awaited it, in the World in which the session that asked took the content of the object's partition.
+/// what goes with that. A session for which a conditional request was refused held the object in the mode named, or
+/// awaited it so, in the World in which the session that asked took the content of the object's partition.
 pub fn the_table_shows_no_two_sessions_in_conflict<T: PartTable>()
     ensures { (sizes : TableSizes) (state : State (Kept T) (View T)) → Ruled T.content T.begun sizes state
         → ShowsHeadline T.content T.begun sizes state }
@@ -57,11 +57,10 @@ pub fn the_table_forgets_no_sleeper<T: PartTable>()
         → ShowsSleepers T.content T.begun sizes state }
 {}
 
-/// A table that keeps the rule loses no call, whatever the steps of the threads and their order. It shows a World to which turns of all
-/// sessions led: events, looks and calls. Each session's turns are those that its history tells, one for each mark and in order. A session
-/// parks on its wait word where that shows that it waits, and on its sleep word where that doesn't show that it was told; a call
-/// since it loaded the word wakes it. Whoever is parked on what its word no more shows is owed a call: a session that makes steps
-/// has it to wake, as its history tells.
+/// A table that keeps the rule loses no call, whatever the steps of the threads and their order. It shows a World to which turns of all sessions led:
+/// events, looks and calls. Each session's turns are those that its history tells, one for each mark and in order. A session parks on its wait word
+/// where that shows that it waits, and on its sleep word where that doesn't show that it was told; a call since it loaded the word wakes it. A
+/// session that is parked on what its word no more shows is owed a call: a session that makes steps has it to wake, as its history tells.
 pub fn the_table_loses_no_call<T: PartTable>()
     ensures { (sizes : TableSizes) (state : State (Kept T) (View T)) → Ruled T.content T.begun sizes state
         → ShowsCalls T.content T.begun sizes state }
@@ -76,7 +75,8 @@ pub fn the_table_lets_no_circle_of_sleepers_come<T: PartTable>()
         → ShowsNoCircle T.content T.begun sizes state }
 {}
 
-/// Each word of a table for so many groups of slots stands below the table's length, `TABLE_WORDS` with one group.
+/// Each word of a table, for any number of groups of slots, is at an index below the table's length, `TABLE_WORDS` with
+/// one group.
 pub fn each_word_is_within_the_table()
     ensures within { (groups : ℕ) → 0 < groups → (word : Word) → IsInTable groups word →
         index_of_word word < words_of_groups groups }
@@ -120,9 +120,9 @@ pub fn what_an_account_tells_was_so<T: PartTable>()
 {}
 
 /// Where the rule holds, events lead from the World before the first step to the one that the table shows, each of them
-/// happening in its turn, and the steps among them of each session are those that its history tells, one for each mark, in
-/// order, and no other: of the sessions that seats are for, of those that have closed, and of a number not given out,
-/// which has made none. Whoever is live has a seat, where its history stands.
+/// happening in its turn, and the steps among them of each session are those that its history tells, one for each mark,
+/// in order, and no other: of the sessions that seats are for, of those that have closed, and of a number not given
+/// out, which has made none. Each live session has a seat, where its history is.
 pub fn no_step_was_made_but_those_told<T: PartTable>()
     ensures run { (sizes : TableSizes) (state : State (Kept T) (View T)) (rule : Ruled T.content T.begun sizes state) →
         Leads (opening sizes.sessions sizes.groups) rule.events rule.world }

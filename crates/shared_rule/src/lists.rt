@@ -36,8 +36,8 @@ use lw_word::{LwMode, LwWord, SleepState, WaitList, has_locked_list};
 use modes_core::SessionId;
 use std::marker::Brand;
 
-/// Makes one attempt to lock the wait list of `lock` (`LWLockWaitListLock` in lwlock.c). A session that gets it is
-/// told that it stands there only if it knows that it waits for that lock. Whoever has put the lock so that it must
+/// Makes one attempt to lock the wait list of `lock` (`LWLockWaitListLock` in lwlock.c). A session that gets it is told
+/// that it stands there only if it knows that it waits for that lock. A session that has put the lock so that it must
 /// wake has done its part then: it has the list in hand, or another session has.
 pub(crate) fn try_lock_list<T: PartTable>(
     words: &SharedWords<T>,
@@ -283,8 +283,9 @@ pub(crate) fn set_has_waiters<T: PartTable, M: Marking<T>>(
     fetch_or_as::<T, M>(words, seat, lock.word(), LwWord::HAS_WAITERS);
 }
 
-/// Loads the word of `lock`, which the session is to attempt (the loop of `LWLockAttemptLock` in lwlock.c). Where it shows
-/// that somebody holds the lock that is noted, and the attempt is done: whoever holds it sees has-waiters as it puts it.
+/// Loads the word of `lock`, which the session is to attempt (the loop of `LWLockAttemptLock` in lwlock.c). Where it
+/// shows that somebody holds the lock that is noted, and the attempt is done: the session that holds it sees
+/// has-waiters as it puts it.
 pub(crate) fn look_at_lock<T: PartTable>(
     words: &SharedWords<T>,
     seat: &mut Seat<T>,

@@ -35,7 +35,8 @@ use modes_core::{Mode, SessionId, Tag};
 use std::marker::{Brand, PhantomData};
 use std::sync::Wait;
 
-// One attempt to take the lock of a session's slots, of so many groups, by the number that its word may show.
+// One attempt to take the lock of a session's slots, of as many groups as the table has, by the number that its word
+// may show.
 #[inline(always)]
 fn attempt_fast<T: PartTable, G: Grouping>(
     words: &SharedWords<T>,

@@ -1,17 +1,18 @@
 //! A session in the list of a lightweight lock that it comes for: joining it, leaving it, and sleeping there
 //! (`LWLockQueueSelf` and `LWLockDequeueSelf` in lwlock.c). When it does which is said by `acquire` of lw_lock.
 //!
-//! No wake-up is lost, by clauses. Has-waiters is set before a session joins a list (`join_list`), so that whoever holds
-//! the lock then sees it; and the session attempts the lock after that, before it sleeps (`sleep_until_told`). Whoever
-//! was told sets release-ok before it attempts again, and so does a winner that was taken off its list (`dequeue_self`):
-//! else it can't queue or sleep again. A release looks at the list (`wake_waiters`); where that is locked it may go,
-//! since whoever has the list attempts the lock afterwards, holds it, or has taken somebody off, or nobody is left there
-//! (`unlock_list`). What each session has still to do is `Todo` of specs/Todos.
+//! No wake-up is lost, by clauses. Has-waiters is set before a session joins a list (`join_list`), so that a session
+//! that holds the lock then sees it; and the session attempts the lock after that, before it sleeps
+//! (`sleep_until_told`). A session that was told sets release-ok before it attempts again, and so does a winner that
+//! was taken off its list (`dequeue_self`): else it can't queue or sleep again. A release looks at the list
+//! (`wake_waiters`); where that is locked it may go, since the session that has the list attempts the lock afterwards,
+//! holds it, or has taken somebody off, or nobody is left there (`unlock_list`). What each session has still to do is
+//! `Todo` of specs/Todos.
 //!
-//! A winner leaves the list that it stands in and no other (`dequeue_self`). Whoever unlocks a list leaves has-waiters
-//! where somebody stands there, and release-ok where it took nobody off (`unlock_list`). All sessions take locks in one
-//! order. No clause tells that a session that is told is woken by the kernel, after its sleep word shows 0, and that
-//! `park` looks at the word again there.
+//! A winner leaves the list that it stands in and no other (`dequeue_self`). A session that unlocks a list leaves
+//! has-waiters where somebody waits there, and release-ok where it took nobody off (`unlock_list`). All sessions take
+//! locks in one order. No clause tells that a session that is told is woken by the kernel, after its sleep word shows
+//! 0, and that `park` looks at the word again there.
 
 ghost use Rattle.std.specs.Prelude.{◌≡◌, ◌∷◌, true, None, Some};
 ghost use Rattle.lw_word.specs.WaitList.{stands_in};

@@ -1,5 +1,5 @@
-//! Sharing the lock of a session's fast-path slots: whoever only reads them lets others read them too, and nobody
-//! write them.
+//! Sharing the lock of a session's fast-path slots: a session that only reads them lets others read them too, and
+//! nobody write them.
 
 ghost use Rattle.std.specs.Bool.{OnTrue, OnFalse};
 ghost use Rattle.std.specs.Prelude.{◌≡◌, ◌<◌, None};
@@ -31,7 +31,8 @@ use modes_core::SessionId;
 use std::marker::{Brand, PhantomData};
 use std::sync::Wait;
 
-// One attempt to share the lock of a session's slots, of so many groups, by the number that its word may show.
+// One attempt to share the lock of a session's slots, of as many groups as the table has, by the number that its word
+// may show.
 #[inline(always)]
 fn attempt_share<T: PartTable, G: Grouping>(
     words: &SharedWords<T>,

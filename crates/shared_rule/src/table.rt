@@ -24,7 +24,7 @@ use std::alloc::Global;
 /// The table and its memory. Threads share its field `shared`.
 pub type SharedTable<T> = Table<Kept<T>, View<T>, TableSizes, LockTableRule, Global>;
 
-// All words, before the first step, with so many groups of slots: those of lightweight locks are free, and all others 0.
+// All words, before the first step, with `groups` groups of slots: those of lightweight locks are free, and all others 0.
 fn first_words(alloc: Global, groups: u8) -> Result<Vec<u64>, NoMemory>
     requires some { 0 < groups }
     requires few { groups ≤ most_groups }

@@ -35,7 +35,7 @@ BeginsWith RuledRelation b = ⊥
 abbrev pub HasDefect : Defect → List ℕ → Type 0
 HasDefect what rest = BeginsWith what (slice_index rest 0)
 
--- A fault of a text: behind so many bytes stands a word that has the defect, on that line.
+-- A fault of a text: after this number of bytes comes a word that has the defect, on that line.
 abbrev pub IsFaultOf : List ℕ → SqlFault → Type 0
 IsFaultOf text (BadWord line what from) =
     HasDefect what (drop from text) × (line ≡ 1 + count_by is_line_feed (take from text))

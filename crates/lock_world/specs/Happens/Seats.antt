@@ -38,8 +38,8 @@ abbrev pub HappensSplitting : World → ℕ → World → Type 0
 HappensSplitting w session v =
     (MayBeIssued w session × (v ≡ after_issuing w session)) ⊎ (MayGoOn w session × (v ≡ after_going_on w session))
 
--- Being kept apart: by another session that makes steps of its own, and with no word held, exclusively or shared, since whoever is
--- kept apart makes no step that would put it.
+-- Being kept apart: by another session that makes steps of its own, and with no word held, exclusively or shared, since a session that is kept apart
+-- makes no step that would put it.
 pub record MayBeKeptApart (w : World) (session joiner : ℕ) : Type 0 where
   pub steps : MakesSteps w.numbers session
   pub another : joiner ≢ session

@@ -51,8 +51,8 @@ HappensUnsharingPartition w session partition v =
     MayUnshare w.numbers w.sessions.shares_partition session partition
     × (v ≡ after_unsharing_partition w session partition)
 
--- The word of the lock of a session's fast-path slots. While it is shared the slots stay as they show, so whoever shares its own
--- remembers them from then on so, as by taking it.
+-- The word of the lock of a session's fast-path slots. While it is shared the slots stay as they show, so a session that shares its own remembers
+-- them from then on so, as by taking it.
 abbrev pub after_sharing_fast : World → ℕ → ℕ → World
 after_sharing_fast w session owner = record {
   words = record (w.words) { fast = set_at w.words.fast owner (shared_word (w.words.fast owner)) };

@@ -57,7 +57,7 @@ static TAKES: [Take; 11] = [
 /// How many modes are in slots, how many are in the table, and how many are strong.
 pub type Numbers = (u64, u64, u64);
 
-/// Once so many sessions have taken theirs.
+/// What the audits count once one, two and three sessions have taken their locks.
 static TAKEN: [Numbers; 3] = [(3, 2, 1), (4, 4, 1), (4, 7, 3)];
 
 /// Once all have committed: in slots the first one has two of its own and the second one has one, in the table each

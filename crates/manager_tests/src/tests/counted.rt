@@ -77,7 +77,7 @@ const OBJECT: Tag = Tag::Object {
     sub_object: 0,
 };
 
-/// A call is made so many times, is answered this each time, and does something on the board, or nothing.
+/// A call is made this number of times, is answered this each time, and does something on the board, or nothing.
 type CountedCall = (u32, Call, Answer, bool);
 
 static CALLS: [CountedCall; 26] = [

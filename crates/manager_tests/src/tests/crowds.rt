@@ -27,7 +27,7 @@ const ROUNDS: u32 = 1_563;
 
 const ALL: u64 = 100_032;
 
-/// How often the watchdog looks in vain before it gives up, with so many milliseconds between.
+/// How often the watchdog looks in vain before it gives up, with `PAUSE` milliseconds between.
 const LOOKS: u32 = 4_000;
 
 const PAUSE: u64 = 10;
