@@ -1,4 +1,4 @@
-//! The transfer of fast-path locks that stand in a strong lock's way (`FastPathTransferRelationLocks` in lock.c).
+//! The transfer of fast-path locks that are in a strong lock's way (`FastPathTransferRelationLocks` in lock.c).
 
 ghost use Rattle.std.specs.Prelude.{◌≡◌, ◌<◌, ◌≤◌, ◌*◌, ◌∷◌, false, true, None, length};
 ghost use Rattle.modes_core.specs.Tag.{is_strong_on};

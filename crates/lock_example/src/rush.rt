@@ -34,8 +34,8 @@ pub fn come_and_go<B: Board<Part>, D: Desk<OwnSession<Part, B>>, R: Wait>(
     connect(rt, desk, pool)
 }
 
-/// Has more connections come to `desk`, over `pool`, than there are sessions, one after another: what the one too many is told, and
-/// which session it has once another connection has ended.
+/// Has more connections come to `desk`, over `pool`, than there are sessions, one after another: what the one too many is answered, and which session
+/// it has once another connection has ended.
 pub fn rush<B: Board<Part>, D: Desk<OwnSession<Part, B>>, R: Wait>(
     rt: &R,
     alloc: Global,

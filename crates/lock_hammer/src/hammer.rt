@@ -42,7 +42,7 @@ pub fn run_hammer<H: AllocGlobal + Threads + Wait + Sync, G: Gate + Sync, W: Wri
 }
 
 /// Has the sessions of a hammer of `size` play in the threads of `gate`, and prints on `writer` what is left. On the
-/// way `progress` is told of each round that a worker has played, by the worker, and that all have ended, before
+/// way each worker calls `progress` for each round that it has played, and it is called once all have ended, before
 /// anything is written.
 pub fn run_watched_hammer<
     H: AllocGlobal + Threads + Wait + Sync,

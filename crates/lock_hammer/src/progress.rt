@@ -11,7 +11,7 @@ const ROUNDS_A_LOOK: u64 = 64;
 /// After how many milliseconds, at the soonest, the line is written anew.
 const PAUSE: u128 = 250;
 
-/// What the workers of a hammer tell while they play.
+/// What the workers of a hammer call while they play.
 pub trait Progress {
     /// A worker has played a round.
     fn count_round(&self);

@@ -112,13 +112,13 @@ impl<T: PartTable, B: Board<T>> OwnSession<T, B> {
     /// order of a listing. So who waits for whom, over all objects, is one picture, in which a cycle is a deadlock.
     /// Only the lists of the answer take memory; refused where that runs out.
     pub fn waits<R: Wait>(&mut self, rt: &R) -> Result<Vec<Blocked>, Refusal>
-        // What it is answered.
+        // What the call answers.
         ensures listed { ListsBlocked (B.seat self.old.board).number (B.view self.old.board)
             result (B.view self.new.board) }
         ensures quiet { B.quiet self.new.board ≡ B.quiet self.old.board }
         ensures no_memory { IsOkUnless result Refusal.NoMemory }
 
-        // What stands after it.
+        // What holds after the call.
         ensures owned { self.new.owned ≡ self.old.owned }
         ensures uses { self.new.uses ≡ self.old.uses }
         ensures same { IsSame B.seat B.view B.stack self.old self.new }

@@ -151,7 +151,7 @@ impl<T: PartTable, B: Board<T>> OwnSession<T, B> {
         keep_waiting: K,
     ) -> Result<Acquired, Refusal>
         requires callable { K.IsAlwaysCallable keep_waiting }
-        // What it is answered.
+        // What the call answers.
         ensures answers { AnswersByOwned self.old.owned tag mode owner Acquired.AlreadyHeld true result }
         ensures steps { LocksWhile K.step keep_waiting (B.seat self.old.board) self.old.owned (B.view self.old.board)
             self.old.uses tag mode result (B.view self.new.board) self.new.uses }
@@ -161,7 +161,7 @@ impl<T: PartTable, B: Board<T>> OwnSession<T, B> {
         ensures no_memory { IfErr result (λ refusal. refusal ≡ Refusal.NoMemory → IsRefusedForMemory B.view Kind.Waiting
             (B.seat self.old.board) self.old.owned self.old.uses tag mode self.old.board self.new.board self.new.uses) }
 
-        // What stands after it.
+        // What holds after the call.
         ensures entries { OnOk result (self.new.owned.entries
             ≡ with_one_more self.old.owned.entries tag mode owner) }
         ensures same_entries { OnErr result (self.new.owned.entries ≡ self.old.owned.entries) }

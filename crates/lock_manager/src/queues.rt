@@ -134,13 +134,13 @@ impl<T: PartTable, B: Board<T>> OwnSession<T, B> {
     /// in the object's partition, which changes nothing. Only the list of the answer takes memory; refused where
     /// that runs out.
     pub fn queue<R: Wait>(&mut self, rt: &R, tag: Tag) -> Result<Vec<QueueRow>, Refusal>
-        // What it is answered.
+        // What the call answers.
         ensures looked { LooksAt (λ taken. IfOk result (λ rows. IsQueue tag rows.items taken))
             (B.view self.old.board).trace tag (B.view self.new.board).trace }
         ensures quiet { B.quiet self.new.board ≡ B.quiet self.old.board }
         ensures no_memory { IsOkUnless result Refusal.NoMemory }
 
-        // What stands after it.
+        // What holds after the call.
         ensures owned { self.new.owned ≡ self.old.owned }
         ensures uses { self.new.uses ≡ self.old.uses }
         ensures same { IsSame B.seat B.view B.stack self.old self.new }
@@ -160,13 +160,13 @@ impl<T: PartTable, B: Board<T>> OwnSession<T, B> {
         tag: Tag,
         session: SessionId,
     ) -> Result<Vec<Blocker>, Refusal>
-        // What it is answered.
+        // What the call answers.
         ensures looked { LooksAt (λ taken. IfOk result (λ found. AreBlockers tag session found.items taken))
             (B.view self.old.board).trace tag (B.view self.new.board).trace }
         ensures quiet { B.quiet self.new.board ≡ B.quiet self.old.board }
         ensures no_memory { IsOkUnless result Refusal.NoMemory }
 
-        // What stands after it.
+        // What holds after the call.
         ensures owned { self.new.owned ≡ self.old.owned }
         ensures uses { self.new.uses ≡ self.old.uses }
         ensures same { IsSame B.seat B.view B.stack self.old self.new }

@@ -84,7 +84,7 @@ pub fn release_hold<T: PartTable, B: Board<T>, R: Wait>(
     }
 }
 
-/// Releases the hold on `tag` in `mode`, which stands in the table, tells those whom that lets go, and takes the
+/// Releases the hold on `tag` in `mode`, which is in the table, wakes the sessions whom that lets go, and takes the
 /// count of a strong lock back.
 fn release_in_table<T: PartTable, B: Board<T>, R: Wait>(
     rt: &R,
@@ -132,9 +132,9 @@ fn release_in_part<T: PartTable, B: Board<T>, R: Wait>(rt: &R, board: &mut B, ta
     }
 }
 
-/// Ends the move `done` by a wakeup of the queue of `tag`: tells those who may go, if any, and puts the partition
-/// `part` with `content` (`ProcLockWakeup` in proc.c). A function of its own, since the list of those woken is large
-/// and mostly not needed.
+/// Ends the move `done` by a wakeup of the queue of `tag`: wakes the sessions that may go, if any, and puts the
+/// partition `part` with `content` (`ProcLockWakeup` in proc.c). A function of its own, since the list of those woken
+/// is large and mostly not needed.
 #[cold]
 #[inline(never)]
 fn wake_and_put<T: PartTable, B: Board<T>>(

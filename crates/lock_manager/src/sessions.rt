@@ -191,7 +191,7 @@ impl<T: PartTable, B: Board<T>> OwnSession<T, B> {
         mode: Mode,
         owner: Owner,
     ) -> Result<Acquired, Refusal>
-        // What it is answered.
+        // What the call answers.
         ensures answers { AnswersByOwned self.old.owned tag mode owner Acquired.AlreadyHeld true result }
         ensures room_first { IfErr result (IsAfterRoom (HadRoom T.prepared (B.seat self.old.board).number tag mode)) }
         ensures entry_room_first { IfErr result (HasEntryRoom self.new.owned) }
@@ -204,7 +204,7 @@ impl<T: PartTable, B: Board<T>> OwnSession<T, B> {
             Kind.Conditional (B.seat self.old.board) self.old.owned self.old.uses tag mode self.old.board self.new.board
             self.new.uses) }
 
-        // What stands after it.
+        // What holds after the call.
         ensures entries { OnOk result (self.new.owned.entries
             ≡ with_one_more self.old.owned.entries tag mode owner) }
         ensures same_entries { OnErr result (self.new.owned.entries ≡ self.old.owned.entries) }
@@ -234,7 +234,7 @@ impl<T: PartTable, B: Board<T>> OwnSession<T, B> {
     /// slots of the relation's group are in use, somebody has the lock of its own slots, or a strong lock is
     /// counted. After a refusal the session holds what it held.
     pub fn try_fast(&mut self, tag: Tag, mode: Mode, owner: Owner) -> Result<Acquired, Refusal>
-        // What it is answered.
+        // What the call answers.
         ensures answers { AnswersByOwned self.old.owned tag mode owner Acquired.AlreadyHeld
             (is_eligible_for self.old.database tag mode) result }
         ensures entry_room_first { IfErr result (HasEntryRoom self.new.owned) }
@@ -246,7 +246,7 @@ impl<T: PartTable, B: Board<T>> OwnSession<T, B> {
             (B.quiet self.old.board) (B.quiet self.new.board) }
         ensures untouched { IsOwnAnswerBySlot result → self.new.board ≡ self.old.board }
 
-        // What stands after it.
+        // What holds after the call.
         ensures entries { OnOk result (self.new.owned.entries
             ≡ with_one_more self.old.owned.entries tag mode owner) }
         ensures same_entries { OnErr result (self.new.owned.entries ≡ self.old.owned.entries) }
@@ -266,7 +266,7 @@ impl<T: PartTable, B: Board<T>> OwnSession<T, B> {
         mode: Mode,
         owner: Owner,
     ) -> Result<Unlocked, Refusal>
-        // What it is answered.
+        // What the call answers.
         ensures not_held { IsErrOf result Refusal.NotHeld
             ↔ (own_count_of self.old.owned tag mode owner ≡ 0) }
         ensures no_other { IsOkUnless result Refusal.NotHeld }
@@ -281,7 +281,7 @@ impl<T: PartTable, B: Board<T>> OwnSession<T, B> {
         ensures untouched { result ≢ Ok Unlocked.Released → self.new.board ≡ self.old.board }
         ensures same_uses { result ≢ Ok Unlocked.Released → self.new.uses ≡ self.old.uses }
 
-        // What stands after it.
+        // What holds after the call.
         ensures entries { OnOk result (self.new.owned.entries
             ≡ with_one_less self.old.owned.entries tag mode owner) }
         ensures same_entries { OnErr result (self.new.owned.entries ≡ self.old.owned.entries) }

@@ -139,7 +139,7 @@ impl<T: PartTable, B: Board<T>> OwnSession<T, B> {
         mode: Mode,
         owner: Owner,
     ) -> Started<Self, OwnWaiting<T, B>>
-        // What it is answered.
+        // What the call answers.
         ensures answers { AnswersByOwned self.owned tag mode owner begun.AlreadyHeld true (answer_started result) }
         ensures room_first { IfErr (answer_started result)
             (IsAfterRoom (HadRoom T.prepared (B.seat self.board).number tag mode)) }
@@ -153,7 +153,7 @@ impl<T: PartTable, B: Board<T>> OwnSession<T, B> {
             Kind.Waiting (B.seat self.board) self.owned self.uses tag mode self.board (board_started result)
             (uses_started result)) }
 
-        // What stands after it.
+        // What holds after the call.
         ensures entries { IfOk (answer_started result) (λ answer. (owned_started result).entries
             ≡ entries_begun answer self.owned.entries tag mode owner) }
         ensures same_entries { OnErr (answer_started result)
@@ -187,7 +187,7 @@ impl<T: PartTable, B: Board<T>> OwnSession<T, B> {
     /// `dontWait`): `start`, and `wait` where that queued the request. Refused where these are: the wait is over
     /// then, and the session holds what it held.
     pub fn lock<R: Wait>(self, rt: &R, tag: Tag, mode: Mode, owner: Owner) -> Locked<Self>
-        // What it is answered.
+        // What the call answers.
         ensures answers { AnswersByOwned self.owned tag mode owner Acquired.AlreadyHeld true (answer_locked result) }
         ensures steps { Locks (B.seat self.board) self.owned (B.view self.board) self.uses tag mode
             (answer_locked result) (B.view (session_locked result).board) (session_locked result).uses }
@@ -199,7 +199,7 @@ impl<T: PartTable, B: Board<T>> OwnSession<T, B> {
             Kind.Waiting (B.seat self.board) self.owned self.uses tag mode self.board (session_locked result).board
             (session_locked result).uses) }
 
-        // What stands after it.
+        // What holds after the call.
         ensures entries { OnOk (answer_locked result) ((session_locked result).owned.entries
             ≡ with_one_more self.owned.entries tag mode owner) }
         ensures same_entries { OnErr (answer_locked result)
@@ -228,7 +228,7 @@ impl<T: PartTable, B: Board<T>> OwnSession<T, B> {
         mode: Mode,
         owner: Owner,
     ) -> Result<Acquired, Refusal>
-        // What it is answered.
+        // What the call answers.
         ensures answers { AnswersByOwned self.old.owned tag mode owner Acquired.AlreadyHeld true result }
         ensures steps { Locks (B.seat self.old.board) self.old.owned (B.view self.old.board) self.old.uses tag mode
             result (B.view self.new.board) self.new.uses }
@@ -238,7 +238,7 @@ impl<T: PartTable, B: Board<T>> OwnSession<T, B> {
         ensures no_memory { IfErr result (λ refusal. refusal ≡ Refusal.NoMemory → IsRefusedForMemory B.view Kind.Waiting
             (B.seat self.old.board) self.old.owned self.old.uses tag mode self.old.board self.new.board self.new.uses) }
 
-        // What stands after it.
+        // What holds after the call.
         ensures entries { OnOk result (self.new.owned.entries
             ≡ with_one_more self.old.owned.entries tag mode owner) }
         ensures same_entries { OnErr result (self.new.owned.entries ≡ self.old.owned.entries) }
@@ -251,14 +251,14 @@ impl<T: PartTable, B: Board<T>> OwnSession<T, B> {
     /// Whether somebody awaits `tag` in a mode that conflicts with `mode` (`LockHasWaiters` in lock.c). Refused
     /// where the session hasn't the mode; nothing has changed then.
     pub fn has_waiters<R: Wait>(&mut self, rt: &R, tag: Tag, mode: Mode) -> Result<bool, Refusal>
-        // What it is answered.
+        // What the call answers.
         ensures not_held { IsErrOf result Refusal.NotHeld ↔ (has_entry self.old.owned.entries tag mode ≡ false) }
         ensures no_other { IsOkUnless result Refusal.NotHeld }
         ensures looked { IfOk result (λ is_awaited. LooksForWaiters (B.view self.old.board).trace tag mode is_awaited
             (B.view self.new.board).trace) }
         ensures quiet { B.quiet self.new.board ≡ B.quiet self.old.board }
 
-        // What stands after it.
+        // What holds after the call.
         ensures untouched { OnErr result (self.new.board ≡ self.old.board) }
         ensures owned { self.new.owned ≡ self.old.owned }
         ensures uses { self.new.uses ≡ self.old.uses }
@@ -286,12 +286,12 @@ impl<T: PartTable, B: Board<T>> OwnWaiting<T, B> {
     /// Looks at the wait once (`ProcSleep` in proc.c where it reads `waitStatus`): it was granted, and has ended, or it
     /// goes on, and another session may have asked to cancel it.
     pub fn poll(self) -> Polled<OwnSession<T, B>, Self>
-        // What it is answered.
+        // What the call answers.
         ensures polled { Polls (B.seat self.board).number (B.view self.board).trace (answer_polled result)
             (B.view (board_polled result)).trace }
         ensures quiet { B.quiet (board_polled result) ≡ B.quiet self.board }
 
-        // What stands after it.
+        // What holds after the call.
         ensures entries { IfGranted result (λ session. session.owned.entries
             ≡ with_one_more self.owned.entries self.tag self.mode self.owner) }
         ensures same { IfGranted result (λ session. HasEnded B.seat B.view B.stack self session) }
@@ -329,12 +329,12 @@ impl<T: PartTable, B: Board<T>> OwnWaiting<T, B> {
     /// Ends the wait (`LockErrorCleanup` in proc.c): it is taken out of the queue, and those are granted who may go
     /// then; or it turns out that it was granted before, and the session has the mode.
     pub fn cancel<R: Wait>(self, rt: &R) -> Cancelled<OwnSession<T, B>>
-        // What it is answered.
+        // What the call answers.
         ensures steps { Cancels (B.seat self.board).number (B.view self.board).trace self.tag self.mode
             (was_granted result) (B.view (session_cancelled result).board).trace }
         ensures quiet { B.quiet (session_cancelled result).board ≡ B.quiet self.board }
 
-        // What stands after it.
+        // What holds after the call.
         ensures entries { was_granted result ≡ true → (session_cancelled result).owned.entries
             ≡ with_one_more self.owned.entries self.tag self.mode self.owner }
         ensures same_owned { was_granted result ≡ false →
@@ -360,13 +360,13 @@ impl<T: PartTable, B: Board<T>> OwnWaiting<T, B> {
     /// and the session holds what it held. Where it was asked to cancel, but granted before it could, the session has
     /// the mode.
     pub fn wait<R: Wait>(self, rt: &R) -> Waited<OwnSession<T, B>>
-        // What it is answered.
+        // What the call answers.
         ensures cancelled { IsOkUnless (answer_waited result) Refusal.Cancelled }
         ensures steps { Waits (B.seat self.board).number (B.view self.board).trace self.tag self.mode
             (answer_waited result) (B.view (session_waited result).board).trace }
         ensures quiet { B.quiet (session_waited result).board ≡ B.quiet self.board }
 
-        // What stands after it.
+        // What holds after the call.
         ensures entries { OnOk (answer_waited result) ((session_waited result).owned.entries
             ≡ with_one_more self.owned.entries self.tag self.mode self.owner) }
         ensures same_owned { OnErr (answer_waited result) ((session_waited result).owned ≡ self.owned) }

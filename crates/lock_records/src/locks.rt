@@ -73,8 +73,8 @@ impl LockRecord {
     }
 }
 
-/// The key under which the index has `tag`. The lowest bits of a tag's hash are those of its partition, and the
-/// index tells chains by the highest: the multiplication mixes them.
+/// The key under which the index has `tag`. The lowest bits of a tag's hash are those of its partition, and the index
+/// picks chains by the highest: the multiplication mixes them.
 #[inline(always)]
 fn key_of(tag: &Tag) -> u32
     ensures { result ≡ key_of tag.now }
@@ -102,7 +102,7 @@ fn is_lock_on(locks: &Slab<LockRecord>, place: usize, tag: &Tag) -> bool
     }
 }
 
-/// Where the record of `tag` stands in `locks`. `hint`, the place where a record was found last, is looked at first.
+/// The place of the record of `tag` in `locks`. `hint`, the place where a record was found last, is looked at first.
 #[inline(always)]
 pub(crate) fn find_lock(
     locks: &Slab<LockRecord>,
@@ -120,7 +120,7 @@ pub(crate) fn find_lock(
     find_lock_by_index(locks, index, tag)
 }
 
-/// Where the record of `tag` stands in `locks`, for a call that mostly follows one on the same object: another way
+/// The place of the record of `tag` in `locks`, for a call that mostly follows one on the same object: another way
 /// than by `hint` is a function of its own, so that this one stays short.
 #[inline(always)]
 pub(crate) fn find_hinted_lock(
@@ -162,7 +162,7 @@ pub(crate) fn hinted_lock<'a>(
     }
 }
 
-/// Where the record of `tag` stands in `locks`, by the index: a function of its own, called seldom.
+/// The place of the record of `tag` in `locks`, by the index: a function of its own, called seldom.
 #[cold]
 #[inline(never)]
 fn find_lock_cold(locks: &Slab<LockRecord>, index: &PlaceIndex, tag: &Tag) -> Option<usize>
@@ -173,7 +173,7 @@ fn find_lock_cold(locks: &Slab<LockRecord>, index: &PlaceIndex, tag: &Tag) -> Op
     find_lock_by_index(locks, index, tag)
 }
 
-/// Where the record of `tag` stands in `locks`, looked for through `index` alone.
+/// The place of the record of `tag` in `locks`, looked for through `index` alone.
 #[inline(always)]
 fn find_lock_by_index(locks: &Slab<LockRecord>, index: &PlaceIndex, tag: &Tag) -> Option<usize>
     requires { AreNoted locks.now.slots index.now }
@@ -189,7 +189,7 @@ fn find_lock_by_index(locks: &Slab<LockRecord>, index: &PlaceIndex, tag: &Tag) -
     }
 }
 
-/// Where the record of `tag` stands in `locks`, which is made where there is none. `absent` says that the caller
+/// The place of the record of `tag` in `locks`, which is made where there is none. `absent` says that the caller
 /// knows that there is none.
 #[inline(always)]
 pub(crate) fn find_or_make_lock(

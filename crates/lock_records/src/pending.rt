@@ -17,7 +17,7 @@ impl Model for Pending {
     ghost also_owns = { λ _. ftrue };
 }
 
-// It owns nothing.
+// A `Pending` owns nothing.
 unsafe impl Send for Pending {}
 
 impl Pending {

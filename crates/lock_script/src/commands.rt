@@ -4,7 +4,7 @@ ghost use Rattle.std.specs.Str.{bytes_eq};
 ghost use Rattle.lock_script.specs.Defects.{commands, look_commands, words_behind};
 ghost use Rattle.lock_script.specs.Rows.{kinds_in, looks_in};
 
-/// What a word behind a command has to be.
+/// What a word after a command has to be.
 #[derive(Clone, Copy, Debug, PartialEq, Eq)]
 pub enum WordKind {
     /// A name that no open session has.
@@ -34,9 +34,9 @@ pub enum WordKind {
 pub struct CommandRow {
     /// The word with which its lines begin.
     pub verb: &'static str,
-    /// What the words behind that have to be.
+    /// What the words after that have to be.
     pub kinds: &'static [WordKind],
-    /// The words behind the verb, as a help names them.
+    /// The words after the verb, as a help names them.
     pub form: &'static str,
     /// What it does, as a help says it.
     pub help: &'static str,

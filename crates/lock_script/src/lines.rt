@@ -70,7 +70,7 @@ impl<R: Read> LineReader<R> {
         }
     }
 
-    /// The next line, or `None` at the end of the input. What stands behind the last line feed is a line
+    /// The next line, or `None` at the end of the input. What comes after the last line feed is a line
     /// only if it is not empty. After an error nothing more is to be read.
     pub fn next_line(&mut self) -> Result<Option<Line>, Fault>
         ensures reads { IfSome self.old.source.left (λ unread. Reads result self.old.number

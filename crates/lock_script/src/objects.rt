@@ -9,7 +9,7 @@ use modes_core::Tag;
 use std::alloc::{AllocError, Global};
 use std::marker::Model;
 
-/// An object's name: a letter or an underscore, and behind it up to 62 letters, digits and `_`, `$` and `.`.
+/// An object's name: a letter or an underscore, and after it up to 62 letters, digits and `_`, `$` and `.`.
 pub type ObjectName = ArrayString<63>;
 
 /// An object under its name.

@@ -163,7 +163,7 @@ pub struct OpenSessions<S, W> {
     pub waiting: ByName<W>,
 }
 
-/// Where an open session stands.
+/// The place of an open session.
 #[derive(Clone, Copy, Debug, PartialEq, Eq)]
 pub enum Place {
     /// At this place of those that don't wait.

@@ -86,7 +86,7 @@ pub trait PartTable {
         requires begun { begun self.now ≡ Some (record { session = session; tag = tag.now; mode = mode }) }
         ensures { HolderInTheWay (content self.now).holds session tag.now mode result };
 
-    /// The wait at `place` of the queue of `tag`, counted from the front, or `None` behind the last one.
+    /// The wait at `place` of the queue of `tag`, counted from the front, or `None` after the last one.
     fn waiter(&self, tag: &Tag, place: usize) -> Option<Waiter>
         ensures wait { option_map shown_wait result ≡ slice_get ((content self.now).waits tag.now) place }
         ensures countable { length ((content self.now).waits tag.now) ≤ usize.MAX };

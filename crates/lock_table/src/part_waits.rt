@@ -40,7 +40,7 @@ impl PartWait {
         }
     }
 
-    /// What a wakeup tells of the wait: its session and mode. Sessions have numbers below the most that there can be.
+    /// What a wakeup answers of the wait: its session and mode. Sessions have numbers below the most that there can be.
     pub fn whose(&self) -> (SessionId, Mode)
         ensures value { result ≡ whose_and_mode (shown_wait self.now.waiter) }
         ensures within { self.now.waiter.session < most_sessions }

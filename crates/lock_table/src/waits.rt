@@ -15,7 +15,7 @@ pub struct Waiter {
     pub held: ModeSet,
 }
 
-/// What stands in a list at a place without a wait.
+/// What a list has at a place without a wait.
 impl Default for Waiter {
     fn default() -> Self {
         Waiter {

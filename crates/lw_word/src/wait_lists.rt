@@ -16,7 +16,7 @@ pub struct LwWaiter {
     pub mode: LwMode,
 }
 
-/// How many sessions can stand in a wait list: all that there are, each once.
+/// How many sessions can be in a wait list: all that there are, each once.
 const MOST_WAITERS: usize = MOST_SESSIONS as usize;
 
 /// The sessions whom a wakeup took off a wait list, in the order of the list. Each session is in a list once at most.
@@ -33,7 +33,7 @@ pub struct Wakeup {
 }
 
 /// The wait list of a lightweight lock, first come first (`waiters` of an `LWLock` in lwlock.h). Contracts see
-/// the list of waiters. A session stands in it once at most. Nothing here takes memory.
+/// the list of waiters. A session is in it once at most. Nothing here takes memory.
 #[derive(Debug, Drop)]
 pub struct WaitList {
     waiters: ArrayVec<LwWaiter, MOST_WAITERS>,
@@ -100,7 +100,7 @@ impl WaitList {
         self.waiters.push(LwWaiter { session, mode });
     }
 
-    /// Takes `session` out of the list, and answers whether it stood there (`LWLockDequeueSelf` in lwlock.c).
+    /// Takes `session` out of the list, and answers whether it was there (`LWLockDequeueSelf` in lwlock.c).
     pub fn leave(&mut self, session: SessionId) -> bool
         ensures found { result ≡ stands_in session self.old }
         ensures left { self.new ≡ without session self.old }

@@ -7,7 +7,7 @@ ghost use Rattle.modes_core.specs.ModeSet.{set_has, all_modes, IsModeMask};
 use crate::Mode;
 use std::marker::Model;
 
-/// A set of lock modes (`LOCKMASK` in lockdefs.h): bit `1 << number` stands for a mode. Contracts see
+/// A set of lock modes (`LOCKMASK` in lockdefs.h): each mode has the bit `1 << number`. Contracts see
 /// the mask, and read it by `set_has`.
 #[derive(Clone, Copy, Debug, PartialEq, Eq, Hash)]
 pub struct ModeSet {

@@ -5,7 +5,7 @@ use crate::{Mode, SessionId};
 use std::fmt;
 use thiserror::Error;
 
-/// What another session does with the mode that stands in the way.
+/// What another session does with the mode that is in the way.
 #[derive(Clone, Copy, Debug, PartialEq, Eq)]
 pub enum How {
     /// The other session holds the mode.

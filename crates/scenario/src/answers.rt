@@ -71,7 +71,7 @@ pub enum Row {
     NotWaiting(Name),
     /// What the strong lock counter with this index shows.
     Counter { index: u16, shown: u64 },
-    /// An object, of which the hash is told.
+    /// An object, whose hash is shown.
     Hash(Tag),
     /// An object was given a name.
     Named(NamedObject),
@@ -80,7 +80,7 @@ pub enum Row {
 /// What a line of a script is answered.
 #[derive(Drop)]
 pub enum Answer {
-    /// The session of this name is told this.
+    /// This is said to the session of this name.
     Said(Name, Said),
     /// A row alone, which is no session's own.
     Row(Row),

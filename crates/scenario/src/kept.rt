@@ -166,7 +166,7 @@ impl<T: PartTable, B: Board<T>, D: ScriptDesk<OwnSession<T, B>>, L: Listener> Sc
     }
 
     /// Runs the lines of `kept` whose sessions don't wait, the first of them first, until each one's that is left waits. Where
-    /// `more`, the line behind the one that was read last is at hand.
+    /// `more`, the line after the one that was read last is at hand.
     pub(crate) fn run_ready<H: Wait>(
         &mut self,
         rt: &H,

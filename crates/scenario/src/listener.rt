@@ -72,8 +72,8 @@ pub trait Listener {
         None
     }
 
-    /// The script has ended, and has no bad line. Its sessions and objects are known by `names`. Where `_tells_left`, who is left
-    /// waiting is told next, by `left`.
+    /// The script has ended, and has no bad line. Its sessions and objects are known by `names`. Where `_tells_left`, `left` is called next, with the
+    /// sessions that are left waiting.
     fn ended(&mut self, _names: &Names, _tells_left: bool) -> Result<(), Fault>
         ensures unheard { IfErr result IsUnheard }
     {

@@ -42,7 +42,7 @@ pub enum Deed {
     Lock(Target, Owner),
     /// A session makes a call that answers at once.
     Make(Caller, Call),
-    /// The hash of an object is told.
+    /// The hash of an object is shown.
     Hash(Tag),
 }
 

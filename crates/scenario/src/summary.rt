@@ -71,7 +71,7 @@ impl Summary {
         self.line = number;
     }
 
-    /// A wait begins, which its session told as `blocked`; it is the last row. Sessions are known by `names`.
+    /// Notes that the wait `blocked` begins, as its session describes it: it is the last row. Sessions are known by `names`.
     pub fn begin_wait(&mut self, names: &Names, blocked: &Blocked) -> Result<(), AllocError>
         ensures begun { OnOk result (BeginsRow names.now self.old.line blocked.now self.old.waits.items self.new.waits.items) }
         ensures refused { OnErr result (self.new.waits.items ≡ self.old.waits.items) }
@@ -100,7 +100,7 @@ impl Summary {
         }
     }
 
-    /// The session of this `name` is told what ends its wait, or something else.
+    /// Hears of `said`, what the session `name` was answered: where that ends its wait, the wait's row ends.
     pub fn hear(&mut self, name: &Name, said: &Said)
         ensures line { self.new.line ≡ self.old.line }
         ensures granted { said.now ≡ Said.GrantedAfterWaiting →

@@ -256,7 +256,7 @@ pub fn parse_arguments(alloc: Global, words: &[String]) -> Result<Task, NoRun>
     }
 }
 
-/// Why a summary is refused of a script that one picture tells, in memory by `alloc`.
+/// Why a summary is refused of a script that one picture shows, in memory by `alloc`.
 fn refuse_summary(alloc: Global) -> NoRun {
     match String::from_str(alloc, SUMMARY_OF_A_DRAWING) {
         Ok(text) => NoRun::Refused(text),
@@ -264,7 +264,7 @@ fn refuse_summary(alloc: Global) -> NoRun {
     }
 }
 
-/// Whether the first of `words` behind the program's name is the option that prints the man page. No subcommand is wanted
+/// Whether the first of `words` after the program's name is the option that prints the man page. No subcommand is wanted
 /// then, as none is for the help.
 fn asks_for_man(words: &[String]) -> bool {
     match words.get(1) {
@@ -320,7 +320,7 @@ fn config_of(words: &ArgMatches) -> Config
     }
 }
 
-/// How `words` ask for orders to be run and told.
+/// How `words` ask for orders to be run and shown.
 fn options_of(words: &ArgMatches) -> OrdersOptions {
     OrdersOptions {
         limit: words.get_one::<u32>("limit").unwrap_or(USUAL_ORDERS),

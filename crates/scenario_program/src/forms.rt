@@ -9,7 +9,7 @@ const WIDTH: usize = 32;
 /// How wide a line of a help is at most.
 const LINE: usize = 80;
 
-/// A line that is no command: the word with which it begins, those behind that, and what it does.
+/// A line that is no command: the word with which it begins, those after that, and what the line does.
 pub struct OtherLine {
     pub verb: &'static str,
     pub form: &'static str,
@@ -42,7 +42,7 @@ static SQL_LINES: [OtherLine; 3] = [
     },
 ];
 
-/// The words that end a shell, of which the first one is told.
+/// The words that end a shell, of which the help names the first one.
 pub static LEAVING: [&str; 4] = ["end", "quit", "exit", "\\q"];
 
 /// What a shell has beside the lines of a script.
@@ -175,7 +175,7 @@ fn push_blanks(text: &mut String, many: usize) -> Result<(), AllocError> {
     Ok(())
 }
 
-/// Words that are laid out in lines, of which those behind the first begin with two blanks.
+/// Words that are laid out in lines, of which those after the first begin with two blanks.
 #[derive(Drop)]
 pub struct Wrapped {
     text: String,

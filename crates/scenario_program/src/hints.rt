@@ -1,4 +1,4 @@
-//! What somebody is told of a bad line, at a shell and where orders are run.
+//! What is said of a bad line, at a shell and where orders are run.
 
 use crate::forms::{SHELL_LINES, push_forms};
 use crate::mode_help::mode_called;
@@ -12,7 +12,7 @@ use modes_core::Mode;
 use std::alloc::{AllocError, Global};
 use strsim::jaro_winkler;
 
-/// How like two words are, from 0 to 1, of which one is told as a guess at the other.
+/// How like two words are, from 0 to 1, of which one is offered as a guess at the other.
 const LIKE: f64 = 0.8;
 
 /// What somebody may type who is used to SQL, and the word with which such a line begins here.
@@ -35,14 +35,14 @@ static SHELL_WORDS: [(&str, &str); 5] = [
     ("\\h", "help"),
 ];
 
-/// For whom it is told what is wrong with a line.
+/// For whom it is said what is wrong with a line.
 #[derive(Clone, Copy)]
 pub struct Reader<'a> {
     /// The names of the sessions that are open.
     pub names: &'a [Name],
     /// The objects that have names.
     pub objects: &'a [NamedObject],
-    /// Whether it is told in a shell, which has lines of its own.
+    /// Whether it is said in a shell, which has lines of its own.
     pub is_in_shell: bool,
 }
 

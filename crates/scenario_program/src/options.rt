@@ -7,13 +7,13 @@ use scenario::{Style, Turns};
 pub struct RunOptions {
     pub style: Style,
     pub turns: Turns,
-    /// Whether it is told at the end who waited, for what and behind whom.
+    /// Whether the run lists at its end who waited, for what and behind whom.
     pub summary: bool,
     pub fail_on: FailOn,
 }
 
 impl RunOptions {
-    /// Whether it is to be told who waited where one picture of the script takes the place of all that is told.
+    /// Whether the run is to list who waited where one picture of the script takes the place of all that is printed.
     pub fn summarizes_a_drawing(self) -> bool {
         match self.style.graph {
             Some(drawing) => self.summary && drawing.is_of_all_lines(),

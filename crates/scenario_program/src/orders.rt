@@ -87,7 +87,7 @@ fn play_turns<T: PartTable, B: Board<T>, D: ScriptDesk<OwnSession<T, B>>, H: Wai
     Ok(())
 }
 
-/// Runs `line` in `scene`, and tells its orders what it is answered.
+/// Runs `line` in `scene`, and notes in its orders what the line is answered.
 fn play_line<T: PartTable, B: Board<T>, D: ScriptDesk<OwnSession<T, B>>, H: Wait>(
     rt: &H,
     scene: &mut Scene<T, B, D, Spectator<'_, '_>>,
@@ -124,7 +124,7 @@ fn let_all_go<T: PartTable, B: Board<T>, D: ScriptDesk<OwnSession<T, B>>, H: Wai
     }
 }
 
-/// Tells the orders what is answered.
+/// Notes in the orders what is answered.
 #[derive(Drop)]
 struct Spectator<'a, 'b> {
     orders: &'a mut Orders<'b>,
@@ -173,7 +173,7 @@ impl Listener for Spectator<'_, '_> {
     }
 }
 
-/// What `said` says of the session that is told it.
+/// What `said` says of the session that it is an answer to.
 fn news_of(said: &Said) -> News {
     match said {
         Said::Opened { .. } => News::Opened,
@@ -184,7 +184,7 @@ fn news_of(said: &Said) -> News {
     }
 }
 
-/// What is said of the bad line `bad`: its number, and what is wrong with it, as a shell tells it.
+/// What is said of the bad line `bad`: its number, and what is wrong with it, as a shell says it.
 pub fn bad_line_text(alloc: Global, bad: &BadLine) -> Result<String, AllocError> {
     let reader = Reader {
         names: bad.open.as_slice(),

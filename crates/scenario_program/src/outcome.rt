@@ -1,4 +1,4 @@
-//! What a run came to, which the program tells behind it.
+//! What a run came to, which the program prints after it.
 
 use crate::hints::{Reader, push_correction};
 use crate::options::FailOn;
@@ -133,7 +133,7 @@ fn is_told(text: &String) -> bool {
 pub struct Witness<'a, W: Write + Drop> {
     pub output: Output<W>,
     pub outcome: &'a mut Outcome,
-    /// Who waited, if that is told at the end.
+    /// Who waited, if the run lists that at its end.
     pub summary: Option<Summary>,
 }
 

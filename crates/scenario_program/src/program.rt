@@ -285,11 +285,11 @@ fn run_statements<H: AllocGlobal + Files, R: Read + Drop, W: Write + Drop, E: Wr
     run_sql(rt, words, &mut reader, &mut output, errors.writer)
 }
 
-/// What somebody at a terminal is told who is to type a script.
+/// What is printed for somebody at a terminal who is to type a script.
 const TYPED_SCRIPT: &str =
     "reading a script from the terminal, to its end (Ctrl-D); run --help shows its lines";
 
-/// What somebody at a terminal is told who is to type SQL.
+/// What is printed for somebody at a terminal who is to type SQL.
 const TYPED_SQL: &str = "reading SQL statements from the terminal, to their end (Ctrl-D)";
 
 /// Says to somebody at a terminal, by `errors`, that the input is read from there, in the words `what`.

@@ -1,4 +1,4 @@
-//! The words of `run` that say how its script is run, and what is shown and told of it.
+//! The words of `run` that say how its script is run, and what is shown of it.
 
 use crate::options::{FAILURES, FailOn, RunOptions};
 use clap::{Arg, ArgAction, ArgMatches, Command};
@@ -35,7 +35,7 @@ pub fn reuse_argument<'a>(alloc: Global) -> Arg<'a> {
         .action(ArgAction::SetTrue)
 }
 
-/// The subcommand `run` with the options of how its script is run, what is told at its end, and what it fails for.
+/// The subcommand `run` with the options of how its script is run, what is listed at its end, and what it fails for.
 pub fn with_manners<'a>(alloc: Global, run: Command<'a>) -> Result<Command<'a>, AllocError> {
     let keep = Arg::new(alloc, "keep")
         .long("keep")

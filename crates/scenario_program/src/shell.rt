@@ -18,13 +18,13 @@ use std::alloc::{AllocError, Global};
 use std::io::{Read, Write};
 use std::sync::Wait;
 
-/// What stands before each line at a terminal.
+/// What is printed before each line at a terminal.
 const PROMPT: &str = "lock> ";
 
 /// What is said first at a terminal.
 const GREETING: &str = "help lists the commands, end closes all sessions and leaves\n";
 
-/// A shell, with the memory for what it tells.
+/// A shell, with the memory for what it says.
 #[derive(Clone, Copy)]
 pub struct Shell {
     pub alloc: Global,
@@ -352,7 +352,7 @@ fn correction<S, W>(
     told(alloc, line, what, names.as_slice(), objects.as_slice())
 }
 
-/// What a shell tells of `line`, which has the defect `what`, where sessions of these `names` are open and `objects`
+/// What a shell says of `line`, which has the defect `what`, where sessions of these `names` are open and `objects`
 /// have names.
 fn told(
     alloc: Global,

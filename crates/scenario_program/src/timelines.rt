@@ -39,7 +39,7 @@ pub fn draw_script<H: AllocGlobal + Wait, R: Read + Drop, W: Write + Drop>(
     draw_heard_script(rt, reader, writer, config, options, &mut outcome)
 }
 
-/// Draws a script as `draw_script` does, run in turn as `options` say. What the run comes to is told to `outcome`.
+/// Draws a script as `draw_script` does, run in turn as `options` say. What the run comes to is noted in `outcome`.
 pub fn draw_heard_script<H: AllocGlobal + Wait, R: Read + Drop, W: Write + Drop>(
     rt: &H,
     reader: R,

@@ -31,7 +31,7 @@ pub enum Turn<'a> {
     Line(&'a str),
     /// The player is to let all go that the sessions hold and await. Another order begins with the same sessions.
     Anew,
-    /// The player is to end, since no order is left.
+    /// The player is to end: no further order is played.
     End,
 }
 

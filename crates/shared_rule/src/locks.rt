@@ -62,7 +62,7 @@ fn attempt_fast<T: PartTable, G: Grouping>(
     true
 }
 
-// The same, where the word shows that nobody holds the lock, and else no attempt.
+// One attempt to take the lock of a session's slots where its word shows that nobody holds it, and else none.
 #[inline(always)]
 pub(crate) fn attempt_free_fast<T: PartTable>(
     words: &SharedWords<T>,
@@ -133,7 +133,7 @@ fn load_fast<T: PartTable, M: Marking<T>>(
     load_as::<T, M>(words, seat, fast_word(number))
 }
 
-// Takes the lock of its own slots where its word still shows this number, and tells the number that it showed.
+// Takes the lock of the session's own slots where its word still shows this number, and answers the number that it showed.
 #[inline(always)]
 fn take_own_fast<T: PartTable, G: Grouping>(
     words: &SharedWords<T>,
@@ -188,7 +188,7 @@ pub(crate) fn try_take_fast<T: PartTable>(
     }
 }
 
-// Puts the lock of a session's fast-path slots, and tells what its word showed.
+// Puts the lock of a session's fast-path slots, and answers what its word showed.
 pub(crate) fn put_fast_home<T: PartTable, M: Marking<T>>(
     words: &SharedWords<T>,
     seat: &mut Seat<T>,
@@ -230,7 +230,7 @@ pub(crate) fn put_fast<T: PartTable, M: Marking<T>>(
     release(seat, &SlotsTaken { words, owner, of }, ());
 }
 
-// Puts that lock and goes past its session, and tells what its word showed.
+// Puts the lock of a session's fast-path slots and goes past that session, and answers what its word showed.
 pub(crate) fn pass_fast_home<T: PartTable, M: Marking<T>>(
     words: &SharedWords<T>,
     seat: &mut Seat<T>,

@@ -66,7 +66,7 @@ fn attempt_part<T: PartTable>(
     )
 }
 
-// The same, where the word shows that nobody holds the lock, and else no attempt.
+// One attempt to take a partition in hand where its word shows that nobody holds its lock, and else none.
 #[inline(always)]
 pub(crate) fn attempt_free_part<T: PartTable>(
     words: &SharedWords<T>,

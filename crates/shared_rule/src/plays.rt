@@ -20,7 +20,7 @@ impl<T> Marking<T> for Brand {
     ghost mark = { λ _. PutFast 0 0 };
 }
 
-/// How many groups of slots each session has, as a step on slots tells of them. Each call picks it.
+/// How many groups of slots each session has, as a step on slots knows it. Each call picks it.
 pub trait Grouping {
     ghost use Rattle.std.specs.Prelude.{ℕ};
 

@@ -59,7 +59,7 @@ fn attempt_share<T: PartTable, G: Grouping>(
     true
 }
 
-// The same, where the word shows that nobody holds the lock exclusively, and else no attempt.
+// One attempt to share the lock of a session's slots where its word shows that nobody holds it exclusively, and else none.
 #[inline(always)]
 pub(crate) fn attempt_free_share<T: PartTable>(
     words: &SharedWords<T>,
@@ -116,7 +116,7 @@ pub(crate) fn share_fast<T: PartTable, R: Wait>(
     )
 }
 
-// Gives its share back, and tells what its word showed.
+// Gives the share of the lock of a session's slots back, and answers what its word showed.
 pub(crate) fn unshare_fast_home<T: PartTable, M: Marking<T>>(
     words: &SharedWords<T>,
     seat: &mut Seat<T>,

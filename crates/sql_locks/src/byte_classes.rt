@@ -9,11 +9,11 @@ pub enum ByteClass {
     Blank,
     /// The decimal digits `0` to `9`.
     Digit,
-    /// What a number is made of, behind its first digit or point: digits, letters, points and underscores.
+    /// What a number is made of, after its first digit or point: digits, letters, points and underscores.
     Number,
     /// What an operator is made of.
     Operator,
-    /// What a name is made of, behind its first character.
+    /// What a name is made of, after its first character.
     Name,
     /// What a dollar tag is made of.
     Tag,

@@ -12,9 +12,9 @@ use modes_core::Mode;
 pub struct SqlCommand {
     pub sql: &'static str,
     pub form: Form,
-    /// Which of the relations of the form is told of.
+    /// Which of the relations of the form a help names.
     pub side: Start,
-    /// What else is to be said, as it stands behind the mode.
+    /// What else is to be said, as it is printed after the mode.
     pub note: &'static str,
 }
 
@@ -24,7 +24,7 @@ pub fn sql_commands() -> &'static [SqlCommand] {
 }
 
 impl SqlCommand {
-    /// The strongest mode that the row of its form has on the relation that is told of.
+    /// The strongest mode that the row of its form has on the relation that a help names.
     pub fn mode(&self) -> Option<Mode>
         ensures { IfSome result (IsModeOf self.now.form self.now.side) }
     {

@@ -54,7 +54,7 @@ pub enum SqlFault {
         /// The line on which the word begins.
         line: usize,
         what: Defect,
-        /// How many bytes stand before the word.
+        /// How many bytes come before the word.
         from: usize,
     },
     /// Memory ran out for what is read.

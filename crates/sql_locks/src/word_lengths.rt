@@ -80,7 +80,7 @@ fn quoted_name(rest: &[u8], begin: usize) -> Result<(WordKind, usize), Defect>
     }
 }
 
-/// Where a text ends that begins at `begin`: behind the first `quote` that is not doubled. Where `escapes`, a backslash takes
+/// Where a text ends that begins at `begin`: after the first `quote` that is not doubled. Where `escapes`, a backslash takes
 /// the next byte with it.
 fn quoted_end(rest: &[u8], begin: usize, quote: u8, escapes: bool) -> Option<usize>
     requires { begin < length rest.now }
@@ -255,7 +255,7 @@ fn name_or_prefix(rest: &[u8]) -> Result<(WordKind, usize), Defect>
     }
 }
 
-/// The rows of a `COPY .. FROM stdin` at the front of `rest`, which begin behind the line's end: all up to the line `\.`, and how many
+/// The rows of a `COPY .. FROM stdin` at the front of `rest`, which begin after the line's end: all up to the line `\.`, and how many
 /// bytes that is.
 pub fn rows_length(rest: &[u8]) -> Result<(WordKind, usize), Defect>
     requires { 0 < length rest.now }

@@ -32,7 +32,7 @@ pub enum WordKind {
     Mark,
     /// The semicolon that ends a statement.
     Semicolon,
-    /// The rows behind `COPY .. FROM stdin`, up to the line `\.`.
+    /// The rows after `COPY .. FROM stdin`, up to the line `\.`.
     Rows,
 }
 
@@ -40,7 +40,7 @@ pub enum WordKind {
 #[derive(Clone, Copy, Debug)]
 pub struct Word<'a> {
     pub kind: WordKind,
-    /// The word as it stands.
+    /// The word as it is written.
     pub text: &'a [u8],
     /// The line on which the word begins, from 1.
     pub line: usize,
@@ -53,11 +53,11 @@ enum CopyProgress {
     Start,
     /// The statement is no `COPY`.
     Other,
-    /// `COPY`, and whatever is not `FROM` behind it.
+    /// `COPY`, and after it words that are not `FROM`.
     Copy,
     /// `COPY .. FROM`, and nothing after that yet.
     From,
-    /// `COPY .. FROM STDIN`, and what stands behind it.
+    /// `COPY .. FROM STDIN`, and what comes after it.
     Stdin,
     /// The statement has ended, and its rows are to come.
     Rows,

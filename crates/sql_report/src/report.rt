@@ -33,7 +33,7 @@ pub struct Report {
     /// The lines of the statements that keep reads waiting, and of those that keep writes waiting, of a relation that others know.
     pub reads: Vec<usize>,
     pub writes: Vec<usize>,
-    /// All that is printed: the answers' texts, and sums behind them.
+    /// All that is printed: the answers' texts, and sums after them.
     pub text: String,
 }
 
@@ -211,7 +211,7 @@ impl Writer {
         Ok(text)
     }
 
-    /// Adds to `text` the modes of each relation of `locks`, in the order of its first lock, and tells whether others
+    /// Adds to `text` the modes of each relation of `locks`, in the order of its first lock, and answers whether others
     /// know one of these relations.
     fn push_locks(&self, text: &mut String, locks: &[Lock]) -> Result<bool, AllocError> {
         let relations = self.reader.catalog.relations.as_slice();
@@ -290,7 +290,7 @@ impl Writer {
     }
 }
 
-/// The report of `answers`: their texts one behind another, and the sums.
+/// The report of `answers`: their texts one after another, and the sums.
 fn report_of(alloc: Global, answers: Vec<Answer>) -> Result<Report, AllocError>
     ensures reads { IfOk result (λ report. report.reads.items ≡ lines_that_stop AccessShare report.answers.items) }
     ensures writes { IfOk result (λ report. report.writes.items ≡ lines_that_stop RowExclusive report.answers.items) }
@@ -321,7 +321,7 @@ fn lines_stopping(alloc: Global, answers: &[Answer], mode: Mode) -> Result<Vec<u
         .collect(alloc)
 }
 
-/// The texts of `answers`, one behind another.
+/// The texts of `answers`, one after another.
 fn texts_of(alloc: Global, answers: &[Answer]) -> Result<String, AllocError>
     ensures { IfOk result (λ text. string_bytes text ≡ flat_map text_of answers.now) }
 {

@@ -5,7 +5,7 @@ use crate::reader::{Change, StatementReader};
 use sql_locks::{Defect, Form, LinkKind, RelationKind, SqlFault};
 
 impl StatementReader {
-    /// Reads what stands behind `ALTER TABLE`.
+    /// Reads what comes after `ALTER TABLE`.
     pub fn read_alter_table(&mut self) -> Result<(), SqlFault> {
         if self.cursor.is_at("all") && self.cursor.is_ahead(1, "in") {
             return Err(self.fault_at(0, Defect::UnknownStatement));
@@ -26,7 +26,7 @@ impl StatementReader {
         Ok(())
     }
 
-    /// Goes on to the comma behind a form.
+    /// Goes on to the comma after a form.
     fn skip_alteration(&mut self) {
         for _ in 0..self.cursor.words.len() {
             if self.cursor.is_at_end() || self.cursor.is_mark(",") {

@@ -16,7 +16,7 @@ pub static RULES: [AttachedKind; 3] = [
 pub static POLICIES: [AttachedKind; 1] = [AttachedKind::Policy];
 
 impl StatementReader {
-    /// Reads what stands behind a `CREATE` of something that belongs to a table.
+    /// Reads what comes after a `CREATE` of something that belongs to a table.
     pub fn read_create_on_table(&mut self) -> Result<(), SqlFault> {
         if self.cursor.eat("trigger") {
             return self.read_create_trigger();
@@ -44,7 +44,7 @@ impl StatementReader {
         self.relation()
     }
 
-    /// Reads what stands behind `CREATE TRIGGER`.
+    /// Reads what comes after `CREATE TRIGGER`.
     fn read_create_trigger(&mut self) -> Result<(), SqlFault> {
         let name = self.name()?;
         let Some(table) = self.table_behind("on")? else {
@@ -67,7 +67,7 @@ impl StatementReader {
         Ok(())
     }
 
-    /// Reads what stands behind `CREATE RULE`. The locks of a rule whose condition has a query are not known. A rule for a `SELECT` is
+    /// Reads what comes after `CREATE RULE`. The locks of a rule whose condition has a query are not known. A rule for a `SELECT` is
     /// the query of a view.
     fn read_create_rule(&mut self) -> Result<(), SqlFault> {
         let name = self.name()?;
@@ -103,7 +103,7 @@ impl StatementReader {
         self.read_query(Form::ReadDefinition)
     }
 
-    /// Reads what stands behind `CREATE POLICY`.
+    /// Reads what comes after `CREATE POLICY`.
     fn read_create_policy(&mut self) -> Result<(), SqlFault> {
         let name = self.name()?;
         let Some(table) = self.table_behind("on")? else {
@@ -114,7 +114,7 @@ impl StatementReader {
         self.read_query(Form::ReadDefinition)
     }
 
-    /// Reads what stands behind `CREATE STATISTICS`.
+    /// Reads what comes after `CREATE STATISTICS`.
     fn read_create_statistics(&mut self) -> Result<(), SqlFault> {
         self.eat_if_exists();
         let mut name = String::new(self.alloc);
@@ -130,7 +130,7 @@ impl StatementReader {
         Ok(())
     }
 
-    /// Reads what stands behind `DROP STATISTICS`.
+    /// Reads what comes after `DROP STATISTICS`.
     pub fn read_drop_statistics(&mut self) -> Result<(), SqlFault> {
         let may_miss = self.eat_if_exists();
         for _ in 0..self.cursor.words.len() {

@@ -39,7 +39,7 @@ pub struct IndexOf {
     /// The columns, and all names that its definition has.
     pub columns: Vec<String>,
     pub names: Vec<String>,
-    /// What the server puts behind the name that it makes itself.
+    /// What the server puts after the name that it makes itself.
     pub suffix: &'static str,
     /// The index of the partitioned table that it is a part of.
     pub whole: Option<usize>,

@@ -43,7 +43,7 @@ impl StatementReader {
         Ok(())
     }
 
-    /// The columns behind `SET` among the words that are left.
+    /// The columns after `SET` among the words that are left.
     fn columns_set(&mut self) -> Result<Vec<String>, SqlFault> {
         let begin = self.cursor.place;
         let mut columns = Vec::new(self.alloc);

@@ -23,7 +23,7 @@ pub struct Constraint {
     pub kind: ConstraintKind,
     /// The name of the constraint, where it was said.
     pub name: String,
-    /// What the server puts behind the name that it makes itself.
+    /// What the server puts after the name that it makes itself.
     pub suffix: &'static str,
     pub columns: Vec<String>,
     /// The table that a foreign key refers to, or the index that a key uses.
@@ -147,7 +147,7 @@ impl StatementReader {
         }
     }
 
-    /// Goes on behind what a foreign key does with its rows, and tells whether that changes them.
+    /// Goes on after what a foreign key does with its rows, and answers whether that changes them.
     fn eat_change(&mut self) -> bool {
         self.cursor.eat("cascade")
             || self.cursor.eat_all(&["set", "null"])

@@ -35,7 +35,7 @@ pub static LOCKLESS_OBJECTS: [&str; 23] = [
 ];
 
 impl StatementReader {
-    /// Reads what stands behind `CREATE`.
+    /// Reads what comes after `CREATE`.
     pub fn read_create(&mut self) -> Result<(), SqlFault> {
         let replaces = self.cursor.eat_all(&["or", "replace"]);
         self.cursor.eat("global");
@@ -131,7 +131,7 @@ impl StatementReader {
         })?)
     }
 
-    /// Reads what stands behind `CREATE MATERIALIZED VIEW`.
+    /// Reads what comes after `CREATE MATERIALIZED VIEW`.
     fn read_create_materialized_view(&mut self) -> Result<(), SqlFault> {
         let may_exist = self.eat_if_exists();
         let name = self.name()?;
@@ -152,7 +152,7 @@ impl StatementReader {
         self.know_view(view, names)
     }
 
-    /// Links `view`, by a link of `kind`, with the relations of all forms from the number `first` on. Tells whether
+    /// Links `view`, by a link of `kind`, with the relations of all forms from the number `first` on. Answers whether
     /// none of these is the view or reads it.
     fn link_readings(
         &mut self,
@@ -178,7 +178,7 @@ impl StatementReader {
         Ok(self.followed(LinkKind::Reads, reader)?.contains(&read))
     }
 
-    /// Reads what stands behind `CREATE SEQUENCE`.
+    /// Reads what comes after `CREATE SEQUENCE`.
     fn read_create_sequence(&mut self) -> Result<(), SqlFault> {
         let may_exist = self.eat_if_exists();
         let name = self.name()?;
@@ -208,7 +208,7 @@ impl StatementReader {
         Ok(())
     }
 
-    /// Reads what stands behind `CREATE INDEX`.
+    /// Reads what comes after `CREATE INDEX`.
     fn read_create_index(&mut self) -> Result<(), SqlFault> {
         let is_concurrent = self.cursor.eat("concurrently");
         let may_exist = self.eat_if_exists();

@@ -106,7 +106,7 @@ impl StatementReader {
         Ok(())
     }
 
-    /// Whether the type that comes next has a sequence, or an identity stands behind it.
+    /// Whether the type that comes next has a sequence, or an identity comes after it.
     pub fn is_serial(&mut self) -> bool {
         if self
             .cursor

@@ -6,11 +6,11 @@ use sql_locks::{Defect, SqlFault, WordKind};
 #[derive(Debug, Drop)]
 pub struct SqlWord {
     pub kind: WordKind,
-    /// The word as it stands.
+    /// The word as it is written.
     pub text: String,
     /// The line on which it begins, from 1.
     pub line: usize,
-    /// How many bytes of the text stand before it.
+    /// How many bytes of the text come before the word.
     pub from: usize,
 }
 
@@ -59,7 +59,7 @@ pub struct Cursor {
 }
 
 impl Cursor {
-    /// The word that comes `ahead` words behind the next one.
+    /// The word that comes `ahead` words after the next one.
     pub fn ahead(&self, ahead: usize) -> Option<&SqlWord> {
         self.words.get(self.place.saturating_add(ahead))
     }
@@ -69,12 +69,12 @@ impl Cursor {
         self.place >= self.words.len()
     }
 
-    /// Goes on behind the next word.
+    /// Goes on after the next word.
     pub fn advance(&mut self) {
         self.place = self.place.saturating_add(1);
     }
 
-    /// Whether the word that comes `ahead` words behind the next one is this key word.
+    /// Whether the word that comes `ahead` words after the next one is this key word.
     pub fn is_ahead(&self, ahead: usize, key_word: &str) -> bool {
         match self.ahead(ahead) {
             Some(word) => word.is_key_word(key_word),
@@ -105,7 +105,7 @@ impl Cursor {
         }
     }
 
-    /// Passes the next word where it is `key_word`, and tells whether it is.
+    /// Passes the next word where it is `key_word`, and answers whether it is.
     pub fn eat(&mut self, key_word: &str) -> bool {
         let found = self.is_at(key_word);
         if found {
@@ -114,7 +114,7 @@ impl Cursor {
         found
     }
 
-    /// Passes `key_words` where they come next, and tells whether they do.
+    /// Passes `key_words` where they come next, and answers whether they do.
     pub fn eat_all(&mut self, key_words: &[&str]) -> bool {
         let found = self.are_ahead(0, key_words);
         if found {
@@ -123,7 +123,7 @@ impl Cursor {
         found
     }
 
-    /// Whether the word that comes `ahead` words behind the next one is this mark.
+    /// Whether the word that comes `ahead` words after the next one is this mark.
     pub fn is_mark_ahead(&self, ahead: usize, mark: &str) -> bool {
         match self.ahead(ahead) {
             Some(word) => word.is_mark(mark),
@@ -136,7 +136,7 @@ impl Cursor {
         self.is_mark_ahead(0, mark)
     }
 
-    /// Passes the next word where it is `mark`, and tells whether it is.
+    /// Passes the next word where it is `mark`, and answers whether it is.
     pub fn eat_mark(&mut self, mark: &str) -> bool {
         let found = self.is_mark(mark);
         if found {
@@ -145,7 +145,7 @@ impl Cursor {
         found
     }
 
-    /// Goes on behind a star, where one comes next.
+    /// Goes on after a star, where one comes next.
     pub fn eat_star(&mut self) {
         if self.is_star() {
             self.advance();
@@ -183,7 +183,7 @@ impl Cursor {
         self.is_at_end() || self.is_mark(",") || self.is_mark(")")
     }
 
-    /// Goes on after the next `key_word` outside all parentheses, and tells whether there is one. Where there is none,
+    /// Goes on after the next `key_word` outside all parentheses, and answers whether there is one. Where there is none,
     /// it goes on to the statement's end.
     pub fn skip_to(&mut self, key_word: &str) -> bool {
         for _ in 0..self.words.len() {
@@ -198,7 +198,7 @@ impl Cursor {
         self.eat(key_word)
     }
 
-    /// Goes on behind the next word, or behind all that stands in parentheses where it opens some.
+    /// Goes on after the next word, or after all that is in parentheses where that word opens some.
     pub fn skip(&mut self) {
         let mut depth = 0usize;
         for _ in 0..self.words.len() {
@@ -239,7 +239,7 @@ impl Cursor {
         false
     }
 
-    /// Whether these key words come one after another, from the word on that comes `ahead` words behind the next one.
+    /// Whether these key words come one after another, from the word on that comes `ahead` words after the next one.
     fn are_ahead(&self, ahead: usize, key_words: &[&str]) -> bool {
         for (place, key_word) in key_words.iter().enumerate() {
             if !self.is_ahead(ahead.saturating_add(place), key_word) {
@@ -249,7 +249,7 @@ impl Cursor {
         true
     }
 
-    /// Where the name stands that comes next, and goes on behind it: names joined by points. None where no name comes.
+    /// The place of the name that comes next, after which it goes on: names joined by points. None where no name comes.
     pub fn name(&mut self) -> Option<NamePlace> {
         let begin = self.place;
         if !self.is_name_ahead(0) {
@@ -269,7 +269,7 @@ impl Cursor {
         })
     }
 
-    /// Whether the word that comes `ahead` words behind the next one can be a name.
+    /// Whether the word that comes `ahead` words after the next one can be a name.
     pub fn is_name_ahead(&self, ahead: usize) -> bool {
         match self.ahead(ahead) {
             Some(word) => word.is_name(),

@@ -30,7 +30,7 @@ fn drop_form(kind: RelationKind) -> Form {
 }
 
 impl StatementReader {
-    /// Reads what stands behind `DROP`.
+    /// Reads what comes after `DROP`.
     pub fn read_drop_of(&mut self) -> Result<(), SqlFault> {
         self.cursor.eat("foreign");
         let form = if self.cursor.eat("table") {
@@ -53,7 +53,7 @@ impl StatementReader {
         self.read_dropped(form)
     }
 
-    /// Reads what stands behind the `DROP` of something that is no relation.
+    /// Reads what comes after the `DROP` of something that is no relation.
     fn read_drop_of_other(&mut self) -> Result<(), SqlFault> {
         if self.cursor.eat("trigger") {
             return self.read_drop_attached(Form::DropTrigger, &TRIGGERS);

@@ -12,7 +12,7 @@ pub struct IndexWords {
     pub columns: Vec<String>,
     /// All names that its definition has.
     pub names: Vec<String>,
-    /// What the server puts behind the name that it makes itself.
+    /// What the server puts after the name that it makes itself.
     pub suffix: &'static str,
     /// The index of the partitioned table that it is to be a part of.
     pub whole: Option<usize>,
@@ -176,7 +176,7 @@ impl StatementReader {
         Ok(())
     }
 
-    /// Has an index of a partition that is like these words be a part of the index `whole`, and tells whether there is one.
+    /// Has an index of a partition that is like these words be a part of the index `whole`, and answers whether there is one.
     fn take_index(&mut self, partition: usize, words: &IndexWords, whole: usize) -> bool {
         for of in self.belongings.indexes.iter_mut() {
             if of.table == partition

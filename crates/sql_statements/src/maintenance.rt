@@ -4,7 +4,7 @@ use crate::reader::StatementReader;
 use sql_locks::{Defect, Form, RelationKind, SqlFault};
 
 impl StatementReader {
-    /// Reads a statement of maintenance, or one that locks or empties tables, and tells whether this is one.
+    /// Reads a statement of maintenance, or one that locks or empties tables, and answers whether this is one.
     pub fn read_maintenance(&mut self) -> Result<bool, SqlFault> {
         if self.cursor.eat("truncate") {
             self.read_truncate()?;
@@ -38,7 +38,7 @@ impl StatementReader {
         Ok(true)
     }
 
-    /// Reads what stands behind `TRUNCATE`.
+    /// Reads what comes after `TRUNCATE`.
     fn read_truncate(&mut self) -> Result<(), SqlFault> {
         self.cursor.eat("table");
         let form = if self.cursor.has("cascade") {
@@ -62,13 +62,13 @@ impl StatementReader {
         Ok(())
     }
 
-    /// Goes on behind the star of a table and a comma, and tells whether a comma came.
+    /// Goes on after the star of a table and a comma, and answers whether a comma came.
     fn goes_on(&mut self) -> bool {
         self.cursor.eat_star();
         self.cursor.eat_mark(",")
     }
 
-    /// Reads what stands behind `LOCK`.
+    /// Reads what comes after `LOCK`.
     fn read_lock(&mut self) -> Result<(), SqlFault> {
         self.cursor.eat("table");
         let form = self.lock_form()?;
@@ -84,7 +84,7 @@ impl StatementReader {
         Ok(())
     }
 
-    /// The form of the mode behind `IN`.
+    /// The form of the mode after `IN`.
     fn lock_form(&mut self) -> Result<Form, SqlFault> {
         let begin = self.cursor.place;
         if !self.cursor.skip_to("in") {
@@ -125,7 +125,7 @@ impl StatementReader {
         }
     }
 
-    /// Reads what stands behind `COPY`.
+    /// Reads what comes after `COPY`.
     fn read_copy(&mut self) -> Result<(), SqlFault> {
         if self.cursor.eat_mark("(") {
             return self.read_query(Form::Select);
@@ -143,7 +143,7 @@ impl StatementReader {
         Ok(())
     }
 
-    /// Reads the statement behind `EXPLAIN`.
+    /// Reads the statement after `EXPLAIN`.
     fn read_explained(&mut self) -> Result<(), SqlFault> {
         self.is_planned = !self.eat_explain_options();
         if self.is_query() {
@@ -159,7 +159,7 @@ impl StatementReader {
         Err(self.fault_at(0, Defect::UnknownStatement))
     }
 
-    /// Goes on behind the options of `EXPLAIN`, and tells whether the statement is run.
+    /// Goes on after the options of `EXPLAIN`, and answers whether the statement is run.
     fn eat_explain_options(&mut self) -> bool {
         let mut runs = false;
         if self.cursor.is_mark("(") && !self.cursor.is_ahead(1, "select") {
@@ -181,7 +181,7 @@ impl StatementReader {
         runs
     }
 
-    /// Reads what stands behind `VACUUM`.
+    /// Reads what comes after `VACUUM`.
     fn read_vacuum(&mut self) -> Result<(), SqlFault> {
         let mut is_full = false;
         if self.cursor.eat_mark("(") {
@@ -260,7 +260,7 @@ impl StatementReader {
         Ok(())
     }
 
-    /// Reads what stands behind `CLUSTER`. Which tables were clustered before is not known.
+    /// Reads what comes after `CLUSTER`. Which tables were clustered before is not known.
     fn read_cluster(&mut self) -> Result<(), SqlFault> {
         if self.cursor.is_mark("(") {
             self.cursor.skip();
@@ -272,7 +272,7 @@ impl StatementReader {
         self.read_tables(Form::Cluster)
     }
 
-    /// Reads what stands behind `REINDEX`.
+    /// Reads what comes after `REINDEX`.
     fn read_reindex(&mut self) -> Result<(), SqlFault> {
         if self.cursor.is_mark("(") {
             self.cursor.skip();
@@ -294,7 +294,7 @@ impl StatementReader {
         self.read_named(form)
     }
 
-    /// Reads what stands behind `REINDEX` of more than a table. The tables of a schema alone are not known.
+    /// Reads what comes after `REINDEX` of more than a table. The tables of a schema alone are not known.
     fn read_reindex_of_all(&mut self) -> Result<(), SqlFault> {
         if !self.cursor.eat("database") {
             return Err(self.fault_at(0, Defect::UnknownStatement));
@@ -305,7 +305,7 @@ impl StatementReader {
         self.act_on_all(Form::ReindexTable)
     }
 
-    /// Reads what stands behind `REFRESH`.
+    /// Reads what comes after `REFRESH`.
     fn read_refresh(&mut self) -> Result<(), SqlFault> {
         self.cursor.eat_all(&["materialized", "view"]);
         let form = if self.cursor.eat("concurrently") {
@@ -318,7 +318,7 @@ impl StatementReader {
         self.read_named(form)
     }
 
-    /// Reads what stands behind `COMMENT`.
+    /// Reads what comes after `COMMENT`.
     fn read_comment(&mut self) -> Result<(), SqlFault> {
         self.cursor.eat("on");
         self.cursor.eat("materialized");

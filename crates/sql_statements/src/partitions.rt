@@ -4,7 +4,7 @@ use crate::reader::{Change, StatementReader};
 use sql_locks::{Form, LinkKind, SqlFault};
 
 impl StatementReader {
-    /// Reads a form that attaches a partition to `table` or detaches one, and tells whether it is one.
+    /// Reads a form that attaches a partition to `table` or detaches one, and answers whether it is one.
     pub fn read_partitions(&mut self, table: usize) -> Result<bool, SqlFault> {
         if self.cursor.eat_all(&["attach", "partition"]) {
             if let Some(partition) = self.relation()? {
@@ -53,7 +53,7 @@ impl StatementReader {
         Ok(())
     }
 
-    /// Reads a form that gives `table` a parent or takes one away, and tells whether it is one.
+    /// Reads a form that gives `table` a parent or takes one away, and answers whether it is one.
     pub fn read_parent(&mut self, table: usize) -> Result<bool, SqlFault> {
         if self.cursor.eat("inherit") {
             if let Some(parent) = self.relation()? {
@@ -72,7 +72,7 @@ impl StatementReader {
         Ok(false)
     }
 
-    /// Reads the index behind `ATTACH PARTITION`, which is to be a part of the index `whole`.
+    /// Reads the index after `ATTACH PARTITION`, which is to be a part of the index `whole`.
     pub fn read_attached_index(&mut self, whole: usize) -> Result<(), SqlFault> {
         let Some(part) = self.relation()? else {
             return Ok(());

@@ -27,7 +27,7 @@ struct Query {
     readings: Vec<Reading>,
     /// The places of the names of common table expressions.
     expressions: Vec<usize>,
-    /// Whether the next relation is behind `ONLY`.
+    /// Whether the next relation comes after `ONLY`.
     is_only: bool,
 }
 
@@ -133,7 +133,7 @@ impl Query {
             return Ok(());
         }
         if !reader.cursor.is_name_ahead(0) {
-            // The commands of a rule stand one behind another.
+            // The commands of a rule stand one after another.
             if reader.cursor.is_semicolon() {
                 self.level = Level::new(self.readings.len());
             }

@@ -42,7 +42,7 @@ pub enum Control {
 }
 
 /// An advisory lock that a statement takes or gives back: the places of the function and of its keys among the words. Of a function that gives
-/// all back `first` is the place behind its parenthesis.
+/// all back `first` is the place after its parenthesis.
 #[derive(Clone, Copy, Debug)]
 pub struct Advisory {
     pub function: usize,
@@ -308,7 +308,7 @@ impl StatementReader {
         }
     }
 
-    /// Goes on behind `IF EXISTS` or `IF NOT EXISTS`, and tells whether it comes next.
+    /// Goes on after `IF EXISTS` or `IF NOT EXISTS`, and answers whether it comes next.
     pub fn eat_if_exists(&mut self) -> bool {
         self.cursor.eat_all(&["if", "exists"]) || self.cursor.eat_all(&["if", "not", "exists"])
     }

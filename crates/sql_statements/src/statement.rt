@@ -64,7 +64,7 @@ impl StatementReader {
             || cursor.is_mark_ahead(0, "(")
     }
 
-    /// Reads a statement that begins or ends a transaction or a part of one, and tells whether this is one.
+    /// Reads a statement that begins or ends a transaction or a part of one, and answers whether this is one.
     fn read_control(&mut self) -> bool {
         let cursor = &self.cursor;
         let control = if cursor.is_at_one(&["begin", "start"]) {
@@ -88,7 +88,7 @@ impl StatementReader {
         true
     }
 
-    /// Reads what stands behind `ALTER`.
+    /// Reads what comes after `ALTER`.
     fn read_alter(&mut self) -> Result<(), SqlFault> {
         self.cursor.eat("foreign");
         if self.cursor.eat("table") {
@@ -127,7 +127,7 @@ impl StatementReader {
         Err(self.fault_at(0, Defect::UnknownStatement))
     }
 
-    /// Reads what stands behind `ALTER TRIGGER`. Which extension a trigger goes with is written beside it, as a comment is.
+    /// Reads what comes after `ALTER TRIGGER`. Which extension a trigger goes with is written beside it, as a comment is.
     fn read_alter_trigger(&mut self) -> Result<(), SqlFault> {
         if self.cursor.has("depends") {
             return self.read_on_table(Form::CommentOnConstraint);
@@ -155,7 +155,7 @@ impl StatementReader {
         Ok(())
     }
 
-    /// Reads what stands behind `ALTER INDEX`.
+    /// Reads what comes after `ALTER INDEX`.
     fn read_alter_index(&mut self) -> Result<(), SqlFault> {
         let may_miss = self.eat_if_exists();
         let Some(index) = self.relation_or_none(may_miss)? else {
@@ -180,7 +180,7 @@ impl StatementReader {
         Ok(())
     }
 
-    /// Reads what stands behind `ALTER SEQUENCE`.
+    /// Reads what comes after `ALTER SEQUENCE`.
     fn read_alter_sequence(&mut self) -> Result<(), SqlFault> {
         let may_miss = self.eat_if_exists();
         let Some(sequence) = self.relation_or_none(may_miss)? else {

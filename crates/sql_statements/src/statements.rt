@@ -15,12 +15,12 @@ pub struct SqlStatement {
     pub words: Vec<SqlWord>,
     /// The line on which it begins, from 1.
     pub line: usize,
-    /// How many bytes of the text stand before it, and before its end.
+    /// How many bytes of the text come before the statement, and before its end.
     pub from: usize,
     pub to: usize,
 }
 
-/// The statements of `text`, without those that have no word. The rows behind `COPY .. FROM stdin` are left out.
+/// The statements of `text`, without those that have no word. The rows after `COPY .. FROM stdin` are left out.
 pub fn split_statements(alloc: Global, text: &[u8]) -> Result<Vec<SqlStatement>, SqlFault>
     ensures nothing_lost { IfOk result (λ statements. AreStatementsOf text.now statements.items) }
     ensures lines { IfOk result (λ statements. All IsPlaced statements.items) }
@@ -183,7 +183,7 @@ impl Parted {
         }
     }
 
-    /// Ends the last statement, where no semicolon stands behind it.
+    /// Ends the last statement, where no semicolon comes after it.
     fn finish(&mut self, alloc: Global) -> Result<(), SqlFault>
         ensures said { OnOk result (kept_of_all self.new.statements.items ≡ gathered self.old) }
         ensures lines { OnOk result (All IsPlaced self.old.statements.items → All IsPlaced self.new.statements.items) }

@@ -1,4 +1,4 @@
-//! What an object's queue has in it, and who stands in the way of one that waits there. Each function here only reads.
+//! What an object's queue has in it, and who is in the way of one that waits there. Each function here only reads.
 
 ghost use Rattle.std.specs.Prelude.{◌≡◌, ◌≤◌, ◌&&◌, ◌∷◌, ◌++◌, [], true, if◌then◌else◌, length, map, take, option_map, Some, None, IfOk, IfSome, IfNone, OnOk};
 ghost use Rattle.modes_core.specs.ModeSet.{set_has};
@@ -14,7 +14,7 @@ use std::alloc::Global;
 /// A session in the way of another one that waits, with the mode by which it is.
 #[derive(Clone, Copy, Debug, PartialEq, Eq)]
 pub struct Blocker {
-    /// Who stands in the way.
+    /// The session that is in the way.
     pub session: SessionId,
     /// The mode by which `session` is in the way.
     pub mode: Mode,

@@ -116,7 +116,7 @@ impl LocalTable {
         ensures no_other { IfErr result (λ refusal.
             (refusal ≡ Refusal.CountFull) ⊎ ((refusal ≡ Refusal.LocalFull) ⊎ (refusal ≡ Refusal.NoMemory))) }
 
-        // What stands after it, whatever the answer.
+        // What holds after the call, whatever the answer.
         ensures grows { self.new.slots ≢ self.old.slots → IsCrowded self.old.slots self.old.entries }
         ensures entries { self.new.entries ≡ self.old.entries }
         ensures outer { self.new.outer ≡ self.old.outer }
@@ -149,7 +149,7 @@ impl LocalTable {
         ensures no_memory { IsErrOf result Refusal.NoMemory → self.old.room ≡ 0 }
         ensures no_other { IfErr result (λ refusal. (refusal ≡ Refusal.LocalFull) ⊎ (refusal ≡ Refusal.NoMemory)) }
 
-        // What stands after it, whatever the answer.
+        // What holds after the call, whatever the answer.
         ensures grows { self.new.slots ≢ self.old.slots → IsCrowded self.old.slots self.old.entries }
         ensures entries { self.new.entries ≡ self.old.entries }
         ensures outer { self.new.outer ≡ self.old.outer }

@@ -1,4 +1,4 @@
-//! What a waiting session tells of its own wait.
+//! What a waiting session sees of its own wait.
 
 ghost use Rattle.std.specs.Prelude.{◌≡◌, IfOk, IsOkUnless};
 ghost use Rattle.modes_core.specs.ModeSet.{set_has};
@@ -57,14 +57,14 @@ impl<T: PartTable, B: Board<T>> OwnWaiting<T, B> {
     /// it was granted meanwhile. The answer is of one episode in the object's partition, which changes nothing. Only
     /// the list of the answer takes memory; refused where that runs out.
     pub fn blockers<R: Wait>(&mut self, rt: &R) -> Result<Vec<Blocker>, Refusal>
-        // What it is answered.
+        // What the call answers.
         ensures looked { LooksAt (λ taken. IfOk result (λ found.
             AreBlockers self.old.tag (B.seat self.old.board).number found.items taken))
             (B.view self.old.board).trace self.old.tag (B.view self.new.board).trace }
         ensures quiet { B.quiet self.new.board ≡ B.quiet self.old.board }
         ensures no_memory { IsOkUnless result Refusal.NoMemory }
 
-        // What stands after it.
+        // What holds after the call.
         ensures waiting { WaitsOn B.seat B.view B.stack self.old self.new }
     {
         blockers_of_own(rt, &mut self.board, &self.own, self.tag, self.mode)
@@ -74,13 +74,13 @@ impl<T: PartTable, B: Board<T>> OwnWaiting<T, B> {
     /// another session has it. The session isn't in it where it was granted meanwhile. The answer is of one episode in the object's
     /// partition, which changes nothing. Only the list of the answer takes memory; refused where that runs out.
     pub fn queue<R: Wait>(&mut self, rt: &R) -> Result<Vec<QueueRow>, Refusal>
-        // What it is answered.
+        // What the call answers.
         ensures looked { LooksAt (λ taken. IfOk result (λ rows. IsQueue self.old.tag rows.items taken))
             (B.view self.old.board).trace self.old.tag (B.view self.new.board).trace }
         ensures quiet { B.quiet self.new.board ≡ B.quiet self.old.board }
         ensures no_memory { IsOkUnless result Refusal.NoMemory }
 
-        // What stands after it.
+        // What holds after the call.
         ensures waiting { WaitsOn B.seat B.view B.stack self.old self.new }
     {
         queue_of_own(rt, &mut self.board, &self.own, self.tag, self.mode)

@@ -7,7 +7,7 @@ use sql_locks::{Defect, Form, SqlFault};
 use std::alloc::AllocError;
 
 impl Query {
-    /// Reads in `reader` the first word of a statement or a query, with the relation that it changes, and tells whether
+    /// Reads in `reader` the first word of a statement or a query, with the relation that it changes, and answers whether
     /// this is one.
     pub(super) fn read_verb(&mut self, reader: &mut StatementReader) -> Result<bool, SqlFault> {
         if reader.cursor.eat("select") {
