@@ -7,7 +7,7 @@ pub struct Level {
     pub is_fresh: bool,
     /// Whether a query stands there, so that `FROM` names relations.
     pub is_query: bool,
-    /// Whether the words are those of a list after `FROM`.
+    /// Whether the words are those of a list behind `FROM`.
     pub is_in_from: bool,
     /// Whether a relation comes next.
     pub expects_relation: bool,
@@ -45,7 +45,7 @@ impl Level {
     }
 }
 
-/// The key words that end a list after `FROM`.
+/// The key words that end a list behind `FROM`.
 pub static ENDS_OF_FROM: [&str; 14] = [
     "where",
     "group",
@@ -63,7 +63,7 @@ pub static ENDS_OF_FROM: [&str; 14] = [
     "set",
 ];
 
-/// The key words after a relation that are not another name for it.
+/// The key words behind a relation that are not another name for it.
 pub static NO_ALIASES: [&str; 18] = [
     "join",
     "inner",
