@@ -71,7 +71,7 @@ impl fmt::Display for Ratio {
 }
 
 impl Figures {
-    /// How many times its floor it took, by the medians; where there is no floor, `untold` is written.
+    /// How many times the time of its floor the row took, by the medians; where there is no floor, `untold` is written.
     fn to_floor(&self, untold: &'static str) -> Ratio {
         Ratio {
             part: self.time.median,
@@ -89,7 +89,7 @@ impl Figures {
         }
     }
 
-    /// The longest of its three times, by the medians.
+    /// The longest of the three times: of the row, of its floor and of the map, by the medians.
     fn longest(&self) -> u64 {
         self.time
             .median

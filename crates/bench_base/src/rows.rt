@@ -7,7 +7,7 @@ use std::io;
 /// How many steps a round of a row has, at least.
 pub const STEPS: u32 = 100_000;
 
-/// Of how many of these steps one is made where nothing is timed.
+/// Of how many steps of a round one is made where nothing is timed.
 const STEPS_FOR_CHECKED: u32 = 100;
 
 /// A row of a table of times.

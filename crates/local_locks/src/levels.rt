@@ -15,7 +15,7 @@ use std::mem::replace;
 /// How many levels a transaction may have at most, the first one and those within it.
 pub const MOST_LEVELS: u8 = 16;
 
-/// How many of them may be within the first.
+/// How many levels of a transaction may be within the first one.
 pub(crate) const MOST_INNER: u8 = MOST_LEVELS - 1;
 
 /// What the transaction had of an entry when each inner level began, the first one first, up to the last that has

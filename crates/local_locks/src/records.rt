@@ -9,9 +9,9 @@ use modes_core::{Mode, Owner, Tag};
 pub struct Entry {
     pub tag: Tag,
     pub mode: Mode,
-    /// How often for the transaction.
+    /// How often the session has the mode for its transaction.
     pub transaction: u16,
-    /// How often for the session.
+    /// How often the session has the mode for itself.
     pub session: u16,
 }
 
@@ -53,7 +53,7 @@ impl Entry {
         u32::from(self.transaction) + u32::from(self.session)
     }
 
-    /// Whether it has a count.
+    /// Whether the entry has a count, of the transaction or of the session.
     #[inline(always)]
     pub(crate) fn is_held(&self) -> bool
         ensures { IsTrue result ↔ (count_in_all self.now ≢ 0) }

@@ -96,7 +96,7 @@ pub struct Wanted<'a> {
 /// A workload that is made alone, without timing it.
 #[derive(Clone, Copy)]
 pub struct Alone<'a> {
-    /// The word that names it.
+    /// The word that names the workload.
     pub workload: &'a str,
     pub steps: u32,
 }

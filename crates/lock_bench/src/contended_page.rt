@@ -54,7 +54,7 @@ static LISTINGS: [Work; 1] = [Work {
     acquires: 4_800,
 }];
 
-/// How often it is taken where nothing is timed.
+/// How often all threads together take something in a round where nothing is timed.
 const CHECKED: u32 = 640;
 
 /// How many rounds there are, of which the one in the middle is printed.

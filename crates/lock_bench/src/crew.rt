@@ -20,7 +20,7 @@ pub struct Job {
     pub keys: Vec<Vec<Key>>,
     pub owner: Owner,
     pub laps: u32,
-    /// What it takes in one thread, once that was timed.
+    /// How long the job takes in one thread, once that was timed.
     pub alone: Option<Spread>,
 }
 

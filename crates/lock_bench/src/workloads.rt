@@ -24,7 +24,7 @@ const FEW: u32 = 10;
 /// What is timed with a manager of its own.
 #[derive(Clone, Copy)]
 struct Workload {
-    /// What names it where it is made alone.
+    /// The word that names the workload where it is made alone.
     word: &'static str,
     name: &'static str,
     work: Work,
@@ -145,7 +145,7 @@ impl Workload {
         }
     }
 
-    /// What its manager is made for.
+    /// The size of the workload's manager.
     fn size(&self) -> Size {
         Size {
             crowd: self.crowd,

@@ -6,10 +6,10 @@ use lock_manager::Tag;
 use std::sync::atomic::{AtomicU64, Ordering};
 use std::thread;
 
-/// The database that its sessions work in.
+/// The database that the bank's sessions work in.
 pub const DATABASE: u32 = 5;
 
-/// The table of its accounts. Its rows are objects of a class of the same number.
+/// The table of the bank's accounts. Its rows are objects of a class of the same number.
 pub const ACCOUNTS: Tag = Tag::Relation {
     database: DATABASE,
     relation: CLASS,
@@ -17,7 +17,7 @@ pub const ACCOUNTS: Tag = Tag::Relation {
 
 const CLASS: u32 = 16_384;
 
-/// How many accounts it has.
+/// How many accounts the bank has.
 pub const MANY: usize = 8;
 
 /// What each of them has at first.

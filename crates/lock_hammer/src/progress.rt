@@ -92,7 +92,7 @@ struct Line<'a, E> {
     writer: &'a mut E,
     /// The moment when the rounds began.
     begun: Instant,
-    /// When it was written last, or else the rounds began.
+    /// The moment when the line was written last, or else the rounds began.
     written: Instant,
     is_written: bool,
 }

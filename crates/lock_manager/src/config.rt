@@ -12,7 +12,7 @@ pub const MOST_GROUPS: u32 = 8;
 /// How large a manager is.
 #[derive(Clone, Copy, Debug, PartialEq, Eq)]
 pub struct Config {
-    /// How many sessions it may open over its life, 1 to 64 (`max_connections`).
+    /// How many sessions the manager may open over its life, 1 to 64 (`max_connections`).
     pub sessions: u32,
     /// How many local entries each may have, 1 to 65,536.
     pub max_local: u32,

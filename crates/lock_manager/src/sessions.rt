@@ -155,7 +155,7 @@ impl<T: PartTable, B: Board<T>> OwnSession<T, B> {
         self.board.number()
     }
 
-    /// The database that it was opened for.
+    /// The database that the session was opened for.
     pub fn database(&self) -> u32
         ensures { result ≡ self.now.database }
     {

@@ -20,7 +20,7 @@ pub struct LockRecord {
     pub holders: Holders,
     pub granted: Tally,
     pub awaited: Tally,
-    /// Where its queue record is, while somebody awaits it.
+    /// The place of the object's queue record, while somebody awaits the object.
     pub queue: usize,
 }
 

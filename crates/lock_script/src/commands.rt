@@ -38,11 +38,11 @@ pub struct CommandRow {
     pub kinds: &'static [WordKind],
     /// The words after the verb, as a help names them.
     pub form: &'static str,
-    /// What it does, as a help says it.
+    /// What the command does, as a help says it.
     pub help: &'static str,
     /// What stands of that on a line of its own, or nothing.
     pub help_below: &'static str,
-    /// Whether it only looks: all sessions and locks are as they were.
+    /// Whether the command only looks: all sessions and locks are as they were.
     pub looks: bool,
     /// Whether the session that calls it may come to wait.
     pub may_wait: bool,

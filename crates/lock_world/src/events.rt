@@ -97,7 +97,7 @@ pub enum Step {
     MarkGranted {
         /// The session whose wait was granted.
         other: SessionId,
-        /// The move that granted it.
+        /// The move that granted the wait.
         done: Move,
     },
     /// Clear the session's own wait word: the wait is over, and what was granted is the session's own from then on.

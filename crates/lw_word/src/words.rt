@@ -18,7 +18,7 @@ pub enum LwMode {
 }
 
 impl LwMode {
-    /// Whether it is the mode in which many hold the lock at a time.
+    /// Whether this is the shared mode, in which many hold the lock at a time.
     pub fn is_shared(self) -> bool
         ensures { result ≡ is_shared self }
     {

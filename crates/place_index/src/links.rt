@@ -35,7 +35,7 @@ impl Link {
         Link { hash, next }
     }
 
-    /// Whether its place is noted.
+    /// Whether the link's place is noted.
     #[inline(always)]
     pub(crate) fn is_noted(self) -> bool
         ensures { result ≡ is_noted self }
@@ -43,7 +43,7 @@ impl Link {
         self.next != FREE
     }
 
-    /// The hash that its place is noted under.
+    /// The hash under which the link's place is noted.
     #[inline(always)]
     pub(crate) fn hash(self) -> u32
         ensures { result ≡ self.hash }

@@ -20,7 +20,7 @@ fn take() -> Step {
     }
 }
 
-/// The step that puts it back with a grant.
+/// The step that puts the relation's partition back with a grant.
 fn put() -> Step {
     Step::PutExclusive {
         word: Word::Partition(RELATION.partition()),

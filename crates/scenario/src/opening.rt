@@ -7,7 +7,7 @@ use std::io::{ErrorKind, Read};
 /// How many bytes of a script are looked at for its first command.
 const MOST_BYTES: usize = 65536;
 
-/// How often they are read, with reads that a signal interrupts.
+/// How many reads there are of these bytes at most, those included that a signal interrupts.
 const MOST_READS: u32 = 1_000_000;
 
 /// How many bytes a read asks for.

@@ -43,7 +43,7 @@ struct Queue {
     waiters: Vec<SessionId>,
 }
 
-/// Who waits for what, and for whom.
+/// A picture of who waits for what, and for whom.
 #[derive(Drop)]
 pub struct Picture {
     pen: Pen,
@@ -65,7 +65,7 @@ impl Picture {
         }
     }
 
-    /// The language that it is drawn in.
+    /// The language that the picture is drawn in.
     pub fn drawing(&self) -> Drawing {
         self.pen.drawing
     }

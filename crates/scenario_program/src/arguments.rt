@@ -57,7 +57,8 @@ For more information, try '--help'.
 /// The subcommand that runs a script's lines in every order.
 const ORDERS: &str = "orders";
 
-/// How many orders it runs at most, and how many where the command line doesn't say, and as `--help` shows it.
+/// How many orders the subcommand `orders` runs at most, and how many where the command line doesn't say, and as
+/// `--help` shows it.
 const MOST_ORDERS: u32 = 1_000_000;
 
 const USUAL_ORDERS: u32 = 10_000;

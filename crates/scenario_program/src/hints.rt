@@ -197,7 +197,7 @@ fn nearest_to(
 struct Nearest {
     word: String,
     found: Option<String>,
-    /// How like it the word found is, or what a word has to be more than.
+    /// How like `word` the word found is, or else how like it a word has to be to be found.
     likeness: f64,
 }
 

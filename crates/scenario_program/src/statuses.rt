@@ -8,9 +8,9 @@ use std::alloc::{AllocError, Global};
 /// A status of the program.
 struct Status {
     number: u8,
-    /// What it says of a run.
+    /// What the status says of a run.
     of_run: &'static str,
-    /// What it says of each way to call the program.
+    /// What the status says of each way to call the program.
     of_program: &'static str,
 }
 

@@ -141,7 +141,7 @@ lock b 5/1 AccessExclusiveLock
 pub const LOOKED: &str = "session a 5\nsession b 5\n\
     lock a 5/1 ShareLock\n  queue a\t5/1 \nlock b 5/1 ExclusiveLock\n";
 
-/// What it sees makes two ways. In the third one it waits for a session that has no line left.
+/// What the session sees makes two ways. In the third one it waits for a session that has no line left.
 pub const LOOKED_AT: &str = "\
 # 3 orders run, of at most 3: 2 ended, 1 stuck
 

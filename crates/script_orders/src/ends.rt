@@ -102,9 +102,9 @@ impl Ways {
 /// How the orders of a script ended that were begun.
 #[derive(Drop)]
 pub struct Endings {
-    /// The ways of those that ran to their end.
+    /// The ways of the orders that ran to their end.
     ended: Ways,
-    /// The ways of those in which nobody who has lines left can go on.
+    /// The ways of the orders in which no session that has lines left can go on.
     stuck: Ways,
     /// How many were given up: others are run in their place.
     given_up: u32,

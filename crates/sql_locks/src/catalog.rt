@@ -77,7 +77,7 @@ impl Link {
 #[derive(Debug, Drop)]
 pub struct ForeignKey {
     pub name: String,
-    /// The table that has it, and the table that it refers to.
+    /// The table that has the foreign key, and the table that the key refers to.
     pub table: usize,
     pub referred: usize,
     /// The columns of both, where they were named.

@@ -236,7 +236,7 @@ pub struct FormRow {
     pub form: Form,
     /// The form as it is written.
     pub sql: &'static str,
-    /// What it locks, in the order of the server.
+    /// What the form locks, in the order of the server.
     pub parts: &'static [Part],
     pub work: Work,
     pub until: Until,

@@ -30,105 +30,105 @@ pub const FAMILY_INDEXES: Path = Path {
     hop: Hop::Indexes,
 };
 
-/// A relation with what it reads as a view, and with children and partitions.
+/// The path to the relation with what it reads as a view, and with children and partitions.
 pub const SOURCES: Path = Path {
     start: Start::Target,
     along: Along::Sources,
     hop: Hop::Stay,
 };
 
-/// The indexes of all that is read.
+/// The path to the indexes of all relations that `SOURCES` reaches.
 pub const SOURCES_INDEXES: Path = Path {
     start: Start::Target,
     along: Along::Sources,
     hop: Hop::Indexes,
 };
 
-/// A materialized view with what it is made of.
+/// The path to a materialized view with what it is made of.
 pub const STORED: Path = Path {
     start: Start::Target,
     along: Along::Stored,
     hop: Hop::Stay,
 };
 
-/// The indexes of a materialized view and of what it is made of.
+/// The path to the indexes of a materialized view and of what it is made of.
 pub const STORED_INDEXES: Path = Path {
     start: Start::Target,
     along: Along::Stored,
     hop: Hop::Indexes,
 };
 
-/// The indexes of the relation.
+/// The path to the indexes of the relation.
 pub const INDEXES: Path = Path {
     start: Start::Target,
     along: Along::Nothing,
     hop: Hop::Indexes,
 };
 
-/// The table of an index.
+/// The path from an index to its table.
 pub const TABLE: Path = Path {
     start: Start::Target,
     along: Along::Nothing,
     hop: Hop::Table,
 };
 
-/// The indexes of the other relation.
+/// The path to the indexes of the other relation.
 pub const OTHER_INDEXES: Path = Path {
     start: Start::Other,
     along: Along::Nothing,
     hop: Hop::Indexes,
 };
 
-/// The default partition of the other relation.
+/// The path to the default partition of the other relation.
 pub const OTHER_DEFAULT: Path = Path {
     start: Start::Other,
     along: Along::Nothing,
     hop: Hop::Default,
 };
 
-/// The default partition of the relation.
+/// The path to the default partition of the relation.
 pub const DEFAULT: Path = Path {
     start: Start::Target,
     along: Along::Nothing,
     hop: Hop::Default,
 };
 
-/// The index of the other relation's primary key.
+/// The path to the index of the other relation's primary key.
 pub const OTHER_KEY: Path = Path {
     start: Start::Other,
     along: Along::Nothing,
     hop: Hop::Key,
 };
 
-/// The sequences of the relation's columns.
+/// The path to the sequences of the relation's columns.
 pub const OWNED: Path = Path {
     start: Start::Target,
     along: Along::Nothing,
     hop: Hop::Owned,
 };
 
-/// The tables that the relation refers to.
+/// The path to the tables that the relation refers to.
 pub const REFERRED: Path = Path {
     start: Start::Target,
     along: Along::Nothing,
     hop: Hop::Referred,
 };
 
-/// The tables that refer to the relation.
+/// The path to the tables that refer to the relation.
 pub const REFERRING: Path = Path {
     start: Start::Target,
     along: Along::Nothing,
     hop: Hop::Referring,
 };
 
-/// The relation with all that refer to it, and so on.
+/// The path to the relation with all that refer to it, and so on.
 pub const REFERRING_ALL: Path = Path {
     start: Start::Target,
     along: Along::Referring,
     hop: Hop::Stay,
 };
 
-/// The indexes of all these referring tables.
+/// The path to the indexes of the relation and of all that refer to it, and so on.
 pub const REFERRING_ALL_INDEXES: Path = Path {
     start: Start::Target,
     along: Along::Referring,

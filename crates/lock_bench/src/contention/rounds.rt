@@ -67,10 +67,10 @@ impl Taken {
 #[derive(Drop)]
 pub struct Round {
     pub job: Job,
-    /// How many of them have come, and how many have ended.
+    /// How many threads have come, and how many have ended.
     came: AtomicU64,
     ended: AtomicU64,
-    /// What those took that have ended.
+    /// What those threads took that have ended.
     taken: Mutex<Taken>,
 }
 

@@ -23,14 +23,14 @@ impl<T: PartTable, B: Board<T>> OwnWaiting<T, B> {
         self.board.number()
     }
 
-    /// The object that it waits for.
+    /// The object that the session waits for.
     pub fn tag(&self) -> Tag
         ensures { result ≡ self.now.tag }
     {
         self.tag
     }
 
-    /// The mode that it waits for.
+    /// The mode that the session waits for.
     pub fn mode(&self) -> Mode
         ensures { result ≡ self.now.mode }
     {

@@ -72,7 +72,7 @@ impl Plain {
         self.waits.as_slice()
     }
 
-    /// Who waits for which lightweight lock, in the order of joining: those of one lock are its wait list.
+    /// Which session waits for which lightweight lock, in the order of joining: those of one lock are its wait list.
     pub fn sleepers(&self) -> &[Sleeper]
         ensures { result.now ≡ listed_sleepers self.now }
     {

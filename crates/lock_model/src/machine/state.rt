@@ -22,7 +22,7 @@ pub struct Numbers {
     pub groups: u8,
     /// Whether the session of this number is open.
     pub live: [bool; 64],
-    /// The session that keeps this one apart, if any.
+    /// Of each session the one that keeps it apart, if any.
     pub kept_by: [Option<SessionId>; 64],
 }
 
@@ -123,7 +123,7 @@ pub struct CountedBy {
 pub struct Sleeper {
     /// The number of the lock.
     pub lock: u8,
-    /// Who waits, and how it wants to take the lock.
+    /// The session that waits, and how it wants to take the lock.
     pub waiter: LwWaiter,
 }
 
@@ -132,7 +132,7 @@ pub struct Sleeper {
 pub struct Lists {
     /// The sleep word of each session.
     pub sleep: [u8; 64],
-    /// Who waits for which lock, in the order of joining.
+    /// Which session waits for which lightweight lock, in the order of joining.
     pub sleepers: Vec<Sleeper>,
     /// The lock whose list each session has in hand.
     pub has_list: [Option<u8>; 64],

@@ -12,11 +12,11 @@ use modes_core::{Mode, ModeSet, Tag, conflicts};
 /// How far a walk along a queue came.
 #[derive(Clone, Copy)]
 pub struct Walk {
-    /// The waiter that ended it, or none where it passed the whole queue.
+    /// The waiter that ended the walk, or none where the walk passed the whole queue.
     pub met: Option<Waiter>,
-    /// How many waiters it passed.
+    /// How many waiters the walk passed.
     pub place: usize,
-    /// The modes that they await.
+    /// The modes that the passed waiters await.
     pub ahead: ModeSet,
 }
 

@@ -45,7 +45,7 @@ struct Shown {
     /// In which round of a race they are.
     round: u32,
     gate: Gate,
-    /// How many of them have ended.
+    /// How many of the two threads have ended.
     ended: AtomicU64,
     /// Whether the first one was the first to end.
     is_first_ahead: AtomicBool,

@@ -15,7 +15,7 @@ const LATE: u64 = 20_000;
 /// How many steps a thread pauses at most after a gate: some two microseconds.
 const STEPS: u64 = 2_048;
 
-/// How often it leaves its processor at most in some rounds, for each side in others, so that the other side is
+/// How often a thread leaves its processor at most in some rounds, for each side in others, so that the other side is
 /// woken and wins.
 const TURNS: u64 = 64;
 

@@ -13,7 +13,7 @@ use std::alloc::Global;
 use std::process::Abort;
 use std::sync::Wait;
 
-/// How many of its entries each session has in its slots.
+/// How many local entries each session has in its fast-path slots.
 const BY_SLOT: u32 = 16;
 
 /// How many sessions there are, and how many entries each has. Each takes more than its slots have room for.

@@ -395,7 +395,7 @@ pub struct List {
     pub sessions: u32,
     /// How many entries each session may have.
     pub max_local: u32,
-    /// How often they are played.
+    /// How often the turns are played.
     pub rounds: u32,
     pub turns: &'static [Turn],
 }

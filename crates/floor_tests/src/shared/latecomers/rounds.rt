@@ -77,7 +77,7 @@ fn mixed(seed: u64) -> u64 {
     mixed ^ mixed >> 27
 }
 
-/// The round that they are in.
+/// The rounds in which two sessions race for a lock: how far each of the two has got.
 #[derive(Drop)]
 pub struct Rounds {
     /// The last round in which the lock was held.
