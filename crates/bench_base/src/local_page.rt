@@ -11,7 +11,7 @@ use std::alloc::Global;
 use std::io;
 use std::time::CpuClock;
 
-/// How many entries are held.
+/// How many local entries the table holds in each part of the page.
 static SIZES: [u32; 4] = [10, 100, 1_000, 10_000];
 
 /// How many entries are held where nothing is timed.

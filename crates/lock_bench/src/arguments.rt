@@ -77,7 +77,7 @@ impl Page {
     }
 }
 
-/// What the words ask for.
+/// What the words after the program's name ask for.
 #[derive(Clone, Copy)]
 pub struct Wanted<'a> {
     /// Whether only a small fixed run is made, whose output has no times.

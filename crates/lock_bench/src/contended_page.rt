@@ -22,7 +22,7 @@ static OF_SESSIONS: [Case; 3] = [Case::OneObject, Case::OnePartition, Case::List
 /// The case that threads run without any session, under a standard mutex.
 static OF_MUTEX: [Case; 1] = [Case::Mutex];
 
-/// How many threads there are.
+/// How many threads contend, by the parts of the page.
 static THREADS: [u32; 4] = [2, 4, 16, 64];
 
 /// For how long something is held, and how often that is taken in a round by all threads together.

@@ -56,9 +56,9 @@ pub struct Job {
     pub database: u32,
     pub owner: Owner,
     pub threads: u32,
-    /// For how many nanoseconds each works while it has what it took.
+    /// For how many nanoseconds each thread works while it has what it took.
     pub work: u64,
-    /// How often each takes it.
+    /// How often each thread takes what the case says.
     pub laps: u32,
 }
 

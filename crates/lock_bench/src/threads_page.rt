@@ -34,7 +34,7 @@ static CASES: [Case; 4] = [
     Case::OneRelation,
 ];
 
-/// How many threads there are.
+/// How many threads lock and unlock, by the columns of the page.
 static THREADS: [u32; 3] = [1, 2, 4];
 
 /// How many objects a thread has of its own.

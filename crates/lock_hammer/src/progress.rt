@@ -16,7 +16,7 @@ pub trait Progress {
     /// A worker has played a round.
     fn count_round(&self);
 
-    /// No worker plays any more.
+    /// Is called once no worker plays any more.
     fn end(&self);
 }
 

@@ -5,6 +5,6 @@
 pub struct Hammer {
     /// How many sessions, each in a thread of its own.
     pub sessions: u32,
-    /// How many rounds each plays.
+    /// How many rounds each worker plays.
     pub rounds: u32,
 }

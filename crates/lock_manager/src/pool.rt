@@ -84,7 +84,7 @@ impl<T: PartTable, B: Board<T>> SessionPool<T, B> {
         }
     }
 
-    /// How many sessions nobody has.
+    /// How many sessions of the pool are free: no connection has them.
     pub fn free(&self) -> usize
         ensures { result ≡ length self.now.free }
     {

@@ -30,7 +30,7 @@ pub enum Begun {
     Granted,
     /// The session had the mode before, and has it once more.
     AlreadyHeld,
-    /// The session waits for it.
+    /// The session waits for the mode.
     Queued,
 }
 

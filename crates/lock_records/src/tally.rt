@@ -55,7 +55,7 @@ impl Tally {
         self.by_mode
     }
 
-    /// How many there are together.
+    /// How many there are of all modes together.
     pub fn total(&self) -> u16
         ensures value { result ≡ total_of (counts_in self.now) }
         ensures few { result ≤ 2295 }

@@ -53,7 +53,7 @@ impl Line {
 pub struct LineReader<R: Read> {
     /// The bytes that are left.
     pub source: ByteSource<R>,
-    /// How many lines were read.
+    /// How many lines of the script were read.
     pub number: u32,
     ghost counted: { number ≤ 1000000 },
 }

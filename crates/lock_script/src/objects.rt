@@ -39,7 +39,7 @@ impl Model for ObjectNames {
 }
 
 impl ObjectNames {
-    /// No object has a name.
+    /// Names of no object. Later ones take memory by `alloc`.
     pub fn new(alloc: Global) -> Self
         ensures { result ≡ [] }
     {

@@ -11,7 +11,7 @@ pub struct Request {
     pub session: SessionId,
     /// The object of the request.
     pub tag: Tag,
-    /// The mode.
+    /// The mode of the request.
     pub mode: Mode,
 }
 

@@ -10,7 +10,7 @@ pub struct TableRow {
     pub session: SessionId,
     /// The object that is held or awaited.
     pub tag: Tag,
-    /// The mode.
+    /// The mode that is held or awaited.
     pub mode: Mode,
     /// Whether `session` holds the object, and doesn't await it.
     pub granted: bool,
@@ -35,7 +35,7 @@ pub struct SlotRow {
     pub slot: u8,
     /// The relation that the slot has.
     pub tag: Tag,
-    /// The mode.
+    /// The mode that is held in the slot.
     pub mode: Mode,
 }
 

@@ -18,7 +18,7 @@ pub struct Labels {
 }
 
 impl Labels {
-    /// No object has a name.
+    /// Labels of objects of which none has a name.
     pub fn new(alloc: Global) -> Self {
         Labels {
             alloc,

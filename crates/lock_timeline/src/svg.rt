@@ -88,7 +88,7 @@ impl Timeline {
         x_of(last).saturating_add(GAP).max(NARROWEST)
     }
 
-    /// The step after all others.
+    /// The step after all steps of the timeline.
     pub(crate) fn last_step(&self) -> u32 {
         u32::try_from(self.steps.len()).unwrap_or(u32::MAX)
     }

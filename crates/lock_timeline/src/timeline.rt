@@ -243,7 +243,7 @@ impl Timeline {
         }
     }
 
-    /// The step that has begun.
+    /// The step that has begun last.
     fn step(&self) -> u32 {
         next_of(self.steps.len()).saturating_sub(1)
     }

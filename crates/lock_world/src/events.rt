@@ -130,7 +130,7 @@ pub enum Step {
         slot: u8,
         /// The relation of the slot.
         tag: Tag,
-        /// The mode.
+        /// The mode that is set in the slot.
         mode: Mode,
     },
     /// Store in one of the session's own fast-path slots that it holds the mode no more, with the lock of its slots
@@ -140,7 +140,7 @@ pub enum Step {
         slot: u8,
         /// The relation of the slot.
         tag: Tag,
-        /// The mode.
+        /// The mode that is cleared in the slot.
         mode: Mode,
     },
     /// Store the session's own database, with no slot in use (`InitPostgres` in postinit.c).
@@ -153,7 +153,7 @@ pub enum Step {
     Count {
         /// The object of the strong lock that is counted.
         tag: Tag,
-        /// The mode.
+        /// The mode of the strong lock.
         mode: Mode,
     },
     /// Take 1 from the strong lock counter of the object: the mode, neither had nor awaited, is counted no more
@@ -161,7 +161,7 @@ pub enum Step {
     Uncount {
         /// The object of the strong lock that is counted no more.
         tag: Tag,
-        /// The mode.
+        /// The mode of the strong lock.
         mode: Mode,
     },
     /// Move a mode that a slot of the session has to the object's content in hand, for a strong lock that is counted

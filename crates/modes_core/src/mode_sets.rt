@@ -25,7 +25,7 @@ impl Model for ModeSet {
 }
 
 impl ModeSet {
-    /// The set of no mode.
+    /// The set that has no mode.
     pub fn empty() -> Self
         ensures { set_has result ≡ λ _. false }
     {

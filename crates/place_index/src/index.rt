@@ -100,7 +100,7 @@ impl PlaceIndex {
         self.links.len()
     }
 
-    /// How many notes there are.
+    /// How many places are noted in the index.
     #[inline(always)]
     pub fn len(&self) -> usize
         ensures { result ≡ length self.now.notes }

@@ -70,7 +70,7 @@ impl Picture {
         self.pen.drawing
     }
 
-    /// Whether nobody is on it.
+    /// Whether the picture shows no wait.
     pub fn is_empty(&self) -> bool {
         self.waits.is_empty()
     }
@@ -143,7 +143,7 @@ impl Picture {
         Ok(())
     }
 
-    /// How many queues were added.
+    /// How many queues were added to the picture.
     pub fn queues(&self) -> usize {
         self.queues.len()
     }

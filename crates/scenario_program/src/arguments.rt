@@ -196,7 +196,7 @@ fn command<'a>(alloc: Global, helps: &'a Helps) -> Result<Command<'a>, AllocErro
         .subcommand(hammer_command(alloc)?)
 }
 
-/// What the words ask for.
+/// What the words after the program's name ask for.
 #[derive(Clone, Copy, Debug, PartialEq, Eq)]
 pub enum Task {
     /// To run the script on standard input in this way.

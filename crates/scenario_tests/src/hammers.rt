@@ -172,7 +172,7 @@ struct Listener {
 }
 
 impl Listener {
-    /// One that was told nothing.
+    /// A listener that has heard nothing yet.
     fn new() -> Self {
         Listener {
             rounds: AtomicU64::new(0),

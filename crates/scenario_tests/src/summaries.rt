@@ -147,7 +147,7 @@ const REFUSED: &str =
     "error: the argument '--summary' cannot be used with '--graph timeline' or '--graph gantt'\n\n\
     Usage: lock_scenario run [OPTIONS] < SCRIPT\n\nFor more information, try '--help'.\n";
 
-/// Words that ask for both.
+/// Words that ask for a summary and for one picture of the whole script.
 static REFUSED_WORDS: [&str; 2] = [
     "lock_scenario run --summary --graph timeline",
     "lock_scenario run --keep --summary --graph gantt",

@@ -8,10 +8,10 @@ use std::alloc::AllocError;
 pub struct BadLine {
     /// The line's number in the script, from 1.
     pub number: u32,
-    /// What is wrong with it.
+    /// What is wrong with the line.
     pub what: Defect,
     pub text: String,
-    /// The names of the sessions that were open before it.
+    /// The names of the sessions that were open before the line.
     pub open: Vec<Name>,
 }
 

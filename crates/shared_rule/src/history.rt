@@ -116,7 +116,7 @@ pub enum WordMark {
         slot: u8,
         /// The relation of the slot.
         tag: Tag,
-        /// The mode.
+        /// The mode that was set in the slot.
         mode: Mode,
     },
     /// The session cleared a mode in a slot of its own.
@@ -125,7 +125,7 @@ pub enum WordMark {
         slot: u8,
         /// The relation of the slot.
         tag: Tag,
-        /// The mode.
+        /// The mode that was cleared in the slot.
         mode: Mode,
     },
     /// The session moved a mode from a session's slot to the content in hand of the object's partition.
@@ -136,7 +136,7 @@ pub enum WordMark {
         slot: u8,
         /// The relation of the slot.
         tag: Tag,
-        /// The mode.
+        /// The mode that was moved.
         mode: Mode,
     },
     /// The session stored its own database.

@@ -4,7 +4,7 @@ use clap::error::ErrorKind;
 use clap::{Arg, ArgAction, ArgMatches, Command, Error};
 use std::alloc::{AllocError, Global};
 
-/// What the program fails on.
+/// What `--fail-on` has the program fail on.
 #[derive(Clone, Copy, Debug, PartialEq, Eq)]
 pub enum FailOn {
     Nothing,
@@ -14,7 +14,7 @@ pub enum FailOn {
     Writes,
 }
 
-/// What the words ask for.
+/// What the words after `lock_scenario sql` ask for, where they ask for a report.
 #[derive(Debug, Drop)]
 pub struct SqlOptions {
     /// The file of the statements that were run before.

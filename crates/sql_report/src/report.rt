@@ -40,9 +40,9 @@ pub struct Report {
 /// Why a text of statements is refused.
 #[derive(Debug, Drop)]
 pub struct Refused {
-    /// What is said of it.
+    /// What is said of the refused text.
     pub text: String,
-    /// Whether there was no memory.
+    /// Whether the text is refused for want of memory.
     pub is_out_of_memory: bool,
 }
 

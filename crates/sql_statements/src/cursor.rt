@@ -64,7 +64,7 @@ impl Cursor {
         self.words.get(self.place.saturating_add(ahead))
     }
 
-    /// Whether no word is left.
+    /// Whether the cursor is after the last word of the statement.
     pub fn is_at_end(&self) -> bool {
         self.place >= self.words.len()
     }

@@ -73,7 +73,7 @@ fn place_of_bad_word(line: &[u8]) -> usize {
 struct Parted {
     statements: Vec<SqlStatement>,
     words: Vec<SqlWord>,
-    /// How many bytes were read.
+    /// How many bytes of the text were read.
     read: usize,
     /// How many parentheses are open, and blocks of a function's body.
     depth: usize,

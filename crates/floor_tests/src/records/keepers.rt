@@ -10,7 +10,7 @@ use std::alloc::Global;
 use std::process::Abort;
 use std::test::Fail;
 
-/// How many calls there are.
+/// How many calls are made with both keepers.
 const CALLS: u32 = 100_000;
 
 /// The number after `seed` in a row of numbers that look random (xorshift).

@@ -10,7 +10,7 @@ use modes_core::Tag;
 use std::process::Abort;
 use std::test::Fail;
 
-/// How many objects there are.
+/// How many objects the test has holds on.
 const OBJECTS: u32 = 10_000;
 
 /// The tag of the object numbered `number`. Numbers that lie sixteen apart give objects of one partition.

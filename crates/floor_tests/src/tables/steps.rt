@@ -39,9 +39,9 @@ pub enum Step {
 #[derive(Clone, Copy)]
 pub enum Told {
     Granted,
-    /// To wait at this place.
+    /// The session is to wait at this place of the wait queue.
     Queued(usize),
-    /// The session and this one would wait for one another.
+    /// Refused, for the session that asks and the one with this number would wait for one another.
     Deadlock(u8),
 }
 

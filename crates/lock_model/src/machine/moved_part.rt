@@ -19,7 +19,7 @@ use wait_queue::{remove_waiter, take_hold_out};
 /// A part after a move, and those whose waits the move granted.
 #[derive(Drop)]
 pub struct MovedPart {
-    /// The part after the move.
+    /// The partition's content after the move.
     pub part: PlainPart,
     /// The sessions whose waits the move granted.
     pub woken: Woken,

@@ -13,7 +13,7 @@ use lw_word::{LwWaiter, LwWord, SlotWord};
 use modes_core::{Mode, SessionId, Tag};
 use std::alloc::Global;
 
-/// The session numbers in use.
+/// The session numbers: which were given out, which are open, and which are kept apart.
 #[derive(Clone, Copy)]
 pub struct Numbers {
     /// The session numbers below this one have been given out.

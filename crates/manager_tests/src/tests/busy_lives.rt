@@ -27,7 +27,7 @@ use std::time::Clock;
 /// one that is lent.
 pub const SESSIONS: u32 = 4;
 
-/// The number that is lent.
+/// The session number that connections are lent, one after another.
 const LENT: u8 = 3;
 
 /// Of how many connections one waits, and is asked to cancel.

@@ -94,7 +94,7 @@ pub enum Crew {
 }
 
 impl Crew {
-    /// How many sessions there are.
+    /// How many sessions the crew has.
     fn sessions(self) -> u8
         ensures few { result ≤ 64 }
     {

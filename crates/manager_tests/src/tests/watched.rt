@@ -31,7 +31,7 @@ impl<B, W> WatchedBoard<B, W> {
         WatchedBoard { board, watch }
     }
 
-    /// The board that was watched.
+    /// The board that was watched, for which the watching one is given up.
     pub fn into_watched(self) -> B
     where
         W: Drop,
