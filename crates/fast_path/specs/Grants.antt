@@ -50,7 +50,7 @@ pub record FindsCounted (a : Account) (before : List TraceEntry) (uses : UseCoun
 abbrev pub IsFull : ℕ → UseCounts → Tag → Type 0
 IsFull groups uses tag = count_in uses (group_of_tag groups tag) ≡ group_size
 
--- It isn't so.
+-- Not all sixteen slots of the relation's group are in use, by its use count.
 abbrev pub HasRoom : ℕ → UseCounts → Tag → Type 0
 HasRoom groups uses tag = count_in uses (group_of_tag groups tag) ≢ group_size
 

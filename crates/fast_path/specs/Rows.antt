@@ -91,7 +91,7 @@ pub record ListsSlots (groups number limit : ℕ) (a : Account) (before : List S
     trace = a.trace ++ loads_of_all groups loaded database word;
   }
 
--- The same of one session: what was loaded joins the list as far as memory goes.
+-- The rows of one session join the list, as far as memory goes.
 pub record ListsSession (groups number : ℕ) (a : Account) (owner : ℕ) (before : List SlotRow)
     (result : Result (Unit {0}) NoMemory) (after : List SlotRow) (b : Account) : Type 0 where
   pub shown : ℕ

@@ -30,13 +30,13 @@ pub record IsHighestUnused (group : ℕ) (word : ℕ → ℕ) (slot : ℕ) : Typ
   pub unused : in_use (word slot) ≡ false
   pub higher : (other : ℕ) → slot < other → IsOfGroup group other → in_use (word other) ≡ true
 
--- The slot was seen among those of the group with these words: it is in use for the relation,
+-- The slot was seen among those of the group with these words: it is in use for the relation.
 pub record IsSeenOf (group : ℕ) (word : ℕ → ℕ) (relation : ℕ) (slot : SeenSlot) : Type 0 where
   pub within : IsOfGroup group slot.number
   pub shown : slot.word ≡ word slot.number
   pub its : is_slot_of slot.word relation ≡ true
 
--- or it is the highest-numbered one that is not in use.
+-- The slot was seen among those of the group with these words: it is the highest-numbered one that is not in use.
 pub record IsSeenUnused (group : ℕ) (word : ℕ → ℕ) (slot : SeenSlot) : Type 0 where
   pub shown : slot.word ≡ word slot.number
   pub highest : IsHighestUnused group word slot.number
@@ -49,13 +49,13 @@ IsAllInUse group word = (slot : ℕ) → IsOfGroup group slot → in_use (word s
 abbrev pub NoneInGroup : ℕ → (ℕ → ℕ) → ℕ → Type 0
 NoneInGroup group word relation = (slot : ℕ) → IsOfGroup group slot → is_slot_of (word slot) relation ≡ false
 
--- What a look through all of a group's slots with these words finds for a relation,
+-- What a look through all of a group's slots with these words finds for a relation.
 pub record Sights (group : ℕ) (word : ℕ → ℕ) (relation : ℕ) (seen : Sighting) : Type 0 where
   pub found : IfSome seen.of_relation (IsSeenOf group word relation)
   pub none : IfNone seen.of_relation (NoneInGroup group word relation)
   pub counted : seen.used_count ≡ used_in group word
 
--- and what the look of a grant finds.
+-- What the look of a grant through a group's slots with these words finds for a relation.
 pub record SightsForGrant (group : ℕ) (word : ℕ → ℕ) (relation : ℕ) (seen : SightingForGrant) : Type 0 where
   pub found : IfSome seen.of_relation (IsSeenOf group word relation)
   pub none : IfNone seen.of_relation (NoneInGroup group word relation)

@@ -30,19 +30,19 @@ abbrev pub finding : ℕ → ℕ → Tag → (ℕ → ℕ) → List TraceEntry
 finding groups owner tag word =
     Loaded (Database owner) (database_of tag) ∷ group_loads owner (group_of_tag groups tag) word
 
--- A turn that goes past a session of another database, whose slots aren't looked at,
+-- A turn that goes past a session of another database, whose slots aren't looked at.
 pub record SkipsSession (owner : ℕ) (tag : Tag) (steps : List TraceEntry) : Type 0 where
   pub shown : ℕ
   pub elsewhere : shown ≢ database_of tag
   pub loads : steps ≡ Loaded (Database owner) shown ∷ []
 
--- past one that has no slot of the relation, in the relation's group,
+-- A turn that goes past a session that has no slot of the relation, in the relation's group.
 pub record FindsNothing (groups owner : ℕ) (tag : Tag) (steps : List TraceEntry) : Type 0 where
   pub word : ℕ → ℕ
   pub none : NoneInGroup (group_of_tag groups tag) word (relation_of tag)
   pub loads : steps ≡ finding groups owner tag word
 
--- and one in which the modes of the slot that the relation has, which shows this word, become holds in the table by one
+-- A turn in which the modes of the slot that the relation has, which shows this word, become holds in the table by one
 -- episode, as far as their numbers are below this one.
 pub record Adopts (groups owner : ℕ) (tag : Tag) (shown below : ℕ) (steps : List TraceEntry) : Type 0 where
   pub word : ℕ → ℕ

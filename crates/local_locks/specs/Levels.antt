@@ -47,7 +47,7 @@ abbrev pub had : ℕ → Slots → (ℕ → List ℕ) → List Entry
 had level [] rows = []
 had level (slot ∷ slots) rows = told level (rows zero) slot ++ had level slots (λ place. rows (suc place))
 
--- the same for each of the inner levels that have begun
+-- what the transaction had when each of the inner levels began that have begun
 abbrev pub outer_of : ℕ → Slots → (ℕ → List ℕ) → List (List Entry)
 outer_of zero slots rows = []
 outer_of (suc level) slots rows = outer_of level slots rows ++ had level slots rows ∷ []

@@ -143,7 +143,7 @@ number_of_end Inner = 3
 abbrev pub reached : End → Progress → ℕ
 reached end progress = if number_of_end progress.end == number_of_end end then progress.place else 0
 
--- it has come to this place
+-- the progress of an end that has come to this place
 abbrev pub came_to : End → ℕ → Progress
 came_to end place = record { end = end; place = place }
 

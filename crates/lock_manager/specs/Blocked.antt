@@ -16,18 +16,18 @@ use Rattle.lock_manager.specs.Listings.{listing_steps, AreOfCaller}
 abbrev pub row_of_wait : Blocked → TableRow
 row_of_wait wait = record { session = wait.session; tag = wait.tag; mode = wait.mode; granted = false }
 
--- It has just those who stand in the way of the wait in this content.
+-- The wait is listed with just those who are in its way in this content.
 abbrev pub HasBlockers : Content → Blocked → Type 0
 HasBlockers content wait = wait.blockers.items ≡ blockers_in content wait.tag wait.session
 
--- These are just the waits in the content, in the order of its listing, each with just those who stand in its way there.
+-- These are just the waits in the content, in the order of its listing, each with just those who are in its way there.
 pub record AreBlocked (content : Content) (found : List Blocked) : Type 0 where
   pub rows : List TableRow
   pub listed : IsListing content rows
   pub waits : map row_of_wait found ≡ filter (λ row. not row.granted) rows
   pub in_the_way : All (HasBlockers content) found
 
--- The same of several contents, one after another.
+-- These are just the waits in several contents, one content after another, each with just those who are in its way there.
 abbrev pub AreBlockedIn : List Content → List Blocked → Type 0
 AreBlockedIn [] found = found ≡ []
 AreBlockedIn (content ∷ contents) found =
@@ -50,7 +50,7 @@ pub record AppendsBlocked (content : Content) (old new : List Blocked) : Type 0 
   pub behind : new ≡ old ++ added
   pub blocked : AreBlocked content added
 
--- The same, of the contents of all partitions from one on.
+-- All partitions from one on are taken and put back as they were, and the waits in their contents join the list.
 pub record ListsBlockedFrom (number partition : ℕ) (a : Account) (old : List Blocked)
     (result : Result (Unit {0}) no_memory.NoMemory) (b : Account) (new : List Blocked) : Type 0 where
   pub contents : List Content

@@ -9,7 +9,7 @@ use Rattle.lock_manager.specs.Sessions.{SessionView}
 -- What a program says of the sessions that its functions take and lend, by the seats of their boards.
 
 module _ {B : Type 0} (seat : B → Seated) where
-  -- It is the same session of the same manager. A function that borrows a session ensures it, so that its caller can close it.
+  -- The session is the same one of the same manager. A function that borrows a session ensures it, so that its caller can close it.
   abbrev pub KeepsSeat : SessionView B → SessionView B → Type 0
   KeepsSeat old new = seat new.board ≡ seat old.board
 

@@ -42,7 +42,7 @@ pub record IsOfCaller (number : ℕ) (own : Tag → Mode → Bool) (awaited : Op
       (tag : Tag) (mode : Mode) → content.holds number tag mode ≡ true → (own tag mode ≡ true) ⊎ (is_for awaited tag mode ≡ true)
   pub no_wait : (tag : Tag) → awaited ≡ None → waits_there (content.waits tag) number ≡ false
 
--- The same, of the partitions from one on.
+-- What the session that takes the partitions from one on knows there of itself.
 abbrev pub AreOfCaller : ℕ → (Tag → Mode → Bool) → Option OwnWait → ℕ → (ℕ → ℕ) → ℕ → List Content → Type 0
 AreOfCaller number own awaited database remembered partition [] = Unit {0}
 AreOfCaller number own awaited database remembered partition (content ∷ contents) =
@@ -128,7 +128,7 @@ pub record ListsAll (groups limit number : ℕ) (a : Account) (result : Result L
   pub own : IfOk result (ListsOwn number a.own a.fast.database (word number) contents)
   pub misses_none : IfOk result (MissesNone groups limit number a.trace b.trace)
 
--- One for whose slot rows memory ran out: no partition is taken.
+-- A listing for whose slot rows memory ran out: no partition is taken.
 pub record StopsAtSlots (groups limit : ℕ) (a : Account) (result : Result Listing Refusal) (b : Account) : Type 0 where
   pub refused : result ≡ Err NoMemory
   pub database : ℕ → ℕ

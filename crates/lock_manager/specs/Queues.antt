@@ -20,6 +20,6 @@ pub record LooksAt (Shows : Content → Type 0) (before : List TraceEntry) (tag 
 abbrev pub IsQueue : Tag → List Waiter → Content → Type 0
 IsQueue tag rows content = map shown_wait rows ≡ content.waits tag
 
--- These are just those who stand in the way of the session's wait on the object.
+-- These are just those who are in the way of the session's wait on the object.
 abbrev pub AreBlockers : Tag → ℕ → List Blocker → Content → Type 0
 AreBlockers tag session found content = found ≡ blockers_in content tag session

@@ -22,8 +22,7 @@ abbrev pub QuietOfTry : ℕ → Tag → Mode → List Quiet → List Quiet → T
 QuietOfTry number tag mode before after =
     (after ≡ TakesSlots number ∷ before) ⊎ (after ≡ SetsSlot tag mode ∷ TakesSlots number ∷ before)
 
--- One for a strong mode counts that one, and takes the lock of each session's slots once; where memory runs out, of those as
--- far as one.
+-- A request for a strong mode counts that mode, and takes the lock of each session's slots once; where memory runs out, of those as far as one.
 pub record QuietOfStrong (limit : ℕ) (tag : Tag) (mode : Mode) (before after : List Quiet) : Type 0 where
   pub strong : is_strong_on tag mode ≡ true
   pub reached : ℕ

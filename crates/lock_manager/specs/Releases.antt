@@ -26,7 +26,7 @@ use Rattle.shared_rule.specs.History.{in_hand, is_among, sessions_told, taken_of
 
 -- Releases of holds, as the session's trace has them.
 
--- Those whom a move in a partition in hand lets go, each once, by this content: they are still to be told.
+-- The sessions whom a move in a partition in hand lets go, each once, by this content: they are still to be told.
 pub record Wakens (seat : Seated) (a : Account) (partition : ℕ) (done : Move) (woken : List (ℕ × Mode))
     (now : Content) : Type 0 where
   pub mine : InHand
@@ -108,13 +108,13 @@ pub record LooksInSlots (groups : ℕ) (a : Account) (uses : UseCounts) (tag : T
   pub eligible : is_eligible_for a.fast.database tag mode ≡ true
   pub some : count_in uses (group_of_tag groups tag) ≢ 0
 
--- It looks, and clears the mode in the slot that has it. There is no episode, nor any other step.
+-- The session looks in its slots, and clears the mode in the slot that has it. There is no episode, nor any other step.
 pub record ReleasesSlot (groups number : ℕ) (a : Account) (uses : UseCounts) (tag : Tag) (mode : Mode) (b : Account)
     (left : UseCounts) : Type 0 where
   pub looks : LooksInSlots groups a uses tag mode
   pub cleared : ClearsSlot groups number a uses tag mode b left
 
--- It looks, and finds the hold in none of the group's sixteen: it was moved to the table, or granted there.
+-- The session looks in its slots, and finds the hold in none of the group's sixteen: it was moved to the table, or granted there.
 pub record FindsNone (groups number : ℕ) (a : Account) (uses : UseCounts) (tag : Tag) (mode : Mode)
     (loads : List TraceEntry) (left : UseCounts) : Type 0 where
   pub looks : LooksInSlots groups a uses tag mode
@@ -123,7 +123,7 @@ pub record FindsNone (groups number : ℕ) (a : Account) (uses : UseCounts) (tag
   pub loaded : loads ≡ group_loads number (group_of_tag groups tag) word
   pub recomputed : count_in left ≡ counting uses (group_of_tag groups tag) (used_in (group_of_tag groups tag) word)
 
--- It doesn't look, as the mode may not be in a slot or none of the group is in use.
+-- The session doesn't look in its slots, as the mode may not be in a slot or none of the group is in use.
 pub record LooksNowhere (groups : ℕ) (a : Account) (uses : UseCounts) (tag : Tag) (mode : Mode) (loads : List TraceEntry)
     (left : UseCounts) : Type 0 where
   pub not_tried : (is_eligible_for a.fast.database tag mode ≡ false) ⊎ IsUnused groups uses tag

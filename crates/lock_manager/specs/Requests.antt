@@ -36,7 +36,7 @@ pub record TriesSlot (groups : ℕ) (a : Account) (uses : UseCounts) (tag : Tag)
   pub eligible : is_eligible_for a.fast.database tag mode ≡ true
   pub room : HasRoom groups uses tag
 
--- It is tried, and grants the mode in a slot. There is no episode, nor any other step.
+-- The fast path is tried, and grants the mode in a slot. There is no episode, nor any other step.
 pub record GoesBySlot (groups number : ℕ) (a : Account) (uses : UseCounts) (tag : Tag) (mode : Mode) (b : Account)
     (left : UseCounts) : Type 0 where
   pub tried : TriesSlot groups a uses tag mode
@@ -52,7 +52,7 @@ pub record FindsStrong (groups : ℕ) (a : Account) (uses : UseCounts) (tag : Ta
   pub counted : shown ≢ 0
   pub load : steps ≡ Loaded (Strong (index_of tag)) shown ∷ []
 
--- It isn't tried, as the mode may not go by a slot or sixteen of the group are used, and nothing goes before.
+-- The fast path isn't tried, as the mode may not go by a slot or sixteen of the group are used, and nothing goes before.
 pub record GoesByTable (groups : ℕ) (a : Account) (uses : UseCounts) (tag : Tag) (mode : Mode)
     (steps : List TraceEntry) : Type 0 where
   pub weak : is_strong_on tag mode ≡ false

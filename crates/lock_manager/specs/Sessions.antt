@@ -47,7 +47,7 @@ module _ {B : Type 0} (seat : B → Seated) (view : B → Account) (stack : B �
       IsAtRest (seat session.board).groups (seat session.board).limit session.database session.uses
       (view session.board) (stack session.board) session.owned.entries
 
-  -- It is the same session after a call, and in no other.
+  -- The session is the same one after a call, and in no other call.
   pub record IsSame (old new : SessionView B) : Type 0 where
     pub seat_ : seat new.board ≡ seat old.board
     pub database : new.database ≡ old.database

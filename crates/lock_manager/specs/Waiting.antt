@@ -49,7 +49,7 @@ pub record IsWaiting (groups limit database : ℕ) (uses : UseCounts) (a : Accou
   pub no_entry : has_entry entries tag mode ≡ false
   pub nothing_left : stack ≡ nothing_due
 
--- The same once it has loaded its wait word, which showed this: it has seen whether it was granted.
+-- The session that waits has loaded its wait word, which showed this: it has seen whether its wait was granted.
 pub record HasLooked (groups limit database : ℕ) (uses : UseCounts) (a : Account) (stack : Stack) (entries : List Entry)
     (tag : Tag) (mode : Mode) (shown : ℕ) : Type 0 where
   pub held : Mode → Bool
@@ -133,7 +133,7 @@ account_cancelled a tag mode true trace = record a {
 
 -- ---- waiting
 
--- These are loads of its own wait word that show neither a grant nor that the session was asked to cancel.
+-- These are loads of the session's own wait word that show neither a grant nor that the session was asked to cancel.
 abbrev pub IsWatch : ℕ → List TraceEntry → Type 0
 IsWatch number [] = Unit {0}
 IsWatch number (entry ∷ entries) =

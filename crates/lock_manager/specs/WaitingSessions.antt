@@ -196,7 +196,7 @@ module _ {B : Type 0} (seat : B → Seated) (view : B → Account) (stack : B �
       IsWaiting (seat waiting.board).groups (seat waiting.board).limit waiting.database waiting.uses
       (view waiting.board) (stack waiting.board) waiting.owned.entries waiting.tag waiting.mode
 
-  -- It is the same session, which has begun to wait for this.
+  -- The session is the same one, and has begun to wait for the mode on the object.
   pub record HasBegun (old : SessionView B) (tag : Tag) (mode : Mode) (owner : Owner) (new : WaitingView B) :
       Type 0 where
     pub seat_ : seat new.board ≡ seat old.board
@@ -207,7 +207,7 @@ module _ {B : Type 0} (seat : B → Seated) (view : B → Account) (stack : B �
     pub owner_ : new.owner ≡ owner
     pub waits : IsInQueue new
 
-  -- It is the same session in the same wait, and owns what it owned.
+  -- The session is the same one in the same wait, and owns what it owned.
   pub record WaitsOn (old new : WaitingView B) : Type 0 where
     pub seat_ : seat new.board ≡ seat old.board
     pub database : new.database ≡ old.database
@@ -218,7 +218,7 @@ module _ {B : Type 0} (seat : B → Seated) (view : B → Account) (stack : B �
     pub owner_ : new.owner ≡ old.owner
     pub waits : IsInQueue new
 
-  -- It is the same session, whose wait is over, and which is in no call.
+  -- The session is the same one, whose wait is over, and which is in no call.
   pub record HasEnded (old : WaitingView B) (new : SessionView B) : Type 0 where
     pub seat_ : seat new.board ≡ seat old.board
     pub database : new.database ≡ old.database

@@ -26,15 +26,15 @@ use Rattle.lock_world.specs.SafeWorld.{slots_of}
 use Rattle.lock_model.specs.declared.machine.state.Sleeper.{Sleeper}
 use Rattle.lock_model.specs.Shows.{ListsHolds, waiters_of}
 
--- what the answer of a run says: its holds, its waits, and what each word shows
+-- the holds at the end of a run, by its answer
 abbrev pub holds_of : Plain → List Hold
 holds_of plain = plain.holds.items
 
--- its waits
+-- the waits in objects' queues at the end of a run, by its answer
 abbrev pub listed_waits : Plain → List QueuedWait
 listed_waits plain = plain.waits.items
 
--- those who wait for lightweight locks
+-- the sessions that wait for lightweight locks at the end of a run, by its answer
 abbrev pub listed_sleepers : Plain → List Sleeper
 listed_sleepers plain = plain.lists.sleepers.items
 

@@ -27,11 +27,11 @@ slot_rows session database place word =
     shown_hold session database place word AccessShare
     ++ (shown_hold session database place word RowShare ++ shown_hold session database place word RowExclusive)
 
--- those that a session's slots show, at all places for slots
+-- the holds that a session's slots show, at all places for slots
 abbrev pub session_rows : ℕ → ℕ → List ℕ → List Hold
 session_rows session database slots = lists_below 128 (λ place. slot_rows session database place (slice_index_or slots place 0))
 
--- those that the slots of 64 sessions show
+-- the holds that the slots of 64 sessions show
 abbrev pub fast_path_rows : List ℕ → List (List ℕ) → List Hold
 fast_path_rows databases slots =
     lists_below 64 (λ session. session_rows session (slice_index_or databases session 0) (slice_index_or slots session []))

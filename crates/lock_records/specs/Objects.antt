@@ -22,7 +22,7 @@ pub record IsHeldLock (holders : List (Option HolderRecord)) (tag : Tag) (lock :
   pub chain : IsHolderChain holders tag lock.holders.first lock.holders.count
   pub granted : (mode : Mode) → counts_in lock.granted mode ≡ granted_of (holds_in holders) tag mode
 
--- It also counts the waits of the object's queue.
+-- The lock record has all holder records of the object in its chain, and counts its holds and the waits of its queue.
 pub record IsLock (holders : List (Option HolderRecord)) (queue : List Wait) (tag : Tag) (lock : LockRecord) : Type 0 where
   pub held : IsHeldLock holders tag lock
   pub awaited : (mode : Mode) → counts_in lock.awaited mode ≡ awaited_of queue mode

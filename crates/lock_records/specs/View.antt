@@ -29,8 +29,8 @@ pub record RecordView : Type 0 where
 abbrev pub content_of : RecordView → Content
 content_of part = record { holds = holds_in part.holders; waits = queue_on part.queues }
 
--- It grows only where it is full: of its records, where there are as many as there is room for, with one holder record for each wait,
--- and of its index, where the next lock record's place can't be noted.
+-- A part with records grows only where it is full: of its records, where there are as many as there is room for, with one holder record for each
+-- wait, and of its index, where the next lock record's place can't be noted.
 pub record GrowsWhereFull (old new : RecordView) : Type 0 where
   pub locks : count_by is_some old.locks < old.capacity.locks → new.capacity.locks ≡ old.capacity.locks
   pub holders : count_by is_some old.holders + waiting_in old.queues < old.capacity.holders → new.capacity.holders ≡ old.capacity.holders

@@ -38,7 +38,7 @@ session_commands =
     ∷ (codes "close", CallerName ∷ [])
     ∷ []
 
--- those that ask for a lock, let one go or end a wait for one
+-- the commands that ask for a lock, let one go or end a wait for one
 abbrev pub lock_commands : List (List ℕ × List WordKind)
 lock_commands =
     (codes "try", lock_words)
@@ -49,7 +49,7 @@ lock_commands =
     ∷ (codes "cancel", CallerName ∷ OpenName ∷ [])
     ∷ []
 
--- those that only look
+-- the commands that only look
 abbrev pub look_commands : List (List ℕ × List WordKind)
 look_commands =
     (codes "owned", CallerName ∷ TagWord ∷ ModeName ∷ [])

@@ -23,6 +23,6 @@ IsCalled sessions name place = (place < length sessions) × HoldsAt (λ one. one
 abbrev pub IsFree : {S : Type 0} → List (Named S) → List ℕ → Type 0
 IsFree sessions name = All (λ one. one.name.bytes ≢ name) sessions
 
--- One more is put in, and the others stay as they stand.
+-- One session more is put in, and the others keep their order.
 abbrev pub PutsIn : {S : Type 0} → List (Named S) → Named S → List (Named S) → Type 0
 PutsIn old one new = (place : ℕ) × (place ≤ length old) × (new ≡ insert old place one)

@@ -28,7 +28,7 @@ pub record IsOfPartition (partition : ℕ) (content : Content) : Type 0 where
   pub holds : (session : ℕ) (tag : Tag) (mode : Mode) → content.holds session tag mode ≡ true → partition_of tag ≡ partition
   pub waits : (session : ℕ) (tag : Tag) → waits_there (content.waits tag) session ≡ true → partition_of tag ≡ partition
 
--- The same of each, from this partition on.
+-- Each content has holds and waits on objects of its partition alone, from this partition on.
 abbrev pub AreOfPartitions : ℕ → List Content → Type 0
 AreOfPartitions partition [] = Unit {0}
 AreOfPartitions partition (content ∷ contents) = IsOfPartition partition content × AreOfPartitions (partition + 1) contents

@@ -82,7 +82,7 @@ account_clearing a wait granted = record a {
   seen = false;
 }
 
--- the same by a step that takes the wait out of the queue itself
+-- clearing one's own wait word by a step that takes the wait out of the queue itself
 abbrev pub account_leaving : Account → InHand → OwnWait → Content → (ℕ → Bool) → Account
 account_leaving a mine wait content unmarked = record a {
   awaited = None;

@@ -18,7 +18,7 @@ use Rattle.lock_world.specs.Safe.{SafeButSlots}
 abbrev pub slots_of : (ℕ → ℕ) → (ℕ → ℕ → ℕ) → Holds
 slots_of database slot session = slot_holds (database session) (slot session)
 
--- its own holds that are in no slot
+-- the own holds of each session that are in no slot
 abbrev pub own_but : Holds → Holds → Holds
 own_but own slots session tag mode = own session tag mode && not (slots session tag mode)
 

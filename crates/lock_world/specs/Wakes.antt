@@ -75,7 +75,7 @@ RunsBy each w b (turn ∷ turns) v d = (u : World) × each w b turn u × RunsBy 
 abbrev pub RunKeeps : ℕ → ℕ → List Turn → World → Beside → Type 0
 RunKeeps limit groups turns v d = (limit < 2 ^ 24) × RunsBy Keeps (opening limit groups) nothing_beside turns v d
 
--- Such a run whose turns take lightweight locks in their order, too.
+-- A run from the opening World whose turns keep to what their sessions have to do, and take lightweight locks in their order.
 abbrev pub RunKeepsInOrder : ℕ → ℕ → List Turn → World → Beside → Type 0
 RunKeepsInOrder limit groups turns v d = (limit < 2 ^ 24) × RunsBy KeepsInOrder (opening limit groups) nothing_beside turns v d
 

@@ -9,7 +9,7 @@ pub record IsLightweightWord (word : ℕ) : Type 0 where
   pub below : word < 2 ^ 31
   pub none_between : word / 2 ^ 25 % 2 ^ 3 ≡ 0
 
--- as it opens: held by nobody, with release-ok
+-- the word as it opens: held by nobody, with release-ok
 abbrev pub free_word : ℕ
 free_word = 2 ^ 29
 
@@ -78,7 +78,7 @@ abbrev pub bit : Bool → ℕ
 bit true = 1
 bit false = 0
 
--- these two flags, each where it is set
+-- the bits of has-waiters and release-ok, each where it is set
 abbrev pub flag_bits : Bool → Bool → ℕ
 flag_bits has_waiters release_ok = bit has_waiters * 2 ^ 30 + bit release_ok * 2 ^ 29
 
@@ -90,7 +90,7 @@ kept_bits has_waiters release_ok = 2 ^ 64 - 1 - (2 ^ 28 + flag_bits (not has_wai
 abbrev pub list_unlocked_word : ℕ → Bool → Bool → ℕ
 list_unlocked_word word has_waiters release_ok = bit_and word (kept_bits has_waiters release_ok)
 
--- the same after the flags that are told were set, so that both are as told
+-- the word with the wait list unlocked and the two flags as these values say
 abbrev pub flagged_and_unlocked_word : ℕ → Bool → Bool → ℕ
 flagged_and_unlocked_word word has_waiters release_ok =
     list_unlocked_word (bit_or word (flag_bits has_waiters release_ok)) has_waiters release_ok

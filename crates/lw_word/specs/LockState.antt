@@ -21,7 +21,7 @@ pub record LockState : Type 0 where
   -- its wait list may have waiters (LW_FLAG_HAS_WAITERS)
   pub has_waiters : Bool
 
--- as it opens
+-- the state of a lock as it opens
 abbrev pub opening_state : LockState
 opening_state = record { shared = 0; exclusive = false; list_locked = false; release_ok = true; has_waiters = false }
 

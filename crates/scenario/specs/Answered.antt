@@ -41,7 +41,7 @@ module _ {B : Type 0} (seat : B → Seated) (view : B → Account) (stack : B �
         old.resting target.caller.place
     pub waiting : new.waiting ≡ old.waiting
 
-  -- It waits from now on.
+  -- The session at its place has asked for a lock, and waits from now on.
   pub record WaitsAt (target : Target) (owner : Owner) (it : Answer) : Type 0 where
     pub after : WaitingView B
     pub queued : HoldsAt (λ one. IsQueued seat view stack one.session target.tag target.mode owner after) old.resting target.caller.place
@@ -71,7 +71,7 @@ module _ {B : Type 0} (seat : B → Seated) (view : B → Account) (stack : B �
     pub there : new.waiting ≡ with_session old.waiting place after
     pub resting : new.resting ≡ old.resting
 
-  -- It looks, and waits on at its place.
+  -- The session that waits at its place looks, and waits on there.
   pub record WaitsOnAt (place : ℕ) : Type 0 where
     pub after : WaitingView B
     pub looks : HoldsAt (λ one. LooksOn seat view stack one.session after) old.waiting place

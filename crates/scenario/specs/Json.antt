@@ -59,7 +59,7 @@ abbrev pub refused_data : ℕ → Names → ArrayString 16 → Refusal → Data
 refused_data line names name refusal =
     refused_with line name (refusal_number refusal) (refusal_text refusal) (refused_fields names refusal)
 
--- it doesn't own the lock, in the mode of this name, that it gives back
+-- the session doesn't own the lock, in the mode of this name, that it gives back
 abbrev pub not_owned_data : ℕ → ArrayString 16 → List ℕ → Data
 not_owned_data line name mode = told_data line name (codes "not owned") ((codes "mode", string mode) ∷ [])
 

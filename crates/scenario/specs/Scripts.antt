@@ -32,7 +32,7 @@ AreNextLines number script [] unread = unread ≡ script
 AreNextLines number script (text ∷ texts) unread =
     (reading_of number script ≡ Ok (Some text)) × AreNextLines (number + 1) (after_line script) texts unread
 
--- They are its first lines, where the bytes of the script are known.
+-- These are the first lines of a script, where its bytes are known.
 abbrev pub AreFirstLines : Option (List ℕ) → List (List ℕ) → Option (List ℕ) → Type 0
 AreFirstLines None texts left = ⊤
 AreFirstLines (Some script) texts None = ⊥
@@ -76,7 +76,7 @@ module _
   abbrev pub RunsLine : Cast B → ScriptLine → Cast B → Type 0
   RunsLine old line new = (heard : List Heard) × PlaysLine line.number old line.text heard new
 
-  -- These lines are, one after another, each once. The first one has this number.
+  -- These lines are heard and played, one after another, each once. The first one has this number.
   abbrev pub PlaysLines : ℕ → Cast B → List (List ℕ) → List Heard → Cast B → Type 0
   PlaysLines number old [] heard new = (heard ≡ []) × (new ≡ old)
   PlaysLines number old (text ∷ texts) heard new =

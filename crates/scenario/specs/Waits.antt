@@ -38,7 +38,7 @@ module _ {B : Type 0} (seat : B → Seated) (view : B → Account) (stack : B �
     pub same_entries : OnErr (begun_by told) (new.owned.entries ≡ old.owned.entries)
     pub same : IsSame seat view stack old new
 
-  -- It was queued.
+  -- The session was queued for the lock.
   pub record IsQueued (new : WaitingView B) : Type 0 where
     pub steps : Begins Waiting (seat old.board) old.owned (view old.board) old.uses tag mode (Ok begun.Queued) (view new.board) new.uses
     pub begun : HasBegun seat view stack old tag mode owner new
@@ -57,7 +57,7 @@ module _ {B : Type 0} (seat : B → Seated) (view : B → Account) (stack : B �
     pub polled : Polls (seat old.board).number (view old.board).trace looked.Still (view new.board).trace
     pub same : WaitsOn seat view stack old new
 
-  -- It says who is in its way, and waits on.
+  -- A session that waits says who is in its way, and waits on.
   pub record TellsBlocked (new : WaitingView B) (told : Blocked) : Type 0 where
     pub session : told.session ≡ (seat old.board).number
     pub tag : told.tag ≡ old.tag
@@ -67,20 +67,20 @@ module _ {B : Type 0} (seat : B → Seated) (view : B → Account) (stack : B �
         (view new.board).trace
     pub same : WaitsOn seat view stack old new
 
-  -- It looks, and was granted.
+  -- A session that waits looks, and was granted its lock.
   pub record FindsGrant (new : SessionView B) : Type 0 where
     pub polled : Polls (seat old.board).number (view old.board).trace looked.Granted (view new.board).trace
     pub entries : new.owned.entries ≡ with_one_more old.owned.entries old.tag old.mode old.owner
     pub same : HasEnded seat view stack old new
 
-  -- It looks, was asked to stop, and cancels its wait.
+  -- A session that waits looks, was asked to stop, and cancels its wait.
   pub record StopsAsAsked (was_granted : Bool) (new : SessionView B) : Type 0 where
     pub asked : WaitingView B
     pub polled : Polls (seat old.board).number (view old.board).trace looked.CancelAsked (view asked.board).trace
     pub still : WaitsOn seat view stack old asked
     pub gave_up : GivesUp seat view stack asked was_granted new
 
-  -- It looks, goes on, and is told this.
+  -- A session that waits looks, goes on, and is told this.
   abbrev pub GoesOn : Said → SessionView B → Type 0
   GoesOn said.GrantedAfterWaiting new = FindsGrant new ⊎ StopsAsAsked true new
   GoesOn said.Cancelled new = StopsAsAsked false new

@@ -40,7 +40,7 @@ module _ {T : Type 0} (content : T → Content) where
   abbrev pub IsAsBefore : Seat (Kept T) (View T) → Seat (Kept T) (View T) → Type 0
   IsAsBefore before after = GotNothing before after (todo_at before)
 
-  -- It got nothing, and has tried or is to try this lock still.
+  -- The session got nothing, and has tried or is to try this lock still.
   pub record IsTrying (lock : ℕ) (before after : Seat (Kept T) (View T)) : Type 0 where
     pub todo : Todo
     pub nothing : GotNothing before after todo
@@ -58,7 +58,7 @@ module _ {T : Type 0} (content : T → Content) where
     pub shelves : after.me.1 ≡ before.me.1
 
 module _ {T : Type 0} (content : T → Content) (begun : T → Option Request) where
-  -- It got a partition, with this content.
+  -- The session got a partition, with this content.
   pub record TakesPartition (part : ℕ) (before after : Seat (Kept T) (View T)) (taken : T) : Type 0 where
     pub led :
         LedTo content before after (account_taking (account_at content before) part (content taken))

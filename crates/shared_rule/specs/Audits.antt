@@ -94,7 +94,7 @@ module _ {T : Type 0} (content : T → Content) where
         → (slot : ℕ) → slot < count
         → ShowsLeft owner (account_among (gathered_in content before.sessions) owner) contents slot (word slot)
 
-  -- The same of all slots of the sessions below a number.
+  -- The words of all slots of the sessions below a number were loaded, and show, with all partitions in hand, what is left to them.
   pub record SeesAllSlots (groups limit : ℕ) (before after : View T) (sum : ℕ) : Type 0 where
     pub word : ℕ → ℕ → ℕ
     pub further : IsFurther before after

@@ -69,21 +69,21 @@ abbrev pub first_marks : {T : Type 0} → List (History T) → List (Mark T)
 first_marks [] = []
 first_marks (history ∷ others) = history.marks
 
--- what its session knows of wait lists
+-- what the first session of a view knows of wait lists
 abbrev pub lists_told : {T : Type 0} → List (History T) → ListAccount
 lists_told sessions = (first_account no_content sessions).lists
 
--- It has no wait list in hand, and stands in none, and has nothing to do for those who wait.
+-- The session has no wait list in hand, is in none, and has nothing to do for those who wait.
 pub record IsIdle {T : Type 0} (sessions : List (History T)) : Type 0 where
   pub none : lists_told sessions ≡ no_lists
   pub free : first_todo sessions ≡ nothing_to_do
 
--- It has nobody to wake, either.
+-- The session has no wait list in hand, is in none, and has nothing to do for those who wait and nobody to wake.
 pub record IsFree {T : Type 0} (sessions : List (History T)) : Type 0 where
   pub idle : IsIdle sessions
   pub wakes_nobody : first_owed sessions ≡ []
 
--- So it is of each of these sessions.
+-- Each of these sessions is so free.
 abbrev pub AreFree : {T : Type 0} → List (History T) → Type 0
 AreFree [] = Unit {0}
 AreFree (history ∷ others) = IsFree (history ∷ []) × AreFree others

@@ -31,7 +31,7 @@ abbrev pub IsNone : ℕ → List Gathered → Type 0
 IsNone number [] = Unit {0}
 IsNone number (one ∷ others) = (one.number ≢ number) × IsNone number others
 
--- Their numbers are below a limit, and no two are the same.
+-- The numbers of the gathered sessions are below a limit, and no two are the same.
 abbrev pub AreDistinct : ℕ → List Gathered → Type 0
 AreDistinct limit [] = Unit {0}
 AreDistinct limit (one ∷ others) = (one.number < limit) × IsNone one.number others × AreDistinct limit others

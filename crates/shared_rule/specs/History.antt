@@ -185,7 +185,7 @@ module _ {T : Type 0} (content : T → Content) where
   first_account (history ∷ others) = told history.number history.marks
 
 module _ {T : Type 0} where
-  -- its number
+  -- the number of the session that makes its steps with the seat
   abbrev pub first_number : List (History T) → ℕ
   first_number [] = 0
   first_number (history ∷ others) = history.number

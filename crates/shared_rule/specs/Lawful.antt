@@ -15,7 +15,7 @@ use Rattle.lock_world.specs.AccountLaw.{MayClearSeenBy, MayClearInHandBy}
 
 -- Marking the waits that a move granted.
 
--- It is a move that may grant waits, on an object of the partition.
+-- The move is one that may grant waits, on an object of the partition.
 abbrev pub IsGrantingIn : ℕ → Move → Type 0
 IsGrantingIn partition Keep = ⊥
 IsGrantingIn partition (Grant tag mode) = ⊥

@@ -37,6 +37,6 @@ module _ {T : Type 0} where
   looks_told [] = no_looks
   looks_told (mark ∷ marks) = looks_noted (looks_told marks) mark
 
--- the same of one session, by what stands beside the World
+-- the looks of one session, by what stands beside the World
 abbrev pub looks_of : Beside → ℕ → OwnLooks
 looks_of beside number = record { on_wait = beside.waits.looked number; on_sleep = beside.sleeps.looked number }

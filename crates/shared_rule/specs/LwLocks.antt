@@ -18,21 +18,21 @@ abbrev pub lock_number : LwLock → ℕ
 lock_number (OfPart partition) = partition_lock partition
 lock_number (OfSlots owner) = fast_lock owner
 
--- There is this lock where there can be this number of sessions,
+-- There is this lock where there can be this number of sessions.
 abbrev pub LockExists : ℕ → LwLock → Type 0
 LockExists limit (OfPart partition) = partition < 16
 LockExists limit (OfSlots owner) = owner < limit
 
--- and it has its word and its shelf in the table.
+-- The lock has its word and its shelf in the table.
 abbrev pub LockIsInTable : LwLock → Type 0
 LockIsInTable (OfPart partition) = partition < 16
 LockIsInTable (OfSlots owner) = owner < most_sessions
 
 -- What a session knows of wait lists between two calls: it has none in hand, stands in none, and owes nobody that it
--- was taken off one,
+-- was taken off one.
 abbrev pub no_lists : ListAccount
 no_lists = record { in_hand = None; stands = None; off = λ _. Rattle.std.specs.Prelude.false }
 
--- and while it waits for a lock, in whose list it stands unless somebody has taken it off.
+-- What a session knows of wait lists while it waits for a lock, in whose list it stands unless somebody has taken it off.
 abbrev pub queued_for : ℕ → ListAccount
 queued_for lock = record { in_hand = None; stands = Some lock; off = λ _. Rattle.std.specs.Prelude.false }

@@ -33,7 +33,7 @@ pub record OpenerState (T : Type 0) : Type 0 where
   pub closed : List (History T)
   pub gathered : List (History T)
 
--- It has taken a session of this number back, with this trace, and all else of it is as before.
+-- The opener has taken a session of this number back, with this trace, and all else of it is as before.
 pub record HasTakenBack {T : Type 0} (content : T → Content) (number : ℕ) (trace : List TraceEntry)
     (old new : OpenerState T) : Type 0 where
   pub last : History T
@@ -41,7 +41,7 @@ pub record HasTakenBack {T : Type 0} (content : T → Content) (number : ℕ) (t
   pub trace_ : trace_told content last ≡ trace
   pub opener : new ≡ record old { closed = last ∷ old.closed }
 
--- It has gathered a session of this number, with this account and these quiet steps, behind those that came before.
+-- The opener has gathered a session of this number, with this account and these quiet steps, after those that came before.
 pub record HasGathered {T : Type 0} (content : T → Content) (number : ℕ) (account : Account) (quiet : List Quiet)
     (old new : OpenerState T) : Type 0 where
   pub last : History T

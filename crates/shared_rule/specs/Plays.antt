@@ -77,27 +77,27 @@ module _ {T : Type 0} where
     pub at : seat.table_id ≡ table
     pub sized : IsSized table
 
-  -- it is for a session, which makes its steps with it
+  -- the seat is for a session, which makes its steps with it
   pub record HasSession (view : View T) : Type 0 where
     pub history : History T
     pub others : List (History T)
     pub sessions : view.sessions ≡ history ∷ others
 
-  -- it is the same seat after a step
+  -- the seat is the same one after a step
   pub record IsSameSeat (before after : Seat (Kept T) (View T)) : Type 0 where
     pub table_id : after.table_id ≡ before.table_id
     pub id : after.id ≡ before.id
 
-  -- its session's step was noted, and no content came or went
+  -- the step of the seat's session was noted, and no content came or went
   abbrev pub Marked : (ℕ → Mark T) → Step (Kept T) → Side T → ℕ → Side T → Type 0
   Marked mark step before found after = after ≡ (noting before.0 (mark found), before.1)
 
-  -- it was noted, and the content that came last went home
+  -- the step of the seat's session was noted, and the content that came last went home
   abbrev pub WentHome : (ℕ → Mark T) → Step (Kept T) → Side T → ℕ → Side T → Type 0
   WentHome mark step before found after = after ≡ (noting before.0 (mark found), rest before.1)
 
 module _ {T : Type 0} (content : T → Content) where
-  -- It was noted, and of the number found the session learns what its account knows of the word.
+  -- The step of the seat's session was noted, and of the number found the session learns what its account knows of the word.
   abbrev pub Looked : (ℕ → Mark T) → Step (Kept T) → Side T → ℕ → Side T → Type 0
   Looked mark step before found after =
       Marked mark step before found after

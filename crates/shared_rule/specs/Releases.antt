@@ -37,8 +37,8 @@ module _ {T : Type 0} (content : T → Content) (limit : ℕ) (table : TableId) 
     pub idle : (account_at content seat).lists ≡ no_lists
     pub todo : todo_at seat ≡ nothing_to_do
 
-  -- It has put the lock, which it had in this mode, and whose word showed a number then. This is its account since, and this is in hand.
-  -- It has to look at the lock's list, if anything.
+  -- The session has put the lock, which it had in this mode, and whose word showed a number then. This is its account since, and this is in hand. It
+  -- has to look at the lock's list, if anything.
   pub record HasPut (mode : LwMode) (before after : Seat (Kept T) (View T)) (a : Account) (shelves : List (ℕ × Kept T)) : Type 0 where
     pub found : ℕ
     pub led : LedTo content before after a (todo_putting (todo_at before) (lock_number lock) (put_in mode (state_of found)))
@@ -46,7 +46,7 @@ module _ {T : Type 0} (content : T → Content) (limit : ℕ) (table : TableId) 
     pub may : MayPut before
     pub lists : a.lists ≡ (account_at content before).lists
 
--- It has put a lock, and has done what there was to do for those who wait.
+-- The session has put a lock, and has done what there was to do for those who wait.
 pub record HasReleased {T : Type 0} (content : T → Content) (before after : Seat (Kept T) (View T)) (a : Account)
     (shelves : List (ℕ × Kept T)) : Type 0 where
   pub led : Led content before after a
@@ -59,7 +59,7 @@ module _ {T : Type 0} (content : T → Content) (part : ℕ) (done : Move) where
   account_put before taken =
       account_putting (account_at content before) part (taken_of ((account_at content before).hand part)) (content taken) done
 
-  -- It may go home, under this mark.
+  -- The partition may go home, under this mark.
   pub record MayPutPartition (begun : T → Option Request) (limit : ℕ) (table : TableId) (mark : ℕ → Mark T)
       (seat : Seat (Kept T) (View T)) (taken : T) : Type 0 where
     pub may : MayPut content limit table (OfPart part) seat

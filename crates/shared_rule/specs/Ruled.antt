@@ -83,7 +83,7 @@ module _ {T : Type 0} where
     pub once : (number : ℕ) → count_by (λ history. history.number == number) closed ≤ 1
     pub all : how_many numbers.issued numbers.live + length closed ≡ numbers.issued
 
-  -- It is so of those that the opener's view has as closed, the one view that knows the next number.
+  -- The closed sessions are counted so among those that the opener's view has as closed, the one view that knows the next number.
   abbrev pub OpenerHasClosed : List (View T) → Numbers → Type 0
   OpenerHasClosed views numbers =
       (seat : ℕ) (view : View T) (number : ℕ) → get_elem? views seat ≡ some view → view.next ≡ Some number

@@ -117,13 +117,13 @@ module _ {T : Type 0} where
     pub number : ℕ
     pub next : view.next ≡ Some number
 
-  -- The seat is for one session,
+  -- The seat is for one session.
   pub record IsForOne (view : View T) : Type 0 where
     pub number : ℕ
     pub marks : List (Mark T)
     pub one : view ≡ lone number marks
 
-  -- or for two that meet.
+  -- The seat is for two sessions that meet.
   pub record IsForTwo (view : View T) : Type 0 where
     pub first : History T
     pub second : History T

@@ -13,13 +13,14 @@ use Rattle.lock_world.specs.AccountFacts.{KnowsSlots}
 -- What steps on slots tell the session of this number, whose account is `a` before them and `b` after them, where each has this number of groups of
 -- slots.
 
--- It took the lock of the owner's slots, has them in hand, and knows of them what its account tells.
+-- The session took the lock of the owner's slots, has them in hand, and knows of them what its account tells.
 pub record TakesFast (groups number : ℕ) (a : Account) (owner : ℕ) (b : Account) : Type 0 where
   pub slots : SlotsInHand
   pub knows : KnowsSlots groups number a owner slots
   pub account : b ≡ account_taking_fast number a owner slots
 
--- It shares that lock: the same of slots that nobody changes while it does, and others may read too.
+-- The session shares the lock of the owner's slots, and knows of them what its account tells: nobody changes them while
+-- it does, and others may read them too.
 pub record SharesFast (groups number : ℕ) (a : Account) (owner : ℕ) (b : Account) : Type 0 where
   pub slots : SlotsInHand
   pub knows : KnowsSlots groups number a owner slots

@@ -95,7 +95,7 @@ module _ {T : Type 0} where
   Tells number (LeftQueue woken now) its = its ≡ step.ClearWait true
   Tells number (OfWords mark) its = WordsTell number mark its
 
-  -- It is the mark of a look or of a call, which are no steps: the World is as it was.
+  -- The mark is that of a look or of a call, which are no steps: the World is as it was.
   pub data LooksOnly (mark : Mark T) : Type 0 where
     at_list : (lock : ℕ) → mark ≡ OfWords (SawListLocked lock) → LooksOnly mark
     at_lock : (lock : ℕ) → mark ≡ OfWords (SawHeld lock) → LooksOnly mark

@@ -175,7 +175,7 @@ abbrev pub HasBy : Account → LwLock → Type 0
 HasBy a (OfPart part) = (is_some (a.hand part) ≡ true) ⊎ (a.shares part ≡ true)
 HasBy a (OfSlots owner) = (is_some (a.fast.slots owner) ≡ true) ⊎ (is_some (a.fast.shared_slots owner) ≡ true)
 
--- It has nobody to tell.
+-- By its account the session has nobody to tell.
 abbrev pub TellsNobodyBy : Account → Type 0
 TellsNobodyBy a = (other : ℕ) → a.lists.off other ≡ false
 

@@ -28,7 +28,7 @@ pub record Sought : Type 0 where
 abbrev pub sought_of : ℕ → TableId → ℕ → LwLock → LwMode → Sought
 sought_of limit table number lock mode = record { limit = limit; table = table; number = number; lock = lock; mode = mode }
 
--- It may get that lock: it doesn't share it yet.
+-- The session may get the lock in the mode: it doesn't share it yet.
 abbrev pub MayGet : LwLock → LwMode → Account → Type 0
 MayGet (OfPart part) mode a = Unit {0}
 MayGet (OfSlots owner) mode a = MayGetSlots mode a owner
@@ -46,13 +46,13 @@ module _ {T : Type 0} (content : T → Content) (sought : Sought) where
     pub todo : TriesAtMost (lock_number sought.lock) (todo_at seat)
     pub latest : IsLatestBy (account_at content seat) sought.lock
 
-  -- It has got nothing, and is in no list.
+  -- The session has got nothing, and is in no list.
   pub record IsOnWay (first now : Seat (Kept T) (View T)) : Type 0 where
     pub began : MayWait first
     pub still : MayWait now
     pub nothing : GotNothing content first now (todo_at now)
 
-  -- It has joined the list, and got nothing.
+  -- The session has joined the list of the lock, and got nothing.
   pub record IsQueued (first now : Seat (Kept T) (View T)) : Type 0 where
     pub began : MayWait first
     pub joined : Seat (Kept T) (View T)
@@ -63,13 +63,13 @@ module _ {T : Type 0} (content : T → Content) (sought : Sought) where
     pub shelves : joined.me.1 ≡ first.me.1
     pub since : IsTrying content (lock_number sought.lock) joined now
 
-  -- It has joined the list, and saw somebody in the way then.
+  -- The session has joined the list of the lock, and saw somebody in the way then.
   pub record HasSeenHeld (first now : Seat (Kept T) (View T)) : Type 0 where
     pub at : Seat (Kept T) (View T)
     pub waits : IsQueued first at
     pub saw : GotNothing content at now (todo_attempted (todo_at at))
 
-  -- It has joined the list, and won then.
+  -- The session has joined the list of the lock, and won the lock then.
   pub record HasWonQueued (wins : Seat (Kept T) (View T) → Seat (Kept T) (View T) → Type 0)
       (first now : Seat (Kept T) (View T)) : Type 0 where
     pub at : Seat (Kept T) (View T)

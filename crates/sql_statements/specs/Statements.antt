@@ -23,7 +23,7 @@ said_of words = map (λ word. (word.line, text_of word)) (filter (λ word. says 
 abbrev pub kept_of : List SqlWord → List (ℕ × List ℕ)
 kept_of words = map (λ word. (word.line, string_bytes word.text)) (filter (λ word. says word.kind) words)
 
--- those of all statements, one statement after another
+-- the words of all statements that say something, one statement after another, each with its line
 abbrev pub kept_of_all : List SqlStatement → List (ℕ × List ℕ)
 kept_of_all statements = flat_map (λ statement. kept_of statement.words.items) statements
 

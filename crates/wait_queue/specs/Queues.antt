@@ -32,7 +32,7 @@ unfoldable pub lists_below : ℕ → (ℕ → List Blocker) → List Blocker
 lists_below zero lists = []
 lists_below (suc limit) lists = lists_below limit lists ++ lists limit
 
--- those that hold it, by their numbers
+-- the holds of the object in conflicting modes, by the sessions' numbers
 abbrev pub holding : Content → Tag → ℕ → Mode → List Blocker
 holding content tag session mode = lists_below most_sessions (holding_of content tag session mode)
 
@@ -40,11 +40,11 @@ holding content tag session mode = lists_below most_sessions (holding_of content
 abbrev pub standing_of : Mode → Wait → List Blocker
 standing_of mode wait = if conflict mode wait.mode then record { session = wait.session; mode = wait.mode; how = Awaited } ∷ [] else []
 
--- those of these waits, in their order
+-- the waits among these that are in the way, in their order
 abbrev pub standing : List Wait → Mode → List Blocker
 standing ahead mode = flat_map (standing_of mode) ahead
 
--- Those in the way of a session's wait, if it has one.
+-- The holds and waits in the way of a session's wait, if it has one.
 abbrev pub blockers_of_wait : Option Wait → Content → Tag → ℕ → List Blocker
 blockers_of_wait None content tag session = []
 blockers_of_wait (Some wait) content tag session =

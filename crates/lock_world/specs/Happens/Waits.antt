@@ -49,7 +49,7 @@ abbrev pub recording : Option Hand → Move → (ℕ → Bool) → Option Hand
 recording None done unmarked = None
 recording (Some hand) done unmarked = Some (record hand { recorded = Some done; unmarked = unmarked })
 
--- those unmarked, without one who is marked
+-- the sessions that are unmarked, without one that is marked now
 abbrev pub unmarked_but : (ℕ → Bool) → ℕ → ℕ → Bool
 unmarked_but unmarked marked session = unmarked session && not (session == marked)
 
