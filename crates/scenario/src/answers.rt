@@ -80,7 +80,7 @@ pub enum Row {
 /// What a line of a script is answered.
 #[derive(Drop)]
 pub enum Answer {
-    /// This is said to the session of this name.
+    /// What is said to the session of this name.
     Said(Name, Said),
     /// A row alone, which is no session's own.
     Row(Row),
