@@ -274,6 +274,9 @@ impl StatementReader {
         if cursor.eat_all(&["not", "of"]) || cursor.eat("of") {
             return Some(Form::EnableRule);
         }
+        if cursor.eat_all(&["set", "without", "oids"]) {
+            return Some(Form::EnableRule);
+        }
         if !cursor.eat("enable") && !cursor.eat("disable") {
             return None;
         }

@@ -32,7 +32,7 @@ pub struct Constraint {
     pub changes_on_delete: bool,
     pub changes_on_update: bool,
     pub is_not_valid: bool,
-    /// Whether children don't have it.
+    /// Whether children of the table don't have the constraint.
     pub is_not_inherited: bool,
 }
 

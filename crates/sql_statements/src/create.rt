@@ -61,6 +61,9 @@ impl StatementReader {
         if self.cursor.eat("index") || self.cursor.eat_all(&["unique", "index"]) {
             return self.read_create_index();
         }
+        if self.cursor.is_at("schema") && (self.cursor.has("create") || self.cursor.has("grant")) {
+            return Err(self.fault_at(0, Defect::UnknownStatement));
+        }
         if self.cursor.is_at_one(&LOCKLESS_OBJECTS) {
             return Ok(());
         }

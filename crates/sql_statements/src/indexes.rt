@@ -10,7 +10,7 @@ use std::alloc::AllocError;
 #[derive(Debug, Drop)]
 pub struct IndexWords {
     pub columns: Vec<String>,
-    /// All names that its definition has.
+    /// All names that the definition of the index has.
     pub names: Vec<String>,
     /// What the server puts after the name that it makes itself.
     pub suffix: &'static str,

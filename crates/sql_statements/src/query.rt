@@ -3,7 +3,7 @@
 mod changes;
 
 use crate::functions::read_function;
-use crate::query_levels::{ENDS_OF_FROM, Level, NO_ALIASES};
+use crate::query_levels::{ENDS_OF_FROM, JOINS_OF_QUERIES, Level, NO_ALIASES};
 use crate::reader::StatementReader;
 use sql_locks::{Defect, Form, LinkKind, RelationKind, SqlFault};
 use std::alloc::AllocError;
@@ -64,7 +64,7 @@ impl StatementReader {
     /// Reads the query that fills a new table, or that is not run where the statement ends in `WITH NO DATA`.
     pub fn read_filling_query(&mut self) -> Result<(), SqlFault> {
         if self.cursor.has_outside(&["with", "no", "data"]) {
-            return self.read_definition();
+            return self.read_query(Form::ReadDefinition);
         }
         self.read_query(Form::Select)
     }
@@ -265,7 +265,7 @@ impl Query {
         if reader.cursor.is_at_one(&ENDS_OF_FROM) {
             self.level.is_in_from = false;
             self.level.expects_relation = false;
-            reader.cursor.advance();
+            self.pass_end_of_from(reader);
         } else if reader.cursor.is_at("from") {
             if self.level.is_query && !reader.cursor.is_behind("distinct") {
                 self.level.is_in_from = true;
@@ -287,6 +287,17 @@ impl Query {
             read_function(reader)?;
         }
         Ok(())
+    }
+
+    /// Passes in `reader` the key word that ends a list behind `FROM`. Behind one that joins two queries `TABLE` may name a relation.
+    fn pass_end_of_from(&mut self, reader: &mut StatementReader) {
+        let joins = reader.cursor.is_at_one(&JOINS_OF_QUERIES);
+        reader.cursor.advance();
+        if joins {
+            reader.cursor.eat("all");
+            reader.cursor.eat("distinct");
+            self.level.expects_relation = reader.cursor.eat("table");
+        }
     }
 
     /// Reads in `reader` what comes after `FOR` where rows are locked: `UPDATE`, `NO KEY UPDATE`, `SHARE` or `KEY

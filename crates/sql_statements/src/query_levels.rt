@@ -45,6 +45,9 @@ impl Level {
     }
 }
 
+/// The key words behind which another query comes.
+pub static JOINS_OF_QUERIES: [&str; 3] = ["union", "intersect", "except"];
+
 /// The key words that end a list behind `FROM`.
 pub static ENDS_OF_FROM: [&str; 14] = [
     "where",
@@ -64,7 +67,7 @@ pub static ENDS_OF_FROM: [&str; 14] = [
 ];
 
 /// The key words behind a relation that are not another name for it.
-pub static NO_ALIASES: [&str; 18] = [
+pub static NO_ALIASES: [&str; 19] = [
     "join",
     "inner",
     "left",
@@ -83,4 +86,5 @@ pub static NO_ALIASES: [&str; 18] = [
     "with",
     "lateral",
     "do",
+    "table",
 ];

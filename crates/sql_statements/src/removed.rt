@@ -1,5 +1,6 @@
 //! What `ALTER TABLE .. DROP` takes away: columns and constraints, with what goes with them.
 
+use crate::names::made_name;
 use crate::reader::{Change, StatementReader};
 use sql_locks::{Form, LinkKind, RelationKind, SqlFault};
 
@@ -42,9 +43,24 @@ impl StatementReader {
         }
         tables.push(table)?;
         self.drop_indexes_with(&tables, column)?;
+        self.drop_sequence_of(table, column)?;
         if cascades {
             self.drop_keys_on(table, column)?;
             self.drop_views_with(table, column)?;
+        }
+        Ok(())
+    }
+
+    /// Adds the sequence that was made with `column` of `table`, which goes with it.
+    fn drop_sequence_of(&mut self, table: usize, column: &str) -> Result<(), SqlFault> {
+        let owner = self.name_of_relation(table)?;
+        let name = made_name(self.alloc, owner.as_str(), column, "seq")?;
+        let Some(sequence) = self.catalog.find(name.as_str()) else {
+            return Ok(());
+        };
+        if self.followed(LinkKind::Owns, table)?.contains(&sequence) {
+            self.act_with(Form::DropUnique, table, sequence)?;
+            self.change(Change::Drop(sequence))?;
         }
         Ok(())
     }

@@ -20,7 +20,7 @@ const READS_WAIT: &str =
 an autovacuum (which gives way after deadlock_timeout), an index build\n";
 
 /// Statements, and what is said of them up to the sums at the end.
-static SAID: [(&str, &str); 12] = [
+static SAID: [(&str, &str); 14] = [
     (
         "SELECT * FROM rich;",
         "line 1: SELECT * FROM rich;
@@ -102,6 +102,30 @@ line 3: COMMIT;
 ",
     ),
     (
+        "INSERT INTO customers TABLE rich;",
+        "line 1: INSERT INTO customers TABLE rich;
+  customers: RowExclusiveLock
+  rich: AccessShareLock
+  customers_pkey: AccessShareLock
+  works for as many rows as it reads or changes, and holds its locks until its own end
+  keeps waiting: index builds
+  waits behind: an index build
+",
+    ),
+    (
+        "CREATE SEQUENCE numbers;\nCREATE TABLE counted (id int DEFAULT nextval('numbers'));",
+        "line 1: CREATE SEQUENCE numbers;
+  numbers: AccessExclusiveLock, made here and known to nobody else
+  works for a moment, and holds its locks until its own end
+line 2: CREATE TABLE counted (id int DEFAULT nextval('numbers'));
+  numbers: AccessShareLock
+  counted: AccessExclusiveLock, made here and known to nobody else
+  works for a moment, and holds its locks until its own end
+  keeps waiting: only DDL that shuts all out, as DROP TABLE
+  waits behind: only DDL that shuts all out
+",
+    ),
+    (
         "DROP VIEW rich; -- and nothing else",
         "line 1: DROP VIEW rich;
   rich: AccessExclusiveLock
@@ -126,13 +150,17 @@ line 3: COMMIT;
 ];
 
 /// How many of the statements above say nothing of who waits: there all wait.
-const ALL_WAIT_FROM: usize = 9;
+const ALL_WAIT_FROM: usize = 11;
 
 /// Statements that are refused, and what is said of them.
-static REFUSED: [(&str, &str); 25] = [
+static REFUSED: [(&str, &str); 26] = [
     (
         "SELECT 1;\nSELECT * FROM nothing_here;",
         "line 2: no such relation: nothing_here\n",
+    ),
+    (
+        "CREATE SCHEMA fresh CREATE TABLE made (id int);",
+        "line 1: locks of CREATE SCHEMA are not known; the nearest known form is CREATE VIEW\n",
     ),
     (
         "CREATE FOO bar;",

@@ -23,6 +23,8 @@ impl Query {
             reader.cursor.eat("into");
             self.read_target(reader, Form::Insert)?;
             self.level.is_query = true;
+            // What is inserted may begin with `WITH` or `TABLE`.
+            self.level.is_fresh = true;
         } else if reader.cursor.eat("update") {
             self.read_target(reader, Form::Update)?;
             self.level.is_query = true;
