@@ -1,13 +1,16 @@
 -- Lines that are run and kept.
-use Rattle.std.proofs.Common.{◌≡◌, ◌∙◌, ◌+◌, ◌<◌, ℕ, get_or, length, take, if◌then◌else◌, Bool, true, false, List, [], ◌∷◌, ◌++◌, append-nil, append_assoc, ap, flat_map, map, refl, sym, subst, Ok, Err, OnOk, Result}
+use Rattle.std.proofs.Common.{◌≡◌, ◌∙◌, ◌+◌, ◌<◌, ℕ, get_or, length, take, if◌then◌else◌, Bool, true, false, List, [], ◌∷◌, ◌++◌, append-nil, append_assoc, ap, map, refl, sym, subst, Ok, Err, OnOk, Result}
+use Rattle.std.specs.Prelude.{MatchBool}
 use Rattle.std.specs.Str.{bytes_eq}
 use Rattle.std.proofs.lemmas.Grind.{flat_map-append}
 use Rattle.std.proofs.lemmas.List.{map-append, take_more}
 use Rattle.lock_script.specs.declared.kept.KeptLine.{KeptLine}
 use Rattle.lock_script.specs.declared.kept.KeptQueue.{KeptQueue}
+use Rattle.lock_script.specs.declared.objects.NamedObject.{NamedObject}
 use Rattle.lock_script.specs.Kept.{IsKeptOrder, line_of, lines_of}
 use Rattle.sql_script.specs.declared.turns.Table.{Table}
-use Rattle.scenario.specs.InTurn.{IsKept, NamesTables, RunsEach, RunsKept, TakesIn, TakesInEach, kept_of, lines_at, name_line, one_of, said_by, those_of}
+use Rattle.sql_script.specs.declared.turns.Turn.{Turn}
+use Rattle.scenario.specs.InTurn.{IsKept, NamesTable, NamesTables, RunsEach, RunsKept, TakesIn, TakesInEach, kept_of, lines_at, one_of, said_by, tables_in, those_of}
 use Rattle.scenario.specs.Scripts.{ScriptLine}
 
 -- what one line of a session says
@@ -39,6 +42,15 @@ is-kept kept left name line it says order = (
 pub on-ok : {T E P Q : Type 0} (r : Result T E) → (P → Q) → OnOk r P → OnOk r Q
 on-ok (Ok x) f p = f p
 on-ok (Err e) f p = tt
+
+-- what holds of each of the two truth values
+pub match-true : (P Q : Type 0) (b : Bool) → b ≡ true → P → MatchBool b P Q
+match-true P Q true is p = p
+match-true P Q false is p = let never : ⊥ = cc in absurd never
+
+pub match-false : (P Q : Type 0) (b : Bool) → b ≡ false → Q → MatchBool b P Q
+match-false P Q false is q = q
+match-false P Q true is q = let never : ⊥ = cc in absurd never
 
 module _ {C : Type 0} (Runs : C → ScriptLine → C → Type 0) where
   -- one more line is run
@@ -104,26 +116,33 @@ module _ {C : Type 0} (Runs : C → ScriptLine → C → Type 0) where
             ∙ ap (λ those. lines_at number those) (map-append say (take k items) (item ∷ []))
             ∙ map-append (λ text. record { number = number; text = text }) (map say (take k items)) (say item ∷ [])
 
-  runs-both :
-      (old mid new : C) (lines others : List ScriptLine) → RunsEach Runs old lines mid → RunsEach Runs mid others new → RunsEach Runs old (lines ++ others) new
-  runs-both old mid new [] others same runs = subst (λ from. RunsEach Runs from others new) same runs
-  runs-both old mid new (first ∷ lines) others (next, here, later) runs = (next, here, runs-both next mid new lines others later runs)
+module _ {C : Type 0} (Runs : C → ScriptLine → C → Type 0) (objects : C → List NamedObject) where
+  -- more tables have their names after others
+  pub names-both :
+      (old mid new : C) (number : ℕ) (tables others : List Table) → NamesTables Runs objects old number tables mid →
+      NamesTables Runs objects mid number others new → NamesTables Runs objects old number (tables ++ others) new
+  names-both old mid new number [] others same names = subst (λ from. NamesTables Runs objects from number others new) same names
+  names-both old mid new number (table ∷ tables) others (next, here, later) names =
+      (next, here, names-both next mid new number tables others later names)
 
-  -- No table has its name yet, and more of them have.
-  pub names-none : (old : C) (number : ℕ) → NamesTables Runs old number old
-  names-none old number = ([], refl)
+  -- the next one of a list has
+  pub names-item :
+      (old mid new : C) (number : ℕ) (tables : List Table) (k : ℕ) (table : Table) → k < length tables → table ≡ get_or tables k table →
+      NamesTables Runs objects old number (take k tables) mid → NamesTable Runs objects mid number table new →
+      NamesTables Runs objects old number (take (k + 1) tables) new
+  names-item old mid new number tables k table within is before names =
+      subst (λ those. NamesTables Runs objects old number those new)
+      (ap (λ it. take k tables ++ it ∷ []) is ∙ sym (take_more tables k table within))
+      (names-both old mid new number (take k tables) (table ∷ []) before (new, names, refl))
 
-  pub names-both : (old mid new : C) (number : ℕ) → NamesTables Runs old number mid → NamesTables Runs mid number new → NamesTables Runs old number new
-  names-both old mid new number (tables, first) (others, later) = (
-    tables ++ others,
-    subst (λ lines. RunsEach Runs old lines new)
-        (sym (ap (λ those. lines_at number those) (map-append name_line tables others)
-        ∙ map-append (λ text. record { number = number; text = text }) (map name_line tables) (map name_line others)))
-        (runs-both old mid new (lines_at number (map name_line tables)) (lines_at number (map name_line others)) first later),
-  )
-
-  pub names-one :
-      (old new : C) (number : ℕ) (table : Table) (text : List ℕ) → text ≡ name_line table → Runs old (record { number = number; text = text }) new →
-      NamesTables Runs old number new
-  names-one old new number table text says runs =
-      (table ∷ [], (new, subst (λ those. Runs old (record { number = number; text = those }) new) says runs, refl))
+  -- those of the next turn have
+  pub names-turn :
+      (old mid new : C) (number : ℕ) (turns : List Turn) (k : ℕ) (turn : Turn) → k < length turns → turn ≡ get_or turns k turn →
+      NamesTables Runs objects old number (tables_in (take k turns)) mid → NamesTables Runs objects mid number turn.named.items new →
+      NamesTables Runs objects old number (tables_in (take (k + 1) turns)) new
+  names-turn old mid new number turns k turn within is before names =
+      subst (λ those. NamesTables Runs objects old number those new)
+      (sym (ap (λ those. tables_in those) (take_more turns k turn within ∙ ap (λ it. take k turns ++ it ∷ []) (sym is))
+      ∙ flat_map-append (λ turn. turn.named.items) (take k turns) (turn ∷ [])
+      ∙ ap (λ those. tables_in (take k turns) ++ those) (append-nil turn.named.items)))
+      (names-both old mid new number (tables_in (take k turns)) turn.named.items before names)

@@ -14,5 +14,6 @@ pub mod Played
 pub mod Scripts
 pub mod InTurn
 pub mod Printed
+pub mod Spoken
 pub mod Written
 pub mod Summaries

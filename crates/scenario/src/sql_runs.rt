@@ -1,7 +1,8 @@
 //! Runs of scripts that speak SQL: a schema makes tables, and a session plays what the statements of its `do` lines lock.
-ghost use Rattle.std.specs.Prelude.{◌≡◌, OnOk, map, string_bytes};
+ghost use Rattle.std.specs.Prelude.{◌≡◌, IfOk, OnOk, map, string_bytes};
 ghost use Rattle.lock_manager.specs.Crews.{SeatsAre};
-ghost use Rattle.scenario.specs.InTurn.{DoesLine, NamesTables, PlaysStatements, TakesIn, TakesInEach, lines_at};
+ghost use Rattle.scenario.specs.InTurn.{DoesLine, NamesTable, NamesTables, PlaysStatements, TakesIn, TakesInEach, lines_at, may_be_named, name_line, tables_in};
+ghost use Rattle.scenario.specs.Spoken.{IsHeardBy};
 ghost use Rattle.scenario.specs.Scripts.{RunsLine};
 
 use crate::desks::ScriptDesk;
@@ -10,7 +11,7 @@ use crate::listener::Listener;
 use crate::run::Scene;
 use crate::runs::Keeping;
 use lock_manager::OwnSession;
-use lock_script::{Defect, Fault, KeptLines, parse_object_name};
+use lock_script::{Defect, Fault, KeptLines, ObjectNames, parse_object_name};
 use lock_table::PartTable;
 use shared_rule::Board;
 use sql_script::{Heard, SqlScript, Statements, Table, Turn, Unplayed, lines_of};
@@ -34,8 +35,10 @@ impl Spoken {
         Spoken { script }
     }
 
-    /// What `line` says.
-    pub fn hear(&mut self, line: ReadLine<'_>) -> Result<Heard, Unplayed> {
+    /// What `line` says: nothing in SQL, where the script speaks none.
+    pub fn hear(&mut self, line: ReadLine<'_>) -> Result<Heard, Unplayed>
+        ensures { IfOk result (IsHeardBy self.old.script line.entry.text.now) }
+    {
         match &mut self.script {
             Some(script) => script.hear(line.number, line.text),
             None => Ok(Heard::Plain),
@@ -62,7 +65,7 @@ impl<T: PartTable, B: Board<T>, D: ScriptDesk<OwnSession<T, B>>, L: Listener> Sc
         heard: &Heard,
     ) -> Result<(), Fault>
         requires seats { SeatsAre B.seat D.seat }
-        ensures done { OnOk result (DoesLine (RunsLine B.seat B.view B.stack D.again D.database_of D.entries)
+        ensures done { OnOk result (DoesLine (RunsLine B.seat B.view B.stack D.again D.database_of D.entries) (λ cast. cast.names.objects)
             (record { sessions = self.old.stage.sessions; names = self.old.stage.names }) kept.old
             (record { number = line.entry.number; text = line.entry.text.now }) heard.now
             (record { sessions = self.new.stage.sessions; names = self.new.stage.names }) kept.new) }
@@ -119,7 +122,7 @@ impl<T: PartTable, B: Board<T>, D: ScriptDesk<OwnSession<T, B>>, L: Listener> Sc
         statements: &Statements,
     ) -> Result<(), Fault>
         requires seats { SeatsAre B.seat D.seat }
-        ensures played { OnOk result (PlaysStatements (RunsLine B.seat B.view B.stack D.again D.database_of D.entries)
+        ensures played { OnOk result (PlaysStatements (RunsLine B.seat B.view B.stack D.again D.database_of D.entries) (λ cast. cast.names.objects)
             (record { sessions = self.old.stage.sessions; names = self.old.stage.names }) kept.old line.entry.number
             (string_bytes statements.now.session) statements.now.turns.items
             (record { sessions = self.new.stage.sessions; names = self.new.stage.names }) kept.new) }
@@ -160,7 +163,7 @@ impl<T: PartTable, B: Board<T>, D: ScriptDesk<OwnSession<T, B>>, L: Listener> Sc
         Ok(())
     }
 
-    /// Gives the tables of `turns` their names, by lines in place of `line`.
+    /// Gives the tables of `turns` their names, by lines in place of `line`, as far as they may have them.
     fn name_tables<H: Wait>(
         &mut self,
         rt: &H,
@@ -169,20 +172,38 @@ impl<T: PartTable, B: Board<T>, D: ScriptDesk<OwnSession<T, B>>, L: Listener> Sc
         turns: &Vec<Turn>,
     ) -> Result<(), Fault>
         requires seats { SeatsAre B.seat D.seat }
-        ensures named { OnOk result (NamesTables (RunsLine B.seat B.view B.stack D.again D.database_of D.entries)
-            (record { sessions = self.old.stage.sessions; names = self.old.stage.names }) line.entry.number
+        ensures named { OnOk result (NamesTables (RunsLine B.seat B.view B.stack D.again D.database_of D.entries) (λ cast. cast.names.objects)
+            (record { sessions = self.old.stage.sessions; names = self.old.stage.names }) line.entry.number (tables_in turns.now.items)
             (record { sessions = self.new.stage.sessions; names = self.new.stage.names })) }
         ensures manager { D.manager self.new.stage.desk ≡ D.manager self.old.stage.desk }
     {
         'turns: for turn in turns {
-            'tables: for table in &turn.named {
-                self.name_table(rt, alloc, line, table)?;
-            }
+            self.name_each(rt, alloc, line, &turn.named)?;
         }
         Ok(())
     }
 
-    /// Gives `table` its name, where neither has another, by a line in place of `line`. One whose name no object may have goes without.
+    /// Gives `tables` their names, by lines in place of `line`, as far as they may have them.
+    fn name_each<H: Wait>(
+        &mut self,
+        rt: &H,
+        alloc: Global,
+        line: ReadLine<'_>,
+        tables: &Vec<Table>,
+    ) -> Result<(), Fault>
+        requires seats { SeatsAre B.seat D.seat }
+        ensures named { OnOk result (NamesTables (RunsLine B.seat B.view B.stack D.again D.database_of D.entries) (λ cast. cast.names.objects)
+            (record { sessions = self.old.stage.sessions; names = self.old.stage.names }) line.entry.number tables.now.items
+            (record { sessions = self.new.stage.sessions; names = self.new.stage.names })) }
+        ensures manager { D.manager self.new.stage.desk ≡ D.manager self.old.stage.desk }
+    {
+        'tables: for table in tables {
+            self.name_table(rt, alloc, line, table)?;
+        }
+        Ok(())
+    }
+
+    /// Gives `table` its name by a line in place of `line`, where it may have that, and else does nothing.
     fn name_table<H: Wait>(
         &mut self,
         rt: &H,
@@ -191,17 +212,34 @@ impl<T: PartTable, B: Board<T>, D: ScriptDesk<OwnSession<T, B>>, L: Listener> Sc
         table: &Table,
     ) -> Result<(), Fault>
         requires seats { SeatsAre B.seat D.seat }
-        ensures named { OnOk result (NamesTables (RunsLine B.seat B.view B.stack D.again D.database_of D.entries)
-            (record { sessions = self.old.stage.sessions; names = self.old.stage.names }) line.entry.number
+        ensures named { OnOk result (NamesTable (RunsLine B.seat B.view B.stack D.again D.database_of D.entries) (λ cast. cast.names.objects)
+            (record { sessions = self.old.stage.sessions; names = self.old.stage.names }) line.entry.number table.now
+            (record { sessions = self.new.stage.sessions; names = self.new.stage.names })) }
+        ensures manager { D.manager self.new.stage.desk ≡ D.manager self.old.stage.desk }
+    {
+        if may_be_named(&self.stage.names.objects, table) {
+            self.run_naming(rt, alloc, line, table)
+        } else {
+            Ok(())
+        }
+    }
+
+    /// Runs the line that gives `table` its name, in place of `line`.
+    fn run_naming<H: Wait>(
+        &mut self,
+        rt: &H,
+        alloc: Global,
+        line: ReadLine<'_>,
+        table: &Table,
+    ) -> Result<(), Fault>
+        requires seats { SeatsAre B.seat D.seat }
+        ensures ran { OnOk result (RunsLine B.seat B.view B.stack D.again D.database_of D.entries
+            (record { sessions = self.old.stage.sessions; names = self.old.stage.names })
+            (record { number = line.entry.number; text = name_line table.now })
             (record { sessions = self.new.stage.sessions; names = self.new.stage.names })) }
         ensures manager { D.manager self.new.stage.desk ≡ D.manager self.old.stage.desk }
     {
         let name = table.name.as_str();
-        let objects = &self.stage.names.objects;
-        let is_free = objects.tag_called(name).is_none() && objects.name_of(table.tag).is_none();
-        if !is_free || parse_object_name(name).is_none() {
-            return Ok(());
-        }
         let tag = table.tag;
         match format!(in alloc; "name {name} {tag}") {
             Ok(text) => self.run_line(rt, line.number, text.as_str(), line.more),
@@ -224,4 +262,18 @@ impl<T: PartTable, B: Board<T>, D: ScriptDesk<OwnSession<T, B>>, L: Listener> Sc
             Err(fault) => fault,
         }
     }
+}
+
+/// Whether `table` may have its name: none of `objects` goes by that, it has no other one, and an object may have such a name.
+fn may_be_named(objects: &ObjectNames, table: &Table) -> bool
+    ensures { result ≡ may_be_named objects.now table.now }
+{
+    let name = table.name.as_str();
+    if objects.tag_called(name).is_some() {
+        return false;
+    }
+    if objects.name_of(table.tag).is_some() {
+        return false;
+    }
+    parse_object_name(name).is_some()
 }

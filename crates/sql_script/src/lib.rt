@@ -14,6 +14,7 @@ mod script;
 mod sessions;
 mod steps;
 mod turns;
+mod verbs;
 mod works;
 
 pub use asked::Asking;

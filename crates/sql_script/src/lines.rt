@@ -1,8 +1,12 @@
 //! The lines of a script that say SQL: those of a schema, and `do`, `work` and `done` lines.
+ghost use Rattle.std.specs.Prelude.{◌≡◌, Some, IfOk};
+ghost use Rattle.sql_script.specs.Lines.{IsHeardOf, IsPlayedAtEnd, IsToPlay, database_called, work_called};
+ghost use Rattle.sql_script.specs.Turns.{AreTurnsOf};
 
 use crate::faults::{ScriptDefect, ScriptFault};
 use crate::script::SqlScript;
 use crate::turns::Turn;
+use crate::verbs::{Verb, before_semicolon, cut_word, verb_of};
 use std::alloc::{AllocError, Global};
 
 /// What a line of a script is.
@@ -58,45 +62,38 @@ pub struct Schema {
 }
 
 impl SqlScript {
-    /// Takes in the line `line` of the number `number` of a script. Lines that open and close sessions are plain ones.
-    pub fn hear(&mut self, number: u32, line: &str) -> Result<Heard, Unplayed> {
-        let mut words = line.split_whitespace();
-        let verb = words.next().unwrap_or("");
+    /// Takes in the line `line` of the number `number` of a script, and says what it is: of a `do` or `work` line what its own statements come to, and of
+    /// a `done` line what is left of the statement at which its session works. Lines that open and close sessions are plain ones.
+    pub fn hear(&mut self, number: u32, line: &str) -> Result<Heard, Unplayed>
+        ensures heard { IfOk result (IsHeardOf self.old line.now) }
+    {
+        let (word, behind) = cut_word(line);
+        let (name, text) = cut_word(behind);
         if self.schema.is_some() {
-            self.hear_schema(line, verb == "end" && words.next().is_none())?;
+            self.hear_schema(line, word == "end" && name.is_empty())?;
             return Ok(Heard::Schema);
         }
-        match verb {
-            "schema" => {
-                self.schema = Some(Schema {
-                    line: number,
-                    text: String::new(self.alloc),
-                });
+        match verb_of(word) {
+            Verb::Schema => {
+                self.begin_schema(number);
                 Ok(Heard::Schema)
             }
-            "do" => self.hear_statements(number, line, "do"),
-            "work" => self.hear_statements(number, line, "work"),
-            "done" => {
-                let name = words.next().unwrap_or("");
-                self.hear_end(number, name.strip_suffix(";").unwrap_or(name))
-            }
-            "commit" | "abort" => {
-                if let Some(name) = words.next() {
-                    self.drop_transaction(name);
-                }
+            Verb::Do => self.hear_statements(number, name, text, false),
+            Verb::Work => self.hear_statements(number, name, text, true),
+            Verb::Done => self.hear_end(number, before_semicolon(name)),
+            Verb::Session => {
+                self.hear_opening(name, text)?;
                 Ok(Heard::Plain)
             }
-            "session" => {
-                self.hear_opening(words.next(), words.next())?;
+            Verb::Close => {
+                self.close(name);
                 Ok(Heard::Plain)
             }
-            "close" => {
-                if let Some(name) = words.next() {
-                    self.close(name);
-                }
+            Verb::Ends => {
+                self.drop_transaction(name);
                 Ok(Heard::Plain)
             }
-            _ => Ok(Heard::Plain),
+            Verb::Other => Ok(Heard::Plain),
         }
     }
 
@@ -104,15 +101,19 @@ impl SqlScript {
     pub fn finish(&self) -> Result<(), Unplayed> {
         match &self.schema {
             Some(schema) => {
-                let fault = ScriptFault::Word {
-                    line: 1,
-                    what: ScriptDefect::UnendedSchema,
-                    from: 0,
-                };
+                let fault = whole(ScriptDefect::UnendedSchema);
                 Err(Unplayed::of(self.alloc, schema.line, b"schema", fault))
             }
             None => Ok(()),
         }
+    }
+
+    /// Has the lines from here on make tables. The line of the number `number` says so.
+    fn begin_schema(&mut self, number: u32) {
+        self.schema = Some(Schema {
+            line: number,
+            text: String::new(self.alloc),
+        });
     }
 
     /// Takes in `line`, one of a schema, which ends the schema where `is_end`. The statements of one that has ended are run.
@@ -134,70 +135,76 @@ impl SqlScript {
         }
     }
 
-    /// Has the session of a line that opens it be known, where its words `name` and `database` are good ones.
-    fn hear_opening(
-        &mut self,
-        name: Option<&str>,
-        database: Option<&str>,
-    ) -> Result<(), AllocError> {
-        let (Some(name), Some(database)) = (name, database) else {
-            return Ok(());
-        };
-        match database.parse::<u32>() {
+    /// Has the session of a line that opens it be known, where `name` and the word of `text` that says its database are good ones.
+    fn hear_opening(&mut self, name: &str, text: &str) -> Result<(), AllocError> {
+        match cut_word(text).0.parse::<u32>() {
             Ok(database) => self.open(name, database),
             Err(_) => Ok(()),
         }
     }
 
-    /// What a session plays for the statements of the line `line` of the number `number`, whose first word is `verb`: a `do` or a `work`.
-    fn hear_statements(&mut self, number: u32, line: &str, verb: &str) -> Result<Heard, Unplayed> {
+    /// What the session named `name` plays for the statements `text` of the line of the number `number`. Where `works` says so it works at it, one
+    /// statement, until a later line.
+    fn hear_statements(
+        &mut self,
+        number: u32,
+        name: &str,
+        text: &str,
+        works: bool,
+    ) -> Result<Heard, Unplayed>
+        ensures { IfOk result (IsToPlay self.old.sessions name.now (λ database. AreTurnsOf database works text.now)) }
+    {
         let alloc = self.alloc;
-        let (name, text) = parts_of(line, verb);
         let database = self.worker(number, name, false)?;
         if text.trim().is_empty() {
-            return Err(Unplayed::of(
-                alloc,
-                number,
-                line.as_bytes(),
-                whole(ScriptDefect::NoStatement),
-            ));
+            let fault = whole(ScriptDefect::NoStatement);
+            let verb = if works { "work" } else { "do" };
+            return Err(Unplayed::of(alloc, number, verb.as_bytes(), fault));
         }
-        let turns = if verb == "work" {
-            self.turns_at_work(name, database, text.as_bytes())
-        } else {
-            self.turns_of(name, database, text.as_bytes())
-        };
-        match turns {
-            Ok(turns) => Ok(Heard::Statements(Statements {
-                session: String::from_str(alloc, name)?,
-                turns,
-            })),
+        let session = String::from_str(alloc, name)?;
+        match self.turns_for(name, database, text.as_bytes(), works) {
+            Ok(turns) => Ok(Heard::Statements(Statements { session, turns })),
             Err(fault) => Err(Unplayed::of(alloc, number, text.as_bytes(), fault)),
         }
     }
 
+    /// What the session named `name`, one of `database`, plays for the statements `text`. Where `works` says so it works at it, one statement, until a
+    /// later line.
+    fn turns_for(
+        &mut self,
+        name: &str,
+        database: u32,
+        text: &[u8],
+        works: bool,
+    ) -> Result<Vec<Turn>, ScriptFault>
+        ensures { IfOk result (λ turns. AreTurnsOf database works text.now turns.items) }
+    {
+        if works {
+            self.turns_at_work(name, database, text)
+        } else {
+            self.turns_of(name, database, text)
+        }
+    }
+
     /// What the session named `name` plays where the line of the number `number` says that the work of its statement is done.
-    fn hear_end(&mut self, number: u32, name: &str) -> Result<Heard, Unplayed> {
+    fn hear_end(&mut self, number: u32, name: &str) -> Result<Heard, Unplayed>
+        ensures { IfOk result (IsToPlay self.old.sessions name.now
+            (λ database. IsPlayedAtEnd database self.old.sessions (work_called self.old.sessions name.now))) }
+    {
         let alloc = self.alloc;
         let database = self.worker(number, name, true)?;
-        let mut turns = Vec::new(alloc);
+        let session = String::from_str(alloc, name)?;
         match self.done(name, database) {
-            Ok(Some(turn)) => match turns.push(turn) {
-                Ok(()) => {}
-                Err(_) => return Err(Unplayed::NoMemory),
-            },
-            Ok(None) => {}
-            Err(fault) => return Err(Unplayed::of(alloc, number, name.as_bytes(), fault)),
+            Ok(turns) => Ok(Heard::Statements(Statements { session, turns })),
+            Err(fault) => Err(Unplayed::of(alloc, number, name.as_bytes(), fault)),
         }
-        Ok(Heard::Statements(Statements {
-            session: String::from_str(alloc, name)?,
-            turns,
-        }))
     }
 
     /// The database of the session named `name`, which the line of the number `number` names. Refused where there is no such session, and where it
     /// works at a statement or not, otherwise than `is_at_work` wants.
-    fn worker(&self, number: u32, name: &str, is_at_work: bool) -> Result<u32, Unplayed> {
+    fn worker(&self, number: u32, name: &str, is_at_work: bool) -> Result<u32, Unplayed>
+        ensures { IfOk result (λ database. database_called self.now.sessions name.now ≡ Some database) }
+    {
         let what = match self.database_of(name) {
             Some(database) if self.is_at_work(name) == is_at_work => return Ok(database),
             Some(_) if is_at_work => ScriptDefect::NotAtWork,
@@ -215,14 +222,4 @@ fn whole(what: ScriptDefect) -> ScriptFault {
         what,
         from: 0,
     }
-}
-
-/// The second word of `line`, whose first one is `verb`, and what stands behind it.
-fn parts_of<'l>(line: &'l str, verb: &str) -> (&'l str, &'l str) {
-    let behind = match line.trim_start().strip_prefix(verb) {
-        Some(behind) => behind.trim_start(),
-        None => "",
-    };
-    let name = behind.split_whitespace().next().unwrap_or("");
-    (name, behind.strip_prefix(name).unwrap_or(""))
 }

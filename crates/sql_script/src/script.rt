@@ -1,5 +1,6 @@
 //! The SQL of a script: its schema, and the statements of its `do` and `work` lines.
 ghost use Rattle.std.specs.Prelude.{◌≡◌, true, false, map, All, IfOk};
+ghost use Rattle.sql_script.specs.Lines.{database_called};
 ghost use Rattle.sql_report.specs.Report.{line_of_statement};
 ghost use Rattle.sql_script.specs.Turns.{line_of_turn, AreTurnsOf, IsTurn};
 
@@ -13,8 +14,9 @@ use modes_core::Tag;
 use sql_locks::{Lock, SqlFault};
 use sql_statements::{SqlStatement, SqlWord, StatementReader, split_statements};
 use std::alloc::{AllocError, Global};
+use std::marker::Model;
 
-/// What the SQL of a script made: tables, and the transactions of its sessions.
+/// What the SQL of a script made: tables, and the transactions of its sessions. Contracts see its sessions, and whether a schema is read.
 #[derive(Drop)]
 pub struct SqlScript {
     pub(crate) alloc: Global,
@@ -24,6 +26,15 @@ pub struct SqlScript {
     pub(crate) begun: Option<u32>,
     /// The schema that is read, while one is.
     pub(crate) schema: Option<Schema>,
+}
+
+impl Model for SqlScript {
+    ghost use Rattle.std.specs.Prelude.{is_some};
+    ghost use Rattle.sql_script.specs.Known.{Known};
+
+    ghost Value = { Known };
+
+    ghost view = { λ script. record { in_schema = is_some script.schema; sessions = script.sessions.items } };
 }
 
 impl SqlScript {
@@ -67,10 +78,13 @@ impl SqlScript {
     }
 
     /// The database of the session named `name`, if there is one.
-    pub fn database_of(&self, name: &str) -> Option<u32> {
-        let place = self.place_of(name)?;
-        let session = self.sessions.get(place)?;
-        Some(session.database)
+    pub fn database_of(&self, name: &str) -> Option<u32>
+        ensures { result ≡ database_called self.now.sessions name.now }
+    {
+        self.sessions
+            .iter()
+            .find(|session| session.name.as_str() == name)
+            .map(|session| session.database)
     }
 
     /// Where the session named `name` stands.

@@ -137,12 +137,17 @@ impl ScriptSession {
         Ok(())
     }
 
-    /// Has it work at nothing, since its work is done: its transaction has ended, if that was the statement's own. Else that has a snapshot where
-    /// `had_snapshot`.
-    pub fn end_work(&mut self, alloc: Global, had_snapshot: bool) {
-        if self.is_open {
-            self.work = None;
-            self.has_snapshot = had_snapshot;
+    /// Where `is_done`, has the session work at nothing: its transaction has ended, if that was the statement's own, and else has the snapshot that it
+    /// had before. Where the work is not done, the statement waits for no snapshot any more.
+    pub fn leave_work(&mut self, alloc: Global, is_done: bool) {
+        let Some(mut work) = self.work.take() else {
+            return;
+        };
+        if !is_done {
+            work.awaits_snapshots = false;
+            self.work = Some(work);
+        } else if self.is_open {
+            self.has_snapshot = work.had_snapshot;
         } else {
             self.end_transaction(alloc);
         }

@@ -1,10 +1,13 @@
 //! Statements that work until a later line says that their work is done.
+ghost use Rattle.std.specs.Prelude.{◌≡◌, IfOk};
+ghost use Rattle.std.specs.Option.{option_copied};
+ghost use Rattle.sql_script.specs.Lines.{IsPlayedAtEnd, awaited_at_end, session_called, work_called};
 
 use crate::asked::Asking;
 use crate::awaited::{Course, awaited_of};
 use crate::faults::{ScriptDefect, ScriptFault};
 use crate::script::SqlScript;
-use crate::sessions::Work;
+use crate::sessions::{ScriptSession, Work};
 use crate::steps::Step;
 use crate::turns::{Manner, Turn, resumed};
 use modes_core::Tag;
@@ -55,50 +58,70 @@ impl SqlScript {
         })
     }
 
-    /// What the session named `name`, one of `database`, plays now that the work of its statement is done. Where that waits for who has a snapshot, it
-    /// works on, and its end comes by another such line.
-    pub fn done(&mut self, name: &str, database: u32) -> Result<Option<Turn>, ScriptFault> {
-        let Some(work) = self.take_work(name) else {
-            return Ok(None);
+    /// What the session named `name`, one of `database`, plays now that the work of its statement is done: nothing where it works at none, and else
+    /// one turn. Where the statement waits for who has a snapshot, the session works on, and the end comes by another such line.
+    pub fn done(&mut self, name: &str, database: u32) -> Result<Vec<Turn>, ScriptFault>
+        ensures { IfOk result (λ turns.
+            IsPlayedAtEnd database self.old.sessions (work_called self.old.sessions name.now) turns.items) }
+    {
+        let mut turns = Vec::new(self.alloc);
+        let Some(work) = self.work_of(name) else {
+            return Ok(turns);
         };
-        let mut awaited = Vec::new(self.alloc);
-        if work.awaits_snapshots {
-            let sessions = self.sessions.as_slice();
-            awaited = awaited_of(self.alloc, sessions, database, Awaits::Writers, &[])?;
-        }
+        let awaited = self.awaited_at_end(database, work)?;
         let steps = resumed(self.alloc, &work.left, &awaited)?;
-        self.leave_work(name, work, awaited.is_empty());
-        Ok(Some(self.turn_of_end(awaited, steps)))
+        let is_done = awaited.is_empty();
+        turns.push(self.turn_of_end(awaited, steps))?;
+        self.leave_work(name, is_done);
+        Ok(turns)
     }
 
-    /// Takes the statement at which the session named `name` works from it.
-    fn take_work(&mut self, name: &str) -> Option<Work> {
-        let place = self.place_of(name)?;
-        let session = self.sessions.get_mut(place)?;
-        session.work.take()
+    /// The statement at which the session named `name` works.
+    fn work_of(&self, name: &str) -> Option<&Work>
+        ensures { option_copied result ≡ work_called self.now.sessions name.now }
+    {
+        match self.session_of(name) {
+            Some(session) => session.work.as_ref(),
+            None => None,
+        }
     }
 
-    /// Has the session named `name` go on with `work`, or have it be done where `is_done`.
-    fn leave_work(&mut self, name: &str, work: Work, is_done: bool) {
+    /// The session named `name`.
+    fn session_of(&self, name: &str) -> Option<&ScriptSession>
+        ensures { option_copied result ≡ session_called self.now.sessions name.now }
+    {
+        self.sessions
+            .iter()
+            .find(|session| session.name.as_str() == name)
+    }
+
+    /// The locks of the transactions for whose ends a statement of `database` waits that has done its `work`: of those that have a snapshot, if it waits for
+    /// these.
+    fn awaited_at_end(&self, database: u32, work: &Work) -> Result<Vec<Tag>, AllocError>
+        ensures { IfOk result (λ tags. tags.items ≡ awaited_at_end database self.now.sessions work.now) }
+    {
+        if !work.awaits_snapshots {
+            return Ok(Vec::new(self.alloc));
+        }
+        let sessions = self.sessions.as_slice();
+        awaited_of(self.alloc, sessions, database, Awaits::Writers, &[])
+    }
+
+    /// Has the work of the statement at which the session named `name` works be done, or, where not `is_done`, have it wait for no snapshot any more.
+    fn leave_work(&mut self, name: &str, is_done: bool) {
         let alloc = self.alloc;
         let Some(place) = self.place_of(name) else {
             return;
         };
         if let Some(session) = self.sessions.get_mut(place) {
-            if is_done {
-                session.end_work(alloc, work.had_snapshot);
-            } else {
-                session.work = Some(Work {
-                    left: work.left,
-                    awaits_snapshots: false,
-                    had_snapshot: work.had_snapshot,
-                });
-            }
+            session.leave_work(alloc, is_done);
         }
     }
 
     /// The turn of the end of a statement, which plays `steps` and waits for the transactions whose locks are `awaited`.
-    fn turn_of_end(&self, awaited: Vec<Tag>, steps: Vec<Step>) -> Turn {
+    fn turn_of_end(&self, awaited: Vec<Tag>, steps: Vec<Step>) -> Turn
+        ensures { result.steps ≡ steps }
+    {
         Turn {
             line: 1,
             manner: Manner {

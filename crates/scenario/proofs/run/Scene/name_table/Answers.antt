@@ -1,20 +1,7 @@
-use Rattle.std.proofs.Common.{◌∙◌, ℕ, List, ◌++◌, ap}
-use Rattle.std.specs.Prelude.{codes}
-use Rattle.modes_core.specs.TagText.{tag_text}
-use Rattle.scenario.specs.Scripts.{RunsLine}
-use Rattle.scenario.proofs.InTurn.{names-one, on-ok}
-use Rattle.scenario.proofs.Lines.{runs-heard}
+use Rattle.std.proofs.Common.{◌∙◌, sym}
+use Rattle.scenario.proofs.InTurn.{match-true, on-ok}
 use Rattle.scenario.proofs.run.Scene.name_table.Goals as goal
 
-pub returns-in-Ok-clause-named : goal.returns-in-Ok-clause-named
-returns-in-Ok-clause-named g c =
-    let says = c.as_str.ensures.value ∙ c.in-Ok.ensures.ok
-    ∙ ap (λ (name : List ℕ). codes "name " ++ (name ++ (codes " " ++ tag_text c.args.table.now.tag))) c.as_str-name.ensures.value in
-    on-ok c.run_line.result
-    (λ played. names-one (RunsLine g.B.Board.seat g.B.Board.view g.B.Board.stack g.D.ScriptDesk.again g.D.ScriptDesk.database_of g.D.ScriptDesk.entries)
-    (record { sessions = c.args.self.now.stage.sessions; names = c.args.self.now.stage.names })
-    (record { sessions = c.run_line.new.self.stage.sessions; names = c.run_line.new.self.stage.names })
-    c.args.line.number c.args.table.now c.as_str.result.now says
-    (runs-heard g.B.Board.seat g.B.Board.view g.B.Board.stack g.D.ScriptDesk.again g.D.ScriptDesk.database_of g.D.ScriptDesk.entries g.L.Listener.hears
-    c.args.line.number (record { sessions = c.args.self.now.stage.sessions; names = c.args.self.now.stage.names }) (record { sessions = c.run_line.new.self.stage.sessions; names = c.run_line.new.self.stage.names }) c.args.self.now.listener c.run_line.new.self.listener
-    c.as_str.result.now played)) c.run_line.ensures.played
+pub returns-then-may_be_named-clause-named : goal.returns-then-may_be_named-clause-named
+returns-then-may_be_named-clause-named g c =
+    on-ok c.run_naming.result (λ ran. match-true _ _ _ (sym c.may_be_named.ensures ∙ c.if-may_be_named.true) ran) c.run_naming.ensures.ran

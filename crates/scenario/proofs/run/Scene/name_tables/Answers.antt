@@ -1,14 +1,15 @@
 use Rattle.std.proofs.Common.{◌∙◌}
 use Rattle.scenario.specs.Scripts.{RunsLine}
-use Rattle.scenario.proofs.InTurn.{names-both}
+use Rattle.scenario.proofs.InTurn.{names-turn}
 use Rattle.scenario.proofs.run.Scene.name_tables.Goals as goal
 
-pub tables-preserved : goal.tables-preserved
-tables-preserved g c = record {
-  manager = c.name_table.ensures.manager ∙ c.tables.invariant.manager;
-  named = names-both (RunsLine g.B.Board.seat g.B.Board.view g.B.Board.stack g.D.ScriptDesk.again g.D.ScriptDesk.database_of g.D.ScriptDesk.entries)
+pub turns-preserved : goal.turns-preserved
+turns-preserved g c = record {
+  manager = c.name_each.ensures.manager ∙ c.turns.invariant.manager;
+  named = names-turn (RunsLine g.B.Board.seat g.B.Board.view g.B.Board.stack g.D.ScriptDesk.again g.D.ScriptDesk.database_of g.D.ScriptDesk.entries) (λ cast. cast.names.objects)
       (record { sessions = c.args.self.now.stage.sessions; names = c.args.self.now.stage.names })
-      (record { sessions = c.tables.self.stage.sessions; names = c.tables.self.stage.names })
-      (record { sessions = c.name_table.new.self.stage.sessions; names = c.name_table.new.self.stage.names })
-      c.args.line.number c.tables.invariant.named c.in_ok-name_table.ensures.named;
+      (record { sessions = c.turns.self.stage.sessions; names = c.turns.self.stage.names })
+      (record { sessions = c.name_each.new.self.stage.sessions; names = c.name_each.new.self.stage.names })
+      c.args.line.number c.deref-turn-items.result.now c.turns.turn-index c.turn-item.result c.turns-test.true c.turn-item.is
+      c.turns.invariant.named c.in_ok-name_each.ensures.named;
 }

@@ -1,0 +1,15 @@
+use Rattle.std.proofs.Common.{◌∙◌}
+use Rattle.scenario.specs.Scripts.{RunsLine}
+use Rattle.scenario.proofs.InTurn.{names-item}
+use Rattle.scenario.proofs.run.Scene.name_each.Goals as goal
+
+pub tables-preserved : goal.tables-preserved
+tables-preserved g c = record {
+  manager = c.name_table.ensures.manager ∙ c.tables.invariant.manager;
+  named = names-item (RunsLine g.B.Board.seat g.B.Board.view g.B.Board.stack g.D.ScriptDesk.again g.D.ScriptDesk.database_of g.D.ScriptDesk.entries) (λ cast. cast.names.objects)
+      (record { sessions = c.args.self.now.stage.sessions; names = c.args.self.now.stage.names })
+      (record { sessions = c.tables.self.stage.sessions; names = c.tables.self.stage.names })
+      (record { sessions = c.name_table.new.self.stage.sessions; names = c.name_table.new.self.stage.names })
+      c.args.line.number c.deref-table-items.result.now c.tables.table-index c.table-item.result c.tables-test.true c.table-item.is
+      c.tables.invariant.named c.in_ok-name_table.ensures.named;
+}

@@ -1,0 +1,21 @@
+use Rattle.std.proofs.Common.{◌∙◌, ℕ, List, ◌++◌, ap, subst}
+use Rattle.std.specs.Prelude.{codes}
+use Rattle.modes_core.specs.TagText.{tag_text}
+use Rattle.scenario.specs.Scripts.{RunsLine}
+use Rattle.scenario.proofs.InTurn.{on-ok}
+use Rattle.scenario.proofs.Lines.{runs-heard}
+use Rattle.scenario.proofs.run.Scene.run_naming.Goals as goal
+
+pub returns-in-Ok-clause-ran : goal.returns-in-Ok-clause-ran
+returns-in-Ok-clause-ran g c =
+    let says = c.as_str.ensures.value ∙ c.in-Ok.ensures.ok
+    ∙ ap (λ (name : List ℕ). codes "name " ++ (name ++ (codes " " ++ tag_text c.args.table.now.tag))) c.as_str-name.ensures.value in
+    on-ok c.run_line.result
+    (λ played. subst
+    (λ (text : List ℕ). RunsLine g.B.Board.seat g.B.Board.view g.B.Board.stack g.D.ScriptDesk.again g.D.ScriptDesk.database_of g.D.ScriptDesk.entries
+    (record { sessions = c.args.self.now.stage.sessions; names = c.args.self.now.stage.names })
+    (record { number = c.args.line.number; text = text })
+    (record { sessions = c.run_line.new.self.stage.sessions; names = c.run_line.new.self.stage.names })) says
+    (runs-heard g.B.Board.seat g.B.Board.view g.B.Board.stack g.D.ScriptDesk.again g.D.ScriptDesk.database_of g.D.ScriptDesk.entries g.L.Listener.hears
+    c.args.line.number (record { sessions = c.args.self.now.stage.sessions; names = c.args.self.now.stage.names }) (record { sessions = c.run_line.new.self.stage.sessions; names = c.run_line.new.self.stage.names }) c.args.self.now.listener c.run_line.new.self.listener
+    c.as_str.result.now played)) c.run_line.ensures.played

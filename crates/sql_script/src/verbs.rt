@@ -1,0 +1,99 @@
+//! The words of a script's lines that say SQL: what the first one asks for, and where each ends.
+ghost use Rattle.std.specs.Prelude.{◌≡◌, position, MatchOption};
+ghost use Rattle.std.specs.Char.{is_ascii_whitespace};
+ghost use Rattle.std.specs.Str.{IsCharBoundary};
+ghost use Rattle.sql_script.specs.Lines.{verb_of};
+ghost use Rattle.sql_script.specs.Words.{before_semicolon, behind_word, first_word, word_end};
+
+/// What the first word of a line asks for.
+#[derive(Clone, Copy, Debug, PartialEq, Eq)]
+pub enum Verb {
+    /// The lines up to `end` make tables.
+    Schema,
+    /// A session plays what some statements come to.
+    Do,
+    /// A session plays what a statement comes to, and works at it from then on.
+    Work,
+    /// The work of a session's statement is done.
+    Done,
+    /// A session is opened.
+    Session,
+    /// A session is closed.
+    Close,
+    /// A session's transaction ends.
+    Ends,
+    /// The word begins a plain line.
+    Other,
+}
+
+/// What `word`, the first one of a line, asks for.
+pub fn verb_of(word: &str) -> Verb
+    ensures { result ≡ verb_of word.now }
+{
+    if word == "schema" {
+        Verb::Schema
+    } else if word == "do" {
+        Verb::Do
+    } else if word == "work" {
+        Verb::Work
+    } else if word == "done" {
+        Verb::Done
+    } else if word == "session" {
+        Verb::Session
+    } else if word == "close" {
+        Verb::Close
+    } else if word == "commit" {
+        Verb::Ends
+    } else if word == "abort" {
+        Verb::Ends
+    } else {
+        Verb::Other
+    }
+}
+
+/// The first word of `text`, and what comes after that word.
+pub fn cut_word(text: &str) -> (&str, &str)
+    ensures word { result.0.now ≡ first_word text.now }
+    ensures behind { result.1.now ≡ behind_word text.now }
+{
+    let begun = text.trim_start();
+    let end = word_end(begun);
+    (&begun[..end], &begun[end..])
+}
+
+/// Where the first word of `text` ends, which begins with it.
+fn word_end(text: &str) -> usize
+    ensures end { result ≡ word_end text.now }
+    ensures boundary { IsCharBoundary text.now result }
+{
+    match first_space(text) {
+        Some(end) => end,
+        None => text.len(),
+    }
+}
+
+/// Where the first white space of `text` is.
+fn first_space(text: &str) -> Option<usize>
+    ensures { result ≡ position is_ascii_whitespace text.now }
+{
+    text.as_bytes()
+        .iter()
+        .position(|byte| byte.is_ascii_whitespace())
+}
+
+/// `word` up to its first semicolon.
+pub fn before_semicolon(word: &str) -> &str
+    ensures { result.now ≡ before_semicolon word.now }
+{
+    match cut_at_semicolon(word) {
+        Some((before, _)) => before,
+        None => word,
+    }
+}
+
+/// What stands before and after the first semicolon of `word`.
+fn cut_at_semicolon(word: &str) -> Option<(&str, &str)>
+    ensures { MatchOption result (before_semicolon word.now ≡ word.now) (λ parts. parts.0.now ≡ before_semicolon word.now) }
+{
+    word.split_once(';')
+}
