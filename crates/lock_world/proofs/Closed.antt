@@ -23,6 +23,8 @@ use Rattle.lock_world.specs.Closed.{empty_account}
 use Rattle.lock_world.proofs.Others.Events.{event-others}
 use Rattle.lock_world.proofs.SafeWorld.Opening.{opening-safe}
 use Rattle.lock_world.proofs.SafeWorld.Runs.{Next-safe}
+use Rattle.lock_world.proofs.LawfulSteps.{LawfulStep, world_after, being_issued, going_on, being_kept_apart, closing, after_each}
+use Rattle.lock_world.proofs.Wakes.Steppers.{makes_steps}
 
 -- A number that is not live is forgotten: it has an account with nothing in it.
 
@@ -30,146 +32,15 @@ use Rattle.lock_world.proofs.SafeWorld.Runs.{Next-safe}
 abbrev LivesOrCloses : World → ℕ → World → Type 0
 LivesOrCloses w s v = (v.numbers.live s ≡ true) ⊎ (v ≡ after_closing w s)
 
-lives : (w u v : World) (s : ℕ) → v ≡ u → u.numbers.live s ≡ true → LivesOrCloses w s v
-lives w u v s e alive = inl ((λ i. (e i).numbers.live s) ∙ alive)
-
-taking : (w : World) (s : ℕ) (word : Word) (v : World) → HappensTaking w s word v → LivesOrCloses w s v
-taking w s (Partition p) v h = lives w _ v s h.1 h.0.steps.live
-taking w s (Fast o) v h = lives w _ v s h.1 h.0.steps.live
-taking w s (Database o) v h = absurd h
-taking w s (Slot o i) v h = absurd h
-taking w s (Wait o) v h = absurd h
-taking w s (Strong i) v h = absurd h
-taking w s (Sleep o) v h = absurd h
-
-putting : (w : World) (s : ℕ) (word : Word) (done : Move) (v : World) → HappensPutting w s word done v → LivesOrCloses w s v
-putting w s (Partition p) done v (inl h) = lives w _ v s h.2 h.1.may_move.steps.live
-putting w s (Partition p) done v (inr h) = lives w _ v s h.1 h.0.steps.live
-putting w s (Fast o) done v h = lives w _ v s h.1.1 h.1.0.steps.live
-putting w s (Database o) done v h = absurd h
-putting w s (Slot o i) done v h = absurd h
-putting w s (Wait o) done v h = absurd h
-putting w s (Strong i) done v h = absurd h
-putting w s (Sleep o) done v h = absurd h
-
-sharing : (w : World) (s : ℕ) (word : Word) (v : World) → HappensSharing w s word v → LivesOrCloses w s v
-sharing w s (Partition p) v h = lives w _ v s h.2 h.1.steps.live
-sharing w s (Fast o) v h = lives w _ v s h.2 h.1.steps.live
-sharing w s (Database o) v h = absurd h
-sharing w s (Slot o i) v h = absurd h
-sharing w s (Wait o) v h = absurd h
-sharing w s (Strong i) v h = absurd h
-sharing w s (Sleep o) v h = absurd h
-
-unsharing : (w : World) (s : ℕ) (word : Word) (v : World) → HappensUnsharing w s word v → LivesOrCloses w s v
-unsharing w s (Partition p) v h = lives w _ v s h.1 h.0.steps.live
-unsharing w s (Fast o) v h = lives w _ v s h.1 h.0.steps.live
-unsharing w s (Database o) v h = absurd h
-unsharing w s (Slot o i) v h = absurd h
-unsharing w s (Wait o) v h = absurd h
-unsharing w s (Strong i) v h = absurd h
-unsharing w s (Sleep o) v h = absurd h
-
-loading : (w : World) (s : ℕ) (word : Word) (n : ℕ) (v : World) → HappensLoading w s word n v → LivesOrCloses w s v
-loading w s (Partition p) n v h = absurd h
-loading w s (Fast o) n v h = lives w _ v s h.2 h.1.steps.live
-loading w s (Database o) n v h = lives w _ v s h.1 h.0.steps.live
-loading w s (Slot o i) n v h = lives w _ v s h.1 h.0.steps.live
-loading w s (Wait o) n v h = absurd h
-loading w s (Strong i) n v h = absurd h
-loading w s (Sleep o) n v h = absurd h
-
-joining : (w : World) (s : ℕ) (joiner : Option ℕ) (v : World) → HappensJoining w s joiner v → LivesOrCloses w s v
-joining w s (Some j) v h = lives w _ v s h.1 h.0.steps.live
-joining w s None v h = inr h.1
-
-marking_in : (w : World) (s k p : ℕ) (done : Move) (v : World) → HappensMarkingIn w s k p done v → LivesOrCloses w s v
-marking_in w s k p done v (inl h) = lives w _ v s h.3 h.2.may_move.steps.live
-marking_in w s k p done v (inr h) = lives w _ v s h.1 h.0.steps.live
-
-marking : (w : World) (s k : ℕ) (done : Move) (v : World) → HappensMarking w s k done v → LivesOrCloses w s v
-marking w s k Keep v h = absurd h
-marking w s k (Grant t m) v h = absurd h
-marking w s k (Join t m) v h = absurd h
-marking w s k (Release t m) v h = marking_in w s k (partition_of t) (Release t m) v h
-marking w s k (Leave t) v h = marking_in w s k (partition_of t) (Leave t) v h
-marking w s k (Adopt o i) v h = absurd h
-
-clearing : (w : World) (s : ℕ) (leaving : Bool) (v : World) → HappensClearing w s leaving v → LivesOrCloses w s v
-clearing w s false v h = elim h.1 [
-  | inl seen ↦ lives w _ v s h.2 seen.steps.live
-  | inr in_hand ↦ lives w _ v s h.2 in_hand.steps.live
-]
-clearing w s true v (inl h) = lives w _ v s h.4 h.3.may_move.steps.live
-clearing w s true v (inr h) = lives w _ v s h.3 h.1.steps.live
-
-locking_list : (w : World) (s : ℕ) (lock : Word) (v : World) → HappensLockingList w s lock v → LivesOrCloses w s v
-locking_list w s (Partition p) v h = lives w _ v s h.2 h.1.steps.live
-locking_list w s (Fast o) v h = lives w _ v s h.2 h.1.steps.live
-locking_list w s (Database o) v h = absurd h
-locking_list w s (Slot o i) v h = absurd h
-locking_list w s (Wait o) v h = absurd h
-locking_list w s (Strong i) v h = absurd h
-locking_list w s (Sleep o) v h = absurd h
-
-unlocking_list : (w : World) (s : ℕ) (lock : Word) (waiters release : Bool) (v : World) → HappensUnlockingList w s lock waiters release v → LivesOrCloses w s v
-unlocking_list w s (Partition p) waiters release v h = lives w _ v s h.1 h.0.steps.live
-unlocking_list w s (Fast o) waiters release v h = lives w _ v s h.1 h.0.steps.live
-unlocking_list w s (Database o) waiters release v h = absurd h
-unlocking_list w s (Slot o i) waiters release v h = absurd h
-unlocking_list w s (Wait o) waiters release v h = absurd h
-unlocking_list w s (Strong i) waiters release v h = absurd h
-unlocking_list w s (Sleep o) waiters release v h = absurd h
-
-setting_release_ok : (w : World) (s : ℕ) (lock : Word) (n : ℕ) (v : World) → HappensSettingReleaseOk w s lock n v → LivesOrCloses w s v
-setting_release_ok w s (Partition p) n v h = lives w _ v s h.2 h.1.steps.live
-setting_release_ok w s (Fast o) n v h = lives w _ v s h.2 h.1.steps.live
-setting_release_ok w s (Database o) n v h = absurd h
-setting_release_ok w s (Slot o i) n v h = absurd h
-setting_release_ok w s (Wait o) n v h = absurd h
-setting_release_ok w s (Strong i) n v h = absurd h
-setting_release_ok w s (Sleep o) n v h = absurd h
-
-setting_has_waiters : (w : World) (s : ℕ) (lock : Word) (n : ℕ) (v : World) → HappensSettingHasWaiters w s lock n v → LivesOrCloses w s v
-setting_has_waiters w s (Partition p) n v h = lives w _ v s h.1 h.0.has.steps.live
-setting_has_waiters w s (Fast o) n v h = lives w _ v s h.1 h.0.has.steps.live
-setting_has_waiters w s (Database o) n v h = absurd h
-setting_has_waiters w s (Slot o i) n v h = absurd h
-setting_has_waiters w s (Wait o) n v h = absurd h
-setting_has_waiters w s (Strong i) n v h = absurd h
-setting_has_waiters w s (Sleep o) n v h = absurd h
+lives : (w : World) (s : ℕ) → SafeWorld w → (it : LawfulStep w s) → LivesOrCloses w s (world_after it)
+lives w s safe (being_issued may) = inl (set_at-here w.numbers.live s true s refl)
+lives w s safe (going_on may) = inl (safe.but_slots.table.carriers.numbers.kept_is_live s may.0 may.1)
+lives w s safe (being_kept_apart joiner may) = inl may.steps.live
+lives w s safe (closing may) = inr refl
+lives w s safe step = inl (makes_steps step tt).live
 
 stepping : (w : World) (s : ℕ) (step : Step) (v : World) → SafeWorld w → HappensStep w s step v → LivesOrCloses w s v
-stepping w s (TakeExclusive word) v safe h = taking w s word v h
-stepping w s (PutExclusive word done) v safe h = putting w s word done v h
-stepping w s (TakeShared word) v safe h = sharing w s word v h
-stepping w s (PutShared word) v safe h = unsharing w s word v h
-stepping w s SplitSeat v safe (inl h) = lives w _ v s h.1 (set_at-here w.numbers.live s true s refl)
-stepping w s SplitSeat v safe (inr h) = lives w _ v s h.1 (safe.but_slots.table.carriers.numbers.kept_is_live s h.0.0 h.0.1)
-stepping w s (JoinSeat joiner) v safe h = joining w s joiner v h
-stepping w s (AskCancel k) v safe h = lives w _ v s h.1 h.0.live
-stepping w s (LoadWait n) v safe h = lives w _ v s h.1 h.0.steps.live
-stepping w s (SetWaiting t m) v safe h = lives w _ v s h.2 h.1.steps.live
-stepping w s (MarkGranted k done) v safe h = marking w s k done v h
-stepping w s (ClearWait leaving) v safe h = clearing w s leaving v h
-stepping w s (PutPassing o t m) v safe h = lives w _ v s h.1 h.0.steps.live
-stepping w s (LoadStrong i n) v safe h = lives w _ v s h.1 h.0.steps.live
-stepping w s (LoadWord word n) v safe h = loading w s word n v h
-stepping w s (SetSlot i t m) v safe h = lives w _ v s h.1 h.0.steps.live
-stepping w s (ClearSlot i t m) v safe h = lives w _ v s h.1 h.0.steps.live
-stepping w s (StoreDatabase d) v safe h = lives w _ v s h.1 h.0.steps.live
-stepping w s (Count t m) v safe h = lives w _ v s h.1 h.0.steps.live
-stepping w s (Uncount t m) v safe h = lives w _ v s h.1 h.0.steps.live
-stepping w s (TransferSlot k i t m x) v safe h = lives w _ v s h.1 h.0.steps.live
-stepping w s (LockList lock) v safe h = locking_list w s lock v h
-stepping w s (UnlockList lock waiters release) v safe h = unlocking_list w s lock waiters release v h
-stepping w s (JoinList mode) v safe h = lives w _ v s h.2 h.1.has.steps.live
-stepping w s LeaveList v safe h = lives w _ v s h.2 h.1.has.steps.live
-stepping w s (TakeOff k) v safe h = lives w _ v s h.2 h.1.has.steps.live
-stepping w s (Tell k) v safe h = lives w _ v s h.1 h.0.steps.live
-stepping w s (LoadSleep n) v safe h = lives w _ v s h.1 h.0.steps.live
-stepping w s (SetReleaseOk lock n) v safe h = setting_release_ok w s lock n v h
-stepping w s (SetHasWaiters lock n) v safe h = setting_has_waiters w s lock n v h
+stepping w s step v safe h = after_each w s (λ _ u. LivesOrCloses w s u) (lives w s safe) step v h
 
 -- What a session remembers of its slots, whom it has to tell and its trace are not there where its number is not live.
 record IsForgotten (a : Account) : Type 0 where

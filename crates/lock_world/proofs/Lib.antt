@@ -1,3 +1,4 @@
+pub mod LawfulSteps
 pub mod Words
 pub mod Slots
 pub mod Counters

@@ -33,6 +33,7 @@ use Rattle.lock_world.proofs.SafeWorld.Slots.Transferring.{transferring-slots}
 use Rattle.lock_world.proofs.SafeWorld.Slots.Databases.{storing-slots}
 use Rattle.lock_world.proofs.SafeWorld.Runs.{event-safe, Next-safe}
 use Rattle.lock_world.proofs.FromSafeWorld.{held-in_table, shown-in_no_content}
+use Rattle.lock_world.proofs.LawfulSteps.{LawfulStep, world_after, setting_slot, clearing_slot, storing_database, transferring, after_each}
 
 -- A hold that stands in a content does not go to a slot: so a listing that reads slots first misses nobody.
 
@@ -43,113 +44,6 @@ shown_in w = slots_of w.words.database w.words.slot
 -- A hold in a slot was in a slot before, or its session had not the hold and no wait.
 abbrev IsOldOrNew : World → ℕ → Tag → Mode → Type 0
 IsOldOrNew w k o m = (shown_in w k o m ≡ true) ⊎ ((w.sessions.own k o m ≡ false) × (w.sessions.awaited k ≡ None))
-
--- Most steps change no slot and no database.
-old : (w u v : World) (k : ℕ) (o : Tag) (m : Mode) → v ≡ u → shown_in v k o m ≡ true → (shown_in u k o m ≡ true → shown_in w k o m ≡ true) → IsOldOrNew w k o m
-old w u v k o m e shown same = inl (same (subst (λ (z : World). shown_in z k o m ≡ true) e shown))
-
-taking : (w : World) (s : ℕ) (taken : Word) (v : World) (k : ℕ) (o : Tag) (m : Mode) → HappensTaking w s taken v → shown_in v k o m ≡ true → IsOldOrNew w k o m
-taking w s (Partition p) v k o m h shown = old w _ v k o m h.1 shown (λ e. e)
-taking w s (Fast q) v k o m h shown = old w _ v k o m h.1 shown (λ e. e)
-taking w s (Database q) v k o m h shown = absurd h
-taking w s (Slot q i) v k o m h shown = absurd h
-taking w s (Wait q) v k o m h shown = absurd h
-taking w s (Strong i) v k o m h shown = absurd h
-taking w s (Sleep q) v k o m h shown = absurd h
-
-putting : (w : World) (s : ℕ) (put : Word) (done : Move) (v : World) (k : ℕ) (o : Tag) (m : Mode) → HappensPutting w s put done v → shown_in v k o m ≡ true → IsOldOrNew w k o m
-putting w s (Partition p) done v k o m (inl h) shown = old w _ v k o m h.2 shown (λ e. e)
-putting w s (Partition p) done v k o m (inr h) shown = old w _ v k o m h.1 shown (λ e. e)
-putting w s (Fast q) done v k o m h shown = old w _ v k o m h.1.1 shown (λ e. e)
-putting w s (Database q) done v k o m h shown = absurd h
-putting w s (Slot q i) done v k o m h shown = absurd h
-putting w s (Wait q) done v k o m h shown = absurd h
-putting w s (Strong i) done v k o m h shown = absurd h
-putting w s (Sleep q) done v k o m h shown = absurd h
-
-sharing : (w : World) (s : ℕ) (shared : Word) (v : World) (k : ℕ) (o : Tag) (m : Mode) → HappensSharing w s shared v → shown_in v k o m ≡ true → IsOldOrNew w k o m
-sharing w s (Partition p) v k o m h shown = old w _ v k o m h.2 shown (λ e. e)
-sharing w s (Fast q) v k o m h shown = old w _ v k o m h.2 shown (λ e. e)
-sharing w s (Database q) v k o m h shown = absurd h
-sharing w s (Slot q i) v k o m h shown = absurd h
-sharing w s (Wait q) v k o m h shown = absurd h
-sharing w s (Strong i) v k o m h shown = absurd h
-sharing w s (Sleep q) v k o m h shown = absurd h
-
-unsharing : (w : World) (s : ℕ) (shared : Word) (v : World) (k : ℕ) (o : Tag) (m : Mode) → HappensUnsharing w s shared v → shown_in v k o m ≡ true → IsOldOrNew w k o m
-unsharing w s (Partition p) v k o m h shown = old w _ v k o m h.1 shown (λ e. e)
-unsharing w s (Fast q) v k o m h shown = old w _ v k o m h.1 shown (λ e. e)
-unsharing w s (Database q) v k o m h shown = absurd h
-unsharing w s (Slot q i) v k o m h shown = absurd h
-unsharing w s (Wait q) v k o m h shown = absurd h
-unsharing w s (Strong i) v k o m h shown = absurd h
-unsharing w s (Sleep q) v k o m h shown = absurd h
-
-loading : (w : World) (s : ℕ) (loaded : Word) (n : ℕ) (v : World) (k : ℕ) (o : Tag) (m : Mode) → HappensLoading w s loaded n v → shown_in v k o m ≡ true → IsOldOrNew w k o m
-loading w s (Partition p) n v k o m h shown = absurd h
-loading w s (Fast q) n v k o m h shown = old w _ v k o m h.2 shown (λ e. e)
-loading w s (Database q) n v k o m h shown = old w _ v k o m h.1 shown (λ e. e)
-loading w s (Slot q i) n v k o m h shown = old w _ v k o m h.1 shown (λ e. e)
-loading w s (Wait q) n v k o m h shown = absurd h
-loading w s (Strong i) n v k o m h shown = absurd h
-loading w s (Sleep q) n v k o m h shown = absurd h
-
-joining : (w : World) (s : ℕ) (joiner : Option ℕ) (v : World) (k : ℕ) (o : Tag) (m : Mode) → HappensJoining w s joiner v → shown_in v k o m ≡ true → IsOldOrNew w k o m
-joining w s (Some j) v k o m h shown = old w _ v k o m h.1 shown (λ e. e)
-joining w s None v k o m h shown = old w _ v k o m h.1 shown (λ e. e)
-
-marking_in : (w : World) (s marked p : ℕ) (done : Move) (v : World) (k : ℕ) (o : Tag) (m : Mode) → HappensMarkingIn w s marked p done v → shown_in v k o m ≡ true → IsOldOrNew w k o m
-marking_in w s marked p done v k o m (inl h) shown = old w _ v k o m h.3 shown (λ e. e)
-marking_in w s marked p done v k o m (inr h) shown = old w _ v k o m h.1 shown (λ e. e)
-
-marking : (w : World) (s marked : ℕ) (done : Move) (v : World) (k : ℕ) (o : Tag) (m : Mode) → HappensMarking w s marked done v → shown_in v k o m ≡ true → IsOldOrNew w k o m
-marking w s marked Keep v k o m h shown = absurd h
-marking w s marked (Grant t n) v k o m h shown = absurd h
-marking w s marked (Join t n) v k o m h shown = absurd h
-marking w s marked (Release t n) v k o m h shown = marking_in w s marked (partition_of t) (Release t n) v k o m h shown
-marking w s marked (Leave t) v k o m h shown = marking_in w s marked (partition_of t) (Leave t) v k o m h shown
-marking w s marked (Adopt q i) v k o m h shown = absurd h
-
-clearing : (w : World) (s : ℕ) (leaving : Bool) (v : World) (k : ℕ) (o : Tag) (m : Mode) → HappensClearing w s leaving v → shown_in v k o m ≡ true → IsOldOrNew w k o m
-clearing w s false v k o m h shown = old w _ v k o m h.2 shown (λ e. e)
-clearing w s true v k o m (inl h) shown = old w _ v k o m h.4 shown (λ e. e)
-clearing w s true v k o m (inr h) shown = old w _ v k o m h.3 shown (λ e. e)
-
-locking_list : (w : World) (s : ℕ) (lock : Word) (v : World) (k : ℕ) (o : Tag) (m : Mode) → HappensLockingList w s lock v → shown_in v k o m ≡ true → IsOldOrNew w k o m
-locking_list w s (Partition p) v k o m h shown = old w _ v k o m h.2 shown (λ e. e)
-locking_list w s (Fast q) v k o m h shown = old w _ v k o m h.2 shown (λ e. e)
-locking_list w s (Database q) v k o m h shown = absurd h
-locking_list w s (Slot q i) v k o m h shown = absurd h
-locking_list w s (Wait q) v k o m h shown = absurd h
-locking_list w s (Strong i) v k o m h shown = absurd h
-locking_list w s (Sleep q) v k o m h shown = absurd h
-
-unlocking_list : (w : World) (s : ℕ) (lock : Word) (waiters release : Bool) (v : World) (k : ℕ) (o : Tag) (m : Mode) → HappensUnlockingList w s lock waiters release v → shown_in v k o m ≡ true → IsOldOrNew w k o m
-unlocking_list w s (Partition p) waiters release v k o m h shown = old w _ v k o m h.1 shown (λ e. e)
-unlocking_list w s (Fast q) waiters release v k o m h shown = old w _ v k o m h.1 shown (λ e. e)
-unlocking_list w s (Database q) waiters release v k o m h shown = absurd h
-unlocking_list w s (Slot q i) waiters release v k o m h shown = absurd h
-unlocking_list w s (Wait q) waiters release v k o m h shown = absurd h
-unlocking_list w s (Strong i) waiters release v k o m h shown = absurd h
-unlocking_list w s (Sleep q) waiters release v k o m h shown = absurd h
-
-setting_release_ok : (w : World) (s : ℕ) (lock : Word) (n : ℕ) (v : World) (k : ℕ) (o : Tag) (m : Mode) → HappensSettingReleaseOk w s lock n v → shown_in v k o m ≡ true → IsOldOrNew w k o m
-setting_release_ok w s (Partition p) n v k o m h shown = old w _ v k o m h.2 shown (λ e. e)
-setting_release_ok w s (Fast q) n v k o m h shown = old w _ v k o m h.2 shown (λ e. e)
-setting_release_ok w s (Database q) n v k o m h shown = absurd h
-setting_release_ok w s (Slot q i) n v k o m h shown = absurd h
-setting_release_ok w s (Wait q) n v k o m h shown = absurd h
-setting_release_ok w s (Strong i) n v k o m h shown = absurd h
-setting_release_ok w s (Sleep q) n v k o m h shown = absurd h
-
-setting_has_waiters : (w : World) (s : ℕ) (lock : Word) (n : ℕ) (v : World) (k : ℕ) (o : Tag) (m : Mode) → HappensSettingHasWaiters w s lock n v → shown_in v k o m ≡ true → IsOldOrNew w k o m
-setting_has_waiters w s (Partition p) n v k o m h shown = old w _ v k o m h.1 shown (λ e. e)
-setting_has_waiters w s (Fast q) n v k o m h shown = old w _ v k o m h.1 shown (λ e. e)
-setting_has_waiters w s (Database q) n v k o m h shown = absurd h
-setting_has_waiters w s (Slot q i) n v k o m h shown = absurd h
-setting_has_waiters w s (Wait q) n v k o m h shown = absurd h
-setting_has_waiters w s (Strong i) n v k o m h shown = absurd h
-setting_has_waiters w s (Sleep q) n v k o m h shown = absurd h
 
 -- A slot set shows one more hold, which was new.
 setting : (w : World) (s i : ℕ) (t : Tag) (n : Mode) → SafeWorld w → MaySetSlot w s i t n → (k : ℕ) (o : Tag) (m : Mode) → shown_in (after_setting_slot w s i t n) k o m ≡ true → IsOldOrNew w k o m
@@ -184,41 +78,20 @@ moving w s q i t n strong safe may k o m shown = at (set_hold-at (shown_in w) q 
   at (here it e) = absurd (both_ways (set_hold (shown_in w) q t n false k o m) e now)
   at (elsewhere _ e) = inl (sym e ∙ now)
 
-step : (w : World) (s : ℕ) (made : Step) (v : World) (k : ℕ) (o : Tag) (m : Mode) → SafeWorld w → HappensStep w s made v → shown_in v k o m ≡ true → IsOldOrNew w k o m
-step w s (TakeExclusive taken) v k o m safe h shown = taking w s taken v k o m h shown
-step w s (PutExclusive put done) v k o m safe h shown = putting w s put done v k o m h shown
-step w s (TakeShared shared) v k o m safe h shown = sharing w s shared v k o m h shown
-step w s (PutShared shared) v k o m safe h shown = unsharing w s shared v k o m h shown
-step w s SplitSeat v k o m safe (inl h) shown = old w _ v k o m h.1 shown (λ e. e)
-step w s SplitSeat v k o m safe (inr h) shown = old w _ v k o m h.1 shown (λ e. e)
-step w s (JoinSeat joiner) v k o m safe h shown = joining w s joiner v k o m h shown
-step w s (AskCancel q) v k o m safe h shown = old w _ v k o m h.1 shown (λ e. e)
-step w s (LoadWait n) v k o m safe h shown = old w _ v k o m h.1 shown (λ e. e)
-step w s (SetWaiting t n) v k o m safe h shown = old w _ v k o m h.2 shown (λ e. e)
-step w s (MarkGranted marked done) v k o m safe h shown = marking w s marked done v k o m h shown
-step w s (ClearWait leaving) v k o m safe h shown = clearing w s leaving v k o m h shown
-step w s (PutPassing q t n) v k o m safe h shown = old w _ v k o m h.1 shown (λ e. e)
-step w s (LoadStrong i n) v k o m safe h shown = old w _ v k o m h.1 shown (λ e. e)
-step w s (LoadWord loaded n) v k o m safe h shown = loading w s loaded n v k o m h shown
-step w s (SetSlot i t n) v k o m safe h shown = setting w s i t n safe h.0 k o m (subst (λ (z : World). shown_in z k o m ≡ true) h.1 shown)
-step w s (ClearSlot i t n) v k o m safe h shown = unsetting w s i t n safe h.0 k o m (subst (λ (z : World). shown_in z k o m ≡ true) h.1 shown)
-step w s (StoreDatabase d) v k o m safe h shown = old w _ v k o m h.1 shown (λ e. sym (λ x. storing-slots w s d h.0 x k o m) ∙ e)
-step w s (Count t n) v k o m safe h shown = old w _ v k o m h.1 shown (λ e. e)
-step w s (Uncount t n) v k o m safe h shown = old w _ v k o m h.1 shown (λ e. e)
-step w s (TransferSlot q i t n x) v k o m safe h shown = moving w s q i t n x safe h.0 k o m (subst (λ (z : World). shown_in z k o m ≡ true) h.1 shown)
-step w s (LockList lock) v k o m safe h shown = locking_list w s lock v k o m h shown
-step w s (UnlockList lock waiters release) v k o m safe h shown = unlocking_list w s lock waiters release v k o m h shown
-step w s (JoinList mode) v k o m safe h shown = old w _ v k o m h.2 shown (λ e. e)
-step w s LeaveList v k o m safe h shown = old w _ v k o m h.2 shown (λ e. e)
-step w s (TakeOff q) v k o m safe h shown = old w _ v k o m h.2 shown (λ e. e)
-step w s (Tell q) v k o m safe h shown = old w _ v k o m h.1 shown (λ e. e)
-step w s (LoadSleep n) v k o m safe h shown = old w _ v k o m h.1 shown (λ e. e)
-step w s (SetReleaseOk lock n) v k o m safe h shown = setting_release_ok w s lock n v k o m h shown
-step w s (SetHasWaiters lock n) v k o m safe h shown = setting_has_waiters w s lock n v k o m h shown
+-- Most steps change no slot and no database.
+old_or_new : (w : World) (s k : ℕ) (o : Tag) (m : Mode) → SafeWorld w → (it : LawfulStep w s) → shown_in (world_after it) k o m ≡ true → IsOldOrNew w k o m
+old_or_new w s k o m safe (setting_slot i t n may) shown = setting w s i t n safe may k o m shown
+old_or_new w s k o m safe (clearing_slot i t n may) shown = unsetting w s i t n safe may k o m shown
+old_or_new w s k o m safe (storing_database d may) shown = inl (sym (λ x. storing-slots w s d may x k o m) ∙ shown)
+old_or_new w s k o m safe (transferring q i t n strong may) shown = moving w s q i t n strong safe may k o m shown
+old_or_new w s k o m safe step shown = inl shown
 
 -- So where a hold stands in a content, no event puts it in a slot.
 pub stays-out : (w v : World) (event : Event) (k : ℕ) (o : Tag) (m : Mode) → SafeWorld w → Next w event v → (w.contents.now (partition_of o)).holds k o m ≡ true → shown_in v k o m ≡ true → ⊥
-stays-out w v event k o m safe (inl h) there shown = at (step w event.session event.step v k o m safe h shown) where
+stays-out w v event k o m safe (inl h) there shown = at (from event.step v h shown) where
+  from : (step : Step) (u : World) → HappensStep w event.session step u → shown_in u k o m ≡ true → IsOldOrNew w k o m
+  from = after_each w event.session (λ _ u. shown_in u k o m ≡ true → IsOldOrNew w k o m) (old_or_new w event.session k o m safe)
+
   new : (w.sessions.own k o m ≡ false) → (w.sessions.awaited k ≡ None) → ⊥
   new not_own no_wait = elim ((held-in_table w safe (partition_of o) k o m).0 there).1 [
     | inl own ↦ both_ways (w.sessions.own k o m) not_own own.0

@@ -18,6 +18,7 @@ use Rattle.lock_world.specs.Happens.Seats.{HappensJoining}
 use Rattle.lock_world.specs.Happens.Slots.{remembered_after_taking}
 use Rattle.lock_world.specs.Happens.Waits.{HappensMarking, HappensMarkingIn, HappensClearing}
 use Rattle.lock_world.specs.SafeWorld.{SafeWorld}
+use Rattle.lock_world.proofs.LawfulSteps.{LawfulStep, world_after, taking_fast, sharing_fast, closing, setting_slot, clearing_slot, after_each}
 use Rattle.lock_world.proofs.SafeWorld.Opening.{opening-safe}
 use Rattle.lock_world.proofs.SafeWorld.Runs.{event-safe, Next-safe}
 
@@ -29,13 +30,6 @@ abbrev Follows : World → World → Type 0
 Follows w v =
     (v.numbers.groups ≡ w.numbers.groups)
     × ((k : ℕ) → (v.sessions.remembered k ≡ w.sessions.remembered k) ⊎ ((v.sessions.remembered k ≡ v.words.slot k) ⊎ (v.sessions.remembered k ≡ (λ _. 0))))
-
-as_before : (w u v : World) → v ≡ u → u.sessions.remembered ≡ w.sessions.remembered → u.numbers.groups ≡ w.numbers.groups → Follows w v
-as_before w u v e same groups =
-    ((λ i. (e i).numbers.groups) ∙ groups, λ k. inl ((λ i. (e i).sessions.remembered k) ∙ (λ i. same i k)))
-
-after : (w u v : World) → v ≡ u → Follows w u → Follows w v
-after w u v e follows = subst (Follows w) (sym e) follows
 
 -- with the lock of a session's slots taken, or shared
 taking_own : (remembered slot : ℕ → ℕ → ℕ) (s o k : ℕ)
@@ -52,10 +46,10 @@ taking_own remembered slot s o k =
       | inr another ↦ inl (ap (λ (r : ℕ → ℕ → ℕ). r k) (cond-false (o == s) (set_at remembered s (slot o)) remembered (ne_eqb o s another)))
     ]
 
-taking_fast : (w : World) (s o k : ℕ)
+remembered_by_taking : (w : World) (s o k : ℕ)
     → (remembered_after_taking w.sessions.remembered w.words.slot s o k ≡ w.sessions.remembered k)
     ⊎ ((remembered_after_taking w.sessions.remembered w.words.slot s o k ≡ w.words.slot k) ⊎ (remembered_after_taking w.sessions.remembered w.words.slot s o k ≡ (λ _. 0)))
-taking_fast w s o k =
+remembered_by_taking w s o k =
     elim (taking_own w.sessions.remembered w.words.slot s o k) [
       | inl old ↦ inl old
       | inr slots ↦ inr (inl slots)
@@ -70,148 +64,24 @@ setting remembered slot s mine k =
       | inr other ↦ inl (set_at-else remembered s mine k other)
     ]
 
-closing : (remembered slot : ℕ → ℕ → ℕ) (s k : ℕ)
+remembered_by_closing : (remembered slot : ℕ → ℕ → ℕ) (s k : ℕ)
     → (set_at remembered s (λ _. 0) k ≡ remembered k) ⊎ ((set_at remembered s (λ _. 0) k ≡ slot k) ⊎ (set_at remembered s (λ _. 0) k ≡ (λ _. 0)))
-closing remembered slot s k =
+remembered_by_closing remembered slot s k =
     elim (cases_eq k s) [
       | inl same ↦ inr (inr (set_at-here remembered s (λ _. 0) k same))
       | inr other ↦ inl (set_at-else remembered s (λ _. 0) k other)
     ]
 
-taking : (w : World) (s : ℕ) (word : Word) (v : World) → HappensTaking w s word v → Follows w v
-taking w s (Partition p) v h = as_before w _ v h.1 refl refl
-taking w s (Fast o) v h = after w _ v h.1 (refl, taking_fast w s o)
-taking w s (Database o) v h = absurd h
-taking w s (Slot o i) v h = absurd h
-taking w s (Wait o) v h = absurd h
-taking w s (Strong i) v h = absurd h
-taking w s (Sleep o) v h = absurd h
-
-putting : (w : World) (s : ℕ) (word : Word) (done : Move) (v : World) → HappensPutting w s word done v → Follows w v
-putting w s (Partition p) done v (inl h) = as_before w _ v h.2 refl refl
-putting w s (Partition p) done v (inr h) = as_before w _ v h.1 refl refl
-putting w s (Fast o) done v h = as_before w _ v h.1.1 refl refl
-putting w s (Database o) done v h = absurd h
-putting w s (Slot o i) done v h = absurd h
-putting w s (Wait o) done v h = absurd h
-putting w s (Strong i) done v h = absurd h
-putting w s (Sleep o) done v h = absurd h
-
-sharing : (w : World) (s : ℕ) (word : Word) (v : World) → HappensSharing w s word v → Follows w v
-sharing w s (Partition p) v h = as_before w _ v h.2 refl refl
-sharing w s (Fast o) v h = after w _ v h.2 (refl, taking_fast w s o)
-sharing w s (Database o) v h = absurd h
-sharing w s (Slot o i) v h = absurd h
-sharing w s (Wait o) v h = absurd h
-sharing w s (Strong i) v h = absurd h
-sharing w s (Sleep o) v h = absurd h
-
-unsharing : (w : World) (s : ℕ) (word : Word) (v : World) → HappensUnsharing w s word v → Follows w v
-unsharing w s (Partition p) v h = as_before w _ v h.1 refl refl
-unsharing w s (Fast o) v h = as_before w _ v h.1 refl refl
-unsharing w s (Database o) v h = absurd h
-unsharing w s (Slot o i) v h = absurd h
-unsharing w s (Wait o) v h = absurd h
-unsharing w s (Strong i) v h = absurd h
-unsharing w s (Sleep o) v h = absurd h
-
-loading : (w : World) (s : ℕ) (word : Word) (n : ℕ) (v : World) → HappensLoading w s word n v → Follows w v
-loading w s (Partition p) n v h = absurd h
-loading w s (Fast o) n v h = as_before w _ v h.2 refl refl
-loading w s (Database o) n v h = as_before w _ v h.1 refl refl
-loading w s (Slot o i) n v h = as_before w _ v h.1 refl refl
-loading w s (Wait o) n v h = absurd h
-loading w s (Strong i) n v h = absurd h
-loading w s (Sleep o) n v h = absurd h
-
-joining : (w : World) (s : ℕ) (joiner : Option ℕ) (v : World) → HappensJoining w s joiner v → Follows w v
-joining w s (Some j) v h = as_before w _ v h.1 refl refl
-joining w s None v h = after w _ v h.1 (refl, closing w.sessions.remembered w.words.slot s)
-
-marking_in : (w : World) (s k p : ℕ) (done : Move) (v : World) → HappensMarkingIn w s k p done v → Follows w v
-marking_in w s k p done v (inl h) = as_before w _ v h.3 refl refl
-marking_in w s k p done v (inr h) = as_before w _ v h.1 refl refl
-
-marking : (w : World) (s k : ℕ) (done : Move) (v : World) → HappensMarking w s k done v → Follows w v
-marking w s k Keep v h = absurd h
-marking w s k (Grant t m) v h = absurd h
-marking w s k (Join t m) v h = absurd h
-marking w s k (Release t m) v h = marking_in w s k (partition_of t) (Release t m) v h
-marking w s k (Leave t) v h = marking_in w s k (partition_of t) (Leave t) v h
-marking w s k (Adopt o i) v h = absurd h
-
-clearing : (w : World) (s : ℕ) (leaving : Bool) (v : World) → HappensClearing w s leaving v → Follows w v
-clearing w s false v h = as_before w _ v h.2 refl refl
-clearing w s true v (inl h) = as_before w _ v h.4 refl refl
-clearing w s true v (inr h) = as_before w _ v h.3 refl refl
-
-locking_list : (w : World) (s : ℕ) (lock : Word) (v : World) → HappensLockingList w s lock v → Follows w v
-locking_list w s (Partition p) v h = as_before w _ v h.2 refl refl
-locking_list w s (Fast o) v h = as_before w _ v h.2 refl refl
-locking_list w s (Database o) v h = absurd h
-locking_list w s (Slot o i) v h = absurd h
-locking_list w s (Wait o) v h = absurd h
-locking_list w s (Strong i) v h = absurd h
-locking_list w s (Sleep o) v h = absurd h
-
-unlocking_list : (w : World) (s : ℕ) (lock : Word) (waiters release : Bool) (v : World) → HappensUnlockingList w s lock waiters release v → Follows w v
-unlocking_list w s (Partition p) waiters release v h = as_before w _ v h.1 refl refl
-unlocking_list w s (Fast o) waiters release v h = as_before w _ v h.1 refl refl
-unlocking_list w s (Database o) waiters release v h = absurd h
-unlocking_list w s (Slot o i) waiters release v h = absurd h
-unlocking_list w s (Wait o) waiters release v h = absurd h
-unlocking_list w s (Strong i) waiters release v h = absurd h
-unlocking_list w s (Sleep o) waiters release v h = absurd h
-
-setting_release_ok : (w : World) (s : ℕ) (lock : Word) (n : ℕ) (v : World) → HappensSettingReleaseOk w s lock n v → Follows w v
-setting_release_ok w s (Partition p) n v h = as_before w _ v h.2 refl refl
-setting_release_ok w s (Fast o) n v h = as_before w _ v h.2 refl refl
-setting_release_ok w s (Database o) n v h = absurd h
-setting_release_ok w s (Slot o i) n v h = absurd h
-setting_release_ok w s (Wait o) n v h = absurd h
-setting_release_ok w s (Strong i) n v h = absurd h
-setting_release_ok w s (Sleep o) n v h = absurd h
-
-setting_has_waiters : (w : World) (s : ℕ) (lock : Word) (n : ℕ) (v : World) → HappensSettingHasWaiters w s lock n v → Follows w v
-setting_has_waiters w s (Partition p) n v h = as_before w _ v h.1 refl refl
-setting_has_waiters w s (Fast o) n v h = as_before w _ v h.1 refl refl
-setting_has_waiters w s (Database o) n v h = absurd h
-setting_has_waiters w s (Slot o i) n v h = absurd h
-setting_has_waiters w s (Wait o) n v h = absurd h
-setting_has_waiters w s (Strong i) n v h = absurd h
-setting_has_waiters w s (Sleep o) n v h = absurd h
+follows : (w : World) (s : ℕ) (it : LawfulStep w s) → Follows w (world_after it)
+follows w s (taking_fast o may) = (refl, remembered_by_taking w s o)
+follows w s (sharing_fast o exists may) = (refl, remembered_by_taking w s o)
+follows w s (closing may) = (refl, remembered_by_closing w.sessions.remembered w.words.slot s)
+follows w s (setting_slot i t m may) = (refl, setting w.sessions.remembered w.words.slot s _)
+follows w s (clearing_slot i t m may) = (refl, setting w.sessions.remembered w.words.slot s _)
+follows w s step = (refl, λ k. inl refl)
 
 stepping : (w : World) (s : ℕ) (step : Step) (v : World) → HappensStep w s step v → Follows w v
-stepping w s (TakeExclusive word) v h = taking w s word v h
-stepping w s (PutExclusive word done) v h = putting w s word done v h
-stepping w s (TakeShared word) v h = sharing w s word v h
-stepping w s (PutShared word) v h = unsharing w s word v h
-stepping w s SplitSeat v (inl h) = as_before w _ v h.1 refl refl
-stepping w s SplitSeat v (inr h) = as_before w _ v h.1 refl refl
-stepping w s (JoinSeat joiner) v h = joining w s joiner v h
-stepping w s (AskCancel k) v h = as_before w _ v h.1 refl refl
-stepping w s (LoadWait n) v h = as_before w _ v h.1 refl refl
-stepping w s (SetWaiting t m) v h = as_before w _ v h.2 refl refl
-stepping w s (MarkGranted k done) v h = marking w s k done v h
-stepping w s (ClearWait leaving) v h = clearing w s leaving v h
-stepping w s (PutPassing o t m) v h = as_before w _ v h.1 refl refl
-stepping w s (LoadStrong i n) v h = as_before w _ v h.1 refl refl
-stepping w s (LoadWord word n) v h = loading w s word n v h
-stepping w s (SetSlot i t m) v h = after w _ v h.1 (refl, setting w.sessions.remembered w.words.slot s _)
-stepping w s (ClearSlot i t m) v h = after w _ v h.1 (refl, setting w.sessions.remembered w.words.slot s _)
-stepping w s (StoreDatabase d) v h = as_before w _ v h.1 refl refl
-stepping w s (Count t m) v h = as_before w _ v h.1 refl refl
-stepping w s (Uncount t m) v h = as_before w _ v h.1 refl refl
-stepping w s (TransferSlot k i t m x) v h = as_before w _ v h.1 refl refl
-stepping w s (LockList lock) v h = locking_list w s lock v h
-stepping w s (UnlockList lock waiters release) v h = unlocking_list w s lock waiters release v h
-stepping w s (JoinList mode) v h = as_before w _ v h.2 refl refl
-stepping w s LeaveList v h = as_before w _ v h.2 refl refl
-stepping w s (TakeOff k) v h = as_before w _ v h.2 refl refl
-stepping w s (Tell k) v h = as_before w _ v h.1 refl refl
-stepping w s (LoadSleep n) v h = as_before w _ v h.1 refl refl
-stepping w s (SetReleaseOk lock n) v h = setting_release_ok w s lock n v h
-stepping w s (SetHasWaiters lock n) v h = setting_has_waiters w s lock n v h
+stepping w s = after_each w s (λ _ v. Follows w v) (follows w s)
 
 -- There are as many groups of slots after an event.
 pub groups-stay : (w v : World) (event : Event) → Happens w event v → v.numbers.groups ≡ w.numbers.groups

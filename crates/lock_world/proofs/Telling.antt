@@ -17,9 +17,11 @@ use Rattle.lock_world.specs.World.{World, TraceEntry, Took, Episode, AskedToCanc
 use Rattle.lock_world.specs.Telling.{TellsWhatIs}
 use Rattle.lock_world.specs.SafeWorld.{SafeWorld}
 use Rattle.lock_world.specs.Account.{Account}
+use Rattle.lock_table.specs.Put.{set_at}
 use Rattle.lock_table.proofs.PutLemmas.{set_at-here}
 use Rattle.lock_world.proofs.Others.Events.{event-others}
 use Rattle.lock_world.proofs.SafeWorld.Runs.{Next-safe}
+use Rattle.lock_world.proofs.LawfulSteps.{LawfulStep, world_after, taking_partition, putting_partition, putting_recorded, closing, asking_to_cancel, loading_wait, reading_counter, loading, after_each}
 
 -- What a step makes of the trace of its session: it adds nothing, or one entry, which tells what is; or the session closes, and
 -- its trace is forgotten.
@@ -29,152 +31,25 @@ AddsAtMostWhatIs w s v =
     ⊎ (((entry : TraceEntry) × (v.sessions.trace s ≡ w.sessions.trace s ++ entry ∷ []) × TellsWhatIs w v entry)
     ⊎ (v.sessions.trace s ≡ []))
 
-keeps : (w : World) (s : ℕ) (u v : World) → v ≡ u → u.sessions.trace s ≡ w.sessions.trace s → AddsAtMostWhatIs w s v
-keeps w s u v e same = inl (ap (λ (z : World). z.sessions.trace s) e ∙ same)
+-- An entry joins the trace of the session.
+grown : (w : World) (s : ℕ) (entry : TraceEntry) → set_at w.sessions.trace s (w.sessions.trace s ++ entry ∷ []) s ≡ w.sessions.trace s ++ entry ∷ []
+grown w s entry = set_at-here w.sessions.trace s (w.sessions.trace s ++ entry ∷ []) s refl
 
-tells : (w : World) (s : ℕ) (u v : World) → v ≡ u → (entry : TraceEntry) → u.sessions.trace s ≡ w.sessions.trace s ++ entry ∷ [] → TellsWhatIs w v entry
-    → AddsAtMostWhatIs w s v
-tells w s u v e entry grown is = inr (inl (entry, ap (λ (z : World). z.sessions.trace s) e ∙ grown, is))
-
-forgets : (w : World) (s : ℕ) (u v : World) → v ≡ u → u.sessions.trace s ≡ [] → AddsAtMostWhatIs w s v
-forgets w s u v e none = inr (inr (ap (λ (z : World). z.sessions.trace s) e ∙ none))
-
-adds-taking : (w : World) (s : ℕ) (taken : Word) (v : World) → HappensTaking w s taken v → AddsAtMostWhatIs w s v
-adds-taking w s (Partition p) v h = tells w s _ v h.1 (Took p (w.contents.now p)) (set_at-here w.sessions.trace s _ s refl) refl
-adds-taking w s (Fast o) v h = keeps w s _ v h.1 refl
-adds-taking w s (Database o) v h = absurd h
-adds-taking w s (Slot o i) v h = absurd h
-adds-taking w s (Wait o) v h = absurd h
-adds-taking w s (Strong i) v h = absurd h
-adds-taking w s (Sleep o) v h = absurd h
-
-adds-putting : (w : World) (s : ℕ) (put : Word) (done : Move) (v : World) → HappensPutting w s put done v → AddsAtMostWhatIs w s v
-adds-putting w s (Partition p) done v (inl h) = tells w s _ v h.2 (Episode p (content_taken (w.contents.now p) (w.contents.hand p)) h.0) (set_at-here w.sessions.trace s _ s refl)
-    (sym (ap (λ (z : World). z.contents.now p) h.2 ∙ set_at-here w.contents.now p h.0 p refl))
-adds-putting w s (Partition p) done v (inr h) = tells w s _ v h.1 (Episode p (content_taken (w.contents.now p) (w.contents.hand p)) (w.contents.now p)) (set_at-here w.sessions.trace s _ s refl)
-    (sym (ap (λ (z : World). z.contents.now p) h.1 ∙ set_at-here w.contents.now p (w.contents.now p) p refl))
-adds-putting w s (Fast o) done v h = keeps w s _ v h.1.1 refl
-adds-putting w s (Database o) done v h = absurd h
-adds-putting w s (Slot o i) done v h = absurd h
-adds-putting w s (Wait o) done v h = absurd h
-adds-putting w s (Strong i) done v h = absurd h
-adds-putting w s (Sleep o) done v h = absurd h
-
-adds-sharing : (w : World) (s : ℕ) (shared : Word) (v : World) → HappensSharing w s shared v → AddsAtMostWhatIs w s v
-adds-sharing w s (Partition p) v h = keeps w s _ v h.2 refl
-adds-sharing w s (Fast o) v h = keeps w s _ v h.2 refl
-adds-sharing w s (Database o) v h = absurd h
-adds-sharing w s (Slot o i) v h = absurd h
-adds-sharing w s (Wait o) v h = absurd h
-adds-sharing w s (Strong i) v h = absurd h
-adds-sharing w s (Sleep o) v h = absurd h
-
-adds-unsharing : (w : World) (s : ℕ) (shared : Word) (v : World) → HappensUnsharing w s shared v → AddsAtMostWhatIs w s v
-adds-unsharing w s (Partition p) v h = keeps w s _ v h.1 refl
-adds-unsharing w s (Fast o) v h = keeps w s _ v h.1 refl
-adds-unsharing w s (Database o) v h = absurd h
-adds-unsharing w s (Slot o i) v h = absurd h
-adds-unsharing w s (Wait o) v h = absurd h
-adds-unsharing w s (Strong i) v h = absurd h
-adds-unsharing w s (Sleep o) v h = absurd h
-
-adds-joining : (w : World) (s : ℕ) (joiner : Option ℕ) (v : World) → HappensJoining w s joiner v → AddsAtMostWhatIs w s v
-adds-joining w s (Some j) v h = keeps w s _ v h.1 refl
-adds-joining w s None v h = forgets w s _ v h.1 (set_at-here w.sessions.trace s _ s refl)
-
-adds-marking_in : (w : World) (s marked p : ℕ) (done : Move) (v : World) → HappensMarkingIn w s marked p done v → AddsAtMostWhatIs w s v
-adds-marking_in w s marked p done v (inl h) = keeps w s _ v h.3 refl
-adds-marking_in w s marked p done v (inr h) = keeps w s _ v h.1 refl
-
-adds-marking : (w : World) (s marked : ℕ) (done : Move) (v : World) → HappensMarking w s marked done v → AddsAtMostWhatIs w s v
-adds-marking w s marked Keep v h = absurd h
-adds-marking w s marked (Grant t m) v h = absurd h
-adds-marking w s marked (Join t m) v h = absurd h
-adds-marking w s marked (Release t m) v h = adds-marking_in w s marked (partition_of t) (Release t m) v h
-adds-marking w s marked (Leave t) v h = adds-marking_in w s marked (partition_of t) (Leave t) v h
-adds-marking w s marked (Adopt j i) v h = absurd h
-
-adds-clearing : (w : World) (s : ℕ) (leaving : Bool) (v : World) → HappensClearing w s leaving v → AddsAtMostWhatIs w s v
-adds-clearing w s false v h = keeps w s _ v h.2 refl
-adds-clearing w s true v (inl h) = keeps w s _ v h.4 refl
-adds-clearing w s true v (inr h) = keeps w s _ v h.3 refl
-
-adds-loading : (w : World) (s : ℕ) (loaded : Word) (n : ℕ) (v : World) → HappensLoading w s loaded n v → AddsAtMostWhatIs w s v
-adds-loading w s (Partition p) n v h = absurd h
-adds-loading w s (Fast o) n v h = tells w s _ v h.2 (Loaded (Fast o) n) (set_at-here w.sessions.trace s _ s refl) h.1.is_shown
-adds-loading w s (Database o) n v h = tells w s _ v h.1 (Loaded (Database o) n) (set_at-here w.sessions.trace s _ s refl) h.0.is_shown
-adds-loading w s (Slot o i) n v h = tells w s _ v h.1 (Loaded (Slot o i) n) (set_at-here w.sessions.trace s _ s refl) h.0.is_shown
-adds-loading w s (Wait o) n v h = absurd h
-adds-loading w s (Strong i) n v h = absurd h
-adds-loading w s (Sleep o) n v h = absurd h
-
-adds-locking_list : (w : World) (s : ℕ) (lock : Word) (v : World) → HappensLockingList w s lock v → AddsAtMostWhatIs w s v
-adds-locking_list w s (Partition p) v h = keeps w s _ v h.2 refl
-adds-locking_list w s (Fast q) v h = keeps w s _ v h.2 refl
-adds-locking_list w s (Database q) v h = absurd h
-adds-locking_list w s (Slot q i) v h = absurd h
-adds-locking_list w s (Wait q) v h = absurd h
-adds-locking_list w s (Strong i) v h = absurd h
-adds-locking_list w s (Sleep q) v h = absurd h
-
-adds-unlocking_list : (w : World) (s : ℕ) (lock : Word) (waiters release : Bool) (v : World) → HappensUnlockingList w s lock waiters release v → AddsAtMostWhatIs w s v
-adds-unlocking_list w s (Partition p) waiters release v h = keeps w s _ v h.1 refl
-adds-unlocking_list w s (Fast q) waiters release v h = keeps w s _ v h.1 refl
-adds-unlocking_list w s (Database q) waiters release v h = absurd h
-adds-unlocking_list w s (Slot q i) waiters release v h = absurd h
-adds-unlocking_list w s (Wait q) waiters release v h = absurd h
-adds-unlocking_list w s (Strong i) waiters release v h = absurd h
-adds-unlocking_list w s (Sleep q) waiters release v h = absurd h
-
-adds-setting_release_ok : (w : World) (s : ℕ) (lock : Word) (n : ℕ) (v : World) → HappensSettingReleaseOk w s lock n v → AddsAtMostWhatIs w s v
-adds-setting_release_ok w s (Partition p) n v h = keeps w s _ v h.2 refl
-adds-setting_release_ok w s (Fast q) n v h = keeps w s _ v h.2 refl
-adds-setting_release_ok w s (Database q) n v h = absurd h
-adds-setting_release_ok w s (Slot q i) n v h = absurd h
-adds-setting_release_ok w s (Wait q) n v h = absurd h
-adds-setting_release_ok w s (Strong i) n v h = absurd h
-adds-setting_release_ok w s (Sleep q) n v h = absurd h
-
-adds-setting_has_waiters : (w : World) (s : ℕ) (lock : Word) (n : ℕ) (v : World) → HappensSettingHasWaiters w s lock n v → AddsAtMostWhatIs w s v
-adds-setting_has_waiters w s (Partition p) n v h = keeps w s _ v h.1 refl
-adds-setting_has_waiters w s (Fast q) n v h = keeps w s _ v h.1 refl
-adds-setting_has_waiters w s (Database q) n v h = absurd h
-adds-setting_has_waiters w s (Slot q i) n v h = absurd h
-adds-setting_has_waiters w s (Wait q) n v h = absurd h
-adds-setting_has_waiters w s (Strong i) n v h = absurd h
-adds-setting_has_waiters w s (Sleep q) n v h = absurd h
+adds : (w : World) (s : ℕ) (it : LawfulStep w s) → AddsAtMostWhatIs w s (world_after it)
+adds w s (taking_partition p may) = inr (inl (Took p (w.contents.now p), grown w s _, refl))
+adds w s (putting_partition p done content may) =
+    inr (inl (Episode p (content_taken (w.contents.now p) (w.contents.hand p)) content, grown w s _, sym (set_at-here w.contents.now p content p refl)))
+adds w s (putting_recorded p done may) =
+    inr (inl (Episode p (content_taken (w.contents.now p) (w.contents.hand p)) (w.contents.now p), grown w s _, sym (set_at-here w.contents.now p (w.contents.now p) p refl)))
+adds w s (closing may) = inr (inr (set_at-here w.sessions.trace s [] s refl))
+adds w s (asking_to_cancel o steps) = inr (inl (AskedToCancel o (w.words.wait o), grown w s _, refl))
+adds w s (loading_wait n may) = inr (inl (Loaded (Wait s) n, grown w s _, may.is_word))
+adds w s (reading_counter i n may) = inr (inl (Loaded (Strong i) n, grown w s _, may.is_shown))
+adds w s (loading word n may) = inr (inl (Loaded word n, grown w s _, may.is_shown))
+adds w s step = inl refl
 
 adds-step : (w : World) (s : ℕ) (step : Step) (v : World) → HappensStep w s step v → AddsAtMostWhatIs w s v
-adds-step w s (TakeExclusive taken) v h = adds-taking w s taken v h
-adds-step w s (PutExclusive put done) v h = adds-putting w s put done v h
-adds-step w s (TakeShared shared) v h = adds-sharing w s shared v h
-adds-step w s (PutShared shared) v h = adds-unsharing w s shared v h
-adds-step w s SplitSeat v (inl h) = keeps w s _ v h.1 refl
-adds-step w s SplitSeat v (inr h) = keeps w s _ v h.1 refl
-adds-step w s (JoinSeat joiner) v h = adds-joining w s joiner v h
-adds-step w s (AskCancel o) v h = tells w s _ v h.1 (AskedToCancel o (w.words.wait o)) (set_at-here w.sessions.trace s _ s refl) refl
-adds-step w s (LoadWait n) v h = tells w s _ v h.1 (Loaded (Wait s) n) (set_at-here w.sessions.trace s _ s refl) h.0.is_word
-adds-step w s (SetWaiting t m) v h = keeps w s _ v h.2 refl
-adds-step w s (MarkGranted marked done) v h = adds-marking w s marked done v h
-adds-step w s (ClearWait leaving) v h = adds-clearing w s leaving v h
-adds-step w s (PutPassing o t m) v h = keeps w s _ v h.1 refl
-adds-step w s (LoadStrong i n) v h = tells w s _ v h.1 (Loaded (Strong i) n) (set_at-here w.sessions.trace s _ s refl) h.0.is_shown
-adds-step w s (LoadWord loaded n) v h = adds-loading w s loaded n v h
-adds-step w s (SetSlot i t m) v h = keeps w s _ v h.1 refl
-adds-step w s (ClearSlot i t m) v h = keeps w s _ v h.1 refl
-adds-step w s (StoreDatabase d) v h = keeps w s _ v h.1 refl
-adds-step w s (Count t m) v h = keeps w s _ v h.1 refl
-adds-step w s (Uncount t m) v h = keeps w s _ v h.1 refl
-adds-step w s (TransferSlot o i t m x) v h = keeps w s _ v h.1 refl
-adds-step w s (LockList lock) v h = adds-locking_list w s lock v h
-adds-step w s (UnlockList lock waiters release) v h = adds-unlocking_list w s lock waiters release v h
-adds-step w s (JoinList mode) v h = keeps w s _ v h.2 refl
-adds-step w s LeaveList v h = keeps w s _ v h.2 refl
-adds-step w s (TakeOff o) v h = keeps w s _ v h.2 refl
-adds-step w s (Tell o) v h = keeps w s _ v h.1 refl
-adds-step w s (LoadSleep n) v h = keeps w s _ v h.1 refl
-adds-step w s (SetReleaseOk lock n) v h = adds-setting_release_ok w s lock n v h
-adds-step w s (SetHasWaiters lock n) v h = adds-setting_has_waiters w s lock n v h
+adds-step w s = after_each w s (λ _ v. AddsAtMostWhatIs w s v) (adds w s)
 
 pub not-none : {A : Type 0} (before : List A) (x : A) (after : List A) → [] ≡ before ++ x ∷ after → ⊥
 not-none [] x after none = absurd (cc (none))

@@ -19,92 +19,19 @@ use Rattle.lock_world.proofs.Others.Slots.{transferring-others, taking_fast-othe
 use Rattle.lock_world.proofs.Others.Counters.{counting-others, uncounting-others, passing-others}
 use Rattle.lock_world.proofs.Others.Waits.{setting-others, marking-others, clearing-others}
 
-taking-others : (w : World) (s : ℕ) (word : Word) (v : World) (k : ℕ) → SafeWorld w → k ≢ s → HappensTaking w s word v → IsLeftAlone w v k
-taking-others w s (Partition p) v k safe other h = taking_partition-others w s p v k safe other h
-taking-others w s (Fast o) v k safe other h = taking_fast-others w s o v k other h
-taking-others w s (Database o) v k safe other h = absurd h
-taking-others w s (Slot o i) v k safe other h = absurd h
-taking-others w s (Wait o) v k safe other h = absurd h
-taking-others w s (Strong i) v k safe other h = absurd h
-taking-others w s (Sleep o) v k safe other h = absurd h
-
-putting-others : (w : World) (s : ℕ) (word : Word) (done : Move) (v : World) (k : ℕ) → SafeWorld w → k ≢ s → HappensPutting w s word done v → IsLeftAlone w v k
-putting-others w s (Partition p) done v k safe other h = putting_partition-others w s p done v k safe other h
-putting-others w s (Fast o) done v k safe other h = putting_fast-others w s o v k other h.1
-putting-others w s (Database o) done v k safe other h = absurd h
-putting-others w s (Slot o i) done v k safe other h = absurd h
-putting-others w s (Wait o) done v k safe other h = absurd h
-putting-others w s (Strong i) done v k safe other h = absurd h
-putting-others w s (Sleep o) done v k safe other h = absurd h
-
-sharing-others : (w : World) (s : ℕ) (word : Word) (v : World) (k : ℕ) → k ≢ s → HappensSharing w s word v → IsLeftAlone w v k
-sharing-others w s (Partition p) v k other h = sharing_partition-others w s p v k other h
-sharing-others w s (Fast o) v k other h = sharing_fast-others w s o v k other h
-sharing-others w s (Database o) v k other h = absurd h
-sharing-others w s (Slot o i) v k other h = absurd h
-sharing-others w s (Wait o) v k other h = absurd h
-sharing-others w s (Strong i) v k other h = absurd h
-sharing-others w s (Sleep o) v k other h = absurd h
-
-unsharing-others : (w : World) (s : ℕ) (word : Word) (v : World) (k : ℕ) → k ≢ s → HappensUnsharing w s word v → IsLeftAlone w v k
-unsharing-others w s (Partition p) v k other h = unsharing_partition-others w s p v k other h
-unsharing-others w s (Fast o) v k other h = unsharing_fast-others w s o v k other h
-unsharing-others w s (Database o) v k other h = absurd h
-unsharing-others w s (Slot o i) v k other h = absurd h
-unsharing-others w s (Wait o) v k other h = absurd h
-unsharing-others w s (Strong i) v k other h = absurd h
-unsharing-others w s (Sleep o) v k other h = absurd h
-
-loaded-others : (w : World) (s : ℕ) (word : Word) (n : ℕ) (v : World) (k : ℕ) → k ≢ s → HappensLoading w s word n v → IsLeftAlone w v k
-loaded-others w s (Partition p) n v k other h = absurd h
-loaded-others w s (Fast o) n v k other h = IsLeftAlone-same k w _ v h.2 (loading-others w s (Fast o) n k other)
-loaded-others w s (Database o) n v k other h = IsLeftAlone-same k w _ v h.1 (loading-others w s (Database o) n k other)
-loaded-others w s (Slot o i) n v k other h = IsLeftAlone-same k w _ v h.1 (loading-others w s (Slot o i) n k other)
-loaded-others w s (Wait o) n v k other h = absurd h
-loaded-others w s (Strong i) n v k other h = absurd h
-loaded-others w s (Sleep o) n v k other h = absurd h
-
-locking_list-others : (w : World) (s : ℕ) (word : Word) (v : World) (k : ℕ) → SafeWorld w → k ≢ s → HappensLockingList w s word v → IsLeftAlone w v k
-locking_list-others w s (Partition p) v k safe other h = IsLeftAlone-same k w _ v h.2 (locking_partition_list-others w s k safe other p)
-locking_list-others w s (Fast o) v k safe other h = IsLeftAlone-same k w _ v h.2 (locking_fast_list-others w s k safe other o)
-locking_list-others w s (Database o) v k safe other h = absurd h
-locking_list-others w s (Slot o i) v k safe other h = absurd h
-locking_list-others w s (Wait o) v k safe other h = absurd h
-locking_list-others w s (Strong i) v k safe other h = absurd h
-locking_list-others w s (Sleep o) v k safe other h = absurd h
-
-unlocking_list-others : (w : World) (s : ℕ) (word : Word) (waiters release : Bool) (v : World) (k : ℕ) → SafeWorld w → k ≢ s → HappensUnlockingList w s word waiters release v → IsLeftAlone w v k
-unlocking_list-others w s (Partition p) waiters release v k safe other h = IsLeftAlone-same k w _ v h.1 (unlocking_partition_list-others w s k safe other p waiters release)
-unlocking_list-others w s (Fast o) waiters release v k safe other h = IsLeftAlone-same k w _ v h.1 (unlocking_fast_list-others w s k safe other o waiters release)
-unlocking_list-others w s (Database o) waiters release v k safe other h = absurd h
-unlocking_list-others w s (Slot o i) waiters release v k safe other h = absurd h
-unlocking_list-others w s (Wait o) waiters release v k safe other h = absurd h
-unlocking_list-others w s (Strong i) waiters release v k safe other h = absurd h
-unlocking_list-others w s (Sleep o) waiters release v k safe other h = absurd h
-
-setting_release_ok-others : (w : World) (s : ℕ) (word : Word) (n : ℕ) (v : World) (k : ℕ) → HappensSettingReleaseOk w s word n v → IsLeftAlone w v k
-setting_release_ok-others w s (Partition p) n v k h = IsLeftAlone-same k w _ v h.2 (flagging_partition-others w k p _)
-setting_release_ok-others w s (Fast o) n v k h = IsLeftAlone-same k w _ v h.2 (flagging_fast-others w k o _)
-setting_release_ok-others w s (Database o) n v k h = absurd h
-setting_release_ok-others w s (Slot o i) n v k h = absurd h
-setting_release_ok-others w s (Wait o) n v k h = absurd h
-setting_release_ok-others w s (Strong i) n v k h = absurd h
-setting_release_ok-others w s (Sleep o) n v k h = absurd h
-
-setting_has_waiters-others : (w : World) (s : ℕ) (word : Word) (n : ℕ) (v : World) (k : ℕ) → HappensSettingHasWaiters w s word n v → IsLeftAlone w v k
-setting_has_waiters-others w s (Partition p) n v k h = IsLeftAlone-same k w _ v h.1 (flagging_partition-others w k p _)
-setting_has_waiters-others w s (Fast o) n v k h = IsLeftAlone-same k w _ v h.1 (flagging_fast-others w k o _)
-setting_has_waiters-others w s (Database o) n v k h = absurd h
-setting_has_waiters-others w s (Slot o i) n v k h = absurd h
-setting_has_waiters-others w s (Wait o) n v k h = absurd h
-setting_has_waiters-others w s (Strong i) n v k h = absurd h
-setting_has_waiters-others w s (Sleep o) n v k h = absurd h
-
 step-others : (w : World) (s : ℕ) (step : Step) (v : World) (k : ℕ) → SafeWorld w → k ≢ s → HappensStep w s step v → IsLeftAlone w v k
-step-others w s (TakeExclusive word) v k safe other h = taking-others w s word v k safe other h
-step-others w s (PutExclusive word done) v k safe other h = putting-others w s word done v k safe other h
-step-others w s (TakeShared word) v k safe other h = sharing-others w s word v k other h
-step-others w s (PutShared word) v k safe other h = unsharing-others w s word v k other h
+step-others w s (TakeExclusive (Partition p)) v k safe other h = taking_partition-others w s p v k safe other h
+step-others w s (TakeExclusive (Fast o)) v k safe other h = taking_fast-others w s o v k other h
+step-others w s (TakeExclusive word) v k safe other h = absurd h
+step-others w s (PutExclusive (Partition p) done) v k safe other h = putting_partition-others w s p done v k safe other h
+step-others w s (PutExclusive (Fast o) done) v k safe other h = putting_fast-others w s o v k other h.1
+step-others w s (PutExclusive word done) v k safe other h = absurd h
+step-others w s (TakeShared (Partition p)) v k safe other h = sharing_partition-others w s p v k other h
+step-others w s (TakeShared (Fast o)) v k safe other h = sharing_fast-others w s o v k other h
+step-others w s (TakeShared word) v k safe other h = absurd h
+step-others w s (PutShared (Partition p)) v k safe other h = unsharing_partition-others w s p v k other h
+step-others w s (PutShared (Fast o)) v k safe other h = unsharing_fast-others w s o v k other h
+step-others w s (PutShared word) v k safe other h = absurd h
 step-others w s SplitSeat v k safe other h = splitting-others w s v k other h
 step-others w s (JoinSeat joiner) v k safe other h = joining-others w s joiner v k other h
 step-others w s (AskCancel o) v k safe other h =
@@ -116,22 +43,33 @@ step-others w s (MarkGranted marked done) v k safe other h = marking-others w s 
 step-others w s (ClearWait leaving) v k safe other h = clearing-others w s leaving v k safe other h
 step-others w s (PutPassing o t m) v k safe other h = IsLeftAlone-same k w _ v h.1 (passing-others w s o t m k other)
 step-others w s (LoadStrong i n) v k safe other h = IsLeftAlone-same k w _ v h.1 (reading_counter-others w s i n k other)
-step-others w s (LoadWord word n) v k safe other h = loaded-others w s word n v k other h
+step-others w s (LoadWord (Fast o) n) v k safe other h = IsLeftAlone-same k w _ v h.2 (loading-others w s (Fast o) n k other)
+step-others w s (LoadWord (Database o) n) v k safe other h = IsLeftAlone-same k w _ v h.1 (loading-others w s (Database o) n k other)
+step-others w s (LoadWord (Slot o i) n) v k safe other h = IsLeftAlone-same k w _ v h.1 (loading-others w s (Slot o i) n k other)
+step-others w s (LoadWord word n) v k safe other h = absurd h
 step-others w s (SetSlot i t m) v k safe other h = IsLeftAlone-same k w _ v h.1 (setting_slot-others w s i t m k safe other h.0)
 step-others w s (ClearSlot i t m) v k safe other h = IsLeftAlone-same k w _ v h.1 (clearing_slot-others w s i t m k safe other h.0)
 step-others w s (StoreDatabase d) v k safe other h = IsLeftAlone-same k w _ v h.1 (storing_database-others w s d k other h.0)
 step-others w s (Count t m) v k safe other h = IsLeftAlone-same k w _ v h.1 (counting-others w s t m k other)
 step-others w s (Uncount t m) v k safe other h = IsLeftAlone-same k w _ v h.1 (uncounting-others w s t m k other)
 step-others w s (TransferSlot o i t m x) v k safe other h = IsLeftAlone-same k w _ v h.1 (transferring-others w s o i t m x k safe other h.0)
-step-others w s (LockList word) v k safe other h = locking_list-others w s word v k safe other h
-step-others w s (UnlockList word waiters release) v k safe other h = unlocking_list-others w s word waiters release v k safe other h
+step-others w s (LockList (Partition p)) v k safe other h = IsLeftAlone-same k w _ v h.2 (locking_partition_list-others w s k safe other p)
+step-others w s (LockList (Fast o)) v k safe other h = IsLeftAlone-same k w _ v h.2 (locking_fast_list-others w s k safe other o)
+step-others w s (LockList word) v k safe other h = absurd h
+step-others w s (UnlockList (Partition p) waiters release) v k safe other h = IsLeftAlone-same k w _ v h.1 (unlocking_partition_list-others w s k safe other p waiters release)
+step-others w s (UnlockList (Fast o) waiters release) v k safe other h = IsLeftAlone-same k w _ v h.1 (unlocking_fast_list-others w s k safe other o waiters release)
+step-others w s (UnlockList word waiters release) v k safe other h = absurd h
 step-others w s (JoinList mode) v k safe other h = IsLeftAlone-same k w _ v h.2 (joining_list-others w s k safe other mode h.0 h.1)
 step-others w s LeaveList v k safe other h = IsLeftAlone-same k w _ v h.2 (leaving_list-others w s k safe other h.0 h.1)
 step-others w s (TakeOff o) v k safe other h = IsLeftAlone-same k w _ v h.2 (taking_off-others w s k safe other o h.0 h.1)
 step-others w s (Tell o) v k safe other h = IsLeftAlone-same k w _ v h.1 (telling-others w s k safe other o)
 step-others w s (LoadSleep n) v k safe other h = IsLeftAlone-same k w _ v h.1 (loading_sleep-others w s k safe other n)
-step-others w s (SetReleaseOk word n) v k safe other h = setting_release_ok-others w s word n v k h
-step-others w s (SetHasWaiters word n) v k safe other h = setting_has_waiters-others w s word n v k h
+step-others w s (SetReleaseOk (Partition p) n) v k safe other h = IsLeftAlone-same k w _ v h.2 (flagging_partition-others w k p _)
+step-others w s (SetReleaseOk (Fast o) n) v k safe other h = IsLeftAlone-same k w _ v h.2 (flagging_fast-others w k o _)
+step-others w s (SetReleaseOk word n) v k safe other h = absurd h
+step-others w s (SetHasWaiters (Partition p) n) v k safe other h = IsLeftAlone-same k w _ v h.1 (flagging_partition-others w k p _)
+step-others w s (SetHasWaiters (Fast o) n) v k safe other h = IsLeftAlone-same k w _ v h.1 (flagging_fast-others w k o _)
+step-others w s (SetHasWaiters word n) v k safe other h = absurd h
 
 -- An event leaves other sessions alone.
 pub event-others : (w v : World) (event : Event) (other : ℕ) → SafeWorld w → Happens w event v → other ≢ event.session → IsLeftAlone w v other

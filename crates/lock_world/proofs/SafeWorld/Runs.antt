@@ -28,43 +28,6 @@ use Rattle.lw_word.proofs.FlagLemmas.{release_ok_word-holders, release_ok_word-l
 use Rattle.lock_world.proofs.SafeWorld.Lists.{locking_partition_list-safe_world, locking_fast_list-safe_world, unlocking_partition_list-safe_world, unlocking_fast_list-safe_world, flagging_partition-safe_world, flagging_fast-safe_world, joining_list-safe_world, leaving_list-safe_world, taking_off-safe_world, telling-safe_world, loading_sleep-safe_world}
 use Rattle.lock_world.proofs.SafeWorld.Counters.{counting-safe_world, uncounting-safe_world, passing-safe_world}
 
-taking-safe : (w : World) (s : ℕ) (word : Word) (v : World) → SafeWorld w → HappensTaking w s word v → SafeWorld v
-taking-safe w s (Partition p) v safe h = subst SafeWorld (sym h.1) (taking_partition-safe_world w s p safe h.0)
-taking-safe w s (Fast o) v safe h = subst SafeWorld (sym h.1) (taking_fast-safe_world w s o safe h.0)
-taking-safe w s (Database k) v safe h = absurd h
-taking-safe w s (Slot k i) v safe h = absurd h
-taking-safe w s (Wait k) v safe h = absurd h
-taking-safe w s (Strong i) v safe h = absurd h
-taking-safe w s (Sleep k) v safe h = absurd h
-
-putting-safe : (w : World) (s : ℕ) (word : Word) (done : Move) (v : World) → SafeWorld w → HappensPutting w s word done v → SafeWorld v
-putting-safe w s (Partition p) done v safe (inl h) = subst SafeWorld (sym h.2) (putting_partition-safe_world w s p done h.0 safe h.1)
-putting-safe w s (Partition p) done v safe (inr h) = subst SafeWorld (sym h.1) (putting_recorded-safe_world w s p done safe h.0)
-putting-safe w s (Fast o) done v safe h = subst SafeWorld (sym h.1.1) (putting_fast-safe_world w s o safe h.1.0)
-putting-safe w s (Database k) done v safe h = absurd h
-putting-safe w s (Slot k i) done v safe h = absurd h
-putting-safe w s (Wait k) done v safe h = absurd h
-putting-safe w s (Strong i) done v safe h = absurd h
-putting-safe w s (Sleep k) done v safe h = absurd h
-
-sharing-safe : (w : World) (s : ℕ) (word : Word) (v : World) → SafeWorld w → HappensSharing w s word v → SafeWorld v
-sharing-safe w s (Partition p) v safe h = subst SafeWorld (sym h.2) (sharing_partition-safe_world w s p safe h.1)
-sharing-safe w s (Fast o) v safe h = subst SafeWorld (sym h.2) (sharing_fast-safe_world w s o safe h.1)
-sharing-safe w s (Database k) v safe h = absurd h
-sharing-safe w s (Slot k i) v safe h = absurd h
-sharing-safe w s (Wait k) v safe h = absurd h
-sharing-safe w s (Strong i) v safe h = absurd h
-sharing-safe w s (Sleep k) v safe h = absurd h
-
-unsharing-safe : (w : World) (s : ℕ) (word : Word) (v : World) → SafeWorld w → HappensUnsharing w s word v → SafeWorld v
-unsharing-safe w s (Partition p) v safe h = subst SafeWorld (sym h.1) (unsharing_partition-safe_world w s p safe h.0)
-unsharing-safe w s (Fast o) v safe h = subst SafeWorld (sym h.1) (unsharing_fast-safe_world w s o safe h.0)
-unsharing-safe w s (Database k) v safe h = absurd h
-unsharing-safe w s (Slot k i) v safe h = absurd h
-unsharing-safe w s (Wait k) v safe h = absurd h
-unsharing-safe w s (Strong i) v safe h = absurd h
-unsharing-safe w s (Sleep k) v safe h = absurd h
-
 joining-safe : (w : World) (s : ℕ) (joiner : Option ℕ) (v : World) → SafeWorld w → HappensJoining w s joiner v → SafeWorld v
 joining-safe w s (Some j) v safe h = subst SafeWorld (sym h.1) (keeping_apart-safe_world w s j safe h.0)
 joining-safe w s None v safe h = subst SafeWorld (sym h.1) (closing-safe_world w s safe h.0)
@@ -90,60 +53,20 @@ clearing-safe w s false v safe h =
 clearing-safe w s true v safe (inl h) = subst SafeWorld (sym h.4) (leaving-safe_world w s h.0 h.1 h.2 safe h.3)
 clearing-safe w s true v safe (inr h) = subst SafeWorld (sym h.3) (clearing_in_hand-safe_world w s h.0 safe h.1)
 
-loading-safe : (w : World) (s : ℕ) (word : Word) (n : ℕ) (v : World) → SafeWorld w → HappensLoading w s word n v → SafeWorld v
-loading-safe w s (Partition p) n v safe h = absurd h
-loading-safe w s (Fast o) n v safe h = subst SafeWorld (sym h.2) (loading-safe_world w s (Fast o) n safe h.1)
-loading-safe w s (Database k) n v safe h = subst SafeWorld (sym h.1) (loading-safe_world w s (Database k) n safe h.0)
-loading-safe w s (Slot k i) n v safe h = subst SafeWorld (sym h.1) (loading-safe_world w s (Slot k i) n safe h.0)
-loading-safe w s (Wait k) n v safe h = absurd h
-loading-safe w s (Strong i) n v safe h = absurd h
-loading-safe w s (Sleep k) n v safe h = absurd h
-
-locking_list-safe : (w : World) (s : ℕ) (word : Word) (v : World) → SafeWorld w → HappensLockingList w s word v → SafeWorld v
-locking_list-safe w s (Partition p) v safe h = subst SafeWorld (sym h.2) (locking_partition_list-safe_world w s safe p h.1)
-locking_list-safe w s (Fast o) v safe h = subst SafeWorld (sym h.2) (locking_fast_list-safe_world w s safe o h.1)
-locking_list-safe w s (Database k) v safe h = absurd h
-locking_list-safe w s (Slot k i) v safe h = absurd h
-locking_list-safe w s (Wait k) v safe h = absurd h
-locking_list-safe w s (Strong i) v safe h = absurd h
-locking_list-safe w s (Sleep k) v safe h = absurd h
-
-unlocking_list-safe : (w : World) (s : ℕ) (word : Word) (waiters release : Bool) (v : World) → SafeWorld w → HappensUnlockingList w s word waiters release v → SafeWorld v
-unlocking_list-safe w s (Partition p) waiters release v safe h = subst SafeWorld (sym h.1) (unlocking_partition_list-safe_world w s safe p waiters release h.0)
-unlocking_list-safe w s (Fast o) waiters release v safe h = subst SafeWorld (sym h.1) (unlocking_fast_list-safe_world w s safe o waiters release h.0)
-unlocking_list-safe w s (Database k) waiters release v safe h = absurd h
-unlocking_list-safe w s (Slot k i) waiters release v safe h = absurd h
-unlocking_list-safe w s (Wait k) waiters release v safe h = absurd h
-unlocking_list-safe w s (Strong i) waiters release v safe h = absurd h
-unlocking_list-safe w s (Sleep k) waiters release v safe h = absurd h
-
-setting_release_ok-safe : (w : World) (s : ℕ) (word : Word) (n : ℕ) (v : World) → SafeWorld w → HappensSettingReleaseOk w s word n v → SafeWorld v
-setting_release_ok-safe w s (Partition p) n v safe h =
-    subst SafeWorld (sym h.2) (flagging_partition-safe_world w s safe p _ (release_ok_word-holders (w.words.partition p)) (release_ok_word-list_locked (w.words.partition p)))
-setting_release_ok-safe w s (Fast o) n v safe h =
-    subst SafeWorld (sym h.2) (flagging_fast-safe_world w s safe o _ (release_ok_word-holders (w.words.fast o)) (release_ok_word-list_locked (w.words.fast o)))
-setting_release_ok-safe w s (Database k) n v safe h = absurd h
-setting_release_ok-safe w s (Slot k i) n v safe h = absurd h
-setting_release_ok-safe w s (Wait k) n v safe h = absurd h
-setting_release_ok-safe w s (Strong i) n v safe h = absurd h
-setting_release_ok-safe w s (Sleep k) n v safe h = absurd h
-
-setting_has_waiters-safe : (w : World) (s : ℕ) (word : Word) (n : ℕ) (v : World) → SafeWorld w → HappensSettingHasWaiters w s word n v → SafeWorld v
-setting_has_waiters-safe w s (Partition p) n v safe h =
-    subst SafeWorld (sym h.1) (flagging_partition-safe_world w s safe p _ (has_waiters_word-holders (w.words.partition p)) (has_waiters_word-list_locked (w.words.partition p)))
-setting_has_waiters-safe w s (Fast o) n v safe h =
-    subst SafeWorld (sym h.1) (flagging_fast-safe_world w s safe o _ (has_waiters_word-holders (w.words.fast o)) (has_waiters_word-list_locked (w.words.fast o)))
-setting_has_waiters-safe w s (Database k) n v safe h = absurd h
-setting_has_waiters-safe w s (Slot k i) n v safe h = absurd h
-setting_has_waiters-safe w s (Wait k) n v safe h = absurd h
-setting_has_waiters-safe w s (Strong i) n v safe h = absurd h
-setting_has_waiters-safe w s (Sleep k) n v safe h = absurd h
-
 step-safe : (w : World) (s : ℕ) (step : Step) (v : World) → SafeWorld w → HappensStep w s step v → SafeWorld v
-step-safe w s (TakeExclusive word) v safe h = taking-safe w s word v safe h
-step-safe w s (PutExclusive word done) v safe h = putting-safe w s word done v safe h
-step-safe w s (TakeShared word) v safe h = sharing-safe w s word v safe h
-step-safe w s (PutShared word) v safe h = unsharing-safe w s word v safe h
+step-safe w s (TakeExclusive (Partition p)) v safe h = subst SafeWorld (sym h.1) (taking_partition-safe_world w s p safe h.0)
+step-safe w s (TakeExclusive (Fast o)) v safe h = subst SafeWorld (sym h.1) (taking_fast-safe_world w s o safe h.0)
+step-safe w s (TakeExclusive word) v safe h = absurd h
+step-safe w s (PutExclusive (Partition p) done) v safe (inl h) = subst SafeWorld (sym h.2) (putting_partition-safe_world w s p done h.0 safe h.1)
+step-safe w s (PutExclusive (Partition p) done) v safe (inr h) = subst SafeWorld (sym h.1) (putting_recorded-safe_world w s p done safe h.0)
+step-safe w s (PutExclusive (Fast o) done) v safe h = subst SafeWorld (sym h.1.1) (putting_fast-safe_world w s o safe h.1.0)
+step-safe w s (PutExclusive word done) v safe h = absurd h
+step-safe w s (TakeShared (Partition p)) v safe h = subst SafeWorld (sym h.2) (sharing_partition-safe_world w s p safe h.1)
+step-safe w s (TakeShared (Fast o)) v safe h = subst SafeWorld (sym h.2) (sharing_fast-safe_world w s o safe h.1)
+step-safe w s (TakeShared word) v safe h = absurd h
+step-safe w s (PutShared (Partition p)) v safe h = subst SafeWorld (sym h.1) (unsharing_partition-safe_world w s p safe h.0)
+step-safe w s (PutShared (Fast o)) v safe h = subst SafeWorld (sym h.1) (unsharing_fast-safe_world w s o safe h.0)
+step-safe w s (PutShared word) v safe h = absurd h
 step-safe w s SplitSeat v safe (inl h) = subst SafeWorld (sym h.1) (issuing-safe_world w s safe h.0)
 step-safe w s SplitSeat v safe (inr h) = subst SafeWorld (sym h.1) (going_on-safe_world w s safe h.0)
 step-safe w s (JoinSeat joiner) v safe h = joining-safe w s joiner v safe h
@@ -154,22 +77,37 @@ step-safe w s (MarkGranted k done) v safe h = marking-safe w s k done v safe h
 step-safe w s (ClearWait leaving) v safe h = clearing-safe w s leaving v safe h
 step-safe w s (PutPassing o t m) v safe h = subst SafeWorld (sym h.1) (passing-safe_world w s o t m safe h.0)
 step-safe w s (LoadStrong i n) v safe h = subst SafeWorld (sym h.1) (reading_counter-safe_world w s i n safe h.0)
-step-safe w s (LoadWord word n) v safe h = loading-safe w s word n v safe h
+step-safe w s (LoadWord (Fast o) n) v safe h = subst SafeWorld (sym h.2) (loading-safe_world w s (Fast o) n safe h.1)
+step-safe w s (LoadWord (Database k) n) v safe h = subst SafeWorld (sym h.1) (loading-safe_world w s (Database k) n safe h.0)
+step-safe w s (LoadWord (Slot k i) n) v safe h = subst SafeWorld (sym h.1) (loading-safe_world w s (Slot k i) n safe h.0)
+step-safe w s (LoadWord word n) v safe h = absurd h
 step-safe w s (SetSlot i t m) v safe h = subst SafeWorld (sym h.1) (setting_slot-safe_world w s i t m safe h.0)
 step-safe w s (ClearSlot i t m) v safe h = subst SafeWorld (sym h.1) (clearing_slot-safe_world w s i t m safe h.0)
 step-safe w s (StoreDatabase d) v safe h = subst SafeWorld (sym h.1) (storing_database-safe_world w s d safe h.0)
 step-safe w s (Count t m) v safe h = subst SafeWorld (sym h.1) (counting-safe_world w s t m safe h.0)
 step-safe w s (Uncount t m) v safe h = subst SafeWorld (sym h.1) (uncounting-safe_world w s t m safe h.0)
 step-safe w s (TransferSlot k i t m x) v safe h = subst SafeWorld (sym h.1) (transferring-safe_world w s k i t m x safe h.0)
-step-safe w s (LockList word) v safe h = locking_list-safe w s word v safe h
-step-safe w s (UnlockList word waiters release) v safe h = unlocking_list-safe w s word waiters release v safe h
+step-safe w s (LockList (Partition p)) v safe h = subst SafeWorld (sym h.2) (locking_partition_list-safe_world w s safe p h.1)
+step-safe w s (LockList (Fast o)) v safe h = subst SafeWorld (sym h.2) (locking_fast_list-safe_world w s safe o h.1)
+step-safe w s (LockList word) v safe h = absurd h
+step-safe w s (UnlockList (Partition p) waiters release) v safe h = subst SafeWorld (sym h.1) (unlocking_partition_list-safe_world w s safe p waiters release h.0)
+step-safe w s (UnlockList (Fast o) waiters release) v safe h = subst SafeWorld (sym h.1) (unlocking_fast_list-safe_world w s safe o waiters release h.0)
+step-safe w s (UnlockList word waiters release) v safe h = absurd h
 step-safe w s (JoinList mode) v safe h = subst SafeWorld (sym h.2) (joining_list-safe_world w s safe h.0 mode h.1)
 step-safe w s LeaveList v safe h = subst SafeWorld (sym h.2) (leaving_list-safe_world w s safe h.0 h.1)
 step-safe w s (TakeOff k) v safe h = subst SafeWorld (sym h.2) (taking_off-safe_world w s safe k h.0 h.1)
 step-safe w s (Tell k) v safe h = subst SafeWorld (sym h.1) (telling-safe_world w s safe k h.0)
 step-safe w s (LoadSleep n) v safe h = subst SafeWorld (sym h.1) (loading_sleep-safe_world w s safe n h.0)
-step-safe w s (SetReleaseOk word n) v safe h = setting_release_ok-safe w s word n v safe h
-step-safe w s (SetHasWaiters word n) v safe h = setting_has_waiters-safe w s word n v safe h
+step-safe w s (SetReleaseOk (Partition p) n) v safe h =
+    subst SafeWorld (sym h.2) (flagging_partition-safe_world w s safe p _ (release_ok_word-holders (w.words.partition p)) (release_ok_word-list_locked (w.words.partition p)))
+step-safe w s (SetReleaseOk (Fast o) n) v safe h =
+    subst SafeWorld (sym h.2) (flagging_fast-safe_world w s safe o _ (release_ok_word-holders (w.words.fast o)) (release_ok_word-list_locked (w.words.fast o)))
+step-safe w s (SetReleaseOk word n) v safe h = absurd h
+step-safe w s (SetHasWaiters (Partition p) n) v safe h =
+    subst SafeWorld (sym h.1) (flagging_partition-safe_world w s safe p _ (has_waiters_word-holders (w.words.partition p)) (has_waiters_word-list_locked (w.words.partition p)))
+step-safe w s (SetHasWaiters (Fast o) n) v safe h =
+    subst SafeWorld (sym h.1) (flagging_fast-safe_world w s safe o _ (has_waiters_word-holders (w.words.fast o)) (has_waiters_word-list_locked (w.words.fast o)))
+step-safe w s (SetHasWaiters word n) v safe h = absurd h
 
 -- Each event that is lawful leads from a safe World to a safe one.
 pub event-safe : (w : World) (event : Event) (v : World) → SafeWorld w → Happens w event v → SafeWorld v

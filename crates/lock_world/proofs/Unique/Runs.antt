@@ -14,96 +14,23 @@ use Rattle.lock_world.proofs.Unique.Seats.{one_splitting, one_joining}
 use Rattle.lock_world.proofs.Unique.Partitions.{one_putting_partition}
 use Rattle.lock_world.proofs.Unique.Waits.{one_marking, one_clearing, one_setting}
 
-one_taking : (w : World) (s : ℕ) (word : Word) (u v : World) → HappensTaking w s word u → HappensTaking w s word v → u ≡ v
-one_taking w s (Partition p) u v one two = one.1 ∙ sym two.1
-one_taking w s (Fast o) u v one two = one.1 ∙ sym two.1
-one_taking w s (Database k) u v one two = absurd one
-one_taking w s (Slot k i) u v one two = absurd one
-one_taking w s (Wait k) u v one two = absurd one
-one_taking w s (Strong i) u v one two = absurd one
-one_taking w s (Sleep k) u v one two = absurd one
-
-one_putting : (w : World) (s : ℕ) (word : Word) (done : Move) (u v : World) → HappensPutting w s word done u → HappensPutting w s word done v → u ≡ v
-one_putting w s (Partition p) done u v one two = one_putting_partition w s p done u v one two
-one_putting w s (Fast o) done u v one two = one.1.1 ∙ sym two.1.1
-one_putting w s (Database k) done u v one two = absurd one
-one_putting w s (Slot k i) done u v one two = absurd one
-one_putting w s (Wait k) done u v one two = absurd one
-one_putting w s (Strong i) done u v one two = absurd one
-one_putting w s (Sleep k) done u v one two = absurd one
-
-one_sharing : (w : World) (s : ℕ) (word : Word) (u v : World) → HappensSharing w s word u → HappensSharing w s word v → u ≡ v
-one_sharing w s (Partition p) u v one two = one.2 ∙ sym two.2
-one_sharing w s (Fast o) u v one two = one.2 ∙ sym two.2
-one_sharing w s (Database k) u v one two = absurd one
-one_sharing w s (Slot k i) u v one two = absurd one
-one_sharing w s (Wait k) u v one two = absurd one
-one_sharing w s (Strong i) u v one two = absurd one
-one_sharing w s (Sleep k) u v one two = absurd one
-
-one_unsharing : (w : World) (s : ℕ) (word : Word) (u v : World) → HappensUnsharing w s word u → HappensUnsharing w s word v → u ≡ v
-one_unsharing w s (Partition p) u v one two = one.1 ∙ sym two.1
-one_unsharing w s (Fast o) u v one two = one.1 ∙ sym two.1
-one_unsharing w s (Database k) u v one two = absurd one
-one_unsharing w s (Slot k i) u v one two = absurd one
-one_unsharing w s (Wait k) u v one two = absurd one
-one_unsharing w s (Strong i) u v one two = absurd one
-one_unsharing w s (Sleep k) u v one two = absurd one
-
-one_loading : (w : World) (s : ℕ) (word : Word) (n : ℕ) (u v : World) → HappensLoading w s word n u → HappensLoading w s word n v → u ≡ v
-one_loading w s (Partition p) n u v one two = absurd one
-one_loading w s (Fast o) n u v one two = one.2 ∙ sym two.2
-one_loading w s (Database k) n u v one two = one.1 ∙ sym two.1
-one_loading w s (Slot k i) n u v one two = one.1 ∙ sym two.1
-one_loading w s (Wait k) n u v one two = absurd one
-one_loading w s (Strong i) n u v one two = absurd one
-one_loading w s (Sleep k) n u v one two = absurd one
-
-one_locking_list : (w : World) (s : ℕ) (word : Word) (u v : World) → HappensLockingList w s word u → HappensLockingList w s word v → u ≡ v
-one_locking_list w s (Partition p) u v one two = one.2 ∙ sym two.2
-one_locking_list w s (Fast q) u v one two = one.2 ∙ sym two.2
-one_locking_list w s (Database q) u v one two = absurd one
-one_locking_list w s (Slot q i) u v one two = absurd one
-one_locking_list w s (Wait q) u v one two = absurd one
-one_locking_list w s (Strong i) u v one two = absurd one
-one_locking_list w s (Sleep q) u v one two = absurd one
-
-one_unlocking_list : (w : World) (s : ℕ) (word : Word) (waiters release : Bool) (u v : World) → HappensUnlockingList w s word waiters release u → HappensUnlockingList w s word waiters release v → u ≡ v
-one_unlocking_list w s (Partition p) waiters release u v one two = one.1 ∙ sym two.1
-one_unlocking_list w s (Fast q) waiters release u v one two = one.1 ∙ sym two.1
-one_unlocking_list w s (Database q) waiters release u v one two = absurd one
-one_unlocking_list w s (Slot q i) waiters release u v one two = absurd one
-one_unlocking_list w s (Wait q) waiters release u v one two = absurd one
-one_unlocking_list w s (Strong i) waiters release u v one two = absurd one
-one_unlocking_list w s (Sleep q) waiters release u v one two = absurd one
-
-one_setting_release_ok : (w : World) (s : ℕ) (word : Word) (n : ℕ) (u v : World) → HappensSettingReleaseOk w s word n u → HappensSettingReleaseOk w s word n v → u ≡ v
-one_setting_release_ok w s (Partition p) n u v one two = one.2 ∙ sym two.2
-one_setting_release_ok w s (Fast q) n u v one two = one.2 ∙ sym two.2
-one_setting_release_ok w s (Database q) n u v one two = absurd one
-one_setting_release_ok w s (Slot q i) n u v one two = absurd one
-one_setting_release_ok w s (Wait q) n u v one two = absurd one
-one_setting_release_ok w s (Strong i) n u v one two = absurd one
-one_setting_release_ok w s (Sleep q) n u v one two = absurd one
-
-one_setting_has_waiters : (w : World) (s : ℕ) (word : Word) (n : ℕ) (u v : World) → HappensSettingHasWaiters w s word n u → HappensSettingHasWaiters w s word n v → u ≡ v
-one_setting_has_waiters w s (Partition p) n u v one two = one.1 ∙ sym two.1
-one_setting_has_waiters w s (Fast q) n u v one two = one.1 ∙ sym two.1
-one_setting_has_waiters w s (Database q) n u v one two = absurd one
-one_setting_has_waiters w s (Slot q i) n u v one two = absurd one
-one_setting_has_waiters w s (Wait q) n u v one two = absurd one
-one_setting_has_waiters w s (Strong i) n u v one two = absurd one
-one_setting_has_waiters w s (Sleep q) n u v one two = absurd one
-
 -- A session has one list in hand at most.
 one_list : (w : World) (s lock other : ℕ) → HasList w s lock → HasList w s other → lock ≡ other
 one_list w s lock other one two = let same : Some lock ≡ Some other = sym one.in_hand ∙ two.in_hand in cc
 
 one_step : (w : World) (s : ℕ) (step : Step) (u v : World) → SafeWorld w → HappensStep w s step u → HappensStep w s step v → u ≡ v
-one_step w s (TakeExclusive word) u v safe one two = one_taking w s word u v one two
-one_step w s (PutExclusive word done) u v safe one two = one_putting w s word done u v one two
-one_step w s (TakeShared word) u v safe one two = one_sharing w s word u v one two
-one_step w s (PutShared word) u v safe one two = one_unsharing w s word u v one two
+one_step w s (TakeExclusive (Partition p)) u v safe one two = one.1 ∙ sym two.1
+one_step w s (TakeExclusive (Fast o)) u v safe one two = one.1 ∙ sym two.1
+one_step w s (TakeExclusive word) u v safe one two = absurd one
+one_step w s (PutExclusive (Partition p) done) u v safe one two = one_putting_partition w s p done u v one two
+one_step w s (PutExclusive (Fast o) done) u v safe one two = one.1.1 ∙ sym two.1.1
+one_step w s (PutExclusive word done) u v safe one two = absurd one
+one_step w s (TakeShared (Partition p)) u v safe one two = one.2 ∙ sym two.2
+one_step w s (TakeShared (Fast o)) u v safe one two = one.2 ∙ sym two.2
+one_step w s (TakeShared word) u v safe one two = absurd one
+one_step w s (PutShared (Partition p)) u v safe one two = one.1 ∙ sym two.1
+one_step w s (PutShared (Fast o)) u v safe one two = one.1 ∙ sym two.1
+one_step w s (PutShared word) u v safe one two = absurd one
 one_step w s SplitSeat u v safe one two = one_splitting w s u v safe.but_slots.table.carriers.numbers one two
 one_step w s (JoinSeat joiner) u v safe one two = one_joining w s joiner u v one two
 one_step w s (AskCancel k) u v safe one two = one.1 ∙ sym two.1
@@ -113,22 +40,33 @@ one_step w s (MarkGranted k done) u v safe one two = one_marking w s k done u v 
 one_step w s (ClearWait leaving) u v safe one two = one_clearing w s leaving u v one two
 one_step w s (PutPassing o t m) u v safe one two = one.1 ∙ sym two.1
 one_step w s (LoadStrong i n) u v safe one two = one.1 ∙ sym two.1
-one_step w s (LoadWord word n) u v safe one two = one_loading w s word n u v one two
+one_step w s (LoadWord (Fast o) n) u v safe one two = one.2 ∙ sym two.2
+one_step w s (LoadWord (Database k) n) u v safe one two = one.1 ∙ sym two.1
+one_step w s (LoadWord (Slot k i) n) u v safe one two = one.1 ∙ sym two.1
+one_step w s (LoadWord word n) u v safe one two = absurd one
 one_step w s (SetSlot i t m) u v safe one two = one.1 ∙ sym two.1
 one_step w s (ClearSlot i t m) u v safe one two = one.1 ∙ sym two.1
 one_step w s (StoreDatabase d) u v safe one two = one.1 ∙ sym two.1
 one_step w s (Count t m) u v safe one two = one.1 ∙ sym two.1
 one_step w s (Uncount t m) u v safe one two = one.1 ∙ sym two.1
 one_step w s (TransferSlot k i t m x) u v safe one two = one.1 ∙ sym two.1
-one_step w s (LockList word) u v safe one two = one_locking_list w s word u v one two
-one_step w s (UnlockList word waiters release) u v safe one two = one_unlocking_list w s word waiters release u v one two
+one_step w s (LockList (Partition p)) u v safe one two = one.2 ∙ sym two.2
+one_step w s (LockList (Fast q)) u v safe one two = one.2 ∙ sym two.2
+one_step w s (LockList word) u v safe one two = absurd one
+one_step w s (UnlockList (Partition p) waiters release) u v safe one two = one.1 ∙ sym two.1
+one_step w s (UnlockList (Fast q) waiters release) u v safe one two = one.1 ∙ sym two.1
+one_step w s (UnlockList word waiters release) u v safe one two = absurd one
 one_step w s (JoinList mode) u v safe one two = one.2 ∙ ap (λ lock. after_joining_list w s lock mode) (one_list w s one.0 two.0 one.1.has two.1.has) ∙ sym two.2
 one_step w s LeaveList u v safe one two = one.2 ∙ ap (after_leaving_the_list w s) (one_list w s one.0 two.0 one.1.has two.1.has) ∙ sym two.2
 one_step w s (TakeOff k) u v safe one two = one.2 ∙ ap (after_taking_off_the_list w s k) (one_list w s one.0 two.0 one.1.has two.1.has) ∙ sym two.2
 one_step w s (Tell k) u v safe one two = one.1 ∙ sym two.1
 one_step w s (LoadSleep n) u v safe one two = one.1 ∙ sym two.1
-one_step w s (SetReleaseOk word n) u v safe one two = one_setting_release_ok w s word n u v one two
-one_step w s (SetHasWaiters word n) u v safe one two = one_setting_has_waiters w s word n u v one two
+one_step w s (SetReleaseOk (Partition p) n) u v safe one two = one.2 ∙ sym two.2
+one_step w s (SetReleaseOk (Fast q) n) u v safe one two = one.2 ∙ sym two.2
+one_step w s (SetReleaseOk word n) u v safe one two = absurd one
+one_step w s (SetHasWaiters (Partition p) n) u v safe one two = one.1 ∙ sym two.1
+one_step w s (SetHasWaiters (Fast q) n) u v safe one two = one.1 ∙ sym two.1
+one_step w s (SetHasWaiters word n) u v safe one two = absurd one
 
 one_next : (w : World) (event : Event) (u v : World) → SafeWorld w → Next w event u → Next w event v → u ≡ v
 one_next w event u v safe (inl one) (inl two) = one_step w event.session event.step u v safe one two

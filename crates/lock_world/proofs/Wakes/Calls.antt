@@ -19,6 +19,7 @@ use Rattle.lock_world.specs.Happens.Waits.{HappensMarkingIn, HappensMarking, Hap
 use Rattle.lock_world.specs.Happens.Lists.{sleepers}
 use Rattle.lock_world.specs.Wakes.Calling.{Calls, ShowsWaiting, ShowsUntold, EachIsCalled, looking, storing, changing, asking, calling, wait_calls_after, sleep_calls_after}
 use Rattle.lock_world.proofs.Wakes.Readings.{none-some, some-same, row-here, row-away}
+use Rattle.lock_world.proofs.LawfulSteps.{LawfulStep, step_of, world_after, asking_to_cancel, loading_wait, setting_waiting, marking_first, marking_next, clearing_seen, clearing_in_hand, leaving_queue, joining_list, leaving_list, taking_off, telling, loading_sleep, after_each}
 
 -- No call is lost: of words of one kind, and then of each step.
 
@@ -81,168 +82,36 @@ asking-called word c each s k n = elim (cases_Bool (wait_state (word k) == 1)) [
       (beside-called ShowsWaiting word c each k n (λ waits. both_ways (wait_state (word k) == 1) free (eq-eqb (wait_state (word k)) 1 waits)))
 ]
 
--- Neither kind of word changes.
-abbrev Same : World → World → Type 0
-Same w v = (v.words.wait ≡ w.words.wait) × (v.words.sleep ≡ w.words.sleep)
-
 -- Both kinds of words, and the calls on them.
 abbrev pub Both : World → Calls → Calls → Type 0
 Both w waits sleeps = EachIsCalled ShowsWaiting w.words.wait waits × EachIsCalled ShowsUntold w.words.sleep sleeps
 
-module _ (w v : World) (s : ℕ) where
-  same : (u : World) → v ≡ u → Same w u → Same w v
-  same u e both = subst (λ a. Same w a) (sym e) both
+-- Each step, where the calls on both kinds of words are in order before it.
+module _ (w : World) (s : ℕ) (waits sleeps : Calls) (both : Both w waits sleeps) where
+  words : (b : Bool) → (if b then after_seeing_none (sleepers w) s else sleepers w).sleep ≡ w.words.sleep
+  words true = refl
+  words false = refl
 
-  taking-same : (word : Word) → HappensTaking w s word v → Same w v
-  taking-same (Partition p) h = same _ h.1 (refl, refl)
-  taking-same (Fast o) h = same _ h.1 (refl, refl)
-  taking-same (Database q) h = absurd h
-  taking-same (Slot q i) h = absurd h
-  taking-same (Wait q) h = absurd h
-  taking-same (Strong i) h = absurd h
-  taking-same (Sleep q) h = absurd h
+  called : (it : LawfulStep w s) → Both (world_after it) (wait_calls_after w waits s (step_of it)) (sleep_calls_after sleeps s (step_of it))
+  called (asking_to_cancel o steps) = (asking-called w.words.wait waits both.0 s o _, both.1)
+  called (loading_wait n may) =
+      (subst (λ shown. EachIsCalled ShowsWaiting w.words.wait (looking waits s shown)) (sym may.is_word) (looking-called ShowsWaiting w.words.wait waits both.0 s), both.1)
+  called (setting_waiting t m content may) = (storing-called ShowsWaiting w.words.wait waits both.0 s 1, both.1)
+  called (marking_first o p done granted content may) = (changing-called ShowsWaiting w.words.wait waits both.0 s o _, both.1)
+  called (marking_next o p done may) = (changing-called ShowsWaiting w.words.wait waits both.0 s o _, both.1)
+  called (clearing_seen wait may) = (storing-called ShowsWaiting w.words.wait waits both.0 s 0, both.1)
+  called (clearing_in_hand wait leaving may) = (storing-called ShowsWaiting w.words.wait waits both.0 s 0, both.1)
+  called (leaving_queue wait granted content may) = (storing-called ShowsWaiting w.words.wait waits both.0 s 0, both.1)
+  called (joining_list mode lock may) = (both.0, storing-called ShowsUntold w.words.sleep sleeps both.1 s 1)
+  called (leaving_list lock may) = (both.0, storing-called ShowsUntold w.words.sleep sleeps both.1 s 0)
+  called (taking_off o lock may) = (both.0, changing-called ShowsUntold w.words.sleep sleeps both.1 s o 2)
+  called (telling o may) = (both.0, changing-called ShowsUntold w.words.sleep sleeps both.1 s o 0)
+  called (loading_sleep n may) = (
+    both.0,
+    subst (λ word. EachIsCalled ShowsUntold word (looking sleeps s n)) (sym (words (n == 0)))
+        (subst (λ shown. EachIsCalled ShowsUntold w.words.sleep (looking sleeps s shown)) (sym may.is_word) (looking-called ShowsUntold w.words.sleep sleeps both.1 s)),
+  )
+  called step = both
 
-  sharing-same : (word : Word) → HappensSharing w s word v → Same w v
-  sharing-same (Partition p) h = same _ h.2 (refl, refl)
-  sharing-same (Fast o) h = same _ h.2 (refl, refl)
-  sharing-same (Database q) h = absurd h
-  sharing-same (Slot q i) h = absurd h
-  sharing-same (Wait q) h = absurd h
-  sharing-same (Strong i) h = absurd h
-  sharing-same (Sleep q) h = absurd h
-
-  unsharing-same : (word : Word) → HappensUnsharing w s word v → Same w v
-  unsharing-same (Partition p) h = same _ h.1 (refl, refl)
-  unsharing-same (Fast o) h = same _ h.1 (refl, refl)
-  unsharing-same (Database q) h = absurd h
-  unsharing-same (Slot q i) h = absurd h
-  unsharing-same (Wait q) h = absurd h
-  unsharing-same (Strong i) h = absurd h
-  unsharing-same (Sleep q) h = absurd h
-
-  putting-same : (word : Word) (done : Move) → HappensPutting w s word done v → Same w v
-  putting-same (Partition p) done (inl h) = same _ h.2 (refl, refl)
-  putting-same (Partition p) done (inr h) = same _ h.1 (refl, refl)
-  putting-same (Fast o) done h = same _ h.1.1 (refl, refl)
-  putting-same (Database q) done h = absurd h
-  putting-same (Slot q i) done h = absurd h
-  putting-same (Wait q) done h = absurd h
-  putting-same (Strong i) done h = absurd h
-  putting-same (Sleep q) done h = absurd h
-
-  joining_seat-same : (joiner : Option ℕ) → HappensJoining w s joiner v → Same w v
-  joining_seat-same (Some j) h = same _ h.1 (refl, refl)
-  joining_seat-same None h = same _ h.1 (refl, refl)
-
-  loading-same : (word : Word) (n : ℕ) → HappensLoading w s word n v → Same w v
-  loading-same (Fast o) n h = same _ h.2 (refl, refl)
-  loading-same (Database q) n h = same _ h.1 (refl, refl)
-  loading-same (Slot q i) n h = same _ h.1 (refl, refl)
-  loading-same (Partition p) n h = absurd h
-  loading-same (Wait q) n h = absurd h
-  loading-same (Strong i) n h = absurd h
-  loading-same (Sleep q) n h = absurd h
-
-  locking-same : (word : Word) → HappensLockingList w s word v → Same w v
-  locking-same (Partition p) h = same _ h.2 (refl, refl)
-  locking-same (Fast o) h = same _ h.2 (refl, refl)
-  locking-same (Database q) h = absurd h
-  locking-same (Slot q i) h = absurd h
-  locking-same (Wait q) h = absurd h
-  locking-same (Strong i) h = absurd h
-  locking-same (Sleep q) h = absurd h
-
-  unlocking-same : (word : Word) (waiters release : Bool) → HappensUnlockingList w s word waiters release v → Same w v
-  unlocking-same (Partition p) waiters release h = same _ h.1 (refl, refl)
-  unlocking-same (Fast o) waiters release h = same _ h.1 (refl, refl)
-  unlocking-same (Database q) waiters release h = absurd h
-  unlocking-same (Slot q i) waiters release h = absurd h
-  unlocking-same (Wait q) waiters release h = absurd h
-  unlocking-same (Strong i) waiters release h = absurd h
-  unlocking-same (Sleep q) waiters release h = absurd h
-
-  setting_ok-same : (word : Word) (n : ℕ) → HappensSettingReleaseOk w s word n v → Same w v
-  setting_ok-same (Partition p) n h = same _ h.2 (refl, refl)
-  setting_ok-same (Fast o) n h = same _ h.2 (refl, refl)
-  setting_ok-same (Database q) n h = absurd h
-  setting_ok-same (Slot q i) n h = absurd h
-  setting_ok-same (Wait q) n h = absurd h
-  setting_ok-same (Strong i) n h = absurd h
-  setting_ok-same (Sleep q) n h = absurd h
-
-  showing-same : (word : Word) (n : ℕ) → HappensSettingHasWaiters w s word n v → Same w v
-  showing-same (Partition p) n h = same _ h.1 (refl, refl)
-  showing-same (Fast o) n h = same _ h.1 (refl, refl)
-  showing-same (Database q) n h = absurd h
-  showing-same (Slot q i) n h = absurd h
-  showing-same (Wait q) n h = absurd h
-  showing-same (Strong i) n h = absurd h
-  showing-same (Sleep q) n h = absurd h
-
-  -- Each step, where the calls on both kinds of words are in order before it.
-  module _ (waits sleeps : Calls) (both : Both w waits sleeps) where
-    stay : Same w v → Both v waits sleeps
-    stay e = (subst (λ word. EachIsCalled ShowsWaiting word waits) (sym e.0) both.0, subst (λ word. EachIsCalled ShowsUntold word sleeps) (sym e.1) both.1)
-
-    at : (u : World) (waits' sleeps' : Calls) → v ≡ u → Both u waits' sleeps' → Both v waits' sleeps'
-    at u waits' sleeps' e new = subst (λ a. Both a waits' sleeps') (sym e) new
-
-    marking_in-called : (o p : ℕ) (done : Move) → HappensMarkingIn w s o p done v → Both v (changing waits s o) sleeps
-    marking_in-called o p done (inl h) = at _ _ _ h.3 (changing-called ShowsWaiting w.words.wait waits both.0 s o _, both.1)
-    marking_in-called o p done (inr h) = at _ _ _ h.1 (changing-called ShowsWaiting w.words.wait waits both.0 s o _, both.1)
-
-    marking-called : (o : ℕ) (done : Move) → HappensMarking w s o done v → Both v (changing waits s o) sleeps
-    marking-called o Keep h = absurd h
-    marking-called o (Grant t m) h = absurd h
-    marking-called o (Join t m) h = absurd h
-    marking-called o (Release t m) h = marking_in-called o (partition_of t) (Release t m) h
-    marking-called o (Leave t) h = marking_in-called o (partition_of t) (Leave t) h
-    marking-called o (Adopt q i) h = absurd h
-
-    clearing-called : (leaving : Bool) → HappensClearing w s leaving v → Both v (storing waits s) sleeps
-    clearing-called false h = at _ _ _ h.2 (storing-called ShowsWaiting w.words.wait waits both.0 s 0, both.1)
-    clearing-called true (inl h) = at _ _ _ h.4 (storing-called ShowsWaiting w.words.wait waits both.0 s 0, both.1)
-    clearing-called true (inr h) = at _ _ _ h.3 (storing-called ShowsWaiting w.words.wait waits both.0 s 0, both.1)
-
-    words : (b : Bool) → (if b then after_seeing_none (sleepers w) s else sleepers w).sleep ≡ w.words.sleep
-    words true = refl
-    words false = refl
-
-    pub step-called : (step : Step) → HappensStep w s step v → Both v (wait_calls_after w waits s step) (sleep_calls_after sleeps s step)
-    step-called (TakeExclusive word) h = stay (taking-same word h)
-    step-called (PutExclusive word done) h = stay (putting-same word done h)
-    step-called (TakeShared word) h = stay (sharing-same word h)
-    step-called (PutShared word) h = stay (unsharing-same word h)
-    step-called SplitSeat (inl h) = stay (same _ h.1 (refl, refl))
-    step-called SplitSeat (inr h) = stay (same _ h.1 (refl, refl))
-    step-called (JoinSeat joiner) h = stay (joining_seat-same joiner h)
-    step-called (AskCancel o) h = at _ _ _ h.1 (asking-called w.words.wait waits both.0 s o _, both.1)
-    step-called (LoadWait n) h = at _ _ _ h.1 (subst (λ shown. EachIsCalled ShowsWaiting w.words.wait (looking waits s shown)) (sym h.0.is_word) (looking-called ShowsWaiting w.words.wait waits both.0 s), both.1)
-    step-called (SetWaiting t m) h = at _ _ _ h.2 (storing-called ShowsWaiting w.words.wait waits both.0 s 1, both.1)
-    step-called (MarkGranted o done) h = marking-called o done h
-    step-called (ClearWait leaving) h = clearing-called leaving h
-    step-called (PutPassing o t m) h = stay (same _ h.1 (refl, refl))
-    step-called (LoadStrong i n) h = stay (same _ h.1 (refl, refl))
-    step-called (LoadWord word n) h = stay (loading-same word n h)
-    step-called (SetSlot i t m) h = stay (same _ h.1 (refl, refl))
-    step-called (ClearSlot i t m) h = stay (same _ h.1 (refl, refl))
-    step-called (StoreDatabase d) h = stay (same _ h.1 (refl, refl))
-    step-called (Count t m) h = stay (same _ h.1 (refl, refl))
-    step-called (Uncount t m) h = stay (same _ h.1 (refl, refl))
-    step-called (TransferSlot q i t m z) h = stay (same _ h.1 (refl, refl))
-    step-called (LockList word) h = stay (locking-same word h)
-    step-called (UnlockList word waiters release) h = stay (unlocking-same word waiters release h)
-    step-called (JoinList mode) h = at _ _ _ h.2 (both.0, storing-called ShowsUntold w.words.sleep sleeps both.1 s 1)
-    step-called LeaveList h = at _ _ _ h.2 (both.0, storing-called ShowsUntold w.words.sleep sleeps both.1 s 0)
-    step-called (TakeOff o) h = at _ _ _ h.2 (both.0, changing-called ShowsUntold w.words.sleep sleeps both.1 s o 2)
-    step-called (Tell o) h = at _ _ _ h.1 (both.0, changing-called ShowsUntold w.words.sleep sleeps both.1 s o 0)
-    step-called (LoadSleep n) h =
-        at _ _ _ h.1 (
-          both.0,
-          subst (λ word. EachIsCalled ShowsUntold word (looking sleeps s n)) (sym seen)
-              (subst (λ shown. EachIsCalled ShowsUntold w.words.sleep (looking sleeps s shown)) (sym h.0.is_word) (looking-called ShowsUntold w.words.sleep sleeps both.1 s)),
-        ) where
-          seen : (if n == 0 then after_seeing_none (sleepers w) s else sleepers w).sleep ≡ w.words.sleep
-          seen = words (n == 0)
-    step-called (SetReleaseOk word n) h = stay (setting_ok-same word n h)
-    step-called (SetHasWaiters word n) h = stay (showing-same word n h)
+  pub step-called : (step : Step) (v : World) → HappensStep w s step v → Both v (wait_calls_after w waits s step) (sleep_calls_after sleeps s step)
+  step-called = after_each w s (λ step v. Both v (wait_calls_after w waits s step) (sleep_calls_after sleeps s step)) called

@@ -44,14 +44,14 @@ abbrev BothOf : World → Beside → Type 0
 BothOf w b = Both w b.waits b.sleeps
 
 turn-called : (w v : World) (b : Beside) (turn : Turn) → BothOf w b → Keeps w b turn v → BothOf v (beside_after w b turn)
-turn-called w v b (happened event) both h = step-called w v event.session b.waits b.sleeps both event.step h.0
+turn-called w v b (happened event) both h = step-called w event.session b.waits b.sleeps both event.step v h.0
 turn-called w v b (saw_list_locked s lock) both h = subst (λ a. BothOf a b) (sym h.2) both
 turn-called w v b (saw_held s lock) both h = subst (λ a. BothOf a b) (sym h.2) both
 turn-called w v b (called_waiter s o) both h = subst (λ a. BothOf a (beside_after w b (called_waiter s o))) (sym h) (calling-called ShowsWaiting w.words.wait b.waits both.0 s o, both.1)
 turn-called w v b (called_sleeper s o) both h = subst (λ a. BothOf a (beside_after w b (called_sleeper s o))) (sym h) (both.0, calling-called ShowsUntold w.words.sleep b.sleeps both.1 s o)
 
 turn-order : (w v : World) (b : Beside) (turn : Turn) → Kept w → Keeps w b turn v → IsInOrder w turn → Kept v
-turn-order w v b (happened event) kept h asks = step-order w v event.session kept event.step h.0 asks
+turn-order w v b (happened event) kept h asks = step-order w event.session kept event.step v h.0 asks
 turn-order w v b (saw_list_locked s lock) kept h asks = subst Kept (sym h.2) kept
 turn-order w v b (saw_held s lock) kept h asks = subst Kept (sym h.2) kept
 turn-order w v b (called_waiter s o) kept h asks = subst Kept (sym h) kept
