@@ -1,21 +1,14 @@
-use Rattle.std.proofs.Common.{arith, ◌≡◌, ◌⊎◌, ℕ, ◌<◌, ◌^◌, Bool, true, false, List, [], ◌∷◌, Option, Some, None, refl, sym, ap, ◌∙◌, subst, inl, inr}
+use Rattle.std.proofs.Common.{arith, ◌≡◌, ◌⊎◌, ℕ, ◌<◌, ◌^◌, true, false, List, [], ◌∷◌, Option, Some, None, refl, sym, ap, ◌∙◌, subst, inl, inr}
 use Rattle.std.specs.Prelude.{◌==◌}
 use Rattle.std.proofs.lemmas.Bool.{cases_eq, both_ways, false_from_ne_true, cond-false}
-use Rattle.modes_core.specs.Tag.{partition_of}
-use Rattle.lock_table.specs.declared.moves.Move.{Move}
-use Rattle.lock_table.specs.declared.moves.Move.TheVariants.{Keep, Grant, Join, Release, Leave, Adopt}
 use Rattle.lock_table.specs.Content.{Content}
 use Rattle.lock_table.proofs.PutLemmas.{set_at-here}
 use Rattle.lock_world.specs.declared.events.Event.{Event}
 use Rattle.lock_world.specs.declared.events.Step.{Step}
-use Rattle.lock_world.specs.declared.events.Step.TheVariants.{TakeExclusive, PutExclusive, TakeShared, PutShared, SplitSeat, JoinSeat, AskCancel, LoadWait, SetWaiting, MarkGranted, ClearWait, PutPassing, LoadStrong, LoadWord, SetSlot, ClearSlot, StoreDatabase, Count, Uncount, TransferSlot, LockList, UnlockList, JoinList, LeaveList, TakeOff, Tell, LoadSleep, SetReleaseOk, SetHasWaiters}
-use Rattle.lock_world.specs.declared.events.Word.{Word}
-use Rattle.lock_world.specs.declared.events.Word.TheVariants.{Partition, Fast, Database, Slot, Wait, Strong, Sleep}
 use Rattle.lock_world.specs.WaitWord.{wait_state}
 use Rattle.lock_world.specs.World.{World, Hand, opening}
-use Rattle.lock_world.specs.Happens.{HappensStep, HappensTaking, HappensPutting, HappensSharing, HappensUnsharing, HappensLoading, HappensLockingList, HappensUnlockingList, HappensSettingReleaseOk, HappensSettingHasWaiters, Happens, Next, RunsThrough, last_of, Runs}
-use Rattle.lock_world.specs.Happens.Seats.{HappensJoining, after_closing}
-use Rattle.lock_world.specs.Happens.Waits.{HappensMarking, HappensMarkingIn, HappensClearing}
+use Rattle.lock_world.specs.Happens.{HappensStep, Happens, Next, RunsThrough, last_of, Runs}
+use Rattle.lock_world.specs.Happens.Seats.{after_closing}
 use Rattle.lock_world.specs.Safe.{is_hand_of}
 use Rattle.lock_world.specs.SafeWorld.{SafeWorld}
 use Rattle.lock_world.specs.Account.{Account, account, own_hand, known_slots, list_in_hand}

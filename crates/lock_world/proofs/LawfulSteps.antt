@@ -1,11 +1,11 @@
-use Rattle.std.proofs.Common.{◌≡◌, ℕ, ◌<◌, Bool, true, false, List, [], Option, Some, None, refl, sym, ap, subst, inl, inr}
+use Rattle.std.proofs.Common.{◌≡◌, ℕ, ◌<◌, Bool, true, false, List, [], Some, None, refl, sym, ap, subst, inl, inr}
 use Rattle.modes_core.specs.declared.modes.Mode.{Mode}
 use Rattle.modes_core.specs.declared.tags.Tag.{Tag}
 use Rattle.modes_core.specs.Tag.{partition_of}
 use Rattle.lw_word.specs.declared.words.LwMode.{LwMode}
 use Rattle.lw_word.specs.LightweightWord.{release_ok_word, has_waiters_word}
 use Rattle.lock_table.specs.declared.moves.Move.{Move}
-use Rattle.lock_table.specs.declared.moves.Move.TheVariants.{Keep, Grant, Join, Release, Leave, Adopt}
+use Rattle.lock_table.specs.declared.moves.Move.TheVariants.{Keep, Join, Release, Leave}
 use Rattle.lock_table.specs.Content.{Wait as WaitIn, Content}
 use Rattle.lock_table.specs.OwnWait.{OwnWait}
 use Rattle.lock_world.specs.declared.events.Step.{Step}

@@ -1,31 +1,26 @@
-use Rattle.std.proofs.Common.{◌≡◌, ◌⊎◌, ℕ, Bool, true, false, List, [], ◌∷◌, Option, Some, None, refl, sym, ap, ◌∙◌, subst, inl, inr, zero, suc}
+use Rattle.std.proofs.Common.{◌≡◌, ◌⊎◌, ℕ, true, false, List, [], ◌∷◌, Some, None, refl, sym, ap, ◌∙◌, subst, inl, inr, zero, suc}
 use Rattle.std.specs.Prelude.{slice_get}
 use Rattle.std.proofs.lemmas.Bool.{both_ways, false≢true, or_cases}
 use Rattle.modes_core.specs.declared.modes.Mode.{Mode}
 use Rattle.modes_core.specs.declared.tags.Tag.{Tag}
 use Rattle.modes_core.specs.Tag.{partition_of}
-use Rattle.lock_table.specs.declared.moves.Move.{Move}
-use Rattle.lock_table.specs.declared.moves.Move.TheVariants.{Keep, Grant, Join, Release, Leave, Adopt}
 use Rattle.lock_table.specs.Content.{Holds}
 use Rattle.lock_table.specs.OwnWait.{is_for}
 use Rattle.lock_table.proofs.HoldLemmas.{SetHoldAt, here, elsewhere, set_hold-at}
 use Rattle.lock_table.specs.Content.{set_hold}
 use Rattle.lock_world.specs.declared.events.Event.{Event}
 use Rattle.lock_world.specs.declared.events.Step.{Step}
-use Rattle.lock_world.specs.declared.events.Step.TheVariants.{TakeExclusive, PutExclusive, TakeShared, PutShared, SplitSeat, JoinSeat, AskCancel, LoadWait, SetWaiting, MarkGranted, ClearWait, PutPassing, LoadStrong, LoadWord, SetSlot, ClearSlot, StoreDatabase, Count, Uncount, TransferSlot, LockList, UnlockList, JoinList, LeaveList, TakeOff, Tell, LoadSleep, SetReleaseOk, SetHasWaiters}
-use Rattle.lock_world.specs.declared.events.Word.{Word}
-use Rattle.lock_world.specs.declared.events.Word.TheVariants.{Partition, Fast, Database, Slot, Wait, Strong, Sleep}
+use Rattle.lock_world.specs.declared.events.Step.TheVariants.{TakeExclusive, LoadWord}
+use Rattle.lock_world.specs.declared.events.Word.TheVariants.{Partition, Slot}
 use Rattle.lw_word.specs.SlotWord.{shows}
 use Rattle.lock_table.proofs.PutLemmas.{set_at-here}
 use Rattle.lock_world.specs.World.{World}
 use Rattle.lock_world.specs.SlotHolds.{relation_of}
 use Rattle.lock_world.specs.Headline.{stands_with}
 use Rattle.lock_world.specs.Listing.{StandsThereOrInContent, TellsHold}
-use Rattle.lock_world.specs.Happens.{HappensStep, HappensTaking, HappensPutting, HappensSharing, HappensUnsharing, HappensLoading, HappensLockingList, HappensUnlockingList, HappensSettingReleaseOk, HappensSettingHasWaiters, Next, RunsThrough, last_of}
-use Rattle.lock_world.specs.Happens.Seats.{HappensJoining}
+use Rattle.lock_world.specs.Happens.{HappensStep, Next, RunsThrough, last_of}
 use Rattle.lock_world.specs.Happens.Slots.{MaySetSlot, after_setting_slot, MayClearSlot, after_clearing_slot}
 use Rattle.lock_world.specs.Happens.Transfers.{MayTransfer, after_transferring}
-use Rattle.lock_world.specs.Happens.Waits.{HappensMarking, HappensMarkingIn, HappensClearing}
 use Rattle.lock_world.specs.SafeWorld.{SafeWorld, slots_of}
 use Rattle.lock_world.proofs.SafeWorld.Slots.Setting.{setting-slots}
 use Rattle.lock_world.proofs.SafeWorld.Slots.Clearing.{clearing-slots}

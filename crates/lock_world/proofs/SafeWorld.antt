@@ -1,5 +1,6 @@
 pub mod Tabled
 pub mod OneSession
+pub mod Beside
 pub mod Seats
 pub mod Partitions
 pub mod Waits

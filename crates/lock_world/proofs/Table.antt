@@ -1,4 +1,5 @@
 -- Each kind of event keeps partitions, waits and numbers safe.
+pub mod Beside
 pub mod Seats
 pub mod Partitions
 pub mod Waits

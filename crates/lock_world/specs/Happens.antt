@@ -32,54 +32,35 @@ use Rattle.lock_world.specs.Happens.Waits.{after_asking, MayLoadWait, after_load
 abbrev pub HappensTaking : World → ℕ → Word → World → Type 0
 HappensTaking w session (Partition partition) v = HappensTakingPartition w session partition v
 HappensTaking w session (Fast owner) v = HappensTakingFast w session owner v
-HappensTaking w session (Database owner) v = ⊥
-HappensTaking w session (Slot owner place) v = ⊥
-HappensTaking w session (Wait owner) v = ⊥
-HappensTaking w session (Strong index) v = ⊥
-HappensTaking w session (Sleep owner) v = ⊥
+HappensTaking w session word v = ⊥
 
 -- A word is put, where that is lawful.
 abbrev pub HappensPutting : World → ℕ → Word → Move → World → Type 0
 HappensPutting w session (Partition partition) done v = HappensPuttingPartition w session partition done v
 HappensPutting w session (Fast owner) done v = (done ≡ Keep) × HappensPuttingFast w session owner v
-HappensPutting w session (Database owner) done v = ⊥
-HappensPutting w session (Slot owner place) done v = ⊥
-HappensPutting w session (Wait owner) done v = ⊥
-HappensPutting w session (Strong index) done v = ⊥
-HappensPutting w session (Sleep owner) done v = ⊥
+HappensPutting w session word done v = ⊥
 
 -- A word is shared, where that is lawful.
 abbrev pub HappensSharing : World → ℕ → Word → World → Type 0
 HappensSharing w session (Partition partition) v = HappensSharingPartition w session partition v
 HappensSharing w session (Fast owner) v = HappensSharingFast w session owner v
-HappensSharing w session (Database owner) v = ⊥
-HappensSharing w session (Slot owner place) v = ⊥
-HappensSharing w session (Wait owner) v = ⊥
-HappensSharing w session (Strong index) v = ⊥
-HappensSharing w session (Sleep owner) v = ⊥
+HappensSharing w session word v = ⊥
 
 -- A shared word is given back, where that is lawful.
 abbrev pub HappensUnsharing : World → ℕ → Word → World → Type 0
 HappensUnsharing w session (Partition partition) v = HappensUnsharingPartition w session partition v
 HappensUnsharing w session (Fast owner) v = HappensUnsharingFast w session owner v
-HappensUnsharing w session (Database owner) v = ⊥
-HappensUnsharing w session (Slot owner place) v = ⊥
-HappensUnsharing w session (Wait owner) v = ⊥
-HappensUnsharing w session (Strong index) v = ⊥
-HappensUnsharing w session (Sleep owner) v = ⊥
+HappensUnsharing w session word v = ⊥
 
 -- Loads that only join the trace: of a session's slots and database, and of the lock of its own slots.
 abbrev pub HappensLoading : World → ℕ → Word → ℕ → World → Type 0
-HappensLoading w session (Partition partition) shown v = ⊥
 HappensLoading w session (Fast owner) shown v =
     (owner ≡ session) × MayLoad w session (Fast owner) shown × (v ≡ after_loading w session (Fast owner) shown)
 HappensLoading w session (Database owner) shown v =
     MayLoad w session (Database owner) shown × (v ≡ after_loading w session (Database owner) shown)
 HappensLoading w session (Slot owner place) shown v =
     MayLoad w session (Slot owner place) shown × (v ≡ after_loading w session (Slot owner place) shown)
-HappensLoading w session (Wait owner) shown v = ⊥
-HappensLoading w session (Strong index) shown v = ⊥
-HappensLoading w session (Sleep owner) shown v = ⊥
+HappensLoading w session word shown v = ⊥
 
 -- Wait lists of lightweight locks: locking one, unlocking it, and setting the flags of its word.
 
@@ -91,11 +72,7 @@ HappensLockingList w session (Partition partition) v =
 HappensLockingList w session (Fast owner) v =
     (owner < w.numbers.limit) × MayLockList w.numbers (w.words.fast owner) w.sessions.has_list session
     × (v ≡ after_locking_fast_list w session owner)
-HappensLockingList w session (Database owner) v = ⊥
-HappensLockingList w session (Slot owner place) v = ⊥
-HappensLockingList w session (Wait owner) v = ⊥
-HappensLockingList w session (Strong index) v = ⊥
-HappensLockingList w session (Sleep owner) v = ⊥
+HappensLockingList w session word v = ⊥
 
 -- The wait list of a lightweight lock is unlocked, where that is lawful.
 abbrev pub HappensUnlockingList : World → ℕ → Word → Bool → Bool → World → Type 0
@@ -104,11 +81,7 @@ HappensUnlockingList w session (Partition partition) has_waiters release_ok v =
     × (v ≡ after_unlocking_partition_list w session partition has_waiters release_ok)
 HappensUnlockingList w session (Fast owner) has_waiters release_ok v =
     HasList w session (fast_lock owner) × (v ≡ after_unlocking_fast_list w session owner has_waiters release_ok)
-HappensUnlockingList w session (Database owner) has_waiters release_ok v = ⊥
-HappensUnlockingList w session (Slot owner place) has_waiters release_ok v = ⊥
-HappensUnlockingList w session (Wait owner) has_waiters release_ok v = ⊥
-HappensUnlockingList w session (Strong index) has_waiters release_ok v = ⊥
-HappensUnlockingList w session (Sleep owner) has_waiters release_ok v = ⊥
+HappensUnlockingList w session word has_waiters release_ok v = ⊥
 
 -- Release-ok is set, where that is lawful.
 abbrev pub HappensSettingReleaseOk : World → ℕ → Word → ℕ → World → Type 0
@@ -118,11 +91,7 @@ HappensSettingReleaseOk w session (Partition partition) shown v =
 HappensSettingReleaseOk w session (Fast owner) shown v =
     (owner < w.numbers.limit) × MaySetReleaseOk w.numbers (w.words.fast owner) session shown
     × (v ≡ after_flagging_fast w owner (release_ok_word (w.words.fast owner)))
-HappensSettingReleaseOk w session (Database owner) shown v = ⊥
-HappensSettingReleaseOk w session (Slot owner place) shown v = ⊥
-HappensSettingReleaseOk w session (Wait owner) shown v = ⊥
-HappensSettingReleaseOk w session (Strong index) shown v = ⊥
-HappensSettingReleaseOk w session (Sleep owner) shown v = ⊥
+HappensSettingReleaseOk w session word shown v = ⊥
 
 -- Has-waiters is set, where that is lawful.
 abbrev pub HappensSettingHasWaiters : World → ℕ → Word → ℕ → World → Type 0
@@ -132,11 +101,7 @@ HappensSettingHasWaiters w session (Partition partition) shown v =
 HappensSettingHasWaiters w session (Fast owner) shown v =
     MaySetHasWaiters w (w.words.fast owner) session (fast_lock owner) shown
     × (v ≡ after_flagging_fast w owner (has_waiters_word (w.words.fast owner)))
-HappensSettingHasWaiters w session (Database owner) shown v = ⊥
-HappensSettingHasWaiters w session (Slot owner place) shown v = ⊥
-HappensSettingHasWaiters w session (Wait owner) shown v = ⊥
-HappensSettingHasWaiters w session (Strong index) shown v = ⊥
-HappensSettingHasWaiters w session (Sleep owner) shown v = ⊥
+HappensSettingHasWaiters w session word shown v = ⊥
 
 -- The step by the session is lawful in the World w, and v is the World after it.
 abbrev pub HappensStep : World → ℕ → Step → World → Type 0

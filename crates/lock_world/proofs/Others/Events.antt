@@ -1,18 +1,16 @@
-use Rattle.std.proofs.Common.{◌≢◌, ℕ, Bool, refl}
+use Rattle.std.proofs.Common.{◌≢◌, ℕ, refl}
 use Rattle.lock_world.specs.declared.events.Event.{Event}
 use Rattle.lock_world.specs.declared.events.Step.{Step}
 use Rattle.lock_world.specs.declared.events.Step.TheVariants.{TakeExclusive, PutExclusive, TakeShared, PutShared, SplitSeat, JoinSeat, AskCancel, LoadWait, SetWaiting, MarkGranted, ClearWait, PutPassing, LoadStrong, LoadWord, SetSlot, ClearSlot, StoreDatabase, Count, Uncount, TransferSlot, LockList, UnlockList, JoinList, LeaveList, TakeOff, Tell, LoadSleep, SetReleaseOk, SetHasWaiters}
 use Rattle.lock_world.specs.World.{World}
 use Rattle.lock_world.specs.Account.{IsLeftAlone}
-use Rattle.lock_world.specs.Happens.{Happens, HappensStep, HappensTaking, HappensPutting, HappensSharing, HappensUnsharing, HappensLoading, HappensLockingList, HappensUnlockingList, HappensSettingReleaseOk, HappensSettingHasWaiters}
+use Rattle.lock_world.specs.Happens.{Happens, HappensStep}
 use Rattle.lock_world.specs.SafeWorld.{SafeWorld}
 use Rattle.lock_table.proofs.PutLemmas.{set_at-else}
 use Rattle.lock_world.proofs.Others.Hands.{IsLeftAlone-same, IsLeftAlone-by}
 use Rattle.lock_world.proofs.Others.Lists.{locking_partition_list-others, locking_fast_list-others, unlocking_partition_list-others, unlocking_fast_list-others, flagging_partition-others, flagging_fast-others, joining_list-others, leaving_list-others, taking_off-others, telling-others, loading_sleep-others}
 use Rattle.lock_world.proofs.Others.Seats.{splitting-others, joining-others}
-use Rattle.lock_table.specs.declared.moves.Move.{Move}
-use Rattle.lock_world.specs.declared.events.Word.{Word}
-use Rattle.lock_world.specs.declared.events.Word.TheVariants.{Partition, Fast, Database, Slot, Wait, Strong, Sleep}
+use Rattle.lock_world.specs.declared.events.Word.TheVariants.{Partition, Fast, Database, Slot}
 use Rattle.lock_world.proofs.Others.Partitions.{taking_partition-others, putting_partition-others}
 use Rattle.lock_world.proofs.Others.Sharing.{sharing_partition-others, unsharing_partition-others, sharing_fast-others, unsharing_fast-others}
 use Rattle.lock_world.proofs.Others.Slots.{transferring-others, taking_fast-others, putting_fast-others, loading-others, reading_counter-others, setting_slot-others, clearing_slot-others, storing_database-others}

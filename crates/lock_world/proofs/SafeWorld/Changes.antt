@@ -11,8 +11,9 @@ use Rattle.lock_table.proofs.HoldLemmas.{IsTheHold, SetHoldAt, here, elsewhere, 
 use Rattle.lock_world.specs.SlotHolds.{slot_holds}
 use Rattle.lock_world.specs.Counted.{Counted}
 use Rattle.lock_world.specs.World.{World, TraceEntry}
-use Rattle.lock_world.specs.Safe.{SafeButSlots, TableIsSafe, TracesTell}
+use Rattle.lock_world.specs.Safe.{SafeButSlots, TracesTell}
 use Rattle.lock_world.specs.SafeWorld.{slots_of, own_but}
+use Rattle.lock_world.proofs.Table.Beside.{beside-table}
 
 -- What steps on slots and counters change, and what stays.
 
@@ -27,32 +28,12 @@ with_fast_path w database slot strong counted zero remembered trace = record {
   numbers = w.numbers;
 }
 
-with_fast_path-table :
-    (w : World) (database : ℕ → ℕ) (slot : ℕ → ℕ → ℕ) (strong : ℕ → ℕ) (counted : ℕ → List Counted)
-    (zero : ℕ → Option ℕ) (remembered : ℕ → ℕ → ℕ) (trace : ℕ → List TraceEntry) → TableIsSafe w
-    → TableIsSafe (with_fast_path w database slot strong counted zero remembered trace)
-with_fast_path-table w database slot strong counted zero remembered trace safe = record {
-  promise = record {
-    no_conflict = safe.promise.no_conflict;
-    one_place = safe.promise.one_place;
-    none_free = safe.promise.none_free;
-    wait_words = safe.promise.wait_words;
-    words = safe.promise.words;
-    spent = safe.promise.spent;
-  };
-  carriers = record {
-    hands = safe.carriers.hands;
-    numbers = safe.carriers.numbers;
-    unmarked_by_move = safe.carriers.unmarked_by_move;
-  };
-}
-
 pub with_fast_path-safe :
     (w : World) (database : ℕ → ℕ) (slot : ℕ → ℕ → ℕ) (strong : ℕ → ℕ) (counted : ℕ → List Counted)
     (zero : ℕ → Option ℕ) (remembered : ℕ → ℕ → ℕ) (trace : ℕ → List TraceEntry) → SafeButSlots w
     → TracesTell w.contents trace w.numbers.issued → SafeButSlots (with_fast_path w database slot strong counted zero remembered trace)
 with_fast_path-safe w database slot strong counted zero remembered trace safe traces = record {
-  table = with_fast_path-table w database slot strong counted zero remembered trace safe.table;
+  table = beside-table w (with_fast_path w database slot strong counted zero remembered trace) safe.table;
   locks = safe.locks;
   traces = traces;
 }

@@ -14,6 +14,9 @@ use Rattle.lock_world.specs.SafeWorld.{SafeWorld, tabled}
 use Rattle.lock_world.proofs.Words.Holders.{ShowsHolders-stay}
 use Rattle.lock_world.proofs.ListWords.{ListsAreShown, lock_word-partition, lock_word-fast, lock_word-set_partition, lock_word-set_fast, shown-locked, shown-unlocked, kept-partition, kept-fast}
 use Rattle.lock_world.proofs.WaitLists.{joining_list-safe, leaving_list-safe, taking_off-safe, telling-safe, seeing_none-safe}
+use Rattle.lock_world.proofs.Table.Beside.{beside-table}
+use Rattle.lock_world.proofs.Table.Sharing.{with_partition_words, with_partition_words-table}
+use Rattle.lock_world.proofs.SafeWorld.Beside.{beside-safe_world}
 
 -- Steps on wait lists are safe: no other fact speaks of lists, sleep words and flags.
 
@@ -21,21 +24,9 @@ with_lists-but_slots :
     (w : World) (partition fast : ℕ → ℕ) (s : Sleepers) (has : ℕ → Option ℕ) → SafeButSlots w → ((p : ℕ) → HoldersStay (w.words.partition p) (partition p))
     → ((o : ℕ) → HoldersStay (w.words.fast o) (fast o)) → SafeButSlots (with_lists w partition fast s has)
 with_lists-but_slots w partition fast s has safe partitions_stay fast_stay = record {
-  table = record {
-    promise = record {
-      no_conflict = safe.table.promise.no_conflict;
-      one_place = safe.table.promise.one_place;
-      none_free = safe.table.promise.none_free;
-      wait_words = safe.table.promise.wait_words;
-      words = λ p. ShowsHolders-stay w.numbers.limit (w.words.partition p) (partition p) (λ k. w.sessions.holds_partition k p) (λ k. w.sessions.shares_partition k p) (partitions_stay p) (safe.table.promise.words p);
-      spent = safe.table.promise.spent;
-    };
-    carriers = record {
-      hands = safe.table.carriers.hands;
-      numbers = safe.table.carriers.numbers;
-      unmarked_by_move = safe.table.carriers.unmarked_by_move;
-    };
-  };
+  table = beside-table (with_partition_words w partition w.sessions.shares_partition) (with_lists w partition fast s has)
+      (with_partition_words-table w partition w.sessions.shares_partition safe.table (λ p.
+      ShowsHolders-stay w.numbers.limit (w.words.partition p) (partition p) (λ k. w.sessions.holds_partition k p) (λ k. w.sessions.shares_partition k p) (partitions_stay p) (safe.table.promise.words p)));
   locks = record {
     fast_words = λ o. ShowsHolders-stay w.numbers.limit (w.words.fast o) (fast o) (λ k. w.sessions.holds_fast k o) (λ k. w.sessions.shares_fast k o) (fast_stay o) (safe.locks.fast_words o);
     no_fast = safe.locks.no_fast;
@@ -48,17 +39,8 @@ with_lists-but_slots w partition fast s has safe partitions_stay fast_stay = rec
 with_lists-safe_world :
     (w : World) (partition fast : ℕ → ℕ) (s : Sleepers) (has : ℕ → Option ℕ) → SafeWorld w → ((p : ℕ) → HoldersStay (w.words.partition p) (partition p))
     → ((o : ℕ) → HoldersStay (w.words.fast o) (fast o)) → ListsAreSafe partition fast s has w.numbers.live → SafeWorld (with_lists w partition fast s has)
-with_lists-safe_world w partition fast s has safe partitions_stay fast_stay lists = record {
-  but_slots = with_lists-but_slots (tabled w) partition fast s has safe.but_slots partitions_stay fast_stay;
-  lists = lists;
-  slots = safe.slots;
-  order = safe.order;
-  counters = safe.counters;
-  past = safe.past;
-  done = safe.done;
-  zero = safe.zero;
-  remembered = safe.remembered;
-}
+with_lists-safe_world w partition fast s has safe partitions_stay fast_stay =
+    beside-safe_world w (with_lists w partition fast s has) safe (with_lists-but_slots (tabled w) partition fast s has safe.but_slots partitions_stay fast_stay)
 
 -- One word has changed and not who holds it.
 one_stays : (word : ℕ → ℕ) (lock n : ℕ) → HoldersStay (word lock) n → (l : ℕ) → HoldersStay (word l) (set_at word lock n l)
@@ -69,78 +51,58 @@ none_in_hand : (w : World) (s : ℕ) (its : Option ℕ) → SafeWorld w → w.nu
 none_in_hand w s its safe alive k dead =
     set_at-else w.sessions.has_list s its k (λ same. both_ways (w.numbers.live k) dead (ap w.numbers.live same ∙ alive)) ∙ safe.lists.no_list k dead
 
--- Locking a list.
 module _ (w : World) (s : ℕ) (safe : SafeWorld w) where
+  abbrev words : ℕ → ℕ
+  words = lock_word w.words.partition w.words.fast
+
+  -- The words are those of before but for one lock's, of which the session takes the list in hand, or puts it.
+  locked :
+      (lock n : ℕ) (partition fast : ℕ → ℕ) → words lock ≡ n → lock_word partition fast ≡ set_at words lock (list_locked_word n) → MayLockList w.numbers n w.sessions.has_list s
+      → ListsAreSafe partition fast (sleepers w) (set_at w.sessions.has_list s (Some lock)) w.numbers.live
+  locked lock n partition fast is after may = record {
+    shown = subst (λ word. ListsAreShown word (set_at w.sessions.has_list s (Some lock))) (ap (λ x. set_at words lock (list_locked_word x)) is ∙ sym after)
+        (shown-locked words lock s w.sessions.has_list safe.lists.shown (ap (λ x. x / 2 ^ 28 % 2) is ∙ may.unlocked) may.no_list);
+    sleepers = safe.lists.sleepers;
+    no_list = none_in_hand w s (Some lock) safe may.steps.live;
+    no_stand = safe.lists.no_stand;
+  }
+
+  unlocked :
+      (lock n : ℕ) (partition fast : ℕ → ℕ) (waiters release : Bool) → lock_word partition fast ≡ set_at words lock (list_unlocked_word n waiters release) → HasList w s lock
+      → ListsAreSafe partition fast (sleepers w) (set_at w.sessions.has_list s None) w.numbers.live
+  unlocked lock n partition fast waiters release after has = record {
+    shown = subst (λ word. ListsAreShown word (set_at w.sessions.has_list s None)) (sym after)
+        (shown-unlocked words lock s (list_unlocked_word n waiters release) w.sessions.has_list safe.lists.shown (list_unlocked_word-list_locked n waiters release) has.in_hand);
+    sleepers = safe.lists.sleepers;
+    no_list = none_in_hand w s None safe has.steps.live;
+    no_stand = safe.lists.no_stand;
+  }
+
+  -- Locking a list.
   pub locking_partition_list-safe_world : (p : ℕ) → MayLockList w.numbers (w.words.partition p) w.sessions.has_list s → SafeWorld (after_locking_partition_list w s p)
   locking_partition_list-safe_world p may =
-      with_lists-safe_world w (set_at w.words.partition p n) w.words.fast (sleepers w) (set_at w.sessions.has_list s (Some (partition_lock p))) safe
-      (one_stays w.words.partition p n (list_locked_word-holders (w.words.partition p))) (λ o. refl)
-      (record {
-        shown = subst (λ word. ListsAreShown word (set_at w.sessions.has_list s (Some (partition_lock p)))) (ap (λ x. set_at words (partition_lock p) (list_locked_word x)) is ∙ sym (lock_word-set_partition w.words.partition w.words.fast p n))
-            (shown-locked words (partition_lock p) s w.sessions.has_list safe.lists.shown (ap (λ x. x / 2 ^ 28 % 2) is ∙ may.unlocked) may.no_list);
-        sleepers = safe.lists.sleepers;
-        no_list = none_in_hand w s (Some (partition_lock p)) safe may.steps.live;
-        no_stand = safe.lists.no_stand;
-      }) where
-        words : ℕ → ℕ
-        words = lock_word w.words.partition w.words.fast
-
-        n : ℕ
-        n = list_locked_word (w.words.partition p)
-
-        is : words (partition_lock p) ≡ w.words.partition p
-        is = lock_word-partition w.words.partition w.words.fast p
+      with_lists-safe_world w (set_at w.words.partition p _) w.words.fast (sleepers w) (set_at w.sessions.has_list s (Some (partition_lock p))) safe
+      (one_stays w.words.partition p _ (list_locked_word-holders (w.words.partition p))) (λ o. refl)
+      (locked (partition_lock p) (w.words.partition p) _ _ (lock_word-partition w.words.partition w.words.fast p) (lock_word-set_partition w.words.partition w.words.fast p _) may)
 
   pub locking_fast_list-safe_world : (o : ℕ) → MayLockList w.numbers (w.words.fast o) w.sessions.has_list s → SafeWorld (after_locking_fast_list w s o)
   locking_fast_list-safe_world o may =
-      with_lists-safe_world w w.words.partition (set_at w.words.fast o n) (sleepers w) (set_at w.sessions.has_list s (Some (fast_lock o))) safe
-      (λ p. refl) (one_stays w.words.fast o n (list_locked_word-holders (w.words.fast o)))
-      (record {
-        shown = subst (λ word. ListsAreShown word (set_at w.sessions.has_list s (Some (fast_lock o)))) (ap (λ x. set_at words (fast_lock o) (list_locked_word x)) is ∙ sym (lock_word-set_fast w.words.partition w.words.fast o n))
-            (shown-locked words (fast_lock o) s w.sessions.has_list safe.lists.shown (ap (λ x. x / 2 ^ 28 % 2) is ∙ may.unlocked) may.no_list);
-        sleepers = safe.lists.sleepers;
-        no_list = none_in_hand w s (Some (fast_lock o)) safe may.steps.live;
-        no_stand = safe.lists.no_stand;
-      }) where
-        words : ℕ → ℕ
-        words = lock_word w.words.partition w.words.fast
-
-        n : ℕ
-        n = list_locked_word (w.words.fast o)
-
-        is : words (fast_lock o) ≡ w.words.fast o
-        is = lock_word-fast w.words.partition w.words.fast o
+      with_lists-safe_world w w.words.partition (set_at w.words.fast o _) (sleepers w) (set_at w.sessions.has_list s (Some (fast_lock o))) safe
+      (λ p. refl) (one_stays w.words.fast o _ (list_locked_word-holders (w.words.fast o)))
+      (locked (fast_lock o) (w.words.fast o) _ _ (lock_word-fast w.words.partition w.words.fast o) (lock_word-set_fast w.words.partition w.words.fast o _) may)
 
   -- Unlocking it.
   pub unlocking_partition_list-safe_world : (p : ℕ) (waiters release : Bool) → HasList w s (partition_lock p) → SafeWorld (after_unlocking_partition_list w s p waiters release)
   unlocking_partition_list-safe_world p waiters release has =
-      with_lists-safe_world w (set_at w.words.partition p n) w.words.fast (sleepers w) (set_at w.sessions.has_list s None) safe
-      (one_stays w.words.partition p n (list_unlocked_word-holders (w.words.partition p) waiters release)) (λ o. refl)
-      (record {
-        shown = subst (λ word. ListsAreShown word (set_at w.sessions.has_list s None)) (sym (lock_word-set_partition w.words.partition w.words.fast p n))
-            (shown-unlocked (lock_word w.words.partition w.words.fast) (partition_lock p) s n w.sessions.has_list safe.lists.shown
-            (list_unlocked_word-list_locked (w.words.partition p) waiters release) has.in_hand);
-        sleepers = safe.lists.sleepers;
-        no_list = none_in_hand w s None safe has.steps.live;
-        no_stand = safe.lists.no_stand;
-      }) where
-        n : ℕ
-        n = list_unlocked_word (w.words.partition p) waiters release
+      with_lists-safe_world w (set_at w.words.partition p _) w.words.fast (sleepers w) (set_at w.sessions.has_list s None) safe
+      (one_stays w.words.partition p _ (list_unlocked_word-holders (w.words.partition p) waiters release)) (λ o. refl)
+      (unlocked (partition_lock p) (w.words.partition p) _ _ waiters release (lock_word-set_partition w.words.partition w.words.fast p _) has)
 
   pub unlocking_fast_list-safe_world : (o : ℕ) (waiters release : Bool) → HasList w s (fast_lock o) → SafeWorld (after_unlocking_fast_list w s o waiters release)
   unlocking_fast_list-safe_world o waiters release has =
-      with_lists-safe_world w w.words.partition (set_at w.words.fast o n) (sleepers w) (set_at w.sessions.has_list s None) safe
-      (λ p. refl) (one_stays w.words.fast o n (list_unlocked_word-holders (w.words.fast o) waiters release))
-      (record {
-        shown = subst (λ word. ListsAreShown word (set_at w.sessions.has_list s None)) (sym (lock_word-set_fast w.words.partition w.words.fast o n))
-            (shown-unlocked (lock_word w.words.partition w.words.fast) (fast_lock o) s n w.sessions.has_list safe.lists.shown
-            (list_unlocked_word-list_locked (w.words.fast o) waiters release) has.in_hand);
-        sleepers = safe.lists.sleepers;
-        no_list = none_in_hand w s None safe has.steps.live;
-        no_stand = safe.lists.no_stand;
-      }) where
-        n : ℕ
-        n = list_unlocked_word (w.words.fast o) waiters release
+      with_lists-safe_world w w.words.partition (set_at w.words.fast o _) (sleepers w) (set_at w.sessions.has_list s None) safe
+      (λ p. refl) (one_stays w.words.fast o _ (list_unlocked_word-holders (w.words.fast o) waiters release))
+      (unlocked (fast_lock o) (w.words.fast o) _ _ waiters release (lock_word-set_fast w.words.partition w.words.fast o _) has)
 
   -- Setting a flag.
   pub flagging_partition-safe_world :

@@ -13,21 +13,14 @@ use Rattle.lock_world.proofs.Table.Partitions.{own_after-else}
 use Rattle.lock_world.proofs.Safe.Partitions.{taking_partition-safe, putting_partition-safe, putting_recorded-safe}
 use Rattle.lock_world.proofs.SafeWorld.Tabled.{with_own-safe, MayMove-tabled, tabled-after, released-no_slot}
 use Rattle.lock_world.proofs.SafeWorld.OneSession.{SlotsAreOwn-one, OwnIsInOrder-one, StrongIsDone-one, own_after-shown, own_after-awaited, own_after-done}
+use Rattle.lock_world.proofs.SafeWorld.Beside.{beside-safe_world}
 
 -- Taking a partition is safe.
 pub taking_partition-safe_world : (w : World) (s p : ℕ) → SafeWorld w → MayTakePartition w s p → SafeWorld (after_taking_partition w s p)
-taking_partition-safe_world w s p safe may = record {
-  but_slots = taking_partition-safe (tabled w) s p safe.but_slots (record { steps = may.steps; exists = may.exists; free = may.free });
-  lists = flags-partition w.words.partition w.words.fast (sleepers w) w.sessions.has_list w.numbers.live safe.lists p (taken_word (w.words.partition p))
-      (taken_word-flags (w.words.partition p) may.free);
-  slots = safe.slots;
-  order = safe.order;
-  counters = safe.counters;
-  past = safe.past;
-  done = safe.done;
-  zero = safe.zero;
-  remembered = safe.remembered;
-}
+taking_partition-safe_world w s p safe may = beside-safe_world w (after_taking_partition w s p) safe
+    (taking_partition-safe (tabled w) s p safe.but_slots (record { steps = may.steps; exists = may.exists; free = may.free }))
+    (flags-partition w.words.partition w.words.fast (sleepers w) w.sessions.has_list w.numbers.live safe.lists p (taken_word (w.words.partition p))
+    (taken_word-flags (w.words.partition p) may.free))
 
 -- What own holds are after a move of a session.
 module _ (w : World) (safe : SafeWorld w) (s p : ℕ) (done : Move) (granted : List Wait) (content : Content) (may : MayMove w s p done granted content) where
@@ -71,21 +64,13 @@ putting_partition-safe_world w s p done content safe may = record {
 
 -- Putting a partition with a move recorded is safe.
 pub putting_recorded-safe_world : (w : World) (s p : ℕ) (done : Move) → SafeWorld w → MayPutRecorded w s p done → SafeWorld (after_putting_recorded w s p)
-putting_recorded-safe_world w s p done safe may = record {
-  but_slots = putting_recorded-safe (tabled w) s p done safe.but_slots (record {
-    steps = may.steps;
-    holding = may.holding;
-    recorded = may.recorded;
-    all_marked = may.all_marked;
-    wait_is_over = may.wait_is_over;
-  });
-  lists = flags-partition w.words.partition w.words.fast (sleepers w) w.sessions.has_list w.numbers.live safe.lists p (put_word (w.words.partition p))
-      (put_word-flags (w.words.partition p) ((safe.but_slots.table.promise.words p).held_is_shown s may.holding));
-  slots = safe.slots;
-  order = safe.order;
-  counters = safe.counters;
-  past = safe.past;
-  done = safe.done;
-  zero = safe.zero;
-  remembered = safe.remembered;
-}
+putting_recorded-safe_world w s p done safe may = beside-safe_world w (after_putting_recorded w s p) safe
+    (putting_recorded-safe (tabled w) s p done safe.but_slots (record {
+      steps = may.steps;
+      holding = may.holding;
+      recorded = may.recorded;
+      all_marked = may.all_marked;
+      wait_is_over = may.wait_is_over;
+    }))
+    (flags-partition w.words.partition w.words.fast (sleepers w) w.sessions.has_list w.numbers.live safe.lists p (put_word (w.words.partition p))
+    (put_word-flags (w.words.partition p) ((safe.but_slots.table.promise.words p).held_is_shown s may.holding)))

@@ -13,6 +13,7 @@ use Rattle.lock_world.proofs.WaitLists.{forgetting-safe}
 use Rattle.lock_world.proofs.Safe.Seats.{issuing-safe, going_on-safe, keeping_apart-safe, closing-safe}
 use Rattle.lock_world.proofs.Slots.Remembered.{no_hold-no_slot, remembered-closed}
 use Rattle.lock_world.proofs.SafeWorld.Tabled.{own_but-false}
+use Rattle.lock_world.proofs.SafeWorld.Beside.{beside-safe_world}
 
 -- Who holds nothing has no slot in use.
 pub holding_nothing-unused :
@@ -50,39 +51,21 @@ issuing-safe_world w s safe may = record {
 
 -- Going on by itself is safe.
 pub going_on-safe_world : (w : World) (s : ℕ) → SafeWorld w → MayGoOn w s → SafeWorld (after_going_on w s)
-going_on-safe_world w s safe may = record {
-  but_slots = going_on-safe (tabled w) s safe.but_slots may;
-  lists = safe.lists;
-  slots = safe.slots;
-  order = safe.order;
-  counters = safe.counters;
-  past = safe.past;
-  done = safe.done;
-  zero = safe.zero;
-  remembered = safe.remembered;
-}
+going_on-safe_world w s safe may = beside-safe_world w (after_going_on w s) safe (going_on-safe (tabled w) s safe.but_slots may) safe.lists
 
 -- Being kept apart is safe.
 pub keeping_apart-safe_world : (w : World) (s joiner : ℕ) → SafeWorld w → MayBeKeptApart w s joiner → SafeWorld (after_keeping_apart w s joiner)
-keeping_apart-safe_world w s joiner safe may = record {
-  but_slots = keeping_apart-safe (tabled w) s joiner safe.but_slots (record {
-    steps = may.steps;
-    another = may.another;
-    joiner_steps = may.joiner_steps;
-    no_word = may.no_word;
-    no_fast_word = may.no_fast_word;
-    no_shared_word = may.no_shared_word;
-    no_shared_fast_word = may.no_shared_fast_word;
-  });
-  lists = safe.lists;
-  slots = safe.slots;
-  order = safe.order;
-  counters = safe.counters;
-  past = safe.past;
-  done = safe.done;
-  zero = safe.zero;
-  remembered = safe.remembered;
-}
+keeping_apart-safe_world w s joiner safe may = beside-safe_world w (after_keeping_apart w s joiner) safe
+    (keeping_apart-safe (tabled w) s joiner safe.but_slots (record {
+      steps = may.steps;
+      another = may.another;
+      joiner_steps = may.joiner_steps;
+      no_word = may.no_word;
+      no_fast_word = may.no_fast_word;
+      no_shared_word = may.no_shared_word;
+      no_shared_fast_word = may.no_shared_fast_word;
+    }))
+    safe.lists
 
 -- Closing is safe.
 pub closing-safe_world : (w : World) (s : ℕ) → SafeWorld w → MayClose w s → SafeWorld (after_closing w s)

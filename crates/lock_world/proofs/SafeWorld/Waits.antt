@@ -22,34 +22,15 @@ use Rattle.lock_world.proofs.Safe.Waits.{asking-safe, loading_wait-safe, setting
 use Rattle.lock_world.proofs.SafeWorld.Tabled.{with_own-safe, own_but-set_hold, not_own-no_slot, MayMove-tabled, tabled-after}
 use Rattle.lock_world.proofs.SafeWorld.OneSession.{SlotsAreOwn-one, OwnIsInOrder-one, StrongIsDone-one, is_for-same, is_for-itself}
 use Rattle.lock_world.proofs.SafeWorld.Partitions.{slots-moved, order-moved, done-moved}
+use Rattle.lock_world.proofs.SafeWorld.Beside.{beside-safe_world}
 
 -- Asking a session to cancel is safe.
 pub asking-safe_world : (w : World) (s k : ℕ) → SafeWorld w → MakesSteps w.numbers s → SafeWorld (after_asking w s k)
-asking-safe_world w s k safe steps = record {
-  but_slots = asking-safe (tabled w) s k safe.but_slots steps;
-  lists = safe.lists;
-  slots = safe.slots;
-  order = safe.order;
-  counters = safe.counters;
-  past = safe.past;
-  done = safe.done;
-  zero = safe.zero;
-  remembered = safe.remembered;
-}
+asking-safe_world w s k safe steps = beside-safe_world w (after_asking w s k) safe (asking-safe (tabled w) s k safe.but_slots steps) safe.lists
 
 -- Loading one's own wait word is safe.
 pub loading_wait-safe_world : (w : World) (s n : ℕ) → SafeWorld w → MakesSteps w.numbers s → SafeWorld (after_loading_wait w s n)
-loading_wait-safe_world w s n safe steps = record {
-  but_slots = loading_wait-safe (tabled w) s n safe.but_slots steps;
-  lists = safe.lists;
-  slots = safe.slots;
-  order = safe.order;
-  counters = safe.counters;
-  past = safe.past;
-  done = safe.done;
-  zero = safe.zero;
-  remembered = safe.remembered;
-}
+loading_wait-safe_world w s n safe steps = beside-safe_world w (after_loading_wait w s n) safe (loading_wait-safe (tabled w) s n safe.but_slots steps) safe.lists
 
 -- Setting one's own wait word to waiting is safe.
 pub setting_waiting-safe_world :
@@ -98,23 +79,15 @@ marking_first-safe_world w s k p done granted content grants safe may = record {
 }
 
 pub marking_next-safe_world : (w : World) (s k p : ℕ) (done : Move) → SafeWorld w → MayMarkNext w s k p done → SafeWorld (after_marking_next w k p done)
-marking_next-safe_world w s k p done safe may = record {
-  but_slots = marking_next-safe (tabled w) s k p done safe.but_slots (record {
-    steps = may.steps;
-    holding = may.holding;
-    recorded = may.recorded;
-    may_mark = record { another = may.may_mark.another; waiting = may.may_mark.waiting };
-    is_unmarked_in = may.is_unmarked_in;
-  });
-  lists = safe.lists;
-  slots = safe.slots;
-  order = safe.order;
-  counters = safe.counters;
-  past = safe.past;
-  done = safe.done;
-  zero = safe.zero;
-  remembered = safe.remembered;
-}
+marking_next-safe_world w s k p done safe may = beside-safe_world w (after_marking_next w k p done) safe
+    (marking_next-safe (tabled w) s k p done safe.but_slots (record {
+      steps = may.steps;
+      holding = may.holding;
+      recorded = may.recorded;
+      may_mark = record { another = may.may_mark.another; waiting = may.may_mark.waiting };
+      is_unmarked_in = may.is_unmarked_in;
+    }))
+    safe.lists
 
 -- What was granted becomes own where the wait ends.
 module _ (w : World) (safe : SafeWorld w) (s : ℕ) (wait : OwnWait) (alive : w.numbers.live s ≡ true) (is : w.sessions.awaited s ≡ Some wait) where

@@ -1,10 +1,11 @@
-use Rattle.std.proofs.Common.{◌≡◌, ℕ, ◌+◌, ◌<◌, Bool, true, false, List, Some, None, refl, sym, ap, ◌∙◌, inl, inr, arith}
+use Rattle.std.proofs.Common.{◌≡◌, ℕ, ◌+◌, ◌<◌, true, false, Some, None, refl, sym, ap, ◌∙◌, inl, inr, arith}
 use Rattle.std.proofs.lemmas.Bool.{cases_eq}
-use Rattle.lock_world.specs.World.{World, Numbers, TraceEntry}
+use Rattle.lock_world.specs.World.{World, Numbers}
 use Rattle.lock_table.specs.Put.{set_at}
 use Rattle.lock_world.specs.Happens.Seats.{MayBeIssued, after_issuing, MayGoOn, after_going_on, MayBeKeptApart, after_keeping_apart, MayClose, after_closing}
 use Rattle.lock_world.specs.Safe.{TableIsSafe, NumbersAreInOrder, SpentHaveNothing, WordsShowHolders}
 use Rattle.lock_table.proofs.PutLemmas.{set_at-else, set_at-each}
+use Rattle.lock_world.proofs.Table.Beside.{beside-table}
 
 -- A World of which the session numbers alone have changed.
 abbrev pub with_numbers : World → Numbers → World
@@ -22,32 +23,6 @@ with_numbers-table w numbers safe words spent order = record {
     spent = spent;
   };
   carriers = record { hands = safe.carriers.hands; numbers = order; unmarked_by_move = safe.carriers.unmarked_by_move };
-}
-
--- Of slots as sessions remember them, of whom they took off a list, and of traces no fact of partitions, waits and numbers speaks.
-abbrev with_notes : World → (ℕ → ℕ → ℕ) → (ℕ → ℕ → Bool) → (ℕ → List TraceEntry) → World
-with_notes w remembered off trace = record {
-  words = w.words;
-  contents = w.contents;
-  sessions = record (w.sessions) { remembered = remembered; off = off; trace = trace };
-  numbers = w.numbers;
-}
-
-with_notes-table : (w : World) (remembered : ℕ → ℕ → ℕ) (off : ℕ → ℕ → Bool) (trace : ℕ → List TraceEntry) → TableIsSafe w → TableIsSafe (with_notes w remembered off trace)
-with_notes-table w remembered off trace safe = record {
-  promise = record {
-    no_conflict = safe.promise.no_conflict;
-    one_place = safe.promise.one_place;
-    none_free = safe.promise.none_free;
-    wait_words = safe.promise.wait_words;
-    words = safe.promise.words;
-    spent = safe.promise.spent;
-  };
-  carriers = record {
-    hands = safe.carriers.hands;
-    numbers = safe.carriers.numbers;
-    unmarked_by_move = safe.carriers.unmarked_by_move;
-  };
 }
 
 -- Issuing a number is safe.
@@ -92,7 +67,7 @@ keeping_apart-table w s joiner safe may = with_numbers-table w _ safe safe.promi
 
 -- Closing is safe.
 pub closing-table : (w : World) (s : ℕ) → TableIsSafe w → MayClose w s → TableIsSafe (after_closing w s)
-closing-table w s safe may = with_notes-table (with_numbers w (after_closing w s).numbers) _ _ _ closed where
+closing-table w s safe may = beside-table (with_numbers w (after_closing w s).numbers) (after_closing w s) closed where
   still_joiner : (k j : ℕ) → w.numbers.kept_by k ≡ Some j → set_at w.numbers.live s false j ≡ true
   still_joiner k j kept =
       elim (cases_eq j s) [

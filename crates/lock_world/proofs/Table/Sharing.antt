@@ -1,6 +1,7 @@
 use Rattle.std.proofs.Common.{ℕ, Bool, Option}
 use Rattle.lock_world.specs.World.{World}
 use Rattle.lock_world.specs.Safe.{TableIsSafe, WordsShowHolders}
+use Rattle.lock_world.proofs.Table.Beside.{beside-table}
 
 -- A World of which the words of partitions, and who shares them, alone have changed.
 abbrev pub with_partition_words : World → (ℕ → ℕ) → (ℕ → ℕ → Bool) → World
@@ -43,18 +44,4 @@ with_fast_words w word holds shares zero remembered = record {
 pub with_fast_words-table :
     (w : World) (word : ℕ → ℕ) (holds shares : ℕ → ℕ → Bool) (zero : ℕ → Option ℕ) (remembered : ℕ → ℕ → ℕ)
     → TableIsSafe w → TableIsSafe (with_fast_words w word holds shares zero remembered)
-with_fast_words-table w word holds shares zero remembered safe = record {
-  promise = record {
-    no_conflict = safe.promise.no_conflict;
-    one_place = safe.promise.one_place;
-    none_free = safe.promise.none_free;
-    wait_words = safe.promise.wait_words;
-    words = safe.promise.words;
-    spent = safe.promise.spent;
-  };
-  carriers = record {
-    hands = safe.carriers.hands;
-    numbers = safe.carriers.numbers;
-    unmarked_by_move = safe.carriers.unmarked_by_move;
-  };
-}
+with_fast_words-table w word holds shares zero remembered = beside-table w (with_fast_words w word holds shares zero remembered)

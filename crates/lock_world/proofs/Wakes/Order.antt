@@ -1,23 +1,15 @@
-use Rattle.std.proofs.Common.{◌≡◌, ◌≢◌, ◌⊎◌, ℕ, ◌<◌, Bool, true, false, Option, Some, None, refl, sym, ap, ◌∙◌, subst, inl, inr}
+use Rattle.std.proofs.Common.{◌≡◌, ◌≢◌, ◌⊎◌, ℕ, ◌<◌, Bool, true, false, Option, Some, refl, sym, ap, ◌∙◌, subst, inl, inr}
 use Rattle.std.specs.Prelude.{◌==◌, if◌then◌else◌}
 use Rattle.std.proofs.lemmas.Bool.{cases_eq, eq-eqb, ne_eqb, cond-true, cond-false}
-use Rattle.modes_core.specs.Tag.{partition_of}
-use Rattle.lock_table.specs.declared.moves.Move.{Move}
-use Rattle.lock_table.specs.declared.moves.Move.TheVariants.{Keep, Grant, Join, Release, Leave, Adopt}
 use Rattle.lock_table.specs.Put.{set_at}
 use Rattle.lock_table.proofs.PutLemmas.{set_at-here, set_at-else, row-else}
 use Rattle.lock_world.specs.declared.events.Step.{Step}
-use Rattle.lock_world.specs.declared.events.Step.TheVariants.{TakeExclusive, PutExclusive, TakeShared, PutShared, SplitSeat, JoinSeat, AskCancel, LoadWait, SetWaiting, MarkGranted, ClearWait, PutPassing, LoadStrong, LoadWord, SetSlot, ClearSlot, StoreDatabase, Count, Uncount, TransferSlot, LockList, UnlockList, JoinList, LeaveList, TakeOff, Tell, LoadSleep, SetReleaseOk, SetHasWaiters}
-use Rattle.lock_world.specs.declared.events.Word.{Word}
-use Rattle.lock_world.specs.declared.events.Word.TheVariants.{Partition, Fast, Database, Slot, Wait, Strong, Sleep}
 use Rattle.lock_world.specs.World.{World}
 use Rattle.lock_world.specs.WaitLists.{partition_lock, fast_lock, after_seeing_none}
-use Rattle.lock_world.specs.Happens.{HappensStep, HappensTaking, HappensPutting, HappensSharing, HappensUnsharing, HappensLoading, HappensLockingList, HappensUnlockingList, HappensSettingReleaseOk, HappensSettingHasWaiters}
-use Rattle.lock_world.specs.Happens.Seats.{HappensJoining}
-use Rattle.lock_world.specs.Happens.Waits.{HappensMarkingIn, HappensMarking, HappensClearing}
+use Rattle.lock_world.specs.Happens.{HappensStep}
 use Rattle.lock_world.specs.Happens.Lists.{sleepers}
 use Rattle.lock_world.specs.Wakes.Waking.{OrderIsKept, rank}
-use Rattle.lock_world.specs.Wakes.Owing.{Duties, lock_row, waking, HasIn, lock_of, IsEarlier, IsLatest, AsksInOrder}
+use Rattle.lock_world.specs.Wakes.Owing.{Duties, lock_row, waking, HasIn, IsEarlier, IsLatest, AsksInOrder}
 use Rattle.lock_world.proofs.Wakes.Readings.{some-same, row-away, row-less, not-set}
 use Rattle.lock_world.proofs.Wakes.Rows.{row-set_partition, row-set_fast}
 use Rattle.lock_world.proofs.Wakes.Steps.{first, second, with_lock}

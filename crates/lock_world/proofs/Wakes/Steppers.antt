@@ -1,15 +1,9 @@
-use Rattle.std.proofs.Common.{◌≡◌, ◌⊎◌, ℕ, Bool, true, false, Option, Some, None, refl, sym, ap, ◌∙◌, inl, inr}
+use Rattle.std.proofs.Common.{◌≡◌, ◌⊎◌, ℕ, Bool, true, false, Option, Some, None, refl, sym, ◌∙◌, inl, inr}
 use Rattle.std.proofs.lemmas.Bool.{both_ways}
-use Rattle.modes_core.specs.Tag.{partition_of}
-use Rattle.lock_table.specs.declared.moves.Move.{Move}
-use Rattle.lock_table.specs.declared.moves.Move.TheVariants.{Keep, Grant, Join, Release, Leave, Adopt}
 use Rattle.lock_world.specs.declared.events.Step.{Step}
-use Rattle.lock_world.specs.declared.events.Step.TheVariants.{TakeExclusive, PutExclusive, TakeShared, PutShared, SplitSeat, JoinSeat, AskCancel, LoadWait, SetWaiting, MarkGranted, ClearWait, PutPassing, LoadStrong, LoadWord, SetSlot, ClearSlot, StoreDatabase, Count, Uncount, TransferSlot, LockList, UnlockList, JoinList, LeaveList, TakeOff, Tell, LoadSleep, SetReleaseOk, SetHasWaiters}
-use Rattle.lock_world.specs.declared.events.Word.{Word}
-use Rattle.lock_world.specs.declared.events.Word.TheVariants.{Partition, Fast, Database, Slot, Wait, Strong, Sleep}
+use Rattle.lock_world.specs.declared.events.Step.TheVariants.{SplitSeat, JoinSeat}
 use Rattle.lock_world.specs.World.{World, Numbers, MakesSteps}
-use Rattle.lock_world.specs.Happens.{HappensStep, HappensTaking, HappensPutting, HappensSharing, HappensUnsharing, HappensLoading, HappensLockingList, HappensUnlockingList, HappensSettingReleaseOk, HappensSettingHasWaiters}
-use Rattle.lock_world.specs.Happens.Waits.{HappensMarkingIn, HappensMarking, HappensClearing}
+use Rattle.lock_world.specs.Happens.{HappensStep}
 use Rattle.lock_world.specs.Wakes.{MakesNoStep}
 use Rattle.lock_world.proofs.Wakes.Readings.{none-some}
 use Rattle.lock_world.proofs.LawfulSteps.{LawfulStep, step_of, world_after, taking_partition, taking_fast, putting_partition, putting_recorded, putting_fast, sharing_partition, sharing_fast, unsharing_partition, unsharing_fast, being_issued, going_on, being_kept_apart, closing, asking_to_cancel, loading_wait, setting_waiting, marking_first, marking_next, clearing_seen, clearing_in_hand, leaving_queue, passing, reading_counter, loading, setting_slot, clearing_slot, storing_database, counting, uncounting, transferring, locking_partition_list, locking_fast_list, unlocking_partition_list, unlocking_fast_list, joining_list, leaving_list, taking_off, telling, loading_sleep, setting_partition_release_ok, setting_fast_release_ok, setting_partition_has_waiters, setting_fast_has_waiters, after_each}

@@ -15,6 +15,7 @@ use Rattle.lock_world.proofs.Safe.Partitions.{live-given}
 use Rattle.lock_world.proofs.Traces.{TracesTell-entry}
 use Rattle.lock_world.proofs.Counters.Sums.{counter-none, is_past-none}
 use Rattle.lock_world.proofs.SafeWorld.Changes.{with_fast_path-safe}
+use Rattle.lock_world.proofs.SafeWorld.Beside.{beside-safe_world}
 
 -- A load joins the trace.
 loaded-traces : (w : World) (s : ℕ) (word : Word) (n : ℕ) → SafeWorld w → w.numbers.live s ≡ true → TracesTell w.contents (after_loading w s word n).sessions.trace w.numbers.issued
@@ -23,18 +24,10 @@ loaded-traces w s word n safe alive =
 
 -- Loading a word is safe.
 pub loading-safe_world : (w : World) (s : ℕ) (word : Word) (n : ℕ) → SafeWorld w → MayLoad w s word n → SafeWorld (after_loading w s word n)
-loading-safe_world w s word n safe may = record {
-  but_slots = with_fast_path-safe (tabled w) w.words.database w.words.slot w.words.strong w.sessions.counted w.sessions.zero w.sessions.remembered (after_loading w s word n).sessions.trace safe.but_slots
-      (loaded-traces w s word n safe may.steps.live);
-  lists = safe.lists;
-  slots = safe.slots;
-  order = safe.order;
-  counters = safe.counters;
-  past = safe.past;
-  done = safe.done;
-  zero = safe.zero;
-  remembered = safe.remembered;
-}
+loading-safe_world w s word n safe may = beside-safe_world w (after_loading w s word n) safe
+    (with_fast_path-safe (tabled w) w.words.database w.words.slot w.words.strong w.sessions.counted w.sessions.zero w.sessions.remembered (after_loading w s word n).sessions.trace safe.but_slots
+    (loaded-traces w s word n safe may.steps.live))
+    safe.lists
 
 -- Where a counter is 0 nobody, live or not, has counted anything at its index.
 pub nothing-counted : (w : World) → SafeWorld w → (index k : ℕ) → w.words.strong index ≡ 0 → count_at index (w.sessions.counted k) ≡ 0
