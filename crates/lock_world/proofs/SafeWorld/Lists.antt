@@ -39,8 +39,8 @@ with_lists-but_slots w partition fast s has safe partitions_stay fast_stay = rec
 with_lists-safe_world :
     (w : World) (partition fast : ℕ → ℕ) (s : Sleepers) (has : ℕ → Option ℕ) → SafeWorld w → ((p : ℕ) → HoldersStay (w.words.partition p) (partition p))
     → ((o : ℕ) → HoldersStay (w.words.fast o) (fast o)) → ListsAreSafe partition fast s has w.numbers.live → SafeWorld (with_lists w partition fast s has)
-with_lists-safe_world w partition fast s has safe partitions_stay fast_stay =
-    beside-safe_world w (with_lists w partition fast s has) safe (with_lists-but_slots (tabled w) partition fast s has safe.but_slots partitions_stay fast_stay)
+with_lists-safe_world w partition fast s has safe partitions_stay fast_stay lists =
+    beside-safe_world w (with_lists w partition fast s has) safe (with_lists-but_slots (tabled w) partition fast s has safe.but_slots partitions_stay fast_stay) lists safe.zero safe.remembered
 
 -- One word has changed and not who holds it.
 one_stays : (word : ℕ → ℕ) (lock n : ℕ) → HoldersStay (word lock) n → (l : ℕ) → HoldersStay (word l) (set_at word lock n l)

@@ -20,7 +20,7 @@ pub taking_partition-safe_world : (w : World) (s p : ℕ) → SafeWorld w → Ma
 taking_partition-safe_world w s p safe may = beside-safe_world w (after_taking_partition w s p) safe
     (taking_partition-safe (tabled w) s p safe.but_slots (record { steps = may.steps; exists = may.exists; free = may.free }))
     (flags-partition w.words.partition w.words.fast (sleepers w) w.sessions.has_list w.numbers.live safe.lists p (taken_word (w.words.partition p))
-    (taken_word-flags (w.words.partition p) may.free))
+    (taken_word-flags (w.words.partition p) may.free)) safe.zero safe.remembered
 
 -- What own holds are after a move of a session.
 module _ (w : World) (safe : SafeWorld w) (s p : ℕ) (done : Move) (granted : List Wait) (content : Content) (may : MayMove w s p done granted content) where
@@ -73,4 +73,4 @@ putting_recorded-safe_world w s p done safe may = beside-safe_world w (after_put
       wait_is_over = may.wait_is_over;
     }))
     (flags-partition w.words.partition w.words.fast (sleepers w) w.sessions.has_list w.numbers.live safe.lists p (put_word (w.words.partition p))
-    (put_word-flags (w.words.partition p) ((safe.but_slots.table.promise.words p).held_is_shown s may.holding)))
+    (put_word-flags (w.words.partition p) ((safe.but_slots.table.promise.words p).held_is_shown s may.holding))) safe.zero safe.remembered

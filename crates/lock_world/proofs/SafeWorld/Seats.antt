@@ -51,7 +51,7 @@ issuing-safe_world w s safe may = record {
 
 -- Going on by itself is safe.
 pub going_on-safe_world : (w : World) (s : ℕ) → SafeWorld w → MayGoOn w s → SafeWorld (after_going_on w s)
-going_on-safe_world w s safe may = beside-safe_world w (after_going_on w s) safe (going_on-safe (tabled w) s safe.but_slots may) safe.lists
+going_on-safe_world w s safe may = beside-safe_world w (after_going_on w s) safe (going_on-safe (tabled w) s safe.but_slots may) safe.lists safe.zero safe.remembered
 
 -- Being kept apart is safe.
 pub keeping_apart-safe_world : (w : World) (s joiner : ℕ) → SafeWorld w → MayBeKeptApart w s joiner → SafeWorld (after_keeping_apart w s joiner)
@@ -65,7 +65,7 @@ keeping_apart-safe_world w s joiner safe may = beside-safe_world w (after_keepin
       no_shared_word = may.no_shared_word;
       no_shared_fast_word = may.no_shared_fast_word;
     }))
-    safe.lists
+    safe.lists safe.zero safe.remembered
 
 -- Closing is safe.
 pub closing-safe_world : (w : World) (s : ℕ) → SafeWorld w → MayClose w s → SafeWorld (after_closing w s)

@@ -18,33 +18,27 @@ sharing_partition-safe_world w s p safe may = beside-safe_world w (after_sharing
     (sharing_partition-safe (tabled w) s p safe.but_slots may)
     (flags-partition w.words.partition w.words.fast (sleepers w) w.sessions.has_list w.numbers.live safe.lists p (shared_word (w.words.partition p))
     (shared_word-flags (w.words.partition p) (shared-room w.numbers.limit (w.words.partition p) (λ k. w.sessions.holds_partition k p) (λ k. w.sessions.shares_partition k p) s
-    safe.but_slots.table.carriers.numbers.few (live-within (tabled w) s safe.but_slots may.steps.live) (safe.but_slots.table.promise.words p) may.new)))
+    safe.but_slots.table.carriers.numbers.few (live-within (tabled w) s safe.but_slots may.steps.live) (safe.but_slots.table.promise.words p) may.new))) safe.zero safe.remembered
 
 pub unsharing_partition-safe_world : (w : World) (s p : ℕ) → SafeWorld w → MayUnshare w.numbers w.sessions.shares_partition s p → SafeWorld (after_unsharing_partition w s p)
 unsharing_partition-safe_world w s p safe may = beside-safe_world w (after_unsharing_partition w s p) safe
     (unsharing_partition-safe (tabled w) s p safe.but_slots may)
     (flags-partition w.words.partition w.words.fast (sleepers w) w.sessions.has_list w.numbers.live safe.lists p (unshared_word (w.words.partition p))
     (unshared_word-flags (w.words.partition p) (shared-some w.numbers.limit (w.words.partition p) (λ k. w.sessions.holds_partition k p) (λ k. w.sessions.shares_partition k p) s
-    (safe.but_slots.table.promise.words p) may.sharing)))
+    (safe.but_slots.table.promise.words p) may.sharing))) safe.zero safe.remembered
 
 pub sharing_fast-safe_world : (w : World) (s o : ℕ) → SafeWorld w → MayShare w.numbers (w.words.fast o) w.sessions.shares_fast s o → SafeWorld (after_sharing_fast w s o)
-sharing_fast-safe_world w s o safe may = record {
-  but_slots = sharing_fast-safe (tabled w) s o safe.but_slots may;
-  lists = flags-fast w.words.partition w.words.fast (sleepers w) w.sessions.has_list w.numbers.live safe.lists o (shared_word (w.words.fast o))
-      (shared_word-flags (w.words.fast o) (shared-room w.numbers.limit (w.words.fast o) (λ k. w.sessions.holds_fast k o) (λ k. w.sessions.shares_fast k o) s
-      safe.but_slots.table.carriers.numbers.few (live-within (tabled w) s safe.but_slots may.steps.live) (safe.but_slots.locks.fast_words o) may.new));
-  slots = safe.slots;
-  order = safe.order;
-  counters = safe.counters;
-  past = safe.past;
-  done = safe.done;
-  zero = safe.zero;
-  remembered = remembered-seen w.words.slot w.sessions.remembered s o safe.remembered;
-}
+sharing_fast-safe_world w s o safe may = beside-safe_world w (after_sharing_fast w s o) safe
+    (sharing_fast-safe (tabled w) s o safe.but_slots may)
+    (flags-fast w.words.partition w.words.fast (sleepers w) w.sessions.has_list w.numbers.live safe.lists o (shared_word (w.words.fast o))
+    (shared_word-flags (w.words.fast o) (shared-room w.numbers.limit (w.words.fast o) (λ k. w.sessions.holds_fast k o) (λ k. w.sessions.shares_fast k o) s
+    safe.but_slots.table.carriers.numbers.few (live-within (tabled w) s safe.but_slots may.steps.live) (safe.but_slots.locks.fast_words o) may.new)))
+    safe.zero
+    (remembered-seen w.words.slot w.sessions.remembered s o safe.remembered)
 
 pub unsharing_fast-safe_world : (w : World) (s o : ℕ) → SafeWorld w → MayUnshare w.numbers w.sessions.shares_fast s o → SafeWorld (after_unsharing_fast w s o)
 unsharing_fast-safe_world w s o safe may = beside-safe_world w (after_unsharing_fast w s o) safe
     (unsharing_fast-safe (tabled w) s o safe.but_slots may)
     (flags-fast w.words.partition w.words.fast (sleepers w) w.sessions.has_list w.numbers.live safe.lists o (unshared_word (w.words.fast o))
     (unshared_word-flags (w.words.fast o) (shared-some w.numbers.limit (w.words.fast o) (λ k. w.sessions.holds_fast k o) (λ k. w.sessions.shares_fast k o) s
-    (safe.but_slots.locks.fast_words o) may.sharing)))
+    (safe.but_slots.locks.fast_words o) may.sharing))) safe.zero safe.remembered

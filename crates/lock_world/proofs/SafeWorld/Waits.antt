@@ -26,11 +26,11 @@ use Rattle.lock_world.proofs.SafeWorld.Beside.{beside-safe_world}
 
 -- Asking a session to cancel is safe.
 pub asking-safe_world : (w : World) (s k : ℕ) → SafeWorld w → MakesSteps w.numbers s → SafeWorld (after_asking w s k)
-asking-safe_world w s k safe steps = beside-safe_world w (after_asking w s k) safe (asking-safe (tabled w) s k safe.but_slots steps) safe.lists
+asking-safe_world w s k safe steps = beside-safe_world w (after_asking w s k) safe (asking-safe (tabled w) s k safe.but_slots steps) safe.lists safe.zero safe.remembered
 
 -- Loading one's own wait word is safe.
 pub loading_wait-safe_world : (w : World) (s n : ℕ) → SafeWorld w → MakesSteps w.numbers s → SafeWorld (after_loading_wait w s n)
-loading_wait-safe_world w s n safe steps = beside-safe_world w (after_loading_wait w s n) safe (loading_wait-safe (tabled w) s n safe.but_slots steps) safe.lists
+loading_wait-safe_world w s n safe steps = beside-safe_world w (after_loading_wait w s n) safe (loading_wait-safe (tabled w) s n safe.but_slots steps) safe.lists safe.zero safe.remembered
 
 -- Setting one's own wait word to waiting is safe.
 pub setting_waiting-safe_world :
@@ -87,7 +87,7 @@ marking_next-safe_world w s k p done safe may = beside-safe_world w (after_marki
       may_mark = record { another = may.may_mark.another; waiting = may.may_mark.waiting };
       is_unmarked_in = may.is_unmarked_in;
     }))
-    safe.lists
+    safe.lists safe.zero safe.remembered
 
 -- What was granted becomes own where the wait ends.
 module _ (w : World) (safe : SafeWorld w) (s : ℕ) (wait : OwnWait) (alive : w.numbers.live s ≡ true) (is : w.sessions.awaited s ≡ Some wait) where

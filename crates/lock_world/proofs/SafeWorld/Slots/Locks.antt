@@ -12,6 +12,7 @@ use Rattle.lock_world.specs.Happens.Lists.{sleepers}
 use Rattle.lock_world.proofs.ListWords.{flags-fast}
 use Rattle.lock_world.proofs.Slots.Remembered.{remembered-seen}
 use Rattle.lock_world.proofs.Safe.Slots.{taking_fast-safe, putting_fast-safe}
+use Rattle.lock_world.proofs.SafeWorld.Beside.{beside-safe_world}
 
 -- A session that takes one more lock has those it had.
 holds-taken : (holds : ℕ → ℕ → Bool) (s o k : ℕ) → holds k k ≡ true → set_at holds s (set_at (holds s) o true) k k ≡ true
@@ -26,20 +27,14 @@ holds-taken holds s o k has =
 
 -- Taking the lock of a session's fast-path slots is safe.
 pub taking_fast-safe_world : (w : World) (s o : ℕ) → SafeWorld w → MayTakeFast w s o → SafeWorld (after_taking_fast w s o)
-taking_fast-safe_world w s o safe may = record {
-  but_slots = taking_fast-safe (tabled w) s o safe.but_slots (record { steps = may.steps; exists = may.exists; free = may.free });
-  lists = flags-fast w.words.partition w.words.fast (sleepers w) w.sessions.has_list w.numbers.live safe.lists o (taken_word (w.words.fast o)) (taken_word-flags (w.words.fast o) may.free);
-  slots = safe.slots;
-  order = safe.order;
-  counters = safe.counters;
-  past = safe.past;
-  done = safe.done;
-  zero = record {
-    holds = λ k index read. holds-taken w.sessions.holds_fast s o k (safe.zero.holds k index read);
-    nobody_is_past = safe.zero.nobody_is_past;
-  };
-  remembered = remembered-seen w.words.slot w.sessions.remembered s o safe.remembered;
-}
+taking_fast-safe_world w s o safe may = beside-safe_world w (after_taking_fast w s o) safe
+    (taking_fast-safe (tabled w) s o safe.but_slots (record { steps = may.steps; exists = may.exists; free = may.free }))
+    (flags-fast w.words.partition w.words.fast (sleepers w) w.sessions.has_list w.numbers.live safe.lists o (taken_word (w.words.fast o)) (taken_word-flags (w.words.fast o) may.free))
+    (record {
+      holds = λ k index read. holds-taken w.sessions.holds_fast s o k (safe.zero.holds k index read);
+      nobody_is_past = safe.zero.nobody_is_past;
+    })
+    (remembered-seen w.words.slot w.sessions.remembered s o safe.remembered)
 
 -- A counter read as 0 is what was read before the lock was put, and it was not the reader's own lock.
 pub zero-after : (zero : ℕ → Option ℕ) (s o k index : ℕ) → zero_after_putting zero s o k ≡ Some index → (zero k ≡ Some index) × ((k ≡ s) → k ≢ o)
@@ -66,18 +61,12 @@ holds-put holds s o k another has =
     ]
 
 pub putting_fast-safe_world : (w : World) (s o : ℕ) → SafeWorld w → MayPutFast w s o → SafeWorld (after_putting_fast w s o)
-putting_fast-safe_world w s o safe may = record {
-  but_slots = putting_fast-safe (tabled w) s o safe.but_slots (record { steps = may.steps; holding = may.holding });
-  lists = flags-fast w.words.partition w.words.fast (sleepers w) w.sessions.has_list w.numbers.live safe.lists o (put_word (w.words.fast o))
-      (put_word-flags (w.words.fast o) ((safe.but_slots.locks.fast_words o).held_is_shown s may.holding));
-  slots = safe.slots;
-  order = safe.order;
-  counters = safe.counters;
-  past = safe.past;
-  done = safe.done;
-  zero = record {
-    holds = λ k index read. let before = zero-after w.sessions.zero s o k index read in holds-put w.sessions.holds_fast s o k before.1 (safe.zero.holds k index before.0);
-    nobody_is_past = λ k j t read. safe.zero.nobody_is_past k j t (zero-after w.sessions.zero s o k _ read).0;
-  };
-  remembered = safe.remembered;
-}
+putting_fast-safe_world w s o safe may = beside-safe_world w (after_putting_fast w s o) safe
+    (putting_fast-safe (tabled w) s o safe.but_slots (record { steps = may.steps; holding = may.holding }))
+    (flags-fast w.words.partition w.words.fast (sleepers w) w.sessions.has_list w.numbers.live safe.lists o (put_word (w.words.fast o))
+    (put_word-flags (w.words.fast o) ((safe.but_slots.locks.fast_words o).held_is_shown s may.holding)))
+    (record {
+      holds = λ k index read. let before = zero-after w.sessions.zero s o k index read in holds-put w.sessions.holds_fast s o k before.1 (safe.zero.holds k index before.0);
+      nobody_is_past = λ k j t read. safe.zero.nobody_is_past k j t (zero-after w.sessions.zero s o k _ read).0;
+    })
+    safe.remembered
