@@ -17,7 +17,7 @@ use Rattle.lock_world.specs.Safe.{SafeButSlots, is_hand_of, is_leave_of, stage_o
 use Rattle.lock_world.proofs.Moves.Each.{LeavesSafe, LeavesSafe-added}
 use Rattle.lock_world.proofs.Moves.Moved.{AreInOnePlace-stage}
 use Rattle.lock_world.proofs.Waits.Stages.{hand-same, stage_of-set, recording-hand, recording-recorded, recording-unmarked, recording-by_move}
-use Rattle.lock_world.proofs.Waits.Steps.{WaitsAreSafe, UnmarkedWell}
+use Rattle.lock_world.proofs.Waits.Shown.{WaitsAreSafe, UnmarkedWell}
 use Rattle.lock_world.proofs.Waits.Group.{waits_of, with_waits-table, SpentHaveNothing-own}
 use Rattle.lock_world.proofs.Table.Waits.{recording-holders}
 use Rattle.lock_world.proofs.Safe.Partitions.{holding-hand}

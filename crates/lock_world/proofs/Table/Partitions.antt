@@ -7,7 +7,8 @@ use Rattle.lock_world.specs.Safe.{TableIsSafe, is_hand_of, stage_by_hand, HandsA
 use Rattle.lock_table.proofs.PutLemmas.{set_at-here, set_at-else, column-here, column-else, row-else, set_at-same}
 use Rattle.lock_world.proofs.Words.Holders.{ShowsHolders-taken, WordsShowHolders-set, free-not_held, ShowsHolders-put}
 use Rattle.lock_world.proofs.Waits.Stages.{hand-unrecorded, nobody's, hand-queued}
-use Rattle.lock_world.proofs.Waits.Steps.{WaitsAreSafe, shows_from, quiet_hand-safe, made_by_putting-safe}
+use Rattle.lock_world.proofs.Waits.Shown.{WaitsAreSafe, shows_from}
+use Rattle.lock_world.proofs.Waits.Steps.{quiet_hand-safe, made_by_putting-safe}
 use Rattle.lock_world.proofs.Waits.Group.{waits_of, SpentHaveNothing-own}
 use Rattle.std.specs.Prelude.{◌&&◌}
 use Rattle.modes_core.specs.declared.modes.Mode.{Mode}

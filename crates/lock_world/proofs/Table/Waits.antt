@@ -8,7 +8,8 @@ use Rattle.lock_world.specs.Happens.Waits.{after_asking, after_loading_wait, rec
 use Rattle.lock_world.specs.Safe.{TableIsSafe, is_hand_of, stage_of, stages}
 use Rattle.lock_table.proofs.PutLemmas.{set_at-each, set_at-here, set_at-else, set_at-twice}
 use Rattle.lock_world.proofs.Words.Wait.{asked_word-state}
-use Rattle.lock_world.proofs.Waits.Steps.{same_states-safe, seeing-safe, WaitsAreSafe, GrantsOthers, joining_queue-safe, recording-safe, marking-safe, own_hand-not_unmarked, granted-not_unmarked, stage_left, taking_over-safe, ending-safe}
+use Rattle.lock_world.proofs.Waits.Shown.{WaitsAreSafe}
+use Rattle.lock_world.proofs.Waits.Steps.{same_states-safe, seeing-safe, GrantsOthers, joining_queue-safe, recording-safe, marking-safe, own_hand-not_unmarked, granted-not_unmarked, stage_left, taking_over-safe, ending-safe}
 use Rattle.lock_world.proofs.Waits.Group.{waits_of, with_waits-table, SpentHaveNothing-own}
 use Rattle.modes_core.specs.declared.modes.Mode.{Mode}
 use Rattle.modes_core.specs.declared.tags.Tag.{Tag}

@@ -6,7 +6,7 @@ use Rattle.lock_table.specs.Content.{Holds, Content}
 use Rattle.lock_table.specs.OwnWait.{OwnWait}
 use Rattle.lock_world.specs.World.{World, Hand, TraceEntry}
 use Rattle.lock_world.specs.Safe.{TableIsSafe, is_hand_of, SpentHaveNothing}
-use Rattle.lock_world.proofs.Waits.Steps.{WaitsAreSafe, safe_from, shows_from}
+use Rattle.lock_world.proofs.Waits.Shown.{WaitsAreSafe, safe_from, shows_from}
 
 -- What is safe of the waits of a World.
 pub waits_of : (w : World) → TableIsSafe w → WaitsAreSafe w.contents.now w.sessions.own w.sessions.awaited w.sessions.seen w.words.wait w.contents.hand
