@@ -17,7 +17,7 @@ use Rattle.local_locks.proofs.IndexLaws.{indexed-alike}
 use Rattle.local_locks.proofs.EndLaws.{with_next_ended-none, Stopped, Passed, present-same, present-stopped, find-stopped, present-passed, find-passed}
 use Rattle.local_locks.proofs.EndSteps.{length-present_alike, past-start}
 use Rattle.local_locks.proofs.LevelLaws.{owned_of, had-alike, told-same, outer-same, length-outer, up_to-at}
-use Rattle.local_locks.proofs.LevelSteps.{Rises, rises-now, rises-to, had-cut, rises-cut}
+use Rattle.local_locks.proofs.LevelRows.{Rises, rises-now, rises-to, had-cut, rises-cut}
 
 -- The end of the innermost level, of which the slots and their lists are told here.
 

@@ -11,6 +11,8 @@ pub mod OwnedLaws
 pub mod NewLaws
 pub mod EntryLaws
 pub mod LevelLaws
+pub mod LevelRows
 pub mod LevelSteps
+pub mod LevelTables
 pub mod InnerSteps
 pub mod RowLaws

@@ -1,6 +1,7 @@
 use Rattle.std.specs.Prelude.{vec_capacity}
 use Rattle.local_locks.specs.Levels.{IsLeveledTable}
-use Rattle.local_locks.proofs.LevelSteps.{paced-first, table-with, leveled-first}
+use Rattle.local_locks.proofs.LevelRows.{paced-first, leveled-first}
+use Rattle.local_locks.proofs.LevelTables.{table-with}
 use Rattle.std.proofs.Common.{inl, Vec, Global, ◌≡◌, ◌<◌, List, length, true, refl, sym, ap, subst, ◌∙◌, arith}
 use Rattle.std.specs.Prelude.{is_some}
 use Rattle.local_locks.specs.Owned.{IsWellOwned, max_count, is_of, count_for, has_entry, owner_count_of, with_one_more}

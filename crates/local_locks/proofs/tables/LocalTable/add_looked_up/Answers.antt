@@ -8,7 +8,8 @@ use Rattle.local_locks.specs.declared.ends.Progress.{Progress}
 use Rattle.local_locks.specs.declared.records.Entry.{Entry}
 use Rattle.local_locks.proofs.LevelLaws.{well_owned}
 use Rattle.local_locks.proofs.TableSteps.{entries-raised}
-use Rattle.local_locks.proofs.LevelSteps.{paced-looked, raised-table}
+use Rattle.local_locks.proofs.LevelRows.{paced-looked}
+use Rattle.local_locks.proofs.LevelTables.{raised-table}
 use Rattle.local_locks.proofs.tables.LocalTable.add_looked_up.Goals as goal
 
 pub returns-in_default-clause-well_owned : goal.returns-in_default-clause-well_owned

@@ -7,7 +7,9 @@ use Rattle.local_locks.specs.declared.records.Entry.{Entry}
 use Rattle.local_locks.specs.Owned.{IsWellOwned, max_count, count_for, count_in_all, own_count_of, total_of, with_one_less}
 use Rattle.local_locks.specs.Levels.{row_at, IsLeveledTable}
 use Rattle.local_locks.proofs.LevelLaws.{owned_of, own_count-at}
-use Rattle.local_locks.proofs.LevelSteps.{paced-hinted, table-with, taken-table, leveled-first, first_lists, own_count-first}
+use Rattle.local_locks.proofs.LevelRows.{paced-hinted, leveled-first, first_lists}
+use Rattle.local_locks.proofs.LevelSteps.{own_count-first}
+use Rattle.local_locks.proofs.LevelTables.{table-with, taken-table}
 use Rattle.local_locks.specs.Slots.{Slots, IsIndexed, IsKept, IsTable, IsPlaceOf, opened, entry_at, present}
 use Rattle.local_locks.proofs.OpenLaws.{slot_at-opened, entry_in-held, more-by}
 use Rattle.local_locks.proofs.LookLaws.{place_read, some_held}

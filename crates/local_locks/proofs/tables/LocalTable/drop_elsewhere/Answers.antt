@@ -5,7 +5,9 @@ use Rattle.local_locks.specs.Owned.{IsWellOwned, entry_for, own_count_of, count_
 use Rattle.std.specs.Prelude.{None}
 use Rattle.local_locks.specs.Levels.{row_at, own_count_in, outer_of, IsLeveled}
 use Rattle.local_locks.proofs.LevelLaws.{own_count-at, own_count-none}
-use Rattle.local_locks.proofs.LevelSteps.{paced-looked, table-with, taken-table, forgot-one, leveled-lowered, outer-gone, only-inner, own_count-within}
+use Rattle.local_locks.proofs.LevelRows.{paced-looked}
+use Rattle.local_locks.proofs.LevelSteps.{leveled-lowered, outer-gone, only-inner, own_count-within}
+use Rattle.local_locks.proofs.LevelTables.{table-with, taken-table, forgot-one}
 use Rattle.local_locks.specs.Slots.{Slots, IsKept, IsPlaceOf, key_hash, opened, entry_at, present}
 use Rattle.local_locks.specs.declared.records.Entry.{Entry}
 use Rattle.local_locks.proofs.LevelLaws.{well_owned}

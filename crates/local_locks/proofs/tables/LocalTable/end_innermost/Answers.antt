@@ -12,7 +12,9 @@ use Rattle.local_locks.proofs.OpenLaws.{length-opened, opened_some}
 use Rattle.local_locks.proofs.EndLaws.{ended_by-next, ended_by-none, left_by-next}
 use Rattle.local_locks.proofs.EndSteps.{kept-compact}
 use Rattle.local_locks.proofs.LevelLaws.{well_owned, length-outer, outer-same, outer-taken}
-use Rattle.local_locks.proofs.LevelSteps.{paced-ended, table-with, taken-table, forgot-one, leveled-moved, leveled-past, outer-gone}
+use Rattle.local_locks.proofs.LevelRows.{paced-ended}
+use Rattle.local_locks.proofs.LevelSteps.{leveled-moved, outer-gone}
+use Rattle.local_locks.proofs.LevelTables.{table-with, taken-table, forgot-one, leveled-past}
 use Rattle.local_locks.proofs.InnerSteps.{without, found-depth, outer-settled, leveled-settled, leveled-all, kept-settled, find-all, left-all, find-inner, present-inner, nothing-inner}
 use Rattle.local_locks.proofs.tables.LocalTable.end_innermost.Goals as goal
 

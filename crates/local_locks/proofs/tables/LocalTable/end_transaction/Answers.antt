@@ -8,7 +8,8 @@ use Rattle.local_locks.specs.declared.ends.Progress.{Progress}
 use Rattle.local_locks.proofs.LevelLaws.{well_owned}
 use Rattle.local_locks.specs.Levels.{row_at}
 use Rattle.local_locks.proofs.LevelLaws.{length-outer}
-use Rattle.local_locks.proofs.LevelSteps.{table-with, leveled-empty, leveled-ended, moved-first}
+use Rattle.local_locks.proofs.LevelRows.{leveled-empty}
+use Rattle.local_locks.proofs.LevelTables.{table-with, leveled-ended, moved-first}
 use Rattle.local_locks.proofs.KeptLaws.{past-le}
 use Rattle.local_locks.proofs.OpenLaws.{length-opened, opened_some}
 use Rattle.local_locks.proofs.EndLaws.{ended_by-next, ended_by-none, left_by-next, with_next_ended-none, present-passed, find-passed}

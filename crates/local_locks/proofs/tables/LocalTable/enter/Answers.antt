@@ -1,7 +1,8 @@
 use Rattle.std.specs.Prelude.{vec_capacity}
 use Rattle.place_index.specs.Notes.{no_place}
 use Rattle.local_locks.specs.Levels.{row_at, outer_of, IsLeveled}
-use Rattle.local_locks.proofs.LevelSteps.{paced-looked, Keeps_outer, leveled-pushed}
+use Rattle.local_locks.proofs.LevelRows.{paced-looked}
+use Rattle.local_locks.proofs.LevelSteps.{Keeps_outer, leveled-pushed}
 use Rattle.std.proofs.Common.{◌≡◌, ◌≤◌, min, ◌<◌, ◌+◌, ◌∷◌, ◌++◌, [], Some, false, sym, ap, subst, cond, ◌∙◌, length, arith}
 use Rattle.local_locks.specs.Owned.{IsCounted, raised, new_entry, has_entry, with_one_more, change}
 use Rattle.local_locks.specs.Slots.{Slots, IsKept, IsIndexed, opened, present, back_to}

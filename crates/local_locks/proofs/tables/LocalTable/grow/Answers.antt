@@ -3,7 +3,8 @@ use Rattle.std.specs.Prelude.{vec_capacity}
 use Rattle.local_locks.specs.Owned.{IsWellOwned}
 use Rattle.local_locks.specs.Levels.{IsLeveledTable}
 use Rattle.local_locks.proofs.LevelLaws.{well_owned}
-use Rattle.local_locks.proofs.LevelSteps.{grown-table, unless_err}
+use Rattle.local_locks.proofs.LevelRows.{unless_err}
+use Rattle.local_locks.proofs.LevelTables.{grown-table}
 use Rattle.local_locks.proofs.tables.LocalTable.grow.Goals as goal
 
 pub returns-then-len-eq-MAX_SLOTS-clause-well_owned : goal.returns-then-len-eq-MAX_SLOTS-clause-well_owned

@@ -5,7 +5,7 @@ use Rattle.local_locks.specs.Slots.{opened, IsTable, at_start}
 use Rattle.local_locks.specs.Levels.{Rows, row_at}
 use Rattle.local_locks.proofs.EndSteps.{table-empty}
 use Rattle.local_locks.proofs.LevelLaws.{well_owned}
-use Rattle.local_locks.proofs.LevelSteps.{leveled-empty, unless_err}
+use Rattle.local_locks.proofs.LevelRows.{leveled-empty, unless_err}
 use Rattle.local_locks.proofs.tables.LocalTable.new.Goals as goal
 
 pub invariant_of-result : goal.invariant_of-result

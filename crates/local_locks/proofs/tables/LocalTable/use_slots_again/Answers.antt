@@ -1,6 +1,7 @@
 use Rattle.local_locks.specs.Levels.{row_at}
 use Rattle.local_locks.proofs.LevelLaws.{outer-same}
-use Rattle.local_locks.proofs.LevelSteps.{leveled-moved, table-with}
+use Rattle.local_locks.proofs.LevelSteps.{leveled-moved}
+use Rattle.local_locks.proofs.LevelTables.{table-with}
 use Rattle.std.proofs.Common.{ap, ◌∙◌, sym, subst, arith}
 use Rattle.local_locks.specs.declared.ends.Progress.{Progress}
 use Rattle.local_locks.specs.Owned.{IsWellOwned}
