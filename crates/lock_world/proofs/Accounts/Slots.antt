@@ -61,22 +61,14 @@ slots-had has database slot o b = λ i q. at q i where
             ∙ sym (set_at-else (slots_in_hand has database slot) o (known_slots b (database o) (slot o)) q other)
       ]
 
-holds-had :
-    (w : World) (s o : ℕ) (b : Bool)
-    → slots_in_hand (set_at w.sessions.holds_fast s (set_at (w.sessions.holds_fast s) o b) s) w.words.database w.words.slot
-    ≡ set_at (slots_in_hand (w.sessions.holds_fast s) w.words.database w.words.slot) o (known_slots b (w.words.database o) (w.words.slot o))
-holds-had w s o b =
-    ap (λ has. slots_in_hand has w.words.database w.words.slot) (set_at-here w.sessions.holds_fast s (set_at (w.sessions.holds_fast s) o b) s refl)
-    ∙ slots-had (w.sessions.holds_fast s) w.words.database w.words.slot o b
-
--- the same of those that are shared
-shares-had :
-    (w : World) (s o : ℕ) (b : Bool)
-    → slots_in_hand (set_at w.sessions.shares_fast s (set_at (w.sessions.shares_fast s) o b) s) w.words.database w.words.slot
-    ≡ set_at (slots_in_hand (w.sessions.shares_fast s) w.words.database w.words.slot) o (known_slots b (w.words.database o) (w.words.slot o))
-shares-had w s o b =
-    ap (λ has. slots_in_hand has w.words.database w.words.slot) (set_at-here w.sessions.shares_fast s (set_at (w.sessions.shares_fast s) o b) s refl)
-    ∙ slots-had (w.sessions.shares_fast s) w.words.database w.words.slot o b
+-- One lock more or less of those that a session holds, or of those that it shares.
+row-had :
+    (w : World) (has : ℕ → ℕ → Bool) (s o : ℕ) (b : Bool)
+    → slots_in_hand (set_at has s (set_at (has s) o b) s) w.words.database w.words.slot
+    ≡ set_at (slots_in_hand (has s) w.words.database w.words.slot) o (known_slots b (w.words.database o) (w.words.slot o))
+row-had w has s o b =
+    ap (λ its. slots_in_hand its w.words.database w.words.slot) (set_at-here has s (set_at (has s) o b) s refl)
+    ∙ slots-had (has s) w.words.database w.words.slot o b
 
 -- Taking the lock of a session's slots, and putting it: its own the session remembers as they show.
 remembered-taken :
@@ -93,7 +85,7 @@ pub account-taking_fast :
     ≡ account_taking_fast s (account w s) o (record { word = w.words.slot o; holds = slot_holds (w.words.database o) (w.words.slot o) })
 account-taking_fast w s o =
     account-by (after_taking_fast w s o) s (account_taking_fast s (account w s) o slots) refl refl refl refl refl refl
-    (fast-by (after_taking_fast w s o) s (account_taking_fast s (account w s) o slots).fast (holds-had w s o true)
+    (fast-by (after_taking_fast w s o) s (account_taking_fast s (account w s) o slots).fast (row-had w w.sessions.holds_fast s o true)
     refl refl (remembered-taken w.sessions.remembered w.words.slot s o) refl refl) refl where
       slots : SlotsInHand
       slots = record { word = w.words.slot o; holds = slot_holds (w.words.database o) (w.words.slot o) }
@@ -107,7 +99,7 @@ zero-put zero s o = go (o == s) where
 pub account-putting_fast : (w : World) (s o : ℕ) → account (after_putting_fast w s o) s ≡ account_putting_fast s (account w s) o
 account-putting_fast w s o =
     account-by (after_putting_fast w s o) s (account_putting_fast s (account w s) o) refl refl refl refl refl refl
-    (fast-by (after_putting_fast w s o) s (account_putting_fast s (account w s) o).fast (holds-had w s o false) refl refl refl (zero-put w.sessions.zero s o) refl) refl
+    (fast-by (after_putting_fast w s o) s (account_putting_fast s (account w s) o).fast (row-had w w.sessions.holds_fast s o false) refl refl refl (zero-put w.sessions.zero s o) refl) refl
 
 -- Sharing it, and giving it back.
 pub account-sharing_fast :
@@ -116,7 +108,7 @@ pub account-sharing_fast :
     ≡ account_sharing_fast s (account w s) o (record { word = w.words.slot o; holds = slot_holds (w.words.database o) (w.words.slot o) })
 account-sharing_fast w s o =
     account-by (after_sharing_fast w s o) s (account_sharing_fast s (account w s) o slots) refl refl refl refl refl refl
-    (fast-by (after_sharing_fast w s o) s (account_sharing_fast s (account w s) o slots).fast refl (shares-had w s o true)
+    (fast-by (after_sharing_fast w s o) s (account_sharing_fast s (account w s) o slots).fast refl (row-had w w.sessions.shares_fast s o true)
     refl (remembered-taken w.sessions.remembered w.words.slot s o) refl refl) refl where
       slots : SlotsInHand
       slots = record { word = w.words.slot o; holds = slot_holds (w.words.database o) (w.words.slot o) }
@@ -124,7 +116,7 @@ account-sharing_fast w s o =
 pub account-unsharing_fast : (w : World) (s o : ℕ) → account (after_unsharing_fast w s o) s ≡ account_unsharing_fast (account w s) o
 account-unsharing_fast w s o =
     account-by (after_unsharing_fast w s o) s (account_unsharing_fast (account w s) o) refl refl refl refl refl refl
-    (fast-by (after_unsharing_fast w s o) s (account_unsharing_fast (account w s) o).fast refl (shares-had w s o false) refl refl refl refl) refl
+    (fast-by (after_unsharing_fast w s o) s (account_unsharing_fast (account w s) o).fast refl (row-had w w.sessions.shares_fast s o false) refl refl refl refl) refl
 
 -- Counting, counting no more, and going past a session.
 pub account-counting : (w : World) (s : ℕ) (t : Tag) (m : Mode) → account (after_counting w s t m) s ≡ account_counting (account w s) t m
@@ -142,7 +134,7 @@ account-uncounting w s t m =
 pub account-passing : (w : World) (s o : ℕ) (t : Tag) (m : Mode) → account (after_passing w s o t m) s ≡ account_passing s (account w s) o t m
 account-passing w s o t m =
     account-by (after_passing w s o t m) s (account_passing s (account w s) o t m) refl refl refl refl refl refl
-    (fast-by (after_passing w s o t m) s (account_passing s (account w s) o t m).fast (holds-had w s o false) refl refl refl (zero-put w.sessions.zero s o)
+    (fast-by (after_passing w s o t m) s (account_passing s (account w s) o t m).fast (row-had w w.sessions.holds_fast s o false) refl refl refl (zero-put w.sessions.zero s o)
     (set_at-here w.sessions.counted s (passing (w.sessions.counted s) t m o) s refl)) refl
 
 -- Loading a word, and a counter.

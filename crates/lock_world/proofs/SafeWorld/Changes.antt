@@ -13,7 +13,7 @@ use Rattle.lock_world.specs.Counted.{Counted}
 use Rattle.lock_world.specs.World.{World, TraceEntry}
 use Rattle.lock_world.specs.Safe.{SafeButSlots, TracesTell}
 use Rattle.lock_world.specs.SafeWorld.{slots_of, own_but}
-use Rattle.lock_world.proofs.Table.Beside.{beside-table}
+use Rattle.lock_world.proofs.Table.Beside.{same-table}
 
 -- What steps on slots and counters change, and what stays.
 
@@ -33,7 +33,7 @@ pub with_fast_path-safe :
     (zero : ℕ → Option ℕ) (remembered : ℕ → ℕ → ℕ) (trace : ℕ → List TraceEntry) → SafeButSlots w
     → TracesTell w.contents trace w.numbers.issued → SafeButSlots (with_fast_path w database slot strong counted zero remembered trace)
 with_fast_path-safe w database slot strong counted zero remembered trace safe traces = record {
-  table = beside-table w (with_fast_path w database slot strong counted zero remembered trace) safe.table;
+  table = same-table w (with_fast_path w database slot strong counted zero remembered trace) safe.table;
   locks = safe.locks;
   traces = traces;
 }

@@ -14,7 +14,7 @@ use Rattle.lock_world.specs.SafeWorld.{SafeWorld, tabled}
 use Rattle.lock_world.proofs.Words.Holders.{ShowsHolders-stay}
 use Rattle.lock_world.proofs.ListWords.{ListsAreShown, lock_word-partition, lock_word-fast, lock_word-set_partition, lock_word-set_fast, shown-locked, shown-unlocked, kept-partition, kept-fast}
 use Rattle.lock_world.proofs.WaitLists.{joining_list-safe, leaving_list-safe, taking_off-safe, telling-safe, seeing_none-safe}
-use Rattle.lock_world.proofs.Table.Beside.{beside-table}
+use Rattle.lock_world.proofs.Table.Beside.{same-table}
 use Rattle.lock_world.proofs.Table.Sharing.{with_partition_words, with_partition_words-table}
 use Rattle.lock_world.proofs.SafeWorld.Beside.{beside-safe_world}
 
@@ -24,7 +24,7 @@ with_lists-but_slots :
     (w : World) (partition fast : ℕ → ℕ) (s : Sleepers) (has : ℕ → Option ℕ) → SafeButSlots w → ((p : ℕ) → HoldersStay (w.words.partition p) (partition p))
     → ((o : ℕ) → HoldersStay (w.words.fast o) (fast o)) → SafeButSlots (with_lists w partition fast s has)
 with_lists-but_slots w partition fast s has safe partitions_stay fast_stay = record {
-  table = beside-table (with_partition_words w partition w.sessions.shares_partition) (with_lists w partition fast s has)
+  table = same-table (with_partition_words w partition w.sessions.shares_partition) (with_lists w partition fast s has)
       (with_partition_words-table w partition w.sessions.shares_partition safe.table (λ p.
       ShowsHolders-stay w.numbers.limit (w.words.partition p) (partition p) (λ k. w.sessions.holds_partition k p) (λ k. w.sessions.shares_partition k p) (partitions_stay p) (safe.table.promise.words p)));
   locks = record {

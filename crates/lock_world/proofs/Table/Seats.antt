@@ -5,7 +5,7 @@ use Rattle.lock_table.specs.Put.{set_at}
 use Rattle.lock_world.specs.Happens.Seats.{MayBeIssued, after_issuing, MayGoOn, after_going_on, MayBeKeptApart, after_keeping_apart, MayClose, after_closing}
 use Rattle.lock_world.specs.Safe.{TableIsSafe, NumbersAreInOrder, SpentHaveNothing, WordsShowHolders}
 use Rattle.lock_table.proofs.PutLemmas.{set_at-else, set_at-each}
-use Rattle.lock_world.proofs.Table.Beside.{beside-table}
+use Rattle.lock_world.proofs.Table.Beside.{beside-table, same-table}
 
 -- A World of which the session numbers alone have changed.
 abbrev pub with_numbers : World → Numbers → World
@@ -13,17 +13,7 @@ with_numbers w numbers = record { words = w.words; contents = w.contents; sessio
 
 pub with_numbers-table : (w : World) (numbers : Numbers) → TableIsSafe w → WordsShowHolders numbers.limit w.words.partition w.sessions.holds_partition w.sessions.shares_partition
     → SpentHaveNothing numbers.live w.sessions.own w.sessions.awaited w.sessions.holds_partition → NumbersAreInOrder numbers → TableIsSafe (with_numbers w numbers)
-with_numbers-table w numbers safe words spent order = record {
-  promise = record {
-    no_conflict = safe.promise.no_conflict;
-    one_place = safe.promise.one_place;
-    none_free = safe.promise.none_free;
-    wait_words = safe.promise.wait_words;
-    words = words;
-    spent = spent;
-  };
-  carriers = record { hands = safe.carriers.hands; numbers = order; unmarked_by_move = safe.carriers.unmarked_by_move };
-}
+with_numbers-table w numbers = beside-table w (with_numbers w numbers)
 
 -- Issuing a number is safe.
 pub issuing-table : (w : World) (s : ℕ) → TableIsSafe w → MayBeIssued w s → TableIsSafe (after_issuing w s)
@@ -67,7 +57,7 @@ keeping_apart-table w s joiner safe may = with_numbers-table w _ safe safe.promi
 
 -- Closing is safe.
 pub closing-table : (w : World) (s : ℕ) → TableIsSafe w → MayClose w s → TableIsSafe (after_closing w s)
-closing-table w s safe may = beside-table (with_numbers w (after_closing w s).numbers) (after_closing w s) closed where
+closing-table w s safe may = same-table (with_numbers w (after_closing w s).numbers) (after_closing w s) closed where
   still_joiner : (k j : ℕ) → w.numbers.kept_by k ≡ Some j → set_at w.numbers.live s false j ≡ true
   still_joiner k j kept =
       elim (cases_eq j s) [

@@ -1,7 +1,7 @@
 use Rattle.std.proofs.Common.{ℕ, Bool, Option}
 use Rattle.lock_world.specs.World.{World}
 use Rattle.lock_world.specs.Safe.{TableIsSafe, WordsShowHolders}
-use Rattle.lock_world.proofs.Table.Beside.{beside-table}
+use Rattle.lock_world.proofs.Table.Beside.{beside-table, same-table}
 
 -- A World of which the words of partitions, and who shares them, alone have changed.
 abbrev pub with_partition_words : World → (ℕ → ℕ) → (ℕ → ℕ → Bool) → World
@@ -14,21 +14,7 @@ with_partition_words w word shares = record {
 
 pub with_partition_words-table : (w : World) (word : ℕ → ℕ) (shares : ℕ → ℕ → Bool) → TableIsSafe w → WordsShowHolders w.numbers.limit word w.sessions.holds_partition shares
     → TableIsSafe (with_partition_words w word shares)
-with_partition_words-table w word shares safe words = record {
-  promise = record {
-    no_conflict = safe.promise.no_conflict;
-    one_place = safe.promise.one_place;
-    none_free = safe.promise.none_free;
-    wait_words = safe.promise.wait_words;
-    words = words;
-    spent = safe.promise.spent;
-  };
-  carriers = record {
-    hands = safe.carriers.hands;
-    numbers = safe.carriers.numbers;
-    unmarked_by_move = safe.carriers.unmarked_by_move;
-  };
-}
+with_partition_words-table w word shares safe words = beside-table w (with_partition_words w word shares) safe words safe.promise.spent safe.carriers.numbers
 
 -- A World with other words of sessions' fast-path locks, other counters read as 0 and other slots as remembered: no
 -- fact of partitions, waits and numbers speaks of them.
@@ -44,4 +30,4 @@ with_fast_words w word holds shares zero remembered = record {
 pub with_fast_words-table :
     (w : World) (word : ℕ → ℕ) (holds shares : ℕ → ℕ → Bool) (zero : ℕ → Option ℕ) (remembered : ℕ → ℕ → ℕ)
     → TableIsSafe w → TableIsSafe (with_fast_words w word holds shares zero remembered)
-with_fast_words-table w word holds shares zero remembered = beside-table w (with_fast_words w word holds shares zero remembered)
+with_fast_words-table w word holds shares zero remembered = same-table w (with_fast_words w word holds shares zero remembered)

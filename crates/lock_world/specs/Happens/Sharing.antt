@@ -17,16 +17,20 @@ pub record MayUnshare (numbers : Numbers) (shares : ℕ → ℕ → Bool) (sessi
   pub steps : MakesSteps numbers session
   pub sharing : shares session lock ≡ true
 
--- A partition's word. Its content does not come with it.
-abbrev pub after_sharing_partition : World → ℕ → ℕ → World
-after_sharing_partition w session partition = record {
-  words = record (w.words) { partition = set_at w.words.partition partition (shared_word (w.words.partition partition)) };
+-- the World with this word of a partition, which the session shares or not
+abbrev pub with_shared_partition : World → ℕ → ℕ → ℕ → Bool → World
+with_shared_partition w session partition word shares = record {
+  words = record (w.words) { partition = set_at w.words.partition partition word };
   contents = w.contents;
   sessions = record (w.sessions) {
-    shares_partition = set_at w.sessions.shares_partition session (set_at (w.sessions.shares_partition session) partition true);
+    shares_partition = set_at w.sessions.shares_partition session (set_at (w.sessions.shares_partition session) partition shares);
   };
   numbers = w.numbers;
 }
+
+-- A partition's word. Its content does not come with it.
+abbrev pub after_sharing_partition : World → ℕ → ℕ → World
+after_sharing_partition w session partition = with_shared_partition w session partition (shared_word (w.words.partition partition)) true
 
 -- The word of a partition is shared, where that is lawful.
 abbrev pub HappensSharingPartition : World → ℕ → ℕ → World → Type 0
@@ -36,14 +40,7 @@ HappensSharingPartition w session partition v =
 
 -- the World once the word of a partition is shared no more by the session
 abbrev pub after_unsharing_partition : World → ℕ → ℕ → World
-after_unsharing_partition w session partition = record {
-  words = record (w.words) { partition = set_at w.words.partition partition (unshared_word (w.words.partition partition)) };
-  contents = w.contents;
-  sessions = record (w.sessions) {
-    shares_partition = set_at w.sessions.shares_partition session (set_at (w.sessions.shares_partition session) partition false);
-  };
-  numbers = w.numbers;
-}
+after_unsharing_partition w session partition = with_shared_partition w session partition (unshared_word (w.words.partition partition)) false
 
 -- The word of a partition is given back, where that is lawful.
 abbrev pub HappensUnsharingPartition : World → ℕ → ℕ → World → Type 0
@@ -51,18 +48,23 @@ HappensUnsharingPartition w session partition v =
     MayUnshare w.numbers w.sessions.shares_partition session partition
     × (v ≡ after_unsharing_partition w session partition)
 
--- The word of the lock of a session's fast-path slots. While it is shared the slots stay as they show, so a session that shares its own remembers
--- them from then on so, as by taking it.
-abbrev pub after_sharing_fast : World → ℕ → ℕ → World
-after_sharing_fast w session owner = record {
-  words = record (w.words) { fast = set_at w.words.fast owner (shared_word (w.words.fast owner)) };
+-- the World with this word of the lock of a session's fast-path slots, which the session shares or not, and with what it remembers of its slots
+abbrev pub with_shared_fast : World → ℕ → ℕ → ℕ → Bool → (ℕ → ℕ → ℕ) → World
+with_shared_fast w session owner word shares remembered = record {
+  words = record (w.words) { fast = set_at w.words.fast owner word };
   contents = w.contents;
   sessions = record (w.sessions) {
-    shares_fast = set_at w.sessions.shares_fast session (set_at (w.sessions.shares_fast session) owner true);
-    remembered = remembered_after_taking w.sessions.remembered w.words.slot session owner;
+    shares_fast = set_at w.sessions.shares_fast session (set_at (w.sessions.shares_fast session) owner shares);
+    remembered = remembered;
   };
   numbers = w.numbers;
 }
+
+-- The word of the lock of a session's fast-path slots. While it is shared the slots stay as they show, so a session that shares its own remembers
+-- them from then on so, as by taking it.
+abbrev pub after_sharing_fast : World → ℕ → ℕ → World
+after_sharing_fast w session owner =
+    with_shared_fast w session owner (shared_word (w.words.fast owner)) true (remembered_after_taking w.sessions.remembered w.words.slot session owner)
 
 -- The lock of a session's slots is shared, where that is lawful.
 abbrev pub HappensSharingFast : World → ℕ → ℕ → World → Type 0
@@ -72,14 +74,7 @@ HappensSharingFast w session owner v =
 
 -- the World once the lock of a session's slots is shared no more by the session
 abbrev pub after_unsharing_fast : World → ℕ → ℕ → World
-after_unsharing_fast w session owner = record {
-  words = record (w.words) { fast = set_at w.words.fast owner (unshared_word (w.words.fast owner)) };
-  contents = w.contents;
-  sessions = record (w.sessions) {
-    shares_fast = set_at w.sessions.shares_fast session (set_at (w.sessions.shares_fast session) owner false);
-  };
-  numbers = w.numbers;
-}
+after_unsharing_fast w session owner = with_shared_fast w session owner (unshared_word (w.words.fast owner)) false w.sessions.remembered
 
 -- The lock of a session's slots is given back, where that is lawful.
 abbrev pub HappensUnsharingFast : World → ℕ → ℕ → World → Type 0

@@ -25,17 +25,25 @@ abbrev pub remembered_after_taking : (ℕ → ℕ → ℕ) → (ℕ → ℕ → 
 remembered_after_taking remembered slot session owner =
     if owner == session then set_at remembered session (slot owner) else remembered
 
--- the World once the lock of a session's slots is held
-abbrev pub after_taking_fast : World → ℕ → ℕ → World
-after_taking_fast w session owner = record {
-  words = record (w.words) { fast = set_at w.words.fast owner (taken_word (w.words.fast owner)) };
+-- the World with this word of the lock of a session's slots, which the session holds or not, and with the counters read as 0 and the slots as
+-- remembered then
+abbrev pub with_held_fast : World → ℕ → ℕ → ℕ → Bool → (ℕ → Option ℕ) → (ℕ → ℕ → ℕ) → World
+with_held_fast w session owner word holds zero remembered = record {
+  words = record (w.words) { fast = set_at w.words.fast owner word };
   contents = w.contents;
   sessions = record (w.sessions) {
-    holds_fast = set_at w.sessions.holds_fast session (set_at (w.sessions.holds_fast session) owner true);
-    remembered = remembered_after_taking w.sessions.remembered w.words.slot session owner;
+    holds_fast = set_at w.sessions.holds_fast session (set_at (w.sessions.holds_fast session) owner holds);
+    zero = zero;
+    remembered = remembered;
   };
   numbers = w.numbers;
 }
+
+-- the World once the lock of a session's slots is held
+abbrev pub after_taking_fast : World → ℕ → ℕ → World
+after_taking_fast w session owner =
+    with_held_fast w session owner (taken_word (w.words.fast owner)) true w.sessions.zero
+    (remembered_after_taking w.sessions.remembered w.words.slot session owner)
 
 -- The lock of a session's slots is taken, where that is lawful.
 abbrev pub HappensTakingFast : World → ℕ → ℕ → World → Type 0
@@ -52,15 +60,8 @@ zero_after_putting zero session owner = if owner == session then set_at zero ses
 
 -- the World once the lock of a session's slots is put
 abbrev pub after_putting_fast : World → ℕ → ℕ → World
-after_putting_fast w session owner = record {
-  words = record (w.words) { fast = set_at w.words.fast owner (put_word (w.words.fast owner)) };
-  contents = w.contents;
-  sessions = record (w.sessions) {
-    holds_fast = set_at w.sessions.holds_fast session (set_at (w.sessions.holds_fast session) owner false);
-    zero = zero_after_putting w.sessions.zero session owner;
-  };
-  numbers = w.numbers;
-}
+after_putting_fast w session owner =
+    with_held_fast w session owner (put_word (w.words.fast owner)) false (zero_after_putting w.sessions.zero session owner) w.sessions.remembered
 
 -- The lock of a session's slots is put, where that is lawful.
 abbrev pub HappensPuttingFast : World → ℕ → ℕ → World → Type 0
