@@ -4,6 +4,7 @@ pub mod LwWords
 pub mod Changes
 pub mod Hands
 pub mod Locks
+pub mod Kept
 pub mod Looks
 pub mod SlotLooks
 pub mod Runs

@@ -43,6 +43,7 @@ use Rattle.lock_model.proofs.Shows.SlotLooks.{zero-set}
 use Rattle.lock_model.proofs.Shows.Looks.{steps_from, steps_kept, awaits_from, slots_from, own_from, own_in_content, own_nowhere, content_from}
 use Rattle.lock_model.proofs.Follows.Skipped.{skipped}
 use Rattle.lock_model.proofs.Follows.Slots.{put_fast_shown}
+use Rattle.lock_model.proofs.Shows.Kept.{fast_path_shown}
 
 -- The machine's steps on strong lock counters.
 
@@ -173,16 +174,11 @@ module _ (m : Machine) (w : World) (safe : SafeWorld w) (shows : Shows m w) wher
   was_counted s t n after may below is = (
     after_counting w s t n,
     inl (may_count_from s t n may, refl),
-    record {
-      numbers = shows.numbers;
-      words = counters_apart m.words w.words _ shows.words;
-      locks = shows.locks;
-      fast_path = shows.fast_path;
-      counted = subst (λ list. ShowsCounted list (set_at w.sessions.counted s (counting (w.sessions.counted s) t n))) (sym is) (counted-push m.counted.items w.sessions.counted s t n shows.counted below);
-      lists = shows.lists;
-      contents = shows.contents;
-      waits = shows.waits;
-    },
+    fast_path_shown shows (after_counting w s t n)
+        (counters_apart m.words w.words _ shows.words)
+        shows.locks
+        shows.fast_path
+        (subst (λ list. ShowsCounted list (set_at w.sessions.counted s (counting (w.sessions.counted s) t n))) (sym is) (counted-push m.counted.items w.sessions.counted s t n shows.counted below)),
   )
 
   pub not_counted : (s : ℕ) (t : Tag) (n : Mode) → may_count m s t n ≡ false → (v : World) × Next w (record { session = s; step = Count t n }) v × Shows m v
@@ -226,16 +222,11 @@ module _ (m : Machine) (w : World) (safe : SafeWorld w) (shows : Shows m w) wher
   was_uncounted s t n after may is = (
     after_uncounting w s t n,
     inl (may_uncount_from s t n may, refl),
-    record {
-      numbers = shows.numbers;
-      words = counters_apart m.words w.words _ shows.words;
-      locks = shows.locks;
-      fast_path = shows.fast_path;
-      counted = subst (λ list. ShowsCounted list (set_at w.sessions.counted s (uncounting (w.sessions.counted s) t n))) (sym is) (counted-without m.counted.items w.sessions.counted s t n shows.counted);
-      lists = shows.lists;
-      contents = shows.contents;
-      waits = shows.waits;
-    },
+    fast_path_shown shows (after_uncounting w s t n)
+        (counters_apart m.words w.words _ shows.words)
+        shows.locks
+        shows.fast_path
+        (subst (λ list. ShowsCounted list (set_at w.sessions.counted s (uncounting (w.sessions.counted s) t n))) (sym is) (counted-without m.counted.items w.sessions.counted s t n shows.counted)),
   )
 
   pub not_uncounted : (s : ℕ) (t : Tag) (n : Mode) → may_uncount m s t n ≡ false → (v : World) × Next w (record { session = s; step = Uncount t n }) v × Shows m v
@@ -300,20 +291,15 @@ module _ (m : Machine) (w : World) (safe : SafeWorld w) (shows : Shows m w) wher
   has_passed s o t n after may below exists is = (
     after_passing w s o t n,
     inl (may_pass_from s o t n may exists, refl),
-    record {
-      numbers = shows.numbers;
-      words = fast_word-set m.words w.words o _ _ shows.words exists (put_fast_shown m w safe shows s o _ _ (shows.words.fast o) (may_pass_from s o t n may exists).holding refl);
-      locks = record {
-        fast_holders = marks-set m.locks.fast_holders 64 w.sessions.holds_fast s o false shows.locks.fast_holders below exists;
-        fast_sharers = shows.locks.fast_sharers;
-        partition_sharers = shows.locks.partition_sharers;
-      };
-      fast_path = zeros_put s o (nat_eq o s) below;
-      counted = subst (λ list. ShowsCounted list (set_at w.sessions.counted s (passing (w.sessions.counted s) t n o))) (sym is) (counted-passed m.counted.items w.sessions.counted s o t n shows.counted);
-      lists = shows.lists;
-      contents = shows.contents;
-      waits = shows.waits;
-    },
+    fast_path_shown shows (after_passing w s o t n)
+        (fast_word-set m.words w.words o _ _ shows.words exists (put_fast_shown m w safe shows s o _ _ (shows.words.fast o) (may_pass_from s o t n may exists).holding refl))
+        (record {
+          fast_holders = marks-set m.locks.fast_holders 64 w.sessions.holds_fast s o false shows.locks.fast_holders below exists;
+          fast_sharers = shows.locks.fast_sharers;
+          partition_sharers = shows.locks.partition_sharers;
+        })
+        (zeros_put s o (nat_eq o s) below)
+        (subst (λ list. ShowsCounted list (set_at w.sessions.counted s (passing (w.sessions.counted s) t n o))) (sym is) (counted-passed m.counted.items w.sessions.counted s o t n shows.counted)),
   )
 
   pub not_passed : (s o : ℕ) (t : Tag) (n : Mode) → may_pass m s o t n ≡ false → (v : World) × Next w (record { session = s; step = PutPassing o t n }) v × Shows m v
@@ -340,16 +326,7 @@ module _ (m : Machine) (w : World) (safe : SafeWorld w) (shows : Shows m w) wher
   loaded s index shown path may is = (
     after_reading_counter w s index shown,
     inl (may_load_from s index shown may, refl),
-    record {
-      numbers = shows.numbers;
-      words = shows.words;
-      locks = shows.locks;
-      fast_path = is;
-      counted = shows.counted;
-      lists = shows.lists;
-      contents = shows.contents;
-      waits = shows.waits;
-    },
+    fast_path_shown shows (after_reading_counter w s index shown) shows.words shows.locks is shows.counted,
   )
 
   reads_zero_from : (s shown : ℕ) → (nat_eq shown 0 && holds_fast m s s) ≡ (nat_eq shown 0 && w.sessions.holds_fast s s)

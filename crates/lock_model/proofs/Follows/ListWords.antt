@@ -22,6 +22,7 @@ use Rattle.lock_model.proofs.Shows.Changes.{partition_word-set, fast_word-set}
 use Rattle.lock_model.proofs.Shows.ListWords.{has_list-set}
 use Rattle.lock_model.proofs.Shows.Looks.{steps_from, steps_kept}
 use Rattle.lock_model.proofs.Shows.LwWords.{number_shown, made_shown, list_free_shown, list_locked_shown, list_unlocked_shown, release_ok_shown, has_waiters_shown}
+use Rattle.lock_model.proofs.Shows.Kept.{lists_shown, table_shown}
 
 -- The bits of lightweight words that guard wait lists, and their flags.
 
@@ -74,53 +75,27 @@ module _ (m : Machine) (w : World) (safe : SafeWorld w) (shows : Shows m w) wher
 
   partition_shown : (s p number : ℕ) (word : LockState) (list : Option ℕ) → s < 64 → p < length m.words.partitions → ShowsLock word number
       → Shows (with_list (with_partition_word m p word) s list) (with_lists w (set_at w.words.partition p number) w.words.fast (sleepers w) (set_at w.sessions.has_list s list))
-  partition_shown s p number word list below in_words says = record {
-    numbers = shows.numbers;
-    words = partition_word-set m.words w.words p word number shows.words in_words says;
-    locks = shows.locks;
-    fast_path = shows.fast_path;
-    counted = shows.counted;
-    lists = has_list-set m.lists w.words.sleep w.words.list w.sessions.has_list w.sessions.stands w.sessions.off s list shows.lists below;
-    contents = shows.contents;
-    waits = shows.waits;
-  }
+  partition_shown s p number word list below in_words says = lists_shown shows (with_lists w (set_at w.words.partition p number) w.words.fast (sleepers w) (set_at w.sessions.has_list s list))
+      (partition_word-set m.words w.words p word number shows.words in_words says)
+      (has_list-set m.lists w.words.sleep w.words.list w.sessions.has_list w.sessions.stands w.sessions.off s list shows.lists below)
 
   fast_shown : (s o number : ℕ) (word : LockState) (list : Option ℕ) → s < 64 → o < 64 → ShowsLock word number
       → Shows (with_list (with_fast_word m o word) s list) (with_lists w w.words.partition (set_at w.words.fast o number) (sleepers w) (set_at w.sessions.has_list s list))
-  fast_shown s o number word list below exists says = record {
-    numbers = shows.numbers;
-    words = fast_word-set m.words w.words o word number shows.words exists says;
-    locks = shows.locks;
-    fast_path = shows.fast_path;
-    counted = shows.counted;
-    lists = has_list-set m.lists w.words.sleep w.words.list w.sessions.has_list w.sessions.stands w.sessions.off s list shows.lists below;
-    contents = shows.contents;
-    waits = shows.waits;
-  }
+  fast_shown s o number word list below exists says = lists_shown shows (with_lists w w.words.partition (set_at w.words.fast o number) (sleepers w) (set_at w.sessions.has_list s list))
+      (fast_word-set m.words w.words o word number shows.words exists says)
+      (has_list-set m.lists w.words.sleep w.words.list w.sessions.has_list w.sessions.stands w.sessions.off s list shows.lists below)
 
   partition_flagged : (p number : ℕ) (word : LockState) → p < length m.words.partitions → ShowsLock word number → Shows (with_partition_word m p word) (after_flagging_partition w p number)
-  partition_flagged p number word in_words says = record {
-    numbers = shows.numbers;
-    words = partition_word-set m.words w.words p word number shows.words in_words says;
-    locks = shows.locks;
-    fast_path = shows.fast_path;
-    counted = shows.counted;
-    lists = shows.lists;
-    contents = shows.contents;
-    waits = shows.waits;
-  }
+  partition_flagged p number word in_words says = table_shown shows (after_flagging_partition w p number)
+      (partition_word-set m.words w.words p word number shows.words in_words says)
+      shows.contents
+      shows.waits
 
   fast_flagged : (o number : ℕ) (word : LockState) → o < 64 → ShowsLock word number → Shows (with_fast_word m o word) (after_flagging_fast w o number)
-  fast_flagged o number word exists says = record {
-    numbers = shows.numbers;
-    words = fast_word-set m.words w.words o word number shows.words exists says;
-    locks = shows.locks;
-    fast_path = shows.fast_path;
-    counted = shows.counted;
-    lists = shows.lists;
-    contents = shows.contents;
-    waits = shows.waits;
-  }
+  fast_flagged o number word exists says = table_shown shows (after_flagging_fast w o number)
+      (fast_word-set m.words w.words o word number shows.words exists says)
+      shows.contents
+      shows.waits
 
   in_limit : (o : ℕ) → o < 64 → o < w.numbers.limit
   in_limit o exists = subst (λ n. o < n) (sym shows.numbers.limit) exists

@@ -23,6 +23,7 @@ use Rattle.lock_model.proofs.SleeperLists.{stands_in-waiters}
 use Rattle.lock_model.proofs.Shows.Lists.{stands-set, sleep-stands-set, sleep-off-set, list-joined, list-left}
 use Rattle.lock_model.proofs.Shows.Looks.{steps_from, steps_kept}
 use Rattle.lock_model.proofs.Follows.Skipped.{skipped}
+use Rattle.lock_model.proofs.Shows.Kept.{lists_shown}
 
 -- The machine's steps on wait lists and sleep words.
 
@@ -40,16 +41,7 @@ sleepers_apart shown words list sleep shows = record {
 module _ (m : Machine) (w : World) (safe : SafeWorld w) (shows : Shows m w) where
   -- Other lists and sleep words, with all else as it was.
   with_others : (l : Lists) (s : Sleepers) → ShowsLists l s.sleep s.list w.sessions.has_list s.stands s.off → Shows (record m { lists = l }) (with_sleepers w s)
-  with_others l s shows_lists = record {
-    numbers = shows.numbers;
-    words = sleepers_apart m.words w.words s.list s.sleep shows.words;
-    locks = shows.locks;
-    fast_path = shows.fast_path;
-    counted = shows.counted;
-    lists = shows_lists;
-    contents = shows.contents;
-    waits = shows.waits;
-  }
+  with_others l s shows_lists = lists_shown shows (with_sleepers w s) (sleepers_apart m.words w.words s.list s.sleep shows.words) shows_lists
 
   -- The list in hand, and who waits in it.
   list_from : (s l : ℕ) → list_to_change m s ≡ Some l → HasList w s l

@@ -33,6 +33,8 @@ use Rattle.lock_model.proofs.Shows.LwWords.{holder_shown, made_shown, free_shown
 use Rattle.lock_model.proofs.Shows.Changes.{partition_word-set, hand-set, IsChangedAt, changed_nowhere, parts-changed}
 use Rattle.lock_table.proofs.QueueLaws.{one_wakes}
 use Rattle.lock_model.proofs.Shows.Looks.{recorded_from, unmarked_from, steps_from, hand_from, hand_not, own_in_content, not_awaited_own, content_from, fits_from, from_fits}
+use Rattle.lock_model.proofs.Follows.Skipped.{skipped}
+use Rattle.lock_model.proofs.Shows.Kept.{table_shown}
 
 -- What the code asks of its own wait before a leave is put is what the World asks.
 over_from : (awaited : Option OwnWait) (p : ℕ) (done : Move) → is_over (option_map awaited_of awaited) p done ≡ true → WaitIsOver awaited p done
@@ -84,32 +86,20 @@ module _ (m : Machine) (w : World) (safe : SafeWorld w) (shows : Shows m w) wher
   taken s p its word unmarked steps exists in_words says answer none = (
     after_taking_partition w s p,
     inl (record { steps = steps_from m w safe shows s steps; exists = exists; free = (free_shown its _ says).0 answer.0 }, refl),
-    record {
-      numbers = shows.numbers;
-      words = partition_word-set m.words w.words p word _ shows.words in_words (made_shown word _ answer.1 (taken_shown its _ says Exclusive tt answer.0));
-      fast_path = shows.fast_path;
-      counted = shows.counted;
-      lists = shows.lists;
-      locks = shows.locks;
-      contents = hand-set m.contents w.contents p _ _ shows.contents exists (record { holder = refl; recorded = refl; unmarked = none });
-      waits = shows.waits;
-    },
+    table_shown shows (after_taking_partition w s p)
+        (partition_word-set m.words w.words p word _ shows.words in_words (made_shown word _ answer.1 (taken_shown its _ says Exclusive tt answer.0)))
+        (hand-set m.contents w.contents p _ _ shows.contents exists (record { holder = refl; recorded = refl; unmarked = none }))
+        shows.waits,
   )
 
   -- A put is shown once the parts follow it.
   shown_put : (s p : ℕ) (done : Move) (content : Content) (changed : Contents) → p < 16 → p < length m.words.partitions → w.sessions.holds_partition s p ≡ true → IsChangedAt m.contents.parts.items changed.parts.items p content
       → Shows (put_by m p changed) (after_putting_partition w s p done content)
-  shown_put s p done content changed exists in_words holding at = record {
-    numbers = shows.numbers;
-    words = partition_word-set m.words w.words p _ _ shows.words in_words
-        (put_shown _ _ (shows.words.partition p) Exclusive (holder_shown w.numbers.limit (w.words.partition p) _ _ (safe.but_slots.table.promise.words p) s holding));
-    fast_path = shows.fast_path;
-    counted = shows.counted;
-    lists = shows.lists;
-    locks = shows.locks;
-    contents = hand-set _ _ p None None (parts-changed m.contents changed w.contents p content shows.contents at) exists tt;
-    waits = shows.waits;
-  }
+  shown_put s p done content changed exists in_words holding at = table_shown shows (after_putting_partition w s p done content)
+      (partition_word-set m.words w.words p _ _ shows.words in_words
+      (put_shown _ _ (shows.words.partition p) Exclusive (holder_shown w.numbers.limit (w.words.partition p) _ _ (safe.but_slots.table.promise.words p) s holding)))
+      (hand-set _ _ p None None (parts-changed m.contents changed w.contents p content shows.contents at) exists tt)
+      shows.waits
 
   -- A put with the move that is recorded.
   pub recorded_put : (s p : ℕ) (done : Move) (shown : InHand) → hand_of m s p ≡ Some shown → shown.recorded ≡ Some done → none_unmarked shown.unmarked ≡ true → is_over (get_or m.waits.awaited s None) p done ≡ true → p < length m.words.partitions
@@ -151,12 +141,17 @@ module _ (m : Machine) (w : World) (safe : SafeWorld w) (shows : Shows m w) wher
       )
 
   -- With no move recorded, what is put is made by putting.
-  pub only_made : (s p : ℕ) (done : Move) → HasUnmoved m s p → Lawful w (record { session = s; step = PutExclusive (Partition p) done }) → (content : Content) × MayPutPartition w s p done content
+  only_made : (s p : ℕ) (done : Move) → HasUnmoved m s p → Lawful w (record { session = s; step = PutExclusive (Partition p) done }) → (content : Content) × MayPutPartition w s p done content
   only_made s p done in_hand (v, inl made) = (made.0, made.1)
   only_made s p done in_hand (v, inr put) =
       let has = hand_from m w safe shows s p in_hand.0 in_hand.1 in
       let none : Some done ≡ None = sym put.0.recorded ∙ recorded_from w s p in_hand.0 has ∙ in_hand.2 in
       absurd (cc)
+
+  -- So a move that isn't made by putting is not put.
+  pub not_put : (s p : ℕ) (done : Move) → HasUnmoved m s p → (IsMadeByPutting done → ⊥)
+      → (v : World) × Next w (record { session = s; step = PutExclusive (Partition p) done }) v × Shows m v
+  not_put s p done in_hand by_another = skipped m w safe shows s (PutExclusive (Partition p) done) (λ lawful. by_another (only_made s p done in_hand lawful).1.by_putting)
 
   pub exists_from : (s p : ℕ) → HasUnmoved m s p → p < 16
   exists_from s p in_hand = (hand_from m w safe shows s p in_hand.0 in_hand.1).exists

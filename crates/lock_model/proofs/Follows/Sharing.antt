@@ -8,7 +8,7 @@ use Rattle.lw_word.specs.LockState.{LockState, IsFreeFor, taken_in, put_in}
 use Rattle.lw_word.specs.declared.words.LwMode.TheVariants.{Shared}
 use Rattle.lock_world.specs.World.{World}
 use Rattle.lock_world.specs.Happens.{Next}
-use Rattle.lock_world.specs.Happens.Sharing.{MayShare, MayUnshare, after_sharing_partition, after_unsharing_partition, after_sharing_fast, after_unsharing_fast}
+use Rattle.lock_world.specs.Happens.Sharing.{with_shared_partition, with_shared_fast, MayShare, MayUnshare, after_sharing_partition, after_unsharing_partition, after_sharing_fast, after_unsharing_fast}
 use Rattle.lock_world.specs.Happens.Slots.{remembered_after_taking}
 use Rattle.lock_world.specs.Safe.{ShowsHolders}
 use Rattle.lock_world.specs.SafeWorld.{SafeWorld}
@@ -19,6 +19,7 @@ use Rattle.lock_model.proofs.Shows.Changes.{partition_word-set, fast_word-set}
 use Rattle.lock_model.proofs.Shows.Locks.{marks-set}
 use Rattle.lock_model.proofs.Shows.Looks.{steps_from}
 use Rattle.lock_model.proofs.Shows.LwWords.{sharer_shown, sharers_shown, made_shown, free_to_share_shown, taken_shown, put_shown}
+use Rattle.lock_model.proofs.Shows.Kept.{fast_path_shown}
 
 -- The machine, once a partition's word shows this, and the session shares it or not.
 abbrev pub with_partition_sharer : Machine → ℕ → ℕ → LockState → Bool → Machine
@@ -58,25 +59,16 @@ module _ (m : Machine) (w : World) (safe : SafeWorld w) (shows : Shows m w) wher
 
   -- A partition's word.
   shown_partition : (s p number : ℕ) (word : LockState) (b : Bool) → s < 64 → p < 16 → p < length m.words.partitions → ShowsLock word number
-      → Shows (with_partition_sharer m s p word b)
-      (record w {
-        words = record (w.words) { partition = set_at w.words.partition p number };
-        sessions = record (w.sessions) { shares_partition = set_at w.sessions.shares_partition s (set_at (w.sessions.shares_partition s) p b) };
+      → Shows (with_partition_sharer m s p word b) (with_shared_partition w s p number b)
+  shown_partition s p number word b below exists in_words says = fast_path_shown shows (with_shared_partition w s p number b)
+      (partition_word-set m.words w.words p word number shows.words in_words says)
+      (record {
+        fast_holders = shows.locks.fast_holders;
+        fast_sharers = shows.locks.fast_sharers;
+        partition_sharers = marks-set m.locks.partition_sharers 16 w.sessions.shares_partition s p b shows.locks.partition_sharers below exists;
       })
-  shown_partition s p number word b below exists in_words says = record {
-    numbers = shows.numbers;
-    words = partition_word-set m.words w.words p word number shows.words in_words says;
-    fast_path = shows.fast_path;
-    counted = shows.counted;
-    lists = shows.lists;
-    locks = record {
-      fast_holders = shows.locks.fast_holders;
-      fast_sharers = shows.locks.fast_sharers;
-      partition_sharers = marks-set m.locks.partition_sharers 16 w.sessions.shares_partition s p b shows.locks.partition_sharers below exists;
-    };
-    contents = shows.contents;
-    waits = shows.waits;
-  }
+      shows.fast_path
+      shows.counted
 
   pub shared_partition : (s p : ℕ) (its word : LockState) → makes_steps m s ≡ true → s < 64 → p < 16 → p < length m.words.partitions → ShowsLock its (w.words.partition p)
       → (IsFreeFor Shared its × (its.shared ≤ 64)) × (word ≡ taken_in Shared its) → get_or (get_or m.locks.partition_sharers p []) s false ≡ false
@@ -106,28 +98,16 @@ module _ (m : Machine) (w : World) (safe : SafeWorld w) (shows : Shows m w) wher
 
   -- The word of a session's fast-path slots. What sessions remember of their slots the machine does not show.
   shown_fast : (s o number : ℕ) (word : LockState) (b : Bool) (remembered : ℕ → ℕ → ℕ) → s < 64 → o < 64 → ShowsLock word number
-      → Shows (with_fast_sharer m s o word b)
-      (record w {
-        words = record (w.words) { fast = set_at w.words.fast o number };
-        sessions = record (w.sessions) {
-          shares_fast = set_at w.sessions.shares_fast s (set_at (w.sessions.shares_fast s) o b);
-          remembered = remembered;
-        };
+      → Shows (with_fast_sharer m s o word b) (with_shared_fast w s o number b remembered)
+  shown_fast s o number word b remembered below exists says = fast_path_shown shows (with_shared_fast w s o number b remembered)
+      (fast_word-set m.words w.words o word number shows.words exists says)
+      (record {
+        fast_holders = shows.locks.fast_holders;
+        fast_sharers = marks-set m.locks.fast_sharers 64 w.sessions.shares_fast s o b shows.locks.fast_sharers below exists;
+        partition_sharers = shows.locks.partition_sharers;
       })
-  shown_fast s o number word b remembered below exists says = record {
-    numbers = shows.numbers;
-    words = fast_word-set m.words w.words o word number shows.words exists says;
-    fast_path = shows.fast_path;
-    counted = shows.counted;
-    lists = shows.lists;
-    locks = record {
-      fast_holders = shows.locks.fast_holders;
-      fast_sharers = marks-set m.locks.fast_sharers 64 w.sessions.shares_fast s o b shows.locks.fast_sharers below exists;
-      partition_sharers = shows.locks.partition_sharers;
-    };
-    contents = shows.contents;
-    waits = shows.waits;
-  }
+      shows.fast_path
+      shows.counted
 
   pub shared_fast : (s o : ℕ) (its word : LockState) → makes_steps m s ≡ true → s < 64 → o < 64 → ShowsLock its (w.words.fast o)
       → (IsFreeFor Shared its × (its.shared ≤ 64)) × (word ≡ taken_in Shared its) → get_or (get_or m.locks.fast_sharers o []) s false ≡ false

@@ -24,6 +24,7 @@ use Rattle.lock_model.proofs.Follows.Skipped.{skipped}
 use Rattle.lock_model.proofs.Follows.Seats.{number_of_some, some_of_number}
 use Rattle.lock_model.proofs.Shows.Looks.{steps_from, steps_kept, steps_not, fits_from, from_fits}
 use Rattle.lock_model.proofs.Shows.SlotLooks.{unused_from, used_from, to_grant_from, from_to_grant, to_grant-relation, slot-set, database-set}
+use Rattle.lock_model.proofs.Shows.Kept.{fast_path_shown, table_shown}
 
 -- Loads of words, and the steps on its own slots and its own database.
 
@@ -62,16 +63,7 @@ module _ (m : Machine) (w : World) (safe : SafeWorld w) (shows_w : Shows m w) wh
 
   -- No load changes what the machine shows.
   loaded_shown : (s n : ℕ) (word : Word) → Shows m (after_loading w s word n)
-  loaded_shown s n word = record {
-    numbers = shows_w.numbers;
-    words = shows_w.words;
-    locks = shows_w.locks;
-    fast_path = shows_w.fast_path;
-    counted = shows_w.counted;
-    lists = shows_w.lists;
-    contents = shows_w.contents;
-    waits = shows_w.waits;
-  }
+  loaded_shown s n word = table_shown shows_w (after_loading w s word n) shows_w.words shows_w.contents shows_w.waits
 
   may_load : (s n : ℕ) (word : Word) → (WordExists w.numbers.groups word ⊎ (WordExists w.numbers.groups word → ⊥)) → MayLoad w s word n ⊎ (MayLoad w s word n → ⊥)
   may_load s n word (inr no_word) = inr (λ may. no_word may.exists)
@@ -178,17 +170,12 @@ module _ (m : Machine) (w : World) (safe : SafeWorld w) (shows_w : Shows m w) wh
       let its = may_set s place t n below fits may in (
         after_setting_slot w s place t n,
         inl (its, refl),
-        record {
-          numbers = shows_w.numbers;
-          words = words_kept _ _;
-          locks = shows_w.locks;
-          fast_path = slot-set m.fast_path w.words.database w.words.slot w.sessions.zero s place _ _ shows_w.fast_path below its.takes.within
-              (ap (λ word. word_with word (relation_of t) n) (shows_w.fast_path.slot s place));
-          counted = shows_w.counted;
-          lists = shows_w.lists;
-          contents = shows_w.contents;
-          waits = shows_w.waits;
-        },
+        fast_path_shown shows_w (after_setting_slot w s place t n)
+            (words_kept _ _)
+            shows_w.locks
+            (slot-set m.fast_path w.words.database w.words.slot w.sessions.zero s place _ _ shows_w.fast_path below its.takes.within
+            (ap (λ word. word_with word (relation_of t) n) (shows_w.fast_path.slot s place)))
+            shows_w.counted,
       )
 
   pub slot_not_set : (s place : ℕ) (t : Tag) (n : Mode) → s < 64 → may_set_slot m s place t n ≡ false → (v : World) × Next w (record { session = s; step = SetSlot place t n }) v × Shows m v
@@ -225,17 +212,12 @@ module _ (m : Machine) (w : World) (safe : SafeWorld w) (shows_w : Shows m w) wh
       let its = may_clear s place t n may in (
         after_clearing_slot w s place t n,
         inl (its, refl),
-        record {
-          numbers = shows_w.numbers;
-          words = words_kept _ _;
-          locks = shows_w.locks;
-          fast_path = slot-set m.fast_path w.words.database w.words.slot w.sessions.zero s place _ _ shows_w.fast_path below its.held_in.within
-              (ap (λ word. word_without word n) (shows_w.fast_path.slot s place));
-          counted = shows_w.counted;
-          lists = shows_w.lists;
-          contents = shows_w.contents;
-          waits = shows_w.waits;
-        },
+        fast_path_shown shows_w (after_clearing_slot w s place t n)
+            (words_kept _ _)
+            shows_w.locks
+            (slot-set m.fast_path w.words.database w.words.slot w.sessions.zero s place _ _ shows_w.fast_path below its.held_in.within
+            (ap (λ word. word_without word n) (shows_w.fast_path.slot s place)))
+            shows_w.counted,
       )
 
   pub slot_not_cleared : (s place : ℕ) (t : Tag) (n : Mode) → may_clear_slot m s place t n ≡ false → (v : World) × Next w (record { session = s; step = ClearSlot place t n }) v × Shows m v
@@ -254,16 +236,11 @@ module _ (m : Machine) (w : World) (safe : SafeWorld w) (shows_w : Shows m w) wh
       } in (
         after_storing_database w s d,
         inl (its, refl),
-        record {
-          numbers = shows_w.numbers;
-          words = words_kept _ _;
-          locks = shows_w.locks;
-          fast_path = database-set m.fast_path w.words.database w.words.slot w.sessions.zero s d shows_w.fast_path below;
-          counted = shows_w.counted;
-          lists = shows_w.lists;
-          contents = shows_w.contents;
-          waits = shows_w.waits;
-        },
+        fast_path_shown shows_w (after_storing_database w s d)
+            (words_kept _ _)
+            shows_w.locks
+            (database-set m.fast_path w.words.database w.words.slot w.sessions.zero s d shows_w.fast_path below)
+            shows_w.counted,
       )
 
   pub database_not_stored : (s d : ℕ) → s < 64 → may_store_database m s ≡ false → (v : World) × Next w (record { session = s; step = StoreDatabase d }) v × Shows m v

@@ -20,6 +20,7 @@ use Rattle.lock_model.proofs.Shows.Locks.{marks-set}
 use Rattle.lock_model.proofs.Shows.Looks.{steps_from}
 use Rattle.lock_model.proofs.Shows.LwWords.{holder_shown, made_shown, free_shown, taken_shown, put_shown}
 use Rattle.lock_model.proofs.Shows.SlotLooks.{zero-set}
+use Rattle.lock_model.proofs.Shows.Kept.{fast_path_shown}
 
 -- The machine, once the word of the owner's slots shows this, and the session holds it exclusively or not.
 abbrev pub with_holder : Machine → ℕ → ℕ → LockState → Bool → Machine
@@ -41,20 +42,15 @@ module _ (m : Machine) (w : World) (safe : SafeWorld w) (shows : Shows m w) wher
       },
       refl,
     ),
-    record {
-      numbers = shows.numbers;
-      words = fast_word-set m.words w.words o word _ shows.words exists (made_shown word _ answer.1 (taken_shown its _ says Exclusive tt answer.0));
-      fast_path = shows.fast_path;
-      counted = shows.counted;
-      lists = shows.lists;
-      locks = record {
-        fast_holders = marks-set m.locks.fast_holders 64 w.sessions.holds_fast s o true shows.locks.fast_holders below exists;
-        fast_sharers = shows.locks.fast_sharers;
-        partition_sharers = shows.locks.partition_sharers;
-      };
-      contents = shows.contents;
-      waits = shows.waits;
-    },
+    fast_path_shown shows (after_taking_fast w s o)
+        (fast_word-set m.words w.words o word _ shows.words exists (made_shown word _ answer.1 (taken_shown its _ says Exclusive tt answer.0)))
+        (record {
+          fast_holders = marks-set m.locks.fast_holders 64 w.sessions.holds_fast s o true shows.locks.fast_holders below exists;
+          fast_sharers = shows.locks.fast_sharers;
+          partition_sharers = shows.locks.partition_sharers;
+        })
+        shows.fast_path
+        shows.counted,
   )
 
   zero_after : (s o : ℕ) (shown : FastPath) (zeros : ℕ → Option ℕ) → ShowsFastPath shown w.words.database w.words.slot zeros → zeros ≡ zero_after_putting w.sessions.zero s o
@@ -74,20 +70,15 @@ module _ (m : Machine) (w : World) (safe : SafeWorld w) (shows : Shows m w) wher
   was_put s o its word path steps below exists says held put is = let holding = sym (shows.locks.fast_holders.mark s o) ∙ held in (
     after_putting_fast w s o,
     inl (refl, (record { steps = steps_from m w safe shows s steps; holding = holding }, refl)),
-    record {
-      numbers = shows.numbers;
-      words = fast_word-set m.words w.words o word _ shows.words exists (put_fast_shown s o its word says holding put);
-      fast_path = is;
-      counted = shows.counted;
-      lists = shows.lists;
-      locks = record {
-        fast_holders = marks-set m.locks.fast_holders 64 w.sessions.holds_fast s o false shows.locks.fast_holders below exists;
-        fast_sharers = shows.locks.fast_sharers;
-        partition_sharers = shows.locks.partition_sharers;
-      };
-      contents = shows.contents;
-      waits = shows.waits;
-    },
+    fast_path_shown shows (after_putting_fast w s o)
+        (fast_word-set m.words w.words o word _ shows.words exists (put_fast_shown s o its word says holding put))
+        (record {
+          fast_holders = marks-set m.locks.fast_holders 64 w.sessions.holds_fast s o false shows.locks.fast_holders below exists;
+          fast_sharers = shows.locks.fast_sharers;
+          partition_sharers = shows.locks.partition_sharers;
+        })
+        is
+        shows.counted,
   )
 
   -- Another session's lock is put,

@@ -39,6 +39,7 @@ use Rattle.lock_model.proofs.Shows.Changes.{hand-set, part-set}
 use Rattle.lock_model.proofs.Shows.Hands.{recording-shown}
 use Rattle.lock_model.proofs.Shows.Looks.{recorded_from, unmarked_from, hand_from, hand_not, content_from, own_but_from, not_awaited_own, and_not_false, and_not_true}
 use Rattle.lock_model.proofs.Shows.SlotLooks.{slot-set}
+use Rattle.lock_model.proofs.Shows.Kept.{table_shown}
 
 -- Moving a mode from a slot to the lock table.
 
@@ -201,15 +202,9 @@ module _ (m : Machine) (w : World) (safe : SafeWorld w) (shows_w : Shows m w) wh
 -- After a refusal the part is as before, and what the machine shows too.
 pub transfer_refused : (m : Machine) (w : World) (p : ℕ) (part : PartView) → Shows m w → p < 16 → content_of part ≡ contents_in m.contents.parts.items p → part.begun ≡ None
     → Shows (record m { contents = record (m.contents) { parts = with_item m.contents.parts p part } }) w
-transfer_refused m w p part shows_w exists is begun = record {
-  numbers = shows_w.numbers;
-  words = shows_w.words;
-  locks = shows_w.locks;
-  fast_path = shows_w.fast_path;
-  counted = shows_w.counted;
-  lists = shows_w.lists;
-  contents = subst (λ now. ShowsContents (record (m.contents) { parts = with_item m.contents.parts p part }) (record (w.contents) { now = now }))
-      (set_at-same w.contents.now p (w.contents.now p) refl)
-      (part-set m.contents w.contents p part (w.contents.now p) shows_w.contents exists (is ∙ shows_w.contents.now p exists) begun);
-  waits = shows_w.waits;
-}
+transfer_refused m w p part shows_w exists is begun = table_shown shows_w (w)
+    shows_w.words
+    (subst (λ now. ShowsContents (record (m.contents) { parts = with_item m.contents.parts p part }) (record (w.contents) { now = now }))
+    (set_at-same w.contents.now p (w.contents.now p) refl)
+    (part-set m.contents w.contents p part (w.contents.now p) shows_w.contents exists (is ∙ shows_w.contents.now p exists) begun))
+    shows_w.waits

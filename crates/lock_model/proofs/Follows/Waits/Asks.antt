@@ -15,6 +15,7 @@ use Rattle.lock_model.proofs.Follows.Skipped.{skipped}
 use Rattle.lock_model.proofs.Shows.Changes.{wait_word-set}
 use Rattle.lock_table.proofs.PutLemmas.{set_at-same, written-at}
 use Rattle.lock_model.proofs.Shows.Looks.{steps_from, steps_not}
+use Rattle.lock_model.proofs.Shows.Kept.{table_shown}
 
 -- Asking to cancel, and loading one's own wait word.
 
@@ -24,16 +25,10 @@ module _ (m : Machine) (w : World) (safe : SafeWorld w) (shows : Shows m w) wher
   was_asked s k steps below = (
     after_asking w s k,
     inl (steps_from m w safe shows s steps, refl),
-    record {
-      numbers = shows.numbers;
-      words = wait_word-set m.words w.words k _ _ shows.words below (ap asked_word (shows.words.wait k));
-      fast_path = shows.fast_path;
-      counted = shows.counted;
-      lists = shows.lists;
-      locks = shows.locks;
-      contents = shows.contents;
-      waits = shows.waits;
-    },
+    table_shown shows (after_asking w s k)
+        (wait_word-set m.words w.words k _ _ shows.words below (ap asked_word (shows.words.wait k)))
+        shows.contents
+        shows.waits,
   )
 
   pub ask_refused : (s k : ℕ) → makes_steps m s ≡ false → (v : World) × Next w (record { session = s; step = AskCancel k }) v × Shows m v
@@ -45,21 +40,15 @@ module _ (m : Machine) (w : World) (safe : SafeWorld w) (shows : Shows m w) wher
   was_seen s n steps is_word granted in_seen = (
     after_loading_wait w s n,
     inl (record { steps = steps_from m w safe shows s steps; is_word = is_word ∙ shows.words.wait s }, refl),
-    record {
-      numbers = shows.numbers;
-      words = shows.words;
-      fast_path = shows.fast_path;
-      counted = shows.counted;
-      lists = shows.lists;
-      locks = shows.locks;
-      contents = shows.contents;
-      waits = record {
-        sixty_four = shows.waits.sixty_four;
-        sixty_four_seen = length-set m.waits.seen s true ∙ shows.waits.sixty_four_seen;
-        awaited = shows.waits.awaited;
-        seen = λ j. written-at (λ own its. own ≡ its) m.waits.seen s true false w.sessions.seen _ in_seen (sym sees) j (shows.waits.seen j);
-      };
-    },
+    table_shown shows (after_loading_wait w s n)
+        shows.words
+        shows.contents
+        (record {
+          sixty_four = shows.waits.sixty_four;
+          sixty_four_seen = length-set m.waits.seen s true ∙ shows.waits.sixty_four_seen;
+          awaited = shows.waits.awaited;
+          seen = λ j. written-at (λ own its. own ≡ its) m.waits.seen s true false w.sessions.seen _ in_seen (sym sees) j (shows.waits.seen j);
+        }),
   ) where
     sees : (w.sessions.seen s || (wait_state (w.words.wait s) == 2)) ≡ true
     sees = ap (λ b. w.sessions.seen s || b) (eq-eqb (wait_state (w.words.wait s)) 2 (sym (ap wait_state (is_word ∙ shows.words.wait s)) ∙ granted)) ∙ or-true (w.sessions.seen s)
@@ -69,21 +58,15 @@ module _ (m : Machine) (w : World) (safe : SafeWorld w) (shows : Shows m w) wher
   was_loaded s n steps is_word not_granted = (
     after_loading_wait w s n,
     inl (record { steps = steps_from m w safe shows s steps; is_word = is_word ∙ shows.words.wait s }, refl),
-    record {
-      numbers = shows.numbers;
-      words = shows.words;
-      fast_path = shows.fast_path;
-      counted = shows.counted;
-      lists = shows.lists;
-      locks = shows.locks;
-      contents = shows.contents;
-      waits = record {
-        sixty_four = shows.waits.sixty_four;
-        sixty_four_seen = shows.waits.sixty_four_seen;
-        awaited = shows.waits.awaited;
-        seen = λ j. shows.waits.seen j ∙ ap (λ f. f j) (sym (set_at-same w.sessions.seen s _ sees));
-      };
-    },
+    table_shown shows (after_loading_wait w s n)
+        shows.words
+        shows.contents
+        (record {
+          sixty_four = shows.waits.sixty_four;
+          sixty_four_seen = shows.waits.sixty_four_seen;
+          awaited = shows.waits.awaited;
+          seen = λ j. shows.waits.seen j ∙ ap (λ f. f j) (sym (set_at-same w.sessions.seen s _ sees));
+        }),
   ) where
     sees : (w.sessions.seen s || (wait_state (w.words.wait s) == 2)) ≡ w.sessions.seen s
     sees =

@@ -25,6 +25,7 @@ use Rattle.lock_model.proofs.Shows.Changes.{wait_word-set, hand-set, part-set, o
 use Rattle.lock_model.proofs.Shows.Hands.{recording-shown, awaited-some}
 use Rattle.lock_model.proofs.Follows.Skipped.{skipped}
 use Rattle.lock_model.proofs.Shows.Looks.{HasInHand, recorded_from, hand_from, hand_not, content_from, steps_from, steps_not}
+use Rattle.lock_model.proofs.Shows.Kept.{table_shown}
 
 -- Clearing one's own wait word, and leaving a queue.
 
@@ -91,16 +92,10 @@ module _ (m : Machine) (w : World) (safe : SafeWorld w) (shows : Shows m w) wher
   -- The wait is over in what the machine keeps.
   ended : (s : ℕ) (wait : OwnWait) → s < 64
       → Shows (ended_by m s) (after_clearing w s wait)
-  ended s wait below = record {
-    numbers = shows.numbers;
-    words = wait_word-set m.words w.words s 0 0 shows.words below refl;
-    fast_path = shows.fast_path;
-    counted = shows.counted;
-    lists = shows.lists;
-    locks = shows.locks;
-    contents = shows.contents;
-    waits = own_wait-set m.waits w.sessions.awaited w.sessions.seen s None None shows.waits below refl;
-  }
+  ended s wait below = table_shown shows (after_clearing w s wait)
+      (wait_word-set m.words w.words s 0 0 shows.words below refl)
+      shows.contents
+      (own_wait-set m.waits w.sessions.awaited w.sessions.seen s None None shows.waits below refl)
 
   in_hand_gone : (s : ℕ) (wait : OwnWait) (shown : InHand) → w.sessions.awaited s ≡ Some wait → hand_of m s (partition_of wait.tag) ≡ Some shown
       → waits_there ((contents_in m.contents.parts.items (partition_of wait.tag)).waits wait.tag) s ≡ false → MayClearInHand w s wait
@@ -196,17 +191,11 @@ module _ (m : Machine) (w : World) (safe : SafeWorld w) (shows : Shows m w) wher
             } in (
               after_leaving w s wait granted (content_of part),
               inl (inl (wait, granted, content_of part, record { is_wait = is; may_move = may }, refl)),
-              record {
-                numbers = shows.numbers;
-                words = wait_word-set m.words w.words s 0 0 shows.words below refl;
-                fast_path = shows.fast_path;
-                counted = shows.counted;
-                lists = shows.lists;
-                locks = shows.locks;
-                contents = hand-set _ _ p _ _ (part-set m.contents w.contents p part (content_of part) shows.contents has.exists refl begun) has.exists
-                    (recording-shown (w.contents.hand p) has.hand shown.holder (Leave wait.tag) marks (waits_there granted) has.is_hand has.shows.holder marked);
-                waits = own_wait-set m.waits w.sessions.awaited w.sessions.seen s None None shows.waits below refl;
-              },
+              table_shown shows (after_leaving w s wait granted (content_of part))
+                  (wait_word-set m.words w.words s 0 0 shows.words below refl)
+                  (hand-set _ _ p _ _ (part-set m.contents w.contents p part (content_of part) shows.contents has.exists refl begun) has.exists
+                  (recording-shown (w.contents.hand p) has.hand shown.holder (Leave wait.tag) marks (waits_there granted) has.is_hand has.shows.holder marked))
+                  (own_wait-set m.waits w.sessions.awaited w.sessions.seen s None None shows.waits below refl),
             )
 
         at : (wait : OwnWait) → w.sessions.awaited s ≡ Some wait → wait.tag ≡ t → (v : World) × Next w (record { session = s; step = ClearWait true }) v × Shows (left_by m s t shown part marks) v

@@ -29,6 +29,7 @@ use Rattle.lock_model.proofs.Shows.Hands.{recording-shown}
 use Rattle.lock_table.proofs.OneAnswer.{waiting_answer-one}
 use Rattle.lock_model.proofs.Follows.Skipped.{skipped}
 use Rattle.lock_model.proofs.Shows.Looks.{HasInHand, recorded_from, hand_from, hand_not, own_nowhere, content_from, no_wait_from, from_fits}
+use Rattle.lock_model.proofs.Shows.Kept.{table_shown}
 
 -- Joining a queue, and setting one's own wait word to waiting.
 
@@ -53,18 +54,12 @@ module _ (m : Machine) (w : World) (safe : SafeWorld w) (shows : Shows m w) wher
   was_set_waiting s t n shown place part marks in_hand unmoved none not_held not_shown counted answer is begun unmarked below = (
     after_setting_waiting w s t n content,
     inl (content, may, refl),
-    record {
-      numbers = shows.numbers;
-      words = wait_word-set m.words w.words s 1 1 shows.words below refl;
-      fast_path = shows.fast_path;
-      counted = shows.counted;
-      lists = shows.lists;
-      locks = shows.locks;
-      contents = hand-set _ _ p _ _
-          (part-set m.contents w.contents p part content shows.contents has.exists (is ∙ ap (λ (c : Content). add_wait c s t n place) same) begun) has.exists
-          (recording-shown (w.contents.hand p) has.hand shown.holder (Join t n) marks (λ _. false) has.is_hand has.shows.holder unmarked);
-      waits = own_wait-set m.waits w.sessions.awaited w.sessions.seen s _ (Some (record { tag = t; mode = n; held = (w.contents.now p).holds s t })) shows.waits below refl;
-    },
+    table_shown shows (after_setting_waiting w s t n content)
+        (wait_word-set m.words w.words s 1 1 shows.words below refl)
+        (hand-set _ _ p _ _
+        (part-set m.contents w.contents p part content shows.contents has.exists (is ∙ ap (λ (c : Content). add_wait c s t n place) same) begun) has.exists
+        (recording-shown (w.contents.hand p) has.hand shown.holder (Join t n) marks (λ _. false) has.is_hand has.shows.holder unmarked))
+        (own_wait-set m.waits w.sessions.awaited w.sessions.seen s _ (Some (record { tag = t; mode = n; held = (w.contents.now p).holds s t })) shows.waits below refl),
   ) where
     p : ℕ
     p = partition_of t

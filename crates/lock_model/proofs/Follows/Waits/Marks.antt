@@ -27,6 +27,7 @@ use Rattle.lock_model.proofs.Shows.Hands.{names_in-granted, marks-without, recor
 use Rattle.lock_table.proofs.MoveTests.{move_eq-same, move_eq-refl}
 use Rattle.lock_table.proofs.OneMove.{one_moved}
 use Rattle.lock_model.proofs.Shows.Looks.{HasInHand, recorded_from, unmarked_from, hand_from, hand_not, own_in_content, not_awaited_own}
+use Rattle.lock_model.proofs.Shows.Kept.{table_shown}
 
 -- Marking the wait of another session granted.
 
@@ -122,18 +123,12 @@ module _ (m : Machine) (w : World) (safe : SafeWorld w) (shows : Shows m w) wher
           },
           refl,
         )),
-    record {
-      numbers = shows.numbers;
-      words = wait_word-set m.words w.words k _ _ shows.words (subst (λ n. k < n) shows.words.sixty_four_waits (word_within m.words.waits k waiting)) (ap granted_word (shows.words.wait k));
-      fast_path = shows.fast_path;
-      counted = shows.counted;
-      lists = shows.lists;
-      locks = shows.locks;
-      contents = hand-set m.contents w.contents p _ _ shows.contents has.exists
-          (recording-shown (w.contents.hand p) has.hand hand.holder done (set hand.unmarked k false) (unmarked_but (is_unmarked (w.contents.hand p)) k) has.is_hand has.shows.holder
-          (marks-without hand.unmarked (is_unmarked (w.contents.hand p)) k (unmarked_within hand.unmarked k unmarked) (λ j. sym (unmarked_from w s p hand has j))));
-      waits = shows.waits;
-    },
+    table_shown shows (after_marking_next w k p done)
+        (wait_word-set m.words w.words k _ _ shows.words (subst (λ n. k < n) shows.words.sixty_four_waits (word_within m.words.waits k waiting)) (ap granted_word (shows.words.wait k)))
+        (hand-set m.contents w.contents p _ _ shows.contents has.exists
+        (recording-shown (w.contents.hand p) has.hand hand.holder done (set hand.unmarked k false) (unmarked_but (is_unmarked (w.contents.hand p)) k) has.is_hand has.shows.holder
+        (marks-without hand.unmarked (is_unmarked (w.contents.hand p)) k (unmarked_within hand.unmarked k unmarked) (λ j. sym (unmarked_from w s p hand has j)))))
+        shows.waits,
   ) where
     has : HasInHand w s p hand
     has = hand_from m w safe shows s p hand in_hand
@@ -168,19 +163,13 @@ module _ (m : Machine) (w : World) (safe : SafeWorld w) (shows : Shows m w) wher
   mark_first s k p hand done after unmarked in_hand unmoved object wakes moved own among marks another waiting = (
     after_marking_first w s k p done moved.granted (content_of after.part),
     inl (inl (moved.granted, content_of after.part, record { may_move = may_move; may_mark = may_mark s k another waiting; among = sym (granted_named k) ∙ among }, refl)),
-    record {
-      numbers = shows.numbers;
-      words = wait_word-set m.words w.words k _ _ shows.words (subst (λ n. k < n) shows.words.sixty_four_waits (word_within m.words.waits k waiting)) (ap granted_word (shows.words.wait k));
-      fast_path = shows.fast_path;
-      counted = shows.counted;
-      lists = shows.lists;
-      locks = shows.locks;
-      contents = hand-set _ _ p _ _
-          (part-set m.contents w.contents p after.part (content_of after.part) shows.contents has.exists refl (moved.begun ∙ shows.contents.none_begun p)) has.exists
-          (recording-shown (w.contents.hand p) has.hand hand.holder done (set unmarked k false) (unmarked_but (waits_there moved.granted) k) has.is_hand has.shows.holder
-          (marks-without unmarked (waits_there moved.granted) k (unmarked_within unmarked k (marks k ∙ among)) (λ j. marks j ∙ granted_named j)));
-      waits = shows.waits;
-    },
+    table_shown shows (after_marking_first w s k p done moved.granted (content_of after.part))
+        (wait_word-set m.words w.words k _ _ shows.words (subst (λ n. k < n) shows.words.sixty_four_waits (word_within m.words.waits k waiting)) (ap granted_word (shows.words.wait k)))
+        (hand-set _ _ p _ _
+        (part-set m.contents w.contents p after.part (content_of after.part) shows.contents has.exists refl (moved.begun ∙ shows.contents.none_begun p)) has.exists
+        (recording-shown (w.contents.hand p) has.hand hand.holder done (set unmarked k false) (unmarked_but (waits_there moved.granted) k) has.is_hand has.shows.holder
+        (marks-without unmarked (waits_there moved.granted) k (unmarked_within unmarked k (marks k ∙ among)) (λ j. marks j ∙ granted_named j))))
+        shows.waits,
   ) where
     has : HasInHand w s p hand
     has = hand_from m w safe shows s p hand in_hand

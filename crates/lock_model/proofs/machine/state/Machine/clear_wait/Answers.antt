@@ -21,12 +21,11 @@ returns-then-self-from c = λ w safe shows.
     let place : c.from.result ≡ c.args.session = c.from.ensures ∙ c.number.ensures.value in
     let again : c.from-else-leaving.result ≡ c.args.session = c.from-else-leaving.ensures ∙ c.number-else-leaving.ensures.value in
     let kept = ap (λ i. get_or now.waits.awaited i None) (sym place) ∙ c.in-Some.is in
-    let below_64 : c.args.session < 64 = omega arith in
     rw (c.if-leaving.false, c.end_wait.ensures)
     (elim c.then-self-from.branch [
       | then-self-from-via-then-self-from b ↦
-          cleared_seen now w safe shows c.args.session c.in-Some.wait (sym c.if-not-makes_steps.ensures) kept (ap (λ i. get_or now.waits.seen i false) (sym again) ∙ b.if-self-from.true) below_64
-      | then-self-from-via-else-self-from+then-is_gone b ↦ cleared_gone now w safe shows c.args.session c.in-Some.wait kept (sym b.if-is_gone.ensures) below_64
+          cleared_seen now w safe shows c.args.session c.in-Some.wait (sym c.if-not-makes_steps.ensures) kept (ap (λ i. get_or now.waits.seen i false) (sym again) ∙ b.if-self-from.true) (omega arith)
+      | then-self-from-via-else-self-from+then-is_gone b ↦ cleared_gone now w safe shows c.args.session c.in-Some.wait kept (sym b.if-is_gone.ensures) (omega arith)
     ])
 
 pub returns-else-is_gone : goal.returns-else-is_gone

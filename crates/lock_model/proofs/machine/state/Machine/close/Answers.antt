@@ -15,10 +15,9 @@ returns-then-not-owes_a_telling c = λ w safe shows.
     let now = c.args.self.now in
     let place : c.from-index.result ≡ c.args.session = c.from-index.ensures ∙ c.number.ensures.value in
     let in_live : c.args.session < length now.numbers.live = omega arith in
-    let below : c.args.session < 64 = omega arith in
     let no_wait : is_none (get_or now.waits.awaited c.args.session None) ≡ true = not_there_none _ (ap (λ i. is_some (get_or now.waits.awaited i None)) (sym place) ∙ c.if-is_none.ensures) in
     rw place (was_closed now w safe shows c.args.session
-    (sym c.if-makes_steps.ensures) (sym c.if-not-has_a_word.ensures) (sym c.if-not-has_a_fast_word.ensures) (sym c.if-not-shares_a_word.ensures) (sym c.if-not-has_a_hold.ensures) (sym c.if-not-has_a_slot.ensures) no_wait (sym c.if-not-keeps_someone.ensures) (sym c.if-counts_nothing.ensures) (sym c.if-has_no_list.ensures) (sym c.if-not-owes_a_telling.ensures) in_live below)
+    (sym c.if-makes_steps.ensures) (sym c.if-not-has_a_word.ensures) (sym c.if-not-has_a_fast_word.ensures) (sym c.if-not-shares_a_word.ensures) (sym c.if-not-has_a_hold.ensures) (sym c.if-not-has_a_slot.ensures) no_wait (sym c.if-not-keeps_someone.ensures) (sym c.if-counts_nothing.ensures) (sym c.if-has_no_list.ensures) (sym c.if-not-owes_a_telling.ensures) in_live (omega arith))
 
 pub returns-else-makes_steps : goal.returns-else-makes_steps
 returns-else-makes_steps c = λ w safe shows.
@@ -37,8 +36,7 @@ returns-else-makes_steps c = λ w safe shows.
           let place : c.from-index.result ≡ c.args.session = c.from-index.ensures ∙ c.number.ensures.value in
           some_wait_from now w safe shows c.args.session (there_not_none _ (ap (λ i. is_some (get_or now.waits.awaited i None)) (sym place) ∙ b.if-is_none.ensures)) lawful.1.0.no_wait
       | else-makes_steps-via-then-makes_steps+then-not-has_a_word+then-not-has_a_fast_word+then-not-shares_a_word+then-not-has_a_hold+else-not-has_a_slot b ↦
-          let below : c.args.session < 64 = omega arith in
-          some_slot_hold now w safe shows c.args.session below (sym b.if-not-has_a_slot.ensures) lawful.1.0.no_hold
+          some_slot_hold now w safe shows c.args.session (omega arith) (sym b.if-not-has_a_slot.ensures) lawful.1.0.no_hold
       | else-makes_steps-via-then-makes_steps+then-not-has_a_word+then-not-has_a_fast_word+then-not-shares_a_word+else-not-has_a_hold b ↦
           some_hold now w safe shows c.args.session (sym b.if-not-has_a_hold.ensures) lawful.1.0.no_wait lawful.1.0.no_hold
       | else-makes_steps-via-then-makes_steps+then-not-has_a_word+then-not-has_a_fast_word+else-not-shares_a_word b ↦

@@ -8,10 +8,9 @@ returns-in_ok-push-clause-followed c = λ w safe shows.
     let now = c.args.self.now in
     let after : Lists = record (now.lists) { sleepers = c.push.new.self } in
     let place : c.from-index.result ≡ c.args.session = c.from-index.ensures ∙ c.number.ensures.value in
-    let below : c.args.session < 64 = omega arith in
     rw place
     (has_joined now w safe shows c.args.session c.in-Some.lock c.args.mode after (sym c.list_to_change.ensures ∙ c.in-Some.is)
-    (ap (λ i. get_or now.lists.sleep i 0) (sym place) ∙ c.if-self-index-eq0.true) below c.in_ok-push.ensures.items)
+    (ap (λ i. get_or now.lists.sleep i 0) (sym place) ∙ c.if-self-index-eq0.true) (omega arith) c.in_ok-push.ensures.items)
 
 pub returns-in_default-clause-followed : goal.returns-in_default-clause-followed
 returns-in_default-clause-followed c = λ w safe shows. not_joined c.args.self.now w safe shows c.args.session c.args.mode (sym c.list_to_change.ensures ∙ c.in_default.is)

@@ -8,9 +8,8 @@ returns-then-waits_at c = λ w safe shows.
     let now = c.args.self.now in
     let after : Lists = record (now.lists) { sleepers = c.take_out.new.sleepers } in
     let place : c.from-index.result ≡ c.args.session = c.from-index.ensures ∙ c.number.ensures.value in
-    let below : c.args.session < 64 = omega arith in
     rw place
-    (has_left now w safe shows c.args.session c.in-Some.lock after (sym c.list_to_change.ensures ∙ c.in-Some.is) (sym c.if-waits_at.ensures) below c.take_out.ensures)
+    (has_left now w safe shows c.args.session c.in-Some.lock after (sym c.list_to_change.ensures ∙ c.in-Some.is) (sym c.if-waits_at.ensures) (omega arith) c.take_out.ensures)
 
 pub returns-in_default : goal.returns-in_default
 returns-in_default c = λ w safe shows. not_left c.args.self.now w safe shows c.args.session (sym c.list_to_change.ensures ∙ c.in_default.is)

@@ -5,7 +5,7 @@ use Rattle.lock_table.specs.PartView.{PartView, content_of}
 use Rattle.lock_table.specs.Queue.{waits_there, Wakes, remove_wait}
 use Rattle.lock_model.specs.Shows.{names_in}
 use Rattle.lock_model.proofs.Shows.Hands.{names_in-granted}
-use Rattle.lock_model.proofs.Shows.Places.{part_read}
+use Rattle.lock_model.proofs.Shows.Places.{partition_read}
 use Rattle.lock_model.proofs.Follows.Waits.Clears.{left}
 use Rattle.lock_model.proofs.machine.state.Machine.leave_now.Goals as goal
 
@@ -13,11 +13,7 @@ pub returns : goal.returns
 returns c = λ w safe shows.
     let now = c.args.self.now in
     let place : c.from.result ≡ partition_of c.args.tag = c.from.ensures ∙ c.partition-partition.ensures.value in
-    let below = c.partition-partition.ensures.within in
-    let sixteen : length now.contents.parts.items ≡ 16 = shows.contents.sixteen in
-    let within : c.from.result < length now.contents.parts.items = omega arith in
-    let part = part_read now.contents.parts.items c.from.result (partition_of c.args.tag) c.index_mut-part.result.now place within c.index_mut-part.ensures.value in
-    let below_64 : c.args.session < 64 = omega arith in
+    let part = partition_read now.contents.parts.items c.from.result _ (partition_of c.args.tag) c.index_mut-part.result.now shows.contents.sixteen c.from.ensures c.partition-partition.ensures.value c.partition-partition.ensures.within c.index_mut-part.ensures.value in
     let stands : waits_there ((content_of c.index_mut-part.result.now).waits c.args.tag) c.args.session ≡ true =
     ap (λ (x : PartView). waits_there ((content_of x).waits c.args.tag) c.args.session) part ∙ c.requires.in_queue in
     let was_there : c.remove_waiter-removed.result.was_granted ≡ false = c.remove_waiter-removed.ensures.found ∙ ap not stands in
@@ -28,4 +24,4 @@ returns c = λ w safe shows.
     (ap (λ (x : PartView). remove_wait (content_of x) c.args.session c.args.tag) part) woken.1)
     (c.remove_waiter-removed.ensures.begun ∙ ap (λ (x : PartView). x.begun) part ∙ shows.contents.none_begun (partition_of c.args.tag))
     (λ k. c.unmarked_of.ensures k ∙ ap (λ xs. names_in xs k) woken.2 ∙ names_in-granted woken.0 k)
-    below_64)
+    (omega arith))

@@ -6,8 +6,7 @@ pub returns-then-sees_no_sleep : goal.returns-then-sees_no_sleep
 returns-then-sees_no_sleep c = λ w safe shows.
     let now = c.args.self.now in
     let place : c.from-index.result ≡ c.args.session = c.from-index.ensures ∙ c.number.ensures.value in
-    let below : c.args.session < 64 = omega arith in
-    rw place (has_seen_none now w safe shows c.args.session c.args.shown (sym c.if-sees_no_sleep.ensures) below)
+    rw place (has_seen_none now w safe shows c.args.session c.args.shown (sym c.if-sees_no_sleep.ensures) (omega arith))
 
 pub returns-else-sees_no_sleep : goal.returns-else-sees_no_sleep
 returns-else-sees_no_sleep c = λ w safe shows. has_seen_else c.args.self.now w safe shows c.args.session c.args.shown (sym c.if-sees_no_sleep.ensures)

@@ -9,8 +9,6 @@ returns-in-Some c = λ w safe shows.
     let place : c.from-index.result ≡ c.args.owner = c.from-index.ensures ∙ c.number.ensures.value in
     let lock : c.number-in-Some.result ≡ c.args.owner = c.number-in-Some.ensures.value in
     let whose : c.from.result ≡ c.args.session = c.from.ensures ∙ c.number-in-Some-2.ensures.value in
-    let below : c.args.session < 64 = omega arith in
-    let exists : c.args.owner < 64 = omega arith in
     rw (place, whose, lock)
-    (locked_fast_list now w safe shows c.args.session c.args.owner _ c.in-Some.word below exists
-    (fast_word_from now w safe shows c.from-index.result c.args.owner c.index-self-index.result place exists) (sym c.if-may_lock_list.ensures) c.in-Some.ensures.answer)
+    (locked_fast_list now w safe shows c.args.session c.args.owner _ c.in-Some.word (omega arith) (omega arith)
+    (fast_word_from now w safe shows c.from-index.result c.args.owner c.index-self-index.result place (omega arith)) (sym c.if-may_lock_list.ensures) c.in-Some.ensures.answer)

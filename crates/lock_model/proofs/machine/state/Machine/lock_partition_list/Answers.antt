@@ -8,9 +8,6 @@ returns-in-Some c = λ w safe shows.
     let now = c.args.self.now in
     let place : c.from-index.result ≡ c.args.partition = c.from-index.ensures in
     let whose : c.from.result ≡ c.args.session = c.from.ensures ∙ c.number.ensures.value in
-    let below : c.args.session < 64 = omega arith in
-    let exists : c.args.partition < 16 = omega arith in
-    let in_words : c.args.partition < length now.words.partitions = omega arith in
     rw (place, whose)
-    (locked_partition_list now w safe shows c.args.session c.args.partition _ c.in-Some.word below exists in_words
-    (partition_word_from now w safe shows c.from-index.result c.args.partition c.index-self-index.result place in_words) (sym c.if-may_lock_list.ensures) c.in-Some.ensures.answer)
+    (locked_partition_list now w safe shows c.args.session c.args.partition _ c.in-Some.word (omega arith) (omega arith) (omega arith)
+    (partition_word_from now w safe shows c.from-index.result c.args.partition c.index-self-index.result place (omega arith)) (sym c.if-may_lock_list.ensures) c.in-Some.ensures.answer)

@@ -7,8 +7,7 @@ use Rattle.lock_world.specs.World.{World}
 use Rattle.lock_world.specs.Happens.{Next}
 use Rattle.lock_world.specs.Happens.Partitions.{IsMadeByPutting}
 use Rattle.lock_model.specs.Shows.{Shows}
-use Rattle.lock_model.proofs.Follows.Skipped.{skipped}
-use Rattle.lock_model.proofs.Follows.Partitions.{kept, only_made, exists_from}
+use Rattle.lock_model.proofs.Follows.Partitions.{kept, not_put, exists_from}
 use Rattle.lock_model.proofs.machine.state.Machine.put_made.Goals as goal
 
 pub set_free-requires : goal.set_free-requires
@@ -30,22 +29,10 @@ pub returns-in-Release : goal.returns-in-Release
 returns-in-Release c = rw c.in-Release.is c.put_releasing.ensures
 
 pub returns-in-Join : goal.returns-in-Join
-returns-in-Join c = λ w safe shows.
-    let now = c.args.self.now in
-    skipped now w safe shows c.args.session (PutExclusive (Partition c.args.partition) c.args.done)
-    (λ lawful. let made = only_made now w safe shows c.args.session c.args.partition c.args.done c.requires.in_hand lawful in
-    subst IsMadeByPutting c.in-Join.is made.1.by_putting)
+returns-in-Join c = λ w safe shows. not_put c.args.self.now w safe shows c.args.session c.args.partition c.args.done c.requires.in_hand (subst IsMadeByPutting c.in-Join.is)
 
 pub returns-in-Leave : goal.returns-in-Leave
-returns-in-Leave c = λ w safe shows.
-    let now = c.args.self.now in
-    skipped now w safe shows c.args.session (PutExclusive (Partition c.args.partition) c.args.done)
-    (λ lawful. let made = only_made now w safe shows c.args.session c.args.partition c.args.done c.requires.in_hand lawful in
-    subst IsMadeByPutting c.in-Leave.is made.1.by_putting)
+returns-in-Leave c = λ w safe shows. not_put c.args.self.now w safe shows c.args.session c.args.partition c.args.done c.requires.in_hand (subst IsMadeByPutting c.in-Leave.is)
 
 pub returns-in-Adopt : goal.returns-in-Adopt
-returns-in-Adopt c = λ w safe shows.
-    let now = c.args.self.now in
-    skipped now w safe shows c.args.session (PutExclusive (Partition c.args.partition) c.args.done)
-    (λ lawful. let made = only_made now w safe shows c.args.session c.args.partition c.args.done c.requires.in_hand lawful in
-    subst IsMadeByPutting c.in-Adopt.is made.1.by_putting)
+returns-in-Adopt c = λ w safe shows. not_put c.args.self.now w safe shows c.args.session c.args.partition c.args.done c.requires.in_hand (subst IsMadeByPutting c.in-Adopt.is)

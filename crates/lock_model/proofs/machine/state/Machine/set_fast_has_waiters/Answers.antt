@@ -16,11 +16,10 @@ returns-then-shown-number c = λ w safe shows.
     let now = c.args.self.now in
     let place : c.from-index.result ≡ c.args.owner = c.from-index.ensures ∙ c.number.ensures.value in
     let lock : c.number-2.result ≡ c.args.owner = c.number-2.ensures.value in
-    let exists : c.args.owner < 64 = omega arith in
     rw place
     (has_waiters_in_fast now w safe shows c.args.session c.args.owner c.args.shown _ c.set_has_waiters.result
-    (ap (λ n. has_list now c.args.session (2 * n + 1)) (sym lock) ∙ sym c.if-has_list.ensures) exists
-    (fast_word_from now w safe shows c.from-index.result c.args.owner c.index-self-index-then-shown-number.result place exists)
+    (ap (λ n. has_list now c.args.session (2 * n + 1)) (sym lock) ∙ sym c.if-has_list.ensures) (omega arith)
+    (fast_word_from now w safe shows c.from-index.result c.args.owner c.index-self-index-then-shown-number.result place (omega arith))
     (c.if-shown-number.true ∙ c.number-then-has_list.ensures.value ∙ ap word_of (get_or_default now.words.fast c.from-index.result c.index-self-index.result c.index-self-index-then-shown-number.result (omega arith)))
     c.set_has_waiters.ensures.after)
 
@@ -29,11 +28,10 @@ returns-else-has_list c = λ w safe shows.
     let now = c.args.self.now in
     let place : c.from-index.result ≡ c.args.owner = c.from-index.ensures ∙ c.number.ensures.value in
     let lock : c.number-2.result ≡ c.args.owner = c.number-2.ensures.value in
-    let exists : c.args.owner < 64 = omega arith in
     skipped now w safe shows c.args.session (SetHasWaiters (Fast c.args.owner) c.args.shown)
     (λ lawful. elim c.else-has_list.branch [
       | else-has_list-via-then-has_list+else-shown-number b ↦
-          not_its_word now w safe shows c.args.shown _ _ (fast_word_from now w safe shows c.from-index.result c.args.owner b.index-self-index.result place exists)
+          not_its_word now w safe shows c.args.shown _ _ (fast_word_from now w safe shows c.from-index.result c.args.owner b.index-self-index.result place (omega arith))
           (λ is. b.if-shown-number.false (is ∙ sym b.number-then-has_list.ensures.value)) lawful.1.0.is_word
       | else-has_list-via-else-has_list b ↦
           has_not now w safe shows c.args.session (fast_lock c.args.owner)

@@ -13,10 +13,9 @@ pub returns-then-shown-number : goal.returns-then-shown-number
 returns-then-shown-number c = λ w safe shows.
     let now = c.args.self.now in
     let place : c.from-index.result ≡ c.args.owner = c.from-index.ensures ∙ c.number.ensures.value in
-    let exists : c.args.owner < 64 = omega arith in
     rw place
-    (release_ok_in_fast now w safe shows c.args.session c.args.owner c.args.shown _ c.set_release_ok.result (sym c.if-makes_steps.ensures) exists
-    (fast_word_from now w safe shows c.from-index.result c.args.owner c.index-self-index-then-shown-number.result place exists)
+    (release_ok_in_fast now w safe shows c.args.session c.args.owner c.args.shown _ c.set_release_ok.result (sym c.if-makes_steps.ensures) (omega arith)
+    (fast_word_from now w safe shows c.from-index.result c.args.owner c.index-self-index-then-shown-number.result place (omega arith))
     (c.if-shown-number.true ∙ c.number-then-makes_steps.ensures.value ∙ ap word_of (get_or_default now.words.fast c.from-index.result c.index-self-index.result c.index-self-index-then-shown-number.result (omega arith)))
     c.set_release_ok.ensures.after)
 
@@ -24,11 +23,10 @@ pub returns-else-makes_steps : goal.returns-else-makes_steps
 returns-else-makes_steps c = λ w safe shows.
     let now = c.args.self.now in
     let place : c.from-index.result ≡ c.args.owner = c.from-index.ensures ∙ c.number.ensures.value in
-    let exists : c.args.owner < 64 = omega arith in
     skipped now w safe shows c.args.session (SetReleaseOk (Fast c.args.owner) c.args.shown)
     (λ lawful. elim c.else-makes_steps.branch [
       | else-makes_steps-via-then-makes_steps+else-shown-number b ↦
-          not_its_word now w safe shows c.args.shown _ _ (fast_word_from now w safe shows c.from-index.result c.args.owner b.index-self-index.result place exists)
+          not_its_word now w safe shows c.args.shown _ _ (fast_word_from now w safe shows c.from-index.result c.args.owner b.index-self-index.result place (omega arith))
           (λ is. b.if-shown-number.false (is ∙ sym b.number-then-makes_steps.ensures.value)) lawful.1.1.is_word
       | else-makes_steps-via-else-makes_steps b ↦ steps_not now w safe shows c.args.session (sym b.if-makes_steps.ensures) lawful.1.1.steps
     ])

@@ -1,6 +1,7 @@
 use Rattle.std.proofs.Common.{◌≡◌, ◌<◌, false, [], get_or, sym, ap, ◌∙◌, arith}
 use Rattle.lock_model.proofs.Follows.Sharing.{shared_fast, not_shared_fast}
 use Rattle.lock_model.proofs.Shows.Looks.{fast_word_from}
+use Rattle.lock_model.proofs.Shows.Places.{mark_read}
 use Rattle.lock_model.proofs.machine.state.Machine.share_fast.Goals as goal
 
 pub returns-in-Some : goal.returns-in-Some
@@ -8,13 +9,10 @@ returns-in-Some c = λ w safe shows.
     let now = c.args.self.now in
     let place : c.from-index.result ≡ c.args.owner = c.from-index.ensures ∙ c.number.ensures.value in
     let whose : c.from-whose.result ≡ c.args.session = c.from-whose.ensures ∙ c.number-2.ensures.value in
-    let below : c.args.session < 64 = omega arith in
-    let exists : c.args.owner < 64 = omega arith in
     rw (place, whose)
-    (shared_fast now w safe shows c.args.session c.args.owner _ c.in-Some.word (sym c.if-makes_steps.ensures) below exists
-    (fast_word_from now w safe shows c.from-index.result c.args.owner c.index-self-index.result place exists) c.in-Some.ensures
-    (ap (λ i. get_or (get_or now.locks.fast_sharers i []) c.args.session false) (sym place)
-    ∙ ap (λ k. get_or (get_or now.locks.fast_sharers c.from-index.result []) k false) (sym whose) ∙ c.if-not-self-index.true))
+    (shared_fast now w safe shows c.args.session c.args.owner _ c.in-Some.word (sym c.if-makes_steps.ensures) (omega arith) (omega arith)
+    (fast_word_from now w safe shows c.from-index.result c.args.owner c.index-self-index.result place (omega arith)) c.in-Some.ensures
+    (mark_read now.locks.fast_sharers _ _ _ _ _ place whose c.if-not-self-index.true))
 
 pub returns-in_default : goal.returns-in_default
 returns-in_default c = λ w safe shows.

@@ -12,12 +12,11 @@ returns-then-is_eligible c =
     let now = c.args.self.now in
     let mine = get_or now.fast_path.slots c.args.session [] in
     let place : c.from-index.result ≡ c.args.session = c.from-index.ensures ∙ c.number.ensures.value in
-    let below : c.args.session < 64 = omega arith in
     let shown = c.requires.shown in
     let eligible : true ≡ is_eligible_for (get_or now.fast_path.databases c.args.session 0) c.args.tag c.args.mode =
     c.if-is_eligible.ensures ∙ ap (λ i. is_eligible_for (get_or now.fast_path.databases i 0) c.args.tag c.args.mode) place in
     c.some_slot_shows.ensures
     ∙ ap (λ r. list_any (λ word. shows word r c.args.mode) c.as_slice.result.now) c.relation_number.ensures
     ∙ ap (list_any (λ word. shows word (relation_of c.args.tag) c.args.mode)) (c.as_slice.ensures ∙ ap (λ i. get_or now.fast_path.slots i []) place)
-    ∙ any_slot-listed (λ word. shows word (relation_of c.args.tag) c.args.mode) mine 0 128 (shown.2.fast_path.each_slots c.args.session below)
+    ∙ any_slot-listed (λ word. shows word (relation_of c.args.tag) c.args.mode) mine 0 128 (shown.2.fast_path.each_slots c.args.session (omega arith))
     ∙ ap (λ b. b && any_below 128 (λ place. shows (get_or mine place 0) (relation_of c.args.tag) c.args.mode)) eligible

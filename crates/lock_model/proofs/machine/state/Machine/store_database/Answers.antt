@@ -6,10 +6,8 @@ pub returns-then-may_store_database : goal.returns-then-may_store_database
 returns-then-may_store_database c = λ w safe shows.
     let now = c.args.self.now in
     let whose : c.from.result ≡ c.args.session = c.from.ensures ∙ c.number.ensures.value in
-    let below : c.args.session < 64 = omega arith in
-    rw whose (database_was_stored now w safe shows c.args.session c.args.database below (sym c.if-may_store_database.ensures))
+    rw whose (database_was_stored now w safe shows c.args.session c.args.database (omega arith) (sym c.if-may_store_database.ensures))
 
 pub returns-else-may_store_database : goal.returns-else-may_store_database
 returns-else-may_store_database c = λ w safe shows.
-    let below : c.args.session < 64 = omega arith in
-    database_not_stored c.args.self.now w safe shows c.args.session c.args.database below (sym c.if-may_store_database.ensures)
+    database_not_stored c.args.self.now w safe shows c.args.session c.args.database (omega arith) (sym c.if-may_store_database.ensures)

@@ -8,8 +8,6 @@ returns-in-Some c = λ w safe shows.
     let now = c.args.self.now in
     let place : c.from-index.result ≡ c.args.owner = c.from-index.ensures ∙ c.number.ensures.value in
     let whose : c.from-whose.result ≡ c.args.session = c.from-whose.ensures ∙ c.number-2.ensures.value in
-    let below : c.args.session < 64 = omega arith in
-    let exists : c.args.owner < 64 = omega arith in
     rw (place, whose)
-    (taken_fast now w safe shows c.args.session c.args.owner _ c.in-Some.word (sym c.if-makes_steps.ensures) below exists
-    (fast_word_from now w safe shows c.from-index.result c.args.owner c.index-self-index.result place exists) c.in-Some.ensures.answer)
+    (taken_fast now w safe shows c.args.session c.args.owner _ c.in-Some.word (sym c.if-makes_steps.ensures) (omega arith) (omega arith)
+    (fast_word_from now w safe shows c.from-index.result c.args.owner c.index-self-index.result place (omega arith)) c.in-Some.ensures.answer)

@@ -11,11 +11,9 @@ returns-then-waits_at c = λ w safe shows.
     let whose : c.from-index.result ≡ c.args.session = c.from-index.ensures ∙ c.number.ensures.value in
     let place : c.from-whose.result ≡ c.args.other = c.from-whose.ensures ∙ c.number-2.ensures.value in
     let apart : c.args.other ≢ c.args.session = eqb-false c.args.other c.args.session (sym c.if-eq.ensures) in
-    let below : c.args.session < 64 = omega arith in
-    let exists : c.args.other < 64 = omega arith in
     rw (place, whose)
     (was_taken_off now w safe shows c.args.session c.args.other c.in-Some.lock after apart (sym c.list_to_change.ensures ∙ c.in-Some.is) (sym c.if-waits_at.ensures)
-    below exists c.take_out.ensures)
+    (omega arith) (omega arith) c.take_out.ensures)
 
 pub returns-then-eq : goal.returns-then-eq
 returns-then-eq c = λ w safe shows. not_another c.args.self.now w safe shows c.args.session c.args.other (eqb-true c.args.other c.args.session (sym c.if-eq.ensures))

@@ -7,8 +7,6 @@ use Rattle.lock_model.proofs.machine.state.Machine.take_partition.Goals as goal
 pub returns-in-Some : goal.returns-in-Some
 returns-in-Some c = λ w safe shows.
     let now = c.args.self.now in
-    let exists : c.args.partition < 16 = omega arith in
-    let in_words : c.args.partition < length now.words.partitions = omega arith in
     rw c.set_held.ensures
-    (taken now w safe shows c.args.session c.args.partition _ c.in-Some.word _ (sym c.if-makes_steps.ensures) exists in_words
-    (partition_word_from now w safe shows c.from-index.result c.args.partition c.index-self-index.result c.from-index.ensures in_words) c.in-Some.ensures.answer (λ k. get_or-one_value 64 false k))
+    (taken now w safe shows c.args.session c.args.partition _ c.in-Some.word _ (sym c.if-makes_steps.ensures) (omega arith) (omega arith)
+    (partition_word_from now w safe shows c.from-index.result c.args.partition c.index-self-index.result c.from-index.ensures (omega arith)) c.in-Some.ensures.answer (λ k. get_or-one_value 64 false k))

@@ -7,9 +7,7 @@ returns-then-may_tell c = λ w safe shows.
     let now = c.args.self.now in
     let whose : c.from-index.result ≡ c.args.session = c.from-index.ensures ∙ c.number.ensures.value in
     let place : c.from-whose.result ≡ c.args.other = c.from-whose.ensures ∙ c.number-2.ensures.value in
-    let below : c.args.session < 64 = omega arith in
-    let exists : c.args.other < 64 = omega arith in
-    rw (place, whose) (was_told now w safe shows c.args.session c.args.other (sym c.if-may_tell.ensures) below exists)
+    rw (place, whose) (was_told now w safe shows c.args.session c.args.other (sym c.if-may_tell.ensures) (omega arith) (omega arith))
 
 pub returns-else-may_tell : goal.returns-else-may_tell
 returns-else-may_tell c = λ w safe shows. not_told c.args.self.now w safe shows c.args.session c.args.other (sym c.if-may_tell.ensures)

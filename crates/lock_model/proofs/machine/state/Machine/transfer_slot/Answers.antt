@@ -14,7 +14,7 @@ use Rattle.lock_model.specs.Transfers.{may_adopt, may_transfer}
 use Rattle.lock_world.specs.declared.events.Step.TheVariants.{TransferSlot}
 use Rattle.lock_world.specs.World.{World}
 use Rattle.lock_world.specs.Happens.{Next}
-use Rattle.lock_model.proofs.Shows.Places.{part_read}
+use Rattle.lock_model.proofs.Shows.Places.{partition_read}
 use Rattle.lock_model.proofs.Follows.SlotSteps.{slot_read}
 use Rattle.lock_model.proofs.Follows.Transfers.{transfer_within, transfer_is_eligible, not_in_content, not_in_queue, was_transferred, transfer_without_hand, transfer_after_move, not_transferred, transfer_refused}
 use Rattle.lock_model.proofs.machine.state.Machine.transfer_slot.Goals as goal
@@ -48,11 +48,7 @@ pub begin-requires-clause-new : goal.begin-requires-clause-new
 begin-requires-clause-new c =
     let now = c.args.self.now in
     let shown = c.requires.shown in
-    let place : c.from.result ≡ partition_of c.args.tag = c.from.ensures ∙ c.partition-partition.ensures.value in
-    let below = c.partition-partition.ensures.within in
-    let sixteen : length now.contents.parts.items ≡ 16 = shown.2.contents.sixteen in
-    let within : c.from.result < length now.contents.parts.items = omega arith in
-    let part = part_read now.contents.parts.items c.from.result (partition_of c.args.tag) c.index_mut-part.result.now place within c.index_mut-part.ensures.value in
+    let part = partition_read now.contents.parts.items c.from.result _ (partition_of c.args.tag) c.index_mut-part.result.now shown.2.contents.sixteen c.from.ensures c.partition-partition.ensures.value c.partition-partition.ensures.within c.index_mut-part.ensures.value in
     ap (λ x. (content_of x).holds c.args.owner c.args.tag c.args.mode) part
     ∙ not_in_content now shown.0 shown.1 shown.2 c.args.session c.args.owner c.from-place.result c.args.tag c.args.mode c.args.strong (sym c.if-not-may_transfer.ensures)
 
@@ -60,11 +56,7 @@ pub begin-requires-clause-not_awaited : goal.begin-requires-clause-not_awaited
 begin-requires-clause-not_awaited c =
     let now = c.args.self.now in
     let shown = c.requires.shown in
-    let place : c.from.result ≡ partition_of c.args.tag = c.from.ensures ∙ c.partition-partition.ensures.value in
-    let below = c.partition-partition.ensures.within in
-    let sixteen : length now.contents.parts.items ≡ 16 = shown.2.contents.sixteen in
-    let within : c.from.result < length now.contents.parts.items = omega arith in
-    let part = part_read now.contents.parts.items c.from.result (partition_of c.args.tag) c.index_mut-part.result.now place within c.index_mut-part.ensures.value in
+    let part = partition_read now.contents.parts.items c.from.result _ (partition_of c.args.tag) c.index_mut-part.result.now shown.2.contents.sixteen c.from.ensures c.partition-partition.ensures.value c.partition-partition.ensures.within c.index_mut-part.ensures.value in
     ap (λ x. awaits_mode ((content_of x).waits c.args.tag) c.args.owner c.args.mode) part
     ∙ not_in_queue now shown.0 shown.1 shown.2 c.args.session c.args.owner c.from-place.result c.args.tag c.args.mode c.args.strong (sym c.if-not-may_transfer.ensures)
 
@@ -72,10 +64,7 @@ pub returns-in_err-begin-clause-refused : goal.returns-in_err-begin-clause-refus
 returns-in_err-begin-clause-refused c =
     let now = c.args.self.now in
     let place : c.from.result ≡ partition_of c.args.tag = c.from.ensures ∙ c.partition-partition.ensures.value in
-    let below = c.partition-partition.ensures.within in
-    let sixteen : length now.contents.parts.items ≡ 16 = c.requires.shown.2.contents.sixteen in
-    let within : c.from.result < length now.contents.parts.items = omega arith in
-    let part = part_read now.contents.parts.items c.from.result (partition_of c.args.tag) c.index_mut-part.result.now place within c.index_mut-part.ensures.value in
+    let part = partition_read now.contents.parts.items c.from.result _ (partition_of c.args.tag) c.index_mut-part.result.now c.requires.shown.2.contents.sixteen c.from.ensures c.partition-partition.ensures.value c.partition-partition.ensures.within c.index_mut-part.ensures.value in
     let P : Machine → Type 0 = λ m. (w : World) → Shows now w → Shows m w in
     let refused : P (record now { contents = record (now.contents) { parts = with_item now.contents.parts c.from.result c.begin.new.self } }) = λ w shows.
     rw place (transfer_refused now w (partition_of c.args.tag) c.begin.new.self shows (omega arith) (c.begin.ensures.content ∙ ap content_of part) c.in_err-begin.ensures.err) in
@@ -88,17 +77,13 @@ pub returns-clause-followed : goal.returns-clause-followed
 returns-clause-followed c = λ w safe shows.
     let now = c.args.self.now in
     let in_part : c.from.result ≡ partition_of c.args.tag = c.from.ensures ∙ c.partition-partition.ensures.value in
-    let below_16 = c.partition-partition.ensures.within in
-    let sixteen : length now.contents.parts.items ≡ 16 = shows.contents.sixteen in
-    let in_parts : c.from.result < length now.contents.parts.items = omega arith in
-    let part = part_read now.contents.parts.items c.from.result (partition_of c.args.tag) c.index_mut-part.result.now in_part in_parts c.index_mut-part.ensures.value in
+    let part = partition_read now.contents.parts.items c.from.result _ (partition_of c.args.tag) c.index_mut-part.result.now shows.contents.sixteen c.from.ensures c.partition-partition.ensures.value c.partition-partition.ensures.within c.index_mut-part.ensures.value in
     let place : c.from-place.result ≡ c.args.slot = c.from-place.ensures in
     let whose : c.from-index.result ≡ c.args.owner = c.from-index.ensures ∙ c.number-number.ensures.value in
-    let below : c.args.owner < 64 = omega arith in
     let may : may_transfer now c.args.session c.args.owner c.args.slot c.args.tag c.args.mode c.args.strong ≡ true =
     ap (λ k. may_transfer now c.args.session c.args.owner k c.args.tag c.args.mode c.args.strong) (sym place) ∙ sym c.if-not-may_transfer.ensures in
     let within : c.args.slot < length (slots_at now c.args.owner) =
-    subst (λ n. c.args.slot < n) (sym (shows.fast_path.each_slots c.args.owner below)) (transfer_within now c.args.session c.args.owner c.args.slot c.args.tag c.args.mode c.args.strong may) in
+    subst (λ n. c.args.slot < n) (sym (shows.fast_path.each_slots c.args.owner (omega arith))) (transfer_within now c.args.session c.args.owner c.args.slot c.args.tag c.args.mode c.args.strong may) in
     let slots_read =
     ap (λ (m : Machine). get_or (get_or m.fast_path.slots c.from-index.result []) c.from-place.result c.index-self-index.result) c.record.ensures
     ∙ slot_read now.fast_path.slots c.from-index.result c.args.owner c.from-place.result c.args.slot c.index-self-index.result whose place within in
@@ -114,5 +99,5 @@ returns-clause-followed c = λ w safe shows.
     (rw (word, place, whose, in_part, c.number-number.ensures.value, c.partition-partition.ensures.value)
     (was_transferred now w safe shows c.args.session c.args.owner c.args.slot c.args.tag c.args.mode c.args.strong c.in-Some.hand c.grant.new.self
     (ap (hand_of now c.args.session) (sym c.partition-partition.ensures.value) ∙ sym c.hand_of.ensures ∙ c.in-Some.is)
-    (ap (λ k. may_adopt c.in-Some.hand.recorded k c.args.slot) (sym c.number-number.ensures.value) ∙ sym c.if-not-may_adopt.ensures) may below
+    (ap (λ k. may_adopt c.in-Some.hand.recorded k c.args.slot) (sym c.number-number.ensures.value) ∙ sym c.if-not-may_adopt.ensures) may (omega arith)
     (c.grant.ensures.content ∙ ap (λ (x : Content). add_hold x c.args.owner c.args.tag c.args.mode) (c.begin.ensures.content ∙ ap content_of part)) c.grant.ensures.ended))

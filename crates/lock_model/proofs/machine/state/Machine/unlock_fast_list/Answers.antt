@@ -10,9 +10,7 @@ returns-then-has_list c = λ w safe shows.
     let place : c.from-index.result ≡ c.args.owner = c.from-index.ensures ∙ c.number.ensures.value in
     let lock : c.number-2.result ≡ c.args.owner = c.number-2.ensures.value in
     let whose : c.from.result ≡ c.args.session = c.from.ensures ∙ c.number-then-has_list.ensures.value in
-    let below : c.args.session < 64 = omega arith in
-    let exists : c.args.owner < 64 = omega arith in
     rw (place, whose)
-    (unlocked_fast_list now w safe shows c.args.session c.args.owner c.args.has_waiters c.args.release_ok _ c.unlocked.result below exists
-    (fast_word_from now w safe shows c.from-index.result c.args.owner c.index-self-index.result place exists)
+    (unlocked_fast_list now w safe shows c.args.session c.args.owner c.args.has_waiters c.args.release_ok _ c.unlocked.result (omega arith) (omega arith)
+    (fast_word_from now w safe shows c.from-index.result c.args.owner c.index-self-index.result place (omega arith))
     (ap (λ n. has_list now c.args.session (2 * n + 1)) (sym lock) ∙ sym c.if-has_list.ensures) c.unlocked.ensures)

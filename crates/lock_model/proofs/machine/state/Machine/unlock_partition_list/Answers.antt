@@ -13,11 +13,9 @@ returns-then-has_list c = λ w safe shows.
     let now = c.args.self.now in
     let place : c.from-index.result ≡ c.args.partition = c.from-index.ensures in
     let whose : c.from.result ≡ c.args.session = c.from.ensures ∙ c.number.ensures.value in
-    let below : c.args.session < 64 = omega arith in
-    let in_words : c.args.partition < length now.words.partitions = omega arith in
     rw (place, whose)
-    (unlocked_partition_list now w safe shows c.args.session c.args.partition c.args.has_waiters c.args.release_ok _ c.unlocked.result below in_words
-    (partition_word_from now w safe shows c.from-index.result c.args.partition c.index-self-index.result place in_words) (sym c.if-has_list.ensures) c.unlocked.ensures)
+    (unlocked_partition_list now w safe shows c.args.session c.args.partition c.args.has_waiters c.args.release_ok _ c.unlocked.result (omega arith) (omega arith)
+    (partition_word_from now w safe shows c.from-index.result c.args.partition c.index-self-index.result place (omega arith)) (sym c.if-has_list.ensures) c.unlocked.ensures)
 
 pub returns-else-index-lt16 : goal.returns-else-index-lt16
 returns-else-index-lt16 c = λ w safe shows.
@@ -26,6 +24,5 @@ returns-else-index-lt16 c = λ w safe shows.
     (λ lawful. elim c.else-index-lt16.branch [
       | else-index-lt16-via-then-index-lt16+else-has_list b ↦ has_not now w safe shows c.args.session (partition_lock c.args.partition) (sym b.if-has_list.ensures) lawful.1.0
       | else-index-lt16-via-else-index-lt16 b ↦
-          let past : length now.words.partitions ≤ c.args.partition = omega arith in
-          no_such_list now w safe shows c.args.session c.args.partition past lawful.1.0
+          no_such_list now w safe shows c.args.session c.args.partition (omega arith) lawful.1.0
     ])
