@@ -100,21 +100,10 @@ past-back_to end old new place progress same past =
 
 number_of_end-same : (a b : End) → number_of_end a ≡ number_of_end b → a ≡ b
 number_of_end-same Commit Commit same = refl
-number_of_end-same Commit Abort same = absurd (omega arith)
-number_of_end-same Commit Close same = absurd (omega arith)
-number_of_end-same Commit Inner same = absurd (omega arith)
-number_of_end-same Abort Commit same = absurd (omega arith)
 number_of_end-same Abort Abort same = refl
-number_of_end-same Abort Close same = absurd (omega arith)
-number_of_end-same Abort Inner same = absurd (omega arith)
-number_of_end-same Close Commit same = absurd (omega arith)
-number_of_end-same Close Abort same = absurd (omega arith)
 number_of_end-same Close Close same = refl
-number_of_end-same Close Inner same = absurd (omega arith)
-number_of_end-same Inner Commit same = absurd (omega arith)
-number_of_end-same Inner Abort same = absurd (omega arith)
-number_of_end-same Inner Close same = absurd (omega arith)
 number_of_end-same Inner Inner same = refl
+number_of_end-same a b same = absurd (omega arith)
 
 -- an end has come to a place: before it each entry is kept, with the counts that it leaves
 pub past-settled : (end other : End) (old new : Slots) (place : ℕ) →

@@ -34,6 +34,10 @@ slot_at-opened es k = get_or-map entry_in es k _
 pub opened-set : (es : List Entry) (k : ℕ) (x : Entry) → opened (set es k x) ≡ set (opened es) k (entry_in x)
 opened-set es k x = map-set entry_in es k x
 
+-- an entry of which something is held
+pub opened-held : (es : List Entry) (k : ℕ) (x y : Entry) → x ≡ y → count_in_all y ≢ 0 → opened (set es k x) ≡ set (opened es) k (Some y)
+opened-held es k x y same held = opened-set es k x ∙ ap (set (opened es) k) (ap entry_in same ∙ entry_in-held y held)
+
 pub opened-push : (es : List Entry) (x : Entry) → opened (es ++ x ∷ []) ≡ opened es ++ entry_in x ∷ []
 opened-push es x = map-append entry_in es (x ∷ [])
 

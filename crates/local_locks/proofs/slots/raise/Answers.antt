@@ -1,14 +1,12 @@
-use Rattle.std.proofs.Common.{set, ap, ◌∙◌}
+use Rattle.std.proofs.Common.{ap, ◌∙◌}
 use Rattle.std.proofs.lemmas.List.{get_or_default}
 use Rattle.local_locks.specs.Owned.{raised}
-use Rattle.local_locks.specs.Slots.{opened, entry_in, entry_at}
-use Rattle.local_locks.proofs.OpenLaws.{opened-set, entry_in-held, raised-held}
+use Rattle.local_locks.specs.Slots.{entry_at}
+use Rattle.local_locks.proofs.OpenLaws.{opened-held, raised-held}
 use Rattle.local_locks.proofs.slots.raise.Goals as goal
 
 pub returns-clause-slots : goal.returns-clause-slots
 returns-clause-slots c =
-    let es = c.args.slots.now.items in
-    let read = c.index_mut.ensures.value ∙ get_or_default es c.args.place c.index_mut.result.now _ c.requires.within in
-    opened-set es c.args.place c.raise.new.self
-    ∙ ap (set (opened es) c.args.place)
-    (ap entry_in (c.raise.ensures ∙ ap (raised c.args.owner) read) ∙ entry_in-held (raised c.args.owner (entry_at es c.args.place)) (raised-held c.args.owner (entry_at es c.args.place)))
+    opened-held c.args.slots.now.items c.args.place c.raise.new.self (raised c.args.owner (entry_at c.args.slots.now.items c.args.place))
+    (c.raise.ensures ∙ ap (raised c.args.owner) (c.index_mut.ensures.value ∙ get_or_default c.args.slots.now.items c.args.place c.index_mut.result.now _ c.requires.within))
+    (raised-held c.args.owner (entry_at c.args.slots.now.items c.args.place))
