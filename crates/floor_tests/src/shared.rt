@@ -100,11 +100,13 @@ const SIZES: TableSizes = TableSizes {
     groups: 1,
 };
 
-/// Sixteen empty partitions, which grow by `alloc`, each on its shelf.
+/// Sixteen empty partitions, which grow by `alloc`, each on its shelf, and the wait lists of two sessions.
 fn empty_shelves(alloc: Global) -> Result<Vec<Kept<PlainPart>>, Fail>
-    ensures new { let T = ⟦<PlainPart as PartTable>⟧ in IfOk result (λ shelves. AreNew T.content T.begun shelves.items) }
+    ensures new { let T = ⟦<PlainPart as PartTable>⟧ in
+        IfOk result (λ shelves. AreNew T.content T.begun 2 shelves.items) }
 {
-    Ok(in_shelves(alloc, empty_parts(alloc, PlainPart::new)?)?)
+    let parts = empty_parts(alloc, PlainPart::new)?;
+    Ok(in_shelves(alloc, parts, SIZES.sessions)?)
 }
 
 /// A board for tests, of a table for two sessions that grows by `alloc`.

@@ -7,10 +7,13 @@ ghost use Rattle.lw_word.specs.LockState.{word_of};
 use crate::fixtures::session;
 use lw_word::LwMode::{Exclusive, Shared};
 use lw_word::{
-    LwMode, LwWaiter, LwWord, WaitList, has_locked_list, must_wake_after, shared, taken,
+    LwMode, LwWaiter, LwWord, MOST_TAKEN_OFF, WaitList, has_locked_list, must_wake_after, shared,
+    taken,
 };
 use modes_core::SessionId;
+use std::alloc::{AllocError, Global};
 use std::process::Abort;
+use std::test::Fail;
 
 /// The word whose number is `number`.
 fn word(rt: &impl Abort, number: u64) -> LwWord
@@ -249,9 +252,10 @@ const WAKEUPS: [WaitsAndWakeup; 3] = [
     (&[], &[], &[], true),
 ];
 
-/// Has the session numbered `number` join `list`, in which it isn't yet, for `mode`.
+/// Has the session numbered `number`, for which there is room, join `list`, in which it isn't yet, for `mode`.
 fn join(rt: &impl Abort, list: &mut WaitList, number: u8, mode: LwMode) {
     let session = session(rt, number);
+    assert!(rt; session.number() < list.room());
     assert!(rt; !list.has(session));
     list.join(session, mode);
 }
@@ -271,36 +275,59 @@ fn are_waiting(waiters: &[LwWaiter], expected: &[(u8, LwMode)]) -> bool {
     true
 }
 
-/// Whether a wakeup of the list `waiters` takes off `taken`, leaves `left`, and has release-ok set where `release_ok`
-/// says so.
-fn wakes(rt: &impl Abort, (waiters, taken, left, release_ok): WaitsAndWakeup) -> bool {
-    let mut list = WaitList::new();
+/// Whether a wakeup of the list `waiters`, with room for four sessions, takes off `taken`, leaves `left`, and has
+/// release-ok set where `release_ok` says so. The list takes memory by `alloc`.
+fn wakes(
+    rt: &impl Abort,
+    alloc: Global,
+    (waiters, taken, left, release_ok): WaitsAndWakeup,
+) -> Result<bool, AllocError> {
+    let mut list = WaitList::new(alloc, 4)?;
     for (number, mode) in waiters {
         join(rt, &mut list, *number, *mode);
     }
     let was_empty = list.is_empty();
     let wakeup = list.wake_split();
-    was_empty == waiters.is_empty()
-        && are_waiting(wakeup.taken.as_slice(), taken)
-        && are_waiting(list.waiters(), left)
-        && list.is_empty() == left.is_empty()
-        && wakeup.release_ok == release_ok
+    Ok(
+        was_empty == waiters.is_empty()
+            && are_waiting(wakeup.taken.as_slice(), taken)
+            && are_waiting(list.waiters(), left)
+            && list.is_empty() == left.is_empty()
+            && list.room() == 4
+            && wakeup.release_ok == release_ok,
+    )
 }
 
 #[test]
-fn a_wakeup_takes_sharers_off_together_and_an_exclusive_first_alone(rt: HostRuntime) {
+fn a_wakeup_takes_sharers_off_together_and_an_exclusive_first_alone(
+    rt: HostRuntime,
+) -> Result<(), Fail> {
     for row in WAKEUPS {
-        assert!(rt; wakes(&rt, row), "a list of {}", row.0.len());
+        assert!(rt; wakes(&rt, rt.alloc(), row)?, "a list of {}", row.0.len());
     }
+    Ok(())
 }
 
-/// A list with all sessions, each after those with lower numbers. Where one can't join, the test ends by `rt`.
-fn all_sessions(rt: &impl Abort) -> WaitList {
-    let mut list = WaitList::new();
+/// A list with all sessions, each after those with lower numbers, which wait for `mode`. The list takes memory by
+/// `alloc`. Where a session can't join, the test ends by `rt`.
+fn all_sessions(rt: &impl Abort, alloc: Global, mode: LwMode) -> Result<WaitList, AllocError> {
+    let mut list = WaitList::new(alloc, 64)?;
     for number in 0..64 {
-        join(rt, &mut list, number, Exclusive);
+        join(rt, &mut list, number, mode);
     }
-    list
+    Ok(list)
+}
+
+/// As many sharers as there can be sessions are no more than go at a time, and so nobody is left. Sharers beyond those,
+/// who are left and go with the next wakeup, can't be made up while there can be no more sessions: this test stands for
+/// that one until then.
+#[test]
+fn sixty_four_sharers_go_together(rt: HostRuntime) -> Result<(), Fail> {
+    let mut list = all_sessions(&rt, rt.alloc(), Shared)?;
+    let wakeup = list.wake_split();
+    assert!(rt; wakeup.taken.as_slice().len() == MOST_TAKEN_OFF);
+    assert!(rt; list.is_empty());
+    Ok(())
 }
 
 /// Whether `session` was in `list`, and whether it is there once it left.
@@ -309,12 +336,13 @@ fn left(list: &mut WaitList, session: SessionId) -> (bool, bool) {
 }
 
 #[test]
-fn sixty_four_sessions_wait_and_one_leaves(rt: HostRuntime) {
-    let mut list = all_sessions(&rt);
+fn sixty_four_sessions_wait_and_one_leaves(rt: HostRuntime) -> Result<(), Fail> {
+    let mut list = all_sessions(&rt, rt.alloc(), Exclusive)?;
     let session = session(&rt, 17);
     for (count, was) in [(64, true), (63, false)] {
         assert!(rt; list.waiters().len() == count);
         assert!(rt; left(&mut list, session) == (was, false));
     }
     assert!(rt; list.waiters().len() == 63);
+    Ok(())
 }

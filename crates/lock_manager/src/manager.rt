@@ -101,12 +101,12 @@ impl Manager {
         let Ok(parts) = empty_parts(alloc, Part::new) else {
             return Err(Refusal::NoMemory);
         };
-        let Ok(shelves) = in_shelves(alloc, parts) else {
-            return Err(Refusal::NoMemory);
-        };
         let sizes = TableSizes {
             sessions: config.sessions as u8,
             groups: config.slot_groups as u8,
+        };
+        let Ok(shelves) = in_shelves(alloc, parts, sizes.sessions) else {
+            return Err(Refusal::NoMemory);
         };
         let Ok((table, numbers)) = open(alloc, &sizes, shelves) else {
             return Err(Refusal::NoMemory);

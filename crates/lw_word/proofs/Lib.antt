@@ -3,4 +3,5 @@ pub mod WordLemmas
 pub mod FlagLemmas
 pub mod StateLemmas
 pub mod WaitLemmas
+pub mod SharersInPlace
 pub mod SlotLemmas

@@ -1,10 +1,15 @@
-use Rattle.std.specs.Prelude.{ℕ, ◌<◌, ◌≤◌, Bool, not, ◌==◌, List, [], ◌∷◌, filter, count_by, if◌then◌else◌}
+use Rattle.std.specs.Prelude.{ℕ, zero, suc, ◌<◌, ◌≤◌, Bool, not, ◌==◌, List, [], ◌∷◌, filter, take, count_by, if◌then◌else◌}
 use Rattle.std.specs.List.{list_any}
 use Rattle.lw_word.specs.declared.wait_lists.LwWaiter.{LwWaiter}
 use Rattle.lw_word.specs.LockState.{is_shared}
-use Rattle.modes_core.specs.Sessions.{most_sessions}
+use Rattle.lw_word.specs.declared.wait_lists.TheConstants.{MOST_TAKEN_OFF}
 
 -- The sessions that wait for a lightweight lock, first come first (`waiters` of an `LWLock` in lwlock.h).
+
+-- a wait list: who waits, and how many sessions there can be, whose numbers are those below
+pub record Waiting : Type 0 where
+  pub waiters : List LwWaiter
+  pub room : ℕ
 
 -- whether the waiter is this session
 abbrev pub is_of : ℕ → LwWaiter → Bool
@@ -18,10 +23,10 @@ stands_in session waiters = list_any (is_of session) waiters
 abbrev pub times_in : ℕ → List LwWaiter → ℕ
 times_in session waiters = count_by (is_of session) waiters
 
--- each session stands in the list once at most, and all are below the most that there can be
-pub record EachStandsOnce (waiters : List LwWaiter) : Type 0 where
+-- each session stands in the list once at most, and is one of the sessions that there can be, so many
+pub record EachStandsOnce (room : ℕ) (waiters : List LwWaiter) : Type 0 where
   pub once : (session : ℕ) → times_in session waiters ≤ 1
-  pub below : (session : ℕ) → 0 < times_in session waiters → session < most_sessions
+  pub below : (session : ℕ) → 0 < times_in session waiters → session < room
 
 -- the list without the session
 abbrev pub without : ℕ → List LwWaiter → List LwWaiter
@@ -33,13 +38,21 @@ without session waiters = filter (λ waiter. not (is_of session waiter)) waiters
 abbrev pub wants_to_share : LwWaiter → Bool
 wants_to_share waiter = is_shared waiter.mode
 
--- whom it takes off: all who want to share, where the first one does; else the first one alone
+-- the list without the first of those who want to share the lock, so many of them
+abbrev pub without_sharers : ℕ → List LwWaiter → List LwWaiter
+without_sharers zero waiters = waiters
+without_sharers (suc many) [] = []
+without_sharers (suc many) (first ∷ others) =
+    if wants_to_share first then without_sharers many others else first ∷ without_sharers (suc many) others
+
+-- whom it takes off: those who want to share, where the first one does, as many as go at a time; else the first one alone
 abbrev pub taken_off : List LwWaiter → List LwWaiter
 taken_off [] = []
-taken_off (first ∷ others) = if wants_to_share first then first ∷ filter wants_to_share others else first ∷ []
+taken_off (first ∷ others) =
+    if wants_to_share first then take MOST_TAKEN_OFF (filter wants_to_share (first ∷ others)) else first ∷ []
 
 -- whom it leaves: all others
 abbrev pub left_waiting : List LwWaiter → List LwWaiter
 left_waiting [] = []
 left_waiting (first ∷ others) =
-    if wants_to_share first then filter (λ waiter. not (wants_to_share waiter)) others else others
+    if wants_to_share first then without_sharers MOST_TAKEN_OFF (first ∷ others) else others

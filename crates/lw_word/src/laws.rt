@@ -1,14 +1,16 @@
 //! Laws of the words and of the wait list, each a clause over all numbers and lists. What the words' calls do
 //! is said of what a word says; here it is said of the number, which is what the shared table has.
 
-ghost use Rattle.std.specs.Prelude.{◌≡◌, ◌+◌, ◌/◌, ◌%◌, ◌^◌, ◌<◌, ◌≤◌, ◌↔◌, ℕ, Bool, [], ◌++◌, true, false};
+ghost use Rattle.std.specs.Prelude.{◌≡◌, ◌+◌, ◌/◌, ◌%◌, ◌^◌, ◌<◌, ◌≤◌, ◌↔◌, ℕ, Bool, [], ◌∷◌, ◌++◌, filter, length, not, true, false};
 ghost use Rattle.std.specs.List.Sorted.{IsPermutation};
 ghost use Rattle.modes_core.specs.declared.modes.Mode.{Mode};
 ghost use Rattle.modes_core.specs.Mode.{number_of};
 ghost use Rattle.lw_word.specs.LightweightWord.{IsLightweightWord, IsHeldByNobody, IsHeldExclusively, IsFreeToShare, IsListLocked, IsReleaseOk, HasWaiters, shared_count, taken_word, put_word, shared_word, unshared_word, list_locked_word, release_ok_word, has_waiters_word, list_unlocked_word, FlagsStay, HoldersStay};
 ghost use Rattle.lw_word.specs.LockState.{LockState, IsFreeFor, IsHeldIn, word_of, state_of};
 ghost use Rattle.lw_word.specs.declared.words.LwMode.TheVariants.{Exclusive, Shared};
-ghost use Rattle.lw_word.specs.WaitList.{taken_off, left_waiting};
+ghost use Rattle.lw_word.specs.WaitList.{wants_to_share, taken_off, left_waiting};
+ghost use Rattle.lw_word.specs.declared.wait_lists.LwWaiter.{LwWaiter};
+ghost use Rattle.lw_word.specs.declared.wait_lists.TheConstants.{MOST_TAKEN_OFF};
 ghost use Rattle.lw_word.specs.SlotWord.{relation_in, mode_bits, in_use, shows, slot_word};
 
 /// A lightweight word and what it says are one, both ways.
@@ -74,9 +76,16 @@ pub fn unlocking_clears_what_is_told()
 {}
 
 /// A wakeup takes off somebody wherever anybody waits, and each waiter that it doesn't take off remains in the list.
+/// Where one who wants to share the lock is first, and no more do than go at a time, it takes off all of them.
 pub fn a_wakeup_splits_the_list()
     ensures split { (waiters : _) → IsPermutation waiters (taken_off waiters ++ left_waiting waiters) }
     ensures somebody { (waiters : _) → taken_off waiters ≡ [] → waiters ≡ [] }
+    ensures all_taken { (first : LwWaiter) (others : _) → wants_to_share first ≡ true
+        → length (filter wants_to_share (first ∷ others)) ≤ MOST_TAKEN_OFF
+        → taken_off (first ∷ others) ≡ filter wants_to_share (first ∷ others) }
+    ensures none_left { (first : LwWaiter) (others : _) → wants_to_share first ≡ true
+        → length (filter wants_to_share (first ∷ others)) ≤ MOST_TAKEN_OFF
+        → left_waiting (first ∷ others) ≡ filter (λ waiter. not (wants_to_share waiter)) (first ∷ others) }
 {}
 
 /// A slot word of a relation has just that relation and these mode bits; a slot in use shows a mode of its

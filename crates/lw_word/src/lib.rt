@@ -11,6 +11,6 @@ mod words;
 
 pub use numbers::{has_locked_list, must_wake_after, shared, taken};
 pub use slot_words::SlotWord;
-pub use wait_lists::{LwWaiter, TakenOff, WaitList, Wakeup};
+pub use wait_lists::{LwWaiter, MOST_TAKEN_OFF, TakenOff, WaitList, Wakeup};
 pub use wait_words::{CANCEL_ASKED, SleepState, WaitState, is_asked, wait_state};
 pub use words::{LwMode, LwWord};

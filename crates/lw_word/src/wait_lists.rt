@@ -1,10 +1,12 @@
-ghost use Rattle.std.specs.Prelude.{◌≡◌, ◌≤◌, length, filter, not};
-ghost use Rattle.lw_word.specs.WaitList.{wants_to_share};
-ghost use Rattle.modes_core.specs.Sessions.{most_sessions};
+ghost use Rattle.std.specs.Prelude.{◌≡◌, ◌<◌, filter, take};
+ghost use Rattle.std.specs.Vec.{vec_capacity};
+ghost use Rattle.lw_word.specs.WaitList.{wants_to_share, without_sharers};
+ghost use Rattle.lw_word.specs.declared.wait_lists.TheConstants.{MOST_TAKEN_OFF};
 
 use crate::LwMode;
 use arrayvec::ArrayVec;
-use modes_core::{MOST_SESSIONS, SessionId};
+use modes_core::SessionId;
+use std::alloc::{AllocError, Global};
 use std::marker::Model;
 
 /// A session that waits for a lightweight lock, and how it wants to take it (`lwWaitMode` of a `PGPROC` in proc.h).
@@ -16,11 +18,12 @@ pub struct LwWaiter {
     pub mode: LwMode,
 }
 
-/// How many sessions can be in a wait list: all that there are, each once.
-const MOST_WAITERS: usize = MOST_SESSIONS as usize;
+/// How many sessions a wakeup takes off a wait list at most. Whoever wakes them has them in a list of its own, so that
+/// is no longer, however many sessions there are.
+pub const MOST_TAKEN_OFF: usize = 64;
 
 /// The sessions whom a wakeup took off a wait list, in the order of the list. Each session is in a list once at most.
-pub type TakenOff = ArrayVec<LwWaiter, MOST_WAITERS>;
+pub type TakenOff = ArrayVec<LwWaiter, MOST_TAKEN_OFF>;
 
 /// What a wakeup leads to.
 #[derive(Debug, Drop)]
@@ -33,55 +36,67 @@ pub struct Wakeup {
 }
 
 /// The wait list of a lightweight lock, first come first (`waiters` of an `LWLock` in lwlock.h). Contracts see
-/// the list of waiters. A session is in it once at most. Nothing here takes memory.
+/// the waiters, and how many sessions there can be: their numbers are those below. A session is in the list once at
+/// most, and there is room for all of them, so that nothing but `new` takes memory.
 #[derive(Debug, Drop)]
 pub struct WaitList {
-    waiters: ArrayVec<LwWaiter, MOST_WAITERS>,
+    waiters: Vec<LwWaiter>,
+    room: u8,
 }
 
 impl Model for WaitList {
-    ghost use Rattle.std.specs.Prelude.{List};
-    ghost use Rattle.lw_word.specs.declared.wait_lists.LwWaiter.{LwWaiter};
-    ghost use Rattle.lw_word.specs.WaitList.{EachStandsOnce};
+    ghost use Rattle.std.specs.Prelude.{◌≤◌};
+    ghost use Rattle.std.specs.Vec.{vec_capacity};
+    ghost use Rattle.lw_word.specs.WaitList.{Waiting, EachStandsOnce};
 
-    ghost Value = { List LwWaiter };
+    ghost Value = { Waiting };
 
-    ghost view = { λ list. list.waiters.items };
+    ghost view = { λ list. record { waiters = list.waiters.items; room = list.room } };
 
-    ghost invariant = { λ list. EachStandsOnce list.waiters.items };
+    ghost invariant = { λ list. EachStandsOnce list.room list.waiters.items
+        × (list.room ≤ vec_capacity list.waiters) };
 }
 
 impl WaitList {
-    ghost use Rattle.std.specs.Prelude.{◌≡◌, ◌↔◌, ◌∷◌, ◌++◌, [], false, IsTrue};
+    ghost use Rattle.std.specs.Prelude.{◌≡◌, ◌<◌, ◌↔◌, ◌∷◌, ◌++◌, [], false, IsTrue, IfOk};
     ghost use Rattle.lw_word.specs.WaitList.{EachStandsOnce, stands_in, without, taken_off, left_waiting};
 
-    /// A wait list in which nobody waits.
-    pub fn new() -> Self
-        ensures { result ≡ [] }
+    /// A wait list in which nobody waits, with room for `sessions` of them: there can be those with numbers below. An
+    /// error where `alloc` has no memory for it.
+    pub fn new(alloc: Global, sessions: u8) -> Result<Self, AllocError>
+        ensures { IfOk result (λ list. list ≡ record { waiters = []; room = sessions }) }
     {
-        WaitList {
-            waiters: ArrayVec::new(),
-        }
+        Ok(WaitList {
+            waiters: Vec::with_capacity(alloc, sessions as usize)?,
+            room: sessions,
+        })
     }
 
     /// The waiters, first come first.
     pub fn waiters(&self) -> &[LwWaiter]
-        ensures value { result.now ≡ self.now }
-        ensures once { EachStandsOnce result.now }
+        ensures value { result.now ≡ self.now.waiters }
+        ensures once { EachStandsOnce self.now.room result.now }
     {
         self.waiters.as_slice()
     }
 
+    /// For how many sessions there is room: as many as there can be.
+    pub fn room(&self) -> u8
+        ensures { result ≡ self.now.room }
+    {
+        self.room
+    }
+
     /// Whether nobody waits in the list.
     pub fn is_empty(&self) -> bool
-        ensures { IsTrue result ↔ (self.now ≡ []) }
+        ensures { IsTrue result ↔ (self.now.waiters ≡ []) }
     {
         self.waiters.is_empty()
     }
 
     /// Whether `session` is in the list.
     pub fn has(&self, session: SessionId) -> bool
-        ensures { result ≡ stands_in session self.now }
+        ensures { result ≡ stands_in session self.now.waiters }
     {
         self.waiters
             .as_slice()
@@ -89,21 +104,22 @@ impl WaitList {
             .any(|waiter| session.number() == waiter.session.number())
     }
 
-    /// Puts `session` at the end of the list, as one that wants to take the lock in `mode` (`LWLockQueueSelf` in
-    /// lwlock.c).
+    /// Puts `session`, one of those that there can be, at the end of the list, as one that wants to take the lock in
+    /// `mode` (`LWLockQueueSelf` in lwlock.c).
     pub fn join(&mut self, session: SessionId, mode: LwMode)
-        requires { stands_in session self.old ≡ false }
-        ensures { self.new ≡ self.old ++ record { session = session; mode = mode } ∷ [] }
+        requires within { session < self.old.room }
+        requires absent { stands_in session self.old.waiters ≡ false }
+        ensures { self.new ≡ record self.old {
+          waiters = self.old.waiters ++ record { session = session; mode = mode } ∷ [];
+        } }
     {
-        let number = session.number();
-        prove!(number < MOST_SESSIONS);
-        self.waiters.push(LwWaiter { session, mode });
+        self.waiters.push_reserved(LwWaiter { session, mode });
     }
 
     /// Takes `session` out of the list, and answers whether it was there (`LWLockDequeueSelf` in lwlock.c).
     pub fn leave(&mut self, session: SessionId) -> bool
-        ensures found { result ≡ stands_in session self.old }
-        ensures left { self.new ≡ without session self.old }
+        ensures found { result ≡ stands_in session self.old.waiters }
+        ensures left { self.new ≡ record self.old { waiters = without session self.old.waiters } }
     {
         let found = self.has(session);
         let number = session.number();
@@ -113,11 +129,12 @@ impl WaitList {
     }
 
     /// Takes off those whom a wakeup lets go (`LWLockWakeup` in lwlock.c): where the first waiter wants to share the
-    /// lock, all who do so, else the first one alone. The others stay, in their order.
+    /// lock, those who do so, `MOST_TAKEN_OFF` of them at most, else the first one alone. The others stay, in their
+    /// order, and go with a later wakeup.
     pub fn wake_split(&mut self) -> Wakeup
-        ensures taken { result.taken.items ≡ taken_off self.old }
-        ensures left { self.new ≡ left_waiting self.old }
-        ensures release_ok { IsTrue result.release_ok ↔ (self.old ≡ []) }
+        ensures taken { result.taken.items ≡ taken_off self.old.waiters }
+        ensures left { self.new ≡ record self.old { waiters = left_waiting self.old.waiters } }
+        ensures release_ok { IsTrue result.release_ok ↔ (self.old.waiters ≡ []) }
     {
         if self.waiters.is_empty() {
             return Wakeup {
@@ -127,9 +144,7 @@ impl WaitList {
         }
         let first = self.waiters[0];
         let taken = if first.mode.is_shared() {
-            let (sharers, others) = parted(self.waiters.as_slice());
-            self.waiters = others;
-            sharers
+            take_sharers_off(&mut self.waiters)
         } else {
             let mut alone = ArrayVec::new();
             alone.push(self.waiters.remove(0));
@@ -142,20 +157,24 @@ impl WaitList {
     }
 }
 
-/// Of `waiters`, those who want to share the lock, and the others, each in their order.
-fn parted(waiters: &[LwWaiter]) -> (TakenOff, TakenOff)
-    requires { length waiters.now ≤ most_sessions }
-    ensures sharers { result.0.items ≡ filter wants_to_share waiters.now }
-    ensures others { result.1.items ≡ filter (λ waiter. not (wants_to_share waiter)) waiters.now }
+/// Takes the first `MOST_TAKEN_OFF` of those who want to share the lock out of `waiters`. The others stay, in their
+/// order.
+fn take_sharers_off(waiters: &mut Vec<LwWaiter>) -> TakenOff
+    ensures taken { result.items ≡ take MOST_TAKEN_OFF (filter wants_to_share waiters.old.items) }
+    ensures left { waiters.new.items ≡ without_sharers MOST_TAKEN_OFF waiters.old.items }
+    ensures capacity { vec_capacity waiters.new ≡ vec_capacity waiters.old }
 {
-    let mut sharers = ArrayVec::new();
-    let mut others = ArrayVec::new();
-    for waiter in waiters {
-        if waiter.mode.is_shared() {
-            sharers.push(*waiter);
+    let mut taken = TakenOff::new();
+    let mut kept = 0;
+    for index in 0..waiters.len() {
+        let waiter = waiters[index];
+        if waiter.mode.is_shared() && taken.len() < MOST_TAKEN_OFF {
+            taken.push(waiter);
         } else {
-            others.push(*waiter);
+            waiters[kept] = waiter;
+            kept += 1;
         }
     }
-    (sharers, others)
+    waiters.truncate(kept);
+    taken
 }

@@ -413,7 +413,7 @@ module _ {T : Type 0} (content : T → Content) (begun : T → Option Request) (
   pub ruled-noted :
       (mark : Mark T) (words : Words) (table : List ℕ) (homes : List (maybe.Option (Kept T))) (noted : IsNoted content sizes.groups r.world x.number (told content x.number x.marks) (todo_told_by x.number x.marks) (flagged_told_by x.marks) mark words)
       → WordsAreShown sizes.groups table words → ContentsAreHome content begun homes noted.after.contents
-      → ListsAreHome homes noted.after.sessions.has_list noted.after.words.list
+      → ListsAreHome sizes.sessions homes noted.after.sessions.has_list noted.after.words.list
       → Ruled content begun sizes (record { words = table; homes = homes; views = slice_set s.views id (noting view mark) })
   ruled-noted mark words table homes noted shown home lists =
       let event : Event = record { session = x.number; step = noted.step } in

@@ -4,6 +4,7 @@ use mathlib.Core.Option.{some, some-injective, some-ne-none}
 use lib.ListN.{get_elem?}
 use Rattle.atomic_table.specs.Table as table
 use Rattle.atomic_table.proofs.Lists.{at_map}
+use Rattle.lw_word.specs.WaitList.{Waiting}
 use Rattle.lock_table.specs.declared.request.Request.{Request}
 use Rattle.lock_table.specs.Content.{Content}
 use Rattle.lock_table.specs.Parts.{AreEmptyParts}
@@ -69,7 +70,7 @@ module _ {T : Type 0} (content : T → Content) (begun : T → Option Request) (
   unfolding total
   none-closed = record { once = λ number. omega arith; all = refl }
 
-  pub opening-ruled : sizes.sessions ≤ most_sessions → 0 < sizes.groups → sizes.groups ≤ most_groups → (words : List ℕ) → WordsAreShown sizes.groups words (opening 0 0).words → (slots : List (Kept T)) → AreNew content begun slots
+  pub opening-ruled : sizes.sessions ≤ most_sessions → 0 < sizes.groups → sizes.groups ≤ most_groups → (words : List ℕ) → WordsAreShown sizes.groups words (opening 0 0).words → (slots : List (Kept T)) → AreNew content begun sizes.sessions slots
       → Ruled content begun sizes (table.opening words slots opening_view)
   opening-ruled few some_groups few_groups words shown slots new = record {
     world = opening sizes.sessions sizes.groups;
@@ -105,7 +106,8 @@ module _ {T : Type 0} (content : T → Content) (begun : T → Option Request) (
         record {
           list = there.list;
           at_home = at_map some slots (list_shelf_of lock) (kept.List there.list) (get-there slots (list_shelf_of lock) (kept.List there.list) there.is_there);
-          is_list = there.empty;
+          is_list = ap (λ (list : Waiting). list.waiters) there.empty;
+          has_room = ap (λ (list : Waiting). list.room) there.empty;
         };
     seats = opening-seats;
     closed = λ seat view number there says. subst (λ (z : View T). ClosedAreCounted (opening sizes.sessions sizes.groups).numbers z.closed) (only-one seat view there).1 none-closed;

@@ -1,10 +1,12 @@
-use Rattle.std.proofs.Common.{◌≡◌, ℕ, ◌<◌, ◌≤◌, Bool, true, false, not, cond, ◌||◌, List, [], ◌∷◌, ◌++◌, filter, Some, None}
+use Rattle.std.proofs.Common.{◌≡◌, ℕ, zero, suc, ◌<◌, ◌≤◌, Bool, true, false, not, cond, ◌||◌, List, [], ◌∷◌, ◌++◌, filter, take, count_by, Some, None}
 use Rattle.std.proofs.Common.{refl, sym, ap, ◌∙◌, subst, inl, inr, arith}
 use Rattle.std.specs.Prelude.{if◌then◌else◌}
 use Rattle.std.proofs.lemmas.Bool.{cases_eq, cases_Bool, both_ways, false_from_ne_true, eq-eqb, ne_eqb, or_cases, or_left, or_right, cond-true, cond-false}
+use Rattle.std.specs.List.{list_any}
 use Rattle.std.proofs.lemmas.List.{append_assoc}
 use Rattle.lw_word.specs.declared.wait_lists.LwWaiter.{LwWaiter}
-use Rattle.lw_word.specs.WaitList.{is_of, stands_in, times_in, without, wants_to_share, taken_off, left_waiting}
+use Rattle.lw_word.specs.WaitList.{is_of, stands_in, times_in, without, wants_to_share, without_sharers, taken_off, left_waiting}
+use Rattle.lw_word.specs.declared.wait_lists.TheConstants.{MOST_TAKEN_OFF}
 use Rattle.lock_table.specs.Put.{set_at}
 use Rattle.lock_table.proofs.PutLemmas.{set_at-here, set_at-else}
 use Rattle.lock_table.proofs.HoldLists.{count_by-filter}
@@ -85,65 +87,70 @@ abbrev Leaves : List LwWaiter → List LwWaiter → List LwWaiter → Type 0
 Leaves [] ws left = ws ≡ left
 Leaves (t ∷ ts) ws left = (stands_in t.session ws ≡ true) × Leaves ts (without t.session ws) left
 
-abbrev stays : LwWaiter → Bool
-stays w = not (wants_to_share w)
-
-leaves-sharing : (ks xs : List LwWaiter) → ((k : ℕ) → times_in k (ks ++ xs) ≤ 1)
-    → Leaves (filter wants_to_share xs) (ks ++ xs) (ks ++ filter stays xs)
-leaves-sharing ks [] once = refl
-leaves-sharing ks (x ∷ xs) once = elim (cases_Bool (wants_to_share x)) [
+leaves-sharing : (many : ℕ) (ks xs : List LwWaiter) → ((k : ℕ) → times_in k (ks ++ xs) ≤ 1)
+    → Leaves (take many (filter wants_to_share xs)) (ks ++ xs) (ks ++ without_sharers many xs)
+leaves-sharing zero ks xs once = refl
+leaves-sharing (suc many) ks [] once = refl
+leaves-sharing (suc many) ks (x ∷ xs) once = elim (cases_Bool (wants_to_share x)) [
   | inl shares ↦
-      let taken : filter wants_to_share (x ∷ xs) ≡ x ∷ filter wants_to_share xs =
-      cond-true (wants_to_share x) (x ∷ filter wants_to_share xs) (filter wants_to_share xs) shares in
-      let left : filter stays (x ∷ xs) ≡ filter stays xs =
-      cond-false (not (wants_to_share x)) (x ∷ filter stays xs) (filter stays xs) (ap not shares) in
-      let rest : Leaves (filter wants_to_share xs) (ks ++ xs) (ks ++ filter stays xs) =
-      leaves-sharing ks xs (λ k. let less = fewer k ks x xs in let was = once k in omega (arith, less, was)) in
-      subst (λ l. Leaves l (ks ++ x ∷ xs) (ks ++ filter stays (x ∷ xs))) (sym taken) (
+      let taken : take (suc many) (filter wants_to_share (x ∷ xs)) ≡ x ∷ take many (filter wants_to_share xs) =
+      ap (take (suc many)) (cond-true (wants_to_share x) (x ∷ filter wants_to_share xs) (filter wants_to_share xs) shares) in
+      let left : without_sharers (suc many) (x ∷ xs) ≡ without_sharers many xs =
+      cond-true (wants_to_share x) (without_sharers many xs) (x ∷ without_sharers (suc many) xs) shares in
+      let rest : Leaves (take many (filter wants_to_share xs)) (ks ++ xs) (ks ++ without_sharers many xs) =
+      leaves-sharing many ks xs (λ k. let less = fewer k ks x xs in let was = once k in omega (arith, less, was)) in
+      subst (λ l. Leaves l (ks ++ x ∷ xs) (ks ++ without_sharers (suc many) (x ∷ xs))) (sym taken) (
         present ks x xs,
-        subst (λ l. Leaves (filter wants_to_share xs) l (ks ++ filter stays (x ∷ xs))) (sym (between ks x xs (once x.session)))
-            (subst (λ l. Leaves (filter wants_to_share xs) (ks ++ xs) (ks ++ l)) (sym left) rest),
+        subst (λ l. Leaves (take many (filter wants_to_share xs)) l (ks ++ without_sharers (suc many) (x ∷ xs))) (sym (between ks x xs (once x.session)))
+            (subst (λ l. Leaves (take many (filter wants_to_share xs)) (ks ++ xs) (ks ++ l)) (sym left) rest),
       )
   | inr alone ↦
-      let taken : filter wants_to_share (x ∷ xs) ≡ filter wants_to_share xs =
-      cond-false (wants_to_share x) (x ∷ filter wants_to_share xs) (filter wants_to_share xs) alone in
-      let left : filter stays (x ∷ xs) ≡ x ∷ filter stays xs =
-      cond-true (not (wants_to_share x)) (x ∷ filter stays xs) (filter stays xs) (ap not alone) in
+      let taken : take (suc many) (filter wants_to_share (x ∷ xs)) ≡ take (suc many) (filter wants_to_share xs) =
+      ap (take (suc many)) (cond-false (wants_to_share x) (x ∷ filter wants_to_share xs) (filter wants_to_share xs) alone) in
+      let left : without_sharers (suc many) (x ∷ xs) ≡ x ∷ without_sharers (suc many) xs =
+      cond-false (wants_to_share x) (without_sharers many xs) (x ∷ without_sharers (suc many) xs) alone in
       let whole : (ks ++ x ∷ []) ++ xs ≡ ks ++ x ∷ xs = append_assoc ks (x ∷ []) xs in
-      let ends : (ks ++ x ∷ []) ++ filter stays xs ≡ ks ++ x ∷ filter stays xs = append_assoc ks (x ∷ []) (filter stays xs) in
-      let rest : Leaves (filter wants_to_share xs) ((ks ++ x ∷ []) ++ xs) ((ks ++ x ∷ []) ++ filter stays xs) =
-      leaves-sharing (ks ++ x ∷ []) xs (λ k. subst (λ l. times_in k l ≤ 1) (sym whole) (once k)) in
-      subst (λ l. Leaves l (ks ++ x ∷ xs) (ks ++ filter stays (x ∷ xs))) (sym taken)
-      (subst (λ l. Leaves (filter wants_to_share xs) (ks ++ x ∷ xs) (ks ++ l)) (sym left)
-      (subst (λ l. Leaves (filter wants_to_share xs) l (ks ++ x ∷ filter stays xs)) whole
-      (subst (λ l. Leaves (filter wants_to_share xs) ((ks ++ x ∷ []) ++ xs) l) ends rest)))
+      let ends : (ks ++ x ∷ []) ++ without_sharers (suc many) xs ≡ ks ++ x ∷ without_sharers (suc many) xs = append_assoc ks (x ∷ []) (without_sharers (suc many) xs) in
+      let rest : Leaves (take (suc many) (filter wants_to_share xs)) ((ks ++ x ∷ []) ++ xs) ((ks ++ x ∷ []) ++ without_sharers (suc many) xs) =
+      leaves-sharing (suc many) (ks ++ x ∷ []) xs (λ k. subst (λ l. times_in k l ≤ 1) (sym whole) (once k)) in
+      subst (λ l. Leaves l (ks ++ x ∷ xs) (ks ++ without_sharers (suc many) (x ∷ xs))) (sym taken)
+      (subst (λ l. Leaves (take (suc many) (filter wants_to_share xs)) (ks ++ x ∷ xs) (ks ++ l)) (sym left)
+      (subst (λ l. Leaves (take (suc many) (filter wants_to_share xs)) l (ks ++ x ∷ without_sharers (suc many) xs)) whole
+      (subst (λ l. Leaves (take (suc many) (filter wants_to_share xs)) ((ks ++ x ∷ []) ++ xs) l) ends rest)))
 ]
 
 leaves-taken : (ws : List LwWaiter) → ((k : ℕ) → times_in k ws ≤ 1) → Leaves (taken_off ws) ws (left_waiting ws)
 leaves-taken [] once = refl
-leaves-taken (first ∷ others) once = at (wants_to_share first) refl where
-  rest : Leaves (filter wants_to_share others) others (filter stays others)
-  rest = leaves-sharing [] others (λ k. let less = fewer k [] first others in let was = once k in omega (arith, less, was))
-
-  at : (shares : Bool) → wants_to_share first ≡ shares
-      → Leaves (if shares then first ∷ filter wants_to_share others else first ∷ []) (first ∷ others)
-      (if shares then filter stays others else others)
-  at true is = (
-    present [] first others,
-    subst (λ l. Leaves (filter wants_to_share others) l (filter stays others)) (sym (between [] first others (once first.session))) rest,
-  )
-  at false is = (present [] first others, between [] first others (once first.session))
+leaves-taken (first ∷ others) once = at (wants_to_share first) where
+  at : (shares : Bool) → Leaves (if shares then take MOST_TAKEN_OFF (filter wants_to_share (first ∷ others)) else first ∷ []) (first ∷ others)
+      (if shares then without_sharers MOST_TAKEN_OFF (first ∷ others) else others)
+  at true = leaves-sharing MOST_TAKEN_OFF [] (first ∷ others) once
+  at false = (present [] first others, between [] first others (once first.session))
 
 -- What is taken off stood there, and no more often.
+any-take : (test : LwWaiter → Bool) (many : ℕ) (ws : List LwWaiter) → list_any test (take many ws) ≡ true → list_any test ws ≡ true
+any-take test zero ws there = absurd (both_ways false refl there)
+any-take test (suc many) [] there = there
+any-take test (suc many) (w ∷ ws) there = elim (or_cases (test w) (list_any test (take many ws)) there) [
+  | inl its ↦ or_left (test w) (list_any test ws) its
+  | inr later ↦ or_right (test w) (list_any test ws) (any-take test many ws later)
+]
+
+fewer-taken : (test : LwWaiter → Bool) (many : ℕ) (ws : List LwWaiter) → count_by test (take many ws) ≤ count_by test ws
+fewer-taken test zero ws = omega arith
+fewer-taken test (suc many) [] = omega arith
+fewer-taken test (suc many) (w ∷ ws) =
+    let sum = count-cons test w ws in
+    let its = count-cons test w (take many ws) in
+    let less = fewer-taken test many ws in
+    omega (arith, sum, its, less)
+
 taken-stood : (k : ℕ) (ws : List LwWaiter) → stands_in k (taken_off ws) ≡ true → stands_in k ws ≡ true
 taken-stood k [] there = there
 taken-stood k (first ∷ others) there = at (wants_to_share first) there where
-  at : (shares : Bool) → stands_in k (if shares then first ∷ filter wants_to_share others else first ∷ []) ≡ true
+  at : (shares : Bool) → stands_in k (if shares then take MOST_TAKEN_OFF (filter wants_to_share (first ∷ others)) else first ∷ []) ≡ true
       → stands_in k (first ∷ others) ≡ true
-  at true there = elim (or_cases (is_of k first) (stands_in k (filter wants_to_share others)) there) [
-    | inl its ↦ or_left (is_of k first) (stands_in k others) its
-    | inr later ↦ or_right (is_of k first) (stands_in k others) (any-filter wants_to_share (is_of k) others later)
-  ]
+  at true there = any-filter wants_to_share (is_of k) (first ∷ others) (any-take (is_of k) MOST_TAKEN_OFF (filter wants_to_share (first ∷ others)) there)
   at false there = elim (or_cases (is_of k first) false there) [
     | inl its ↦ or_left (is_of k first) (stands_in k others) its
     | inr never ↦ absurd (both_ways false refl never)
@@ -152,12 +159,11 @@ taken-stood k (first ∷ others) there = at (wants_to_share first) there where
 taken-once : (k : ℕ) (ws : List LwWaiter) → times_in k ws ≤ 1 → times_in k (taken_off ws) ≤ 1
 taken-once k [] once = once
 taken-once k (first ∷ others) once = at (wants_to_share first) where
-  at : (shares : Bool) → times_in k (if shares then first ∷ filter wants_to_share others else first ∷ []) ≤ 1
+  at : (shares : Bool) → times_in k (if shares then take MOST_TAKEN_OFF (filter wants_to_share (first ∷ others)) else first ∷ []) ≤ 1
   at true =
-      let sum = count-cons (is_of k) first others in
-      let its = count-cons (is_of k) first (filter wants_to_share others) in
-      let less = count_by-filter (is_of k) wants_to_share others in
-      omega (arith, sum, its, less, once)
+      let some = fewer-taken (is_of k) MOST_TAKEN_OFF (filter wants_to_share (first ∷ others)) in
+      let less = count_by-filter (is_of k) wants_to_share (first ∷ others) in
+      omega (arith, some, less, once)
   at false =
       let sum = count-cons (is_of k) first others in
       let its = count-cons (is_of k) first [] in

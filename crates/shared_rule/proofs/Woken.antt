@@ -1,9 +1,10 @@
-use Rattle.std.proofs.Common.{◌≡◌, ◌≢◌, ℕ, ◌≤◌, Bool, true, false, List, [], ◌∷◌, filter, Some, None, refl, sym, ap, ◌∙◌, subst, inl, inr}
-use Rattle.std.proofs.lemmas.Bool.{false_from_ne_true, cases_eq, cases_Bool, both_ways, cond-true, cond-false, eq-eqb, ne_eqb, false≢true}
+use Rattle.std.proofs.Common.{◌≡◌, ◌≢◌, ℕ, ◌≤◌, Bool, true, false, List, [], ◌∷◌, Some, None, refl, sym, ap, ◌∙◌, subst, inl, inr}
+use Rattle.std.proofs.lemmas.Bool.{false_from_ne_true, cases_eq, cases_Bool, both_ways, eq-eqb, ne_eqb, false≢true}
 use Rattle.std.specs.Prelude.{◌||◌}
 use Rattle.atomic_table.specs.declared.shared.Seat.{Seat}
 use Rattle.lw_word.specs.declared.wait_lists.LwWaiter.{LwWaiter}
-use Rattle.lw_word.specs.WaitList.{stands_in, times_in, taken_off, left_waiting, wants_to_share}
+use Rattle.lw_word.specs.WaitList.{stands_in, times_in, taken_off, left_waiting}
+use Rattle.lw_word.proofs.WaitLemmas.{wakeup-somebody}
 use Rattle.lock_table.specs.Content.{Content}
 use Rattle.lock_world.specs.Account.{Account, ListAccount}
 use Rattle.lock_world.specs.AccountSteps.{account_locking_list, account_unlocking_list, account_taking_off}
@@ -141,20 +142,12 @@ pub some-off : (ws : List LwWaiter) (a : Account) → (ws ≡ [] → ⊥) → (k
 some-off [] a some = absurd (some refl)
 some-off (w ∷ ws) a some = (w.session, off-kept ws (account_taking_off a (list_here a.lists.in_hand) w.session) w.session (set_at-here a.lists.off w.session true w.session refl))
 
--- A wakeup that takes nobody off finds nobody.
-pub taken-none : (ws : List LwWaiter) → taken_off ws ≡ [] → ws ≡ []
-taken-none [] none = refl
-taken-none (w ∷ ws) none = elim (cases_Bool (wants_to_share w)) [
-  | inl shares ↦ let some : w ∷ filter wants_to_share ws ≡ [] = sym (cond-true (wants_to_share w) (w ∷ filter wants_to_share ws) (w ∷ []) shares) ∙ none in absurd (cc)
-  | inr alone ↦ let some : w ∷ [] ≡ [] = sym (cond-false (wants_to_share w) (w ∷ filter wants_to_share ws) (w ∷ []) alone) ∙ none in absurd (cc)
-]
-
 -- A list is left well after a wakeup: nobody was there, or somebody was taken off.
 pub left-well : (a b : Account) (todo : Todo) (lock : LwLock) (ws taken left : List LwWaiter) → taken ≡ taken_off ws → left ≡ left_waiting ws
     → b ≡ all_taken_off a taken → IsLeftWellBy b todo lock left
 left-well a b todo lock [] taken left is rest now = nobody_waits rest
 left-well a b todo lock (w ∷ ws) taken left is rest now =
-    let f = some-off taken a (λ none. absurd (let never : w ∷ ws ≡ [] = taken-none (w ∷ ws) (sym is ∙ none) in cc (never))) in
+    let f = some-off taken a (λ none. absurd (let never : w ∷ ws ≡ [] = wakeup-somebody (w ∷ ws) (sym is ∙ none) in cc (never))) in
     took_off f.0 (ap (λ (c : Account). c.lists.off f.0) now ∙ f.1)
 
 -- It is so still after a step that changes neither the account nor what is to do.

@@ -1,6 +1,6 @@
 use Rattle.std.specs.Prelude.{◌≡◌, ℕ, ◌<◌, List, [], length, slice_get, Option, Some}
 use Rattle.std.specs.Global.{Box}
-use Rattle.lw_word.specs.declared.wait_lists.LwWaiter.{LwWaiter}
+use Rattle.lw_word.specs.WaitList.{Waiting}
 use Rattle.lock_table.specs.declared.request.Request.{Request}
 use Rattle.shared_rule.specs.declared.kept.Kept.{Kept}
 use Rattle.shared_rule.specs.declared.kept.Kept.TheVariants as kept
@@ -12,11 +12,11 @@ use Rattle.shared_rule.specs.Layout.{content_shelf_of, list_shelf_of, lock_count
 -- The table before the first step.
 
 module _ {T : Type 0} where
-  -- There is a wait list in which nobody stands.
-  pub record IsEmptyList (there : Option (Kept T)) : Type 0 where
-    pub list : Box (List LwWaiter)
+  -- There is a wait list in which nobody stands, with room for so many sessions.
+  pub record IsEmptyList (sessions : ℕ) (there : Option (Kept T)) : Type 0 where
+    pub list : Box Waiting
     pub is_there : there ≡ Some (kept.List list)
-    pub empty : list.value ≡ []
+    pub empty : list.value ≡ record { waiters = []; room = sessions }
 
 module _ {T : Type 0} (content : T → Content) (begun : T → Option Request) where
   -- There is a part with nothing in it.
@@ -25,8 +25,9 @@ module _ {T : Type 0} (content : T → Content) (begun : T → Option Request) w
     pub is_there : there ≡ Some (kept.Part part)
     pub blank : IsBlank content begun part
 
-  -- Each partition's part is on its shelf, with nothing in it, and each lock's wait list on its own, with nobody in it.
-  pub record AreNew (shelves : List (Kept T)) : Type 0 where
+  -- Each partition's part is on its shelf, with nothing in it, and each lock's wait list on its own, with nobody in it and with room for
+  -- so many sessions.
+  pub record AreNew (sessions : ℕ) (shelves : List (Kept T)) : Type 0 where
     pub many : length shelves ≡ TABLE_SHELVES
     pub new : (p : ℕ) → p < 16 → IsNew (slice_get shelves (content_shelf_of p))
-    pub empty : (lock : ℕ) → lock < lock_count → IsEmptyList (slice_get shelves (list_shelf_of lock))
+    pub empty : (lock : ℕ) → lock < lock_count → IsEmptyList sessions (slice_get shelves (list_shelf_of lock))

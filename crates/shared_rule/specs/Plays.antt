@@ -2,8 +2,7 @@ use Rattle.std.specs.Prelude.{◌≡◌, ◌≢◌, ℕ, ◌<◌, ◌≤◌, ◌
 use Rattle.atomic_table.specs.Table.{Me, Step, rest}
 use Rattle.atomic_table.specs.Seated.{TableId}
 use Rattle.std.specs.Global.{Box}
-use Rattle.lw_word.specs.declared.wait_lists.LwWaiter.{LwWaiter}
-use Rattle.lw_word.specs.WaitList.{stands_in}
+use Rattle.lw_word.specs.WaitList.{Waiting, stands_in}
 use Rattle.lw_word.specs.LightweightWord.{IsHeldByNobody}
 use Rattle.lock_table.specs.declared.request.Request.{Request}
 use Rattle.lock_table.specs.Content.{Content}
@@ -140,24 +139,25 @@ module _ {T : Type 0} (content : T → Content) where
 
 module _ {T : Type 0} (content : T → Content) where
   -- The wait list of a lightweight lock came in hand, and those who stand there were noted. The session is among them
-  -- only if its account has that it stands in the list of this lock.
-  pub record TookList (lock : LwLock) (before after : Side T) : Type 0 where
-    pub list : Box (List LwWaiter)
+  -- only if its account has that it stands in the list of this lock, and there is room for so many sessions.
+  pub record TookList (sessions : ℕ) (lock : LwLock) (before after : Side T) : Type 0 where
+    pub list : Box Waiting
     pub side :
         after
         ≡ (
-          noting before.0 (LockedList (lock_number lock) list.value),
+          noting before.0 (LockedList (lock_number lock) list.value.waiters),
           (list_shelf_of (lock_number lock), kept.List list) ∷ before.1,
         )
     pub stands :
-        stands_in (first_number before.0.sessions) list.value ≡ true
+        stands_in (first_number before.0.sessions) list.value.waiters ≡ true
         → (first_account content before.0.sessions).lists.stands ≡ Some (lock_number lock)
+    pub room : list.value.room ≡ sessions
 
   -- A fetch-or of its bit takes the list where it finds that bit not set, and else only sees that another has it.
-  abbrev pub LockedListOr : Step (Kept T) → Side T → ℕ → Side T → Type 0
-  LockedListOr step before found after =
+  abbrev pub LockedListOr : ℕ → Step (Kept T) → Side T → ℕ → Side T → Type 0
+  LockedListOr sessions step before found after =
       (found / 2 ^ 28 % 2 ≡ 0 → (lock : LwLock) → LockIsInTable lock → step.word ≡ index_of_word (word_of_lock lock)
-      → TookList lock before after)
+      → TookList sessions lock before after)
       × (found / 2 ^ 28 % 2 ≢ 0 → (lock : LwLock) → LockIsInTable lock → step.word ≡ index_of_word (word_of_lock lock)
       → after ≡ (noting before.0 (SawListLocked (lock_number lock)), before.1))
 

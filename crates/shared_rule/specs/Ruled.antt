@@ -5,6 +5,7 @@ use lib.ListN.{get_elem?}
 use Rattle.atomic_table.specs.Table.{State}
 use Rattle.std.specs.Global.{Box}
 use Rattle.lw_word.specs.declared.wait_lists.LwWaiter.{LwWaiter}
+use Rattle.lw_word.specs.WaitList.{Waiting}
 use Rattle.lock_table.specs.declared.request.Request.{Request}
 use Rattle.lock_table.specs.Content.{Content}
 use Rattle.lock_world.specs.declared.events.Event.{Event}
@@ -61,17 +62,18 @@ abbrev pub IsInNoHand : ℕ → (ℕ → Option ℕ) → Type 0
 IsInNoHand lock has_list = (session : ℕ) → has_list session ≢ Some lock
 
 module _ {T : Type 0} where
-  -- Where nobody has it in hand, the list of a lock is at home, with those who wait for it.
-  pub record ListIsAtHome (waiters : List LwWaiter) (there : maybe.Option (maybe.Option (Kept T))) : Type 0 where
-    pub list : Box (List LwWaiter)
+  -- Where nobody has it in hand, the list of a lock is at home, with those who wait for it and with room for so many sessions.
+  pub record ListIsAtHome (sessions : ℕ) (waiters : List LwWaiter) (there : maybe.Option (maybe.Option (Kept T))) : Type 0 where
+    pub list : Box Waiting
     pub at_home : there ≡ some (some (kept.List list))
-    pub is_list : list.value ≡ waiters
+    pub is_list : list.value.waiters ≡ waiters
+    pub has_room : list.value.room ≡ sessions
 
-  -- Where nobody has it in hand, the list of each lock is at home, with those who wait for it.
-  abbrev pub ListsAreHome : List (maybe.Option (Kept T)) → (ℕ → Option ℕ) → (ℕ → List LwWaiter) → Type 0
-  ListsAreHome homes has_list list =
+  -- Where nobody has it in hand, the list of each lock is at home, with those who wait for it and with room for so many sessions.
+  abbrev pub ListsAreHome : ℕ → List (maybe.Option (Kept T)) → (ℕ → Option ℕ) → (ℕ → List LwWaiter) → Type 0
+  ListsAreHome sessions homes has_list list =
       (lock : ℕ) → lock < lock_count → IsInNoHand lock has_list
-      → ListIsAtHome (list lock) (get_elem? homes (list_shelf_of lock))
+      → ListIsAtHome sessions (list lock) (get_elem? homes (list_shelf_of lock))
 
 -- The session of this number was opened, and has closed: the number was given out and is live no more.
 abbrev pub IsClosed : Numbers → ℕ → Type 0
@@ -273,7 +275,7 @@ module _ {T : Type 0} (content : T → Content) (begun : T → Option Request) w
     pub none_beyond : NoneBeyondSlots sizes.groups world.words
     pub few_counted : (session : ℕ) → length (world.sessions.counted session) ≤ most_counted
     pub contents : ContentsAreHome content begun state.homes world.contents
-    pub lists : ListsAreHome state.homes world.sessions.has_list world.words.list
+    pub lists : ListsAreHome sizes.sessions state.homes world.sessions.has_list world.words.list
     pub seats : SeatsAreShown content state.views world
     pub closed : OpenerHasClosed state.views world.numbers
     pub wakes : WakesAreKept sizes state.views events world

@@ -1,4 +1,4 @@
-use Rattle.std.specs.Prelude.{◌≡◌, ℕ}
+use Rattle.std.specs.Prelude.{◌≡◌, ℕ, ◌<◌}
 use Rattle.atomic_table.specs.declared.shared.Seat.{Seat}
 use Rattle.atomic_table.specs.Seated.{TableId}
 use Rattle.lock_table.specs.Content.{Content}
@@ -39,6 +39,7 @@ module _ {T : Type 0} (content : T → Content) (sought : Sought) where
     pub fits : FitsTable seat sought.table
     pub exists : LockExists sought.limit sought.lock
     pub there : LockIsInTable sought.lock
+    pub one_of_them : sought.number < sought.limit
     pub session : HasSession seat.me.0
     pub own : sought.number ≡ number_at seat
     pub may : MayGet sought.lock sought.mode (account_at content seat)

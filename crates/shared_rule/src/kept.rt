@@ -18,9 +18,8 @@ pub enum Kept<T> {
 impl<T> Kept<T> {
     ghost use Rattle.std.specs.Prelude.{◌≡◌};
     ghost use Rattle.std.specs.Global.{Box};
-    ghost use Rattle.lw_word.specs.declared.wait_lists.LwWaiter.{LwWaiter};
+    ghost use Rattle.lw_word.specs.WaitList.{Waiting};
     ghost use Rattle.shared_rule.specs.declared.kept.Kept.TheVariants as kept;
-    ghost use Rattle.std.specs.Prelude as prelude;
 
     // The content that it keeps.
     pub(crate) fn into_part(self) -> T
@@ -35,7 +34,7 @@ impl<T> Kept<T> {
 
     // The list that it keeps.
     pub(crate) fn into_list(self) -> Box<WaitList>
-        requires { (list : Box (prelude.List LwWaiter)) × (self ≡ kept.List list) }
+        requires { (list : Box Waiting) × (self ≡ kept.List list) }
         ensures { self ≡ kept.List result }
     {
         match self {

@@ -28,7 +28,7 @@ ghost use Rattle.shared_rule.specs.Plays.{account_at, number_at, todo_at, flagge
 use crate::kept::Kept;
 use crate::layout::sleep_word;
 use crate::lw_locks::LwLock;
-use crate::plays::{LocksList, Marking, SeesHeld};
+use crate::plays::{LocksList, Marking, SeesHeld, Sizing};
 use crate::rule::{Seat, SharedWords};
 use crate::words::{fetch_or_as, load_as, store_as, unlock_as};
 use lock_table::PartTable;
@@ -37,9 +37,10 @@ use modes_core::SessionId;
 use std::marker::Brand;
 
 /// Makes one attempt to lock the wait list of `lock` (`LWLockWaitListLock` in lwlock.c). A session that gets it is told
-/// that it stands there only if it knows that it waits for that lock. A session that has put the lock so that it must
-/// wake has done its part then: it has the list in hand, or another session has.
-pub(crate) fn try_lock_list<T: PartTable>(
+/// that it stands there only if it knows that it waits for that lock, and that the list has room for all sessions that
+/// there can be. A session that has put the lock so that it must wake has done its part then: it has the list in hand, or
+/// another session has.
+pub(crate) fn try_lock_list<T: PartTable, G: Sizing>(
     words: &SharedWords<T>,
     seat: &mut Seat<T>,
     lock: &LwLock,
@@ -49,19 +50,21 @@ pub(crate) fn try_lock_list<T: PartTable>(
     requires there { LockIsInTable lock.now }
     requires session { HasSession seat.old.me.0 }
     requires no_list { (account_at T.content seat.old).lists.in_hand ≡ None }
+    requires sizes { G.sizes ≡ words.now.key }
     requires no_other_look { NoneOr (todo_at seat.old).due (lock_number lock.now) }
     requires tells_nobody { TellsNobodyBy (account_at T.content seat.old) }
     ensures same_seat { IsSameSeat seat.old seat.new }
     ensures led { IfSome result (λ list. LedTo T.content seat.old seat.new
-        (account_locking_list (account_at T.content seat.old) (lock_number lock.now) list.value)
+        (account_locking_list (account_at T.content seat.old) (lock_number lock.now) list.value.waiters)
         (todo_looked (todo_at seat.old))) }
     ensures shelves { IfSome result (λ list. seat.new.me.1
         ≡ (list_shelf_of (lock_number lock.now), Nothing) ∷ seat.old.me.1) }
-    ensures stands { IfSome result (λ list. stands_in (number_at seat.old) list.value ≡ true
+    ensures stands { IfSome result (λ list. stands_in (number_at seat.old) list.value.waiters ≡ true
         → (account_at T.content seat.old).lists.stands ≡ Some (lock_number lock.now)) }
+    ensures room { IfSome result (λ list. list.value.room ≡ words.now.key.sessions) }
     ensures none { IfNone result (GotNothing T.content seat.old seat.new (todo_looked (todo_at seat.old))) }
 {
-    let found = words.fetch_or::<LocksList>(seat, lock.word(), LwWord::LIST_LOCKED);
+    let found = words.fetch_or::<LocksList<G>>(seat, lock.word(), LwWord::LIST_LOCKED);
     if has_locked_list(found) {
         let kept = words.exchange(seat, lock.list_shelf(), Kept::Nothing);
         Some(kept.into_list())
@@ -70,8 +73,8 @@ pub(crate) fn try_lock_list<T: PartTable>(
     }
 }
 
-/// Puts the list in hand home and unlocks it; of the two flags those go that are not to stay
-/// (`LWLockWaitListUnlock`, and the end of `LWLockWakeup`, in lwlock.c). `has_waiters` may go only from an empty
+/// Puts the list in hand home, with room for all sessions as before, and unlocks it; of the two flags those go that are
+/// not to stay (`LWLockWaitListUnlock`, and the end of `LWLockWakeup`, in lwlock.c). `has_waiters` may go only from an empty
 /// list, and `release_ok` only where somebody was taken off who is yet to be told, and will set it again. Nobody may
 /// leave a list so that its waiters are forgotten: where some are left, the session has taken one off, has the lock, or
 /// attempts it next.
@@ -88,11 +91,12 @@ pub(crate) fn unlock_list<T: PartTable>(
     requires session { HasSession seat.old.me.0 }
     requires out { seat.old.me.1 ≡ (list_shelf_of (lock_number lock.now), Nothing) ∷ rest seat.old.me.1 }
     requires in_hand { (account_at T.content seat.old).lists.in_hand
-        ≡ Some (record { lock = lock_number lock.now; waiters = list.value }) }
-    requires waiters_stay { has_waiters ≡ false → list.value ≡ [] }
+        ≡ Some (record { lock = lock_number lock.now; waiters = list.value.waiters }) }
+    requires room { list.value.room ≡ words.now.key.sessions }
+    requires waiters_stay { has_waiters ≡ false → list.value.waiters ≡ [] }
     requires release_stays { release_ok ≡ false
         → (other : ℕ) × ((account_at T.content seat.old).lists.off other ≡ true) }
-    requires left_well { IsLeftWellBy (account_at T.content seat.old) (todo_at seat.old) lock.now list.value }
+    requires left_well { IsLeftWellBy (account_at T.content seat.old) (todo_at seat.old) lock.now list.value.waiters }
     ensures led { Led T.content seat.old seat.new (account_unlocking_list (account_at T.content seat.old)) }
     ensures shelves { seat.new.me.1 ≡ rest seat.old.me.1 }
 {

@@ -59,7 +59,7 @@ impl<T: PartTable> OneThread<T> {
         requires few { sizes.now.sessions ≤ most_sessions }
         requires some_groups { 0 < sizes.now.groups }
         requires few_groups { sizes.now.groups ≤ most_groups }
-        requires parts { AreNew T.content T.begun parts.items }
+        requires parts { AreNew T.content T.begun sizes.now.sessions parts.items }
         ensures blank { IfOk result (λ board. ⟦<OneThread<T> as Board<T>>⟧.view board ≡ blank_account) }
         ensures stack { IfOk result (λ board. ⟦<OneThread<T> as Board<T>>⟧.stack board ≡ nothing_due) }
         ensures quiet { IfOk result (λ board. ⟦<OneThread<T> as Board<T>>⟧.quiet board ≡ []) }

@@ -134,6 +134,7 @@ pub(crate) fn take_part<T: PartTable, R: Wait>(
     requires exists { part < 16 }
     requires session { HasSession seat.old.me.0 }
     requires own { number ≡ number_at seat.old }
+    requires among { number < words.now.key.sessions }
     requires idle { (account_at T.content seat.old).lists ≡ no_lists }
     requires todo { todo_at seat.old ≡ nothing_to_do }
     requires latest { IsLatestBy (account_at T.content seat.old) (OfPart part) }

@@ -31,6 +31,17 @@ impl Grouping for Brand {
     ghost groups = { 0 };
 }
 
+/// The sizes of the table, as a step on it knows them. Each call picks them.
+pub trait Sizing {
+    ghost use Rattle.shared_rule.specs.declared.rule.TableSizes.{TableSizes};
+
+    ghost sizes: { TableSizes };
+}
+
+impl Sizing for Brand {
+    ghost sizes = { record { sessions = 0; groups = 0 } };
+}
+
 /// A step that leaves its mark.
 pub struct Marks<M> {
     of: PhantomData<M>,
@@ -111,12 +122,14 @@ impl<T: PartTable, G: Grouping> Play<Kept<T>, View<T>> for TriesSlots<G> {
 
 /// A fetch-or of a word's list bit that takes the wait list in hand where it finds the bit not set, and else is noted as
 /// a look that saw it locked.
-pub struct LocksList;
+pub struct LocksList<G> {
+    of: PhantomData<G>,
+}
 
-impl<T: PartTable> Play<Kept<T>, View<T>> for LocksList {
+impl<T: PartTable, G: Sizing> Play<Kept<T>, View<T>> for LocksList<G> {
     ghost use Rattle.shared_rule.specs.Plays.{LockedListOr};
 
-    ghost then = { LockedListOr T.content };
+    ghost then = { LockedListOr T.content G.sizes.sessions };
 }
 
 /// A load of a lightweight word that is noted as a look where it shows that somebody holds the lock, and else changes

@@ -14,7 +14,7 @@
 //! locks in one order. No clause tells that a session that is told is woken by the kernel, after its sleep word shows
 //! 0, and that `park` looks at the word again there.
 
-ghost use Rattle.std.specs.Prelude.{◌≡◌, ◌∷◌, true, None, Some};
+ghost use Rattle.std.specs.Prelude.{◌≡◌, ◌<◌, ◌∷◌, true, None, Some};
 ghost use Rattle.lw_word.specs.WaitList.{stands_in};
 ghost use Rattle.lock_world.specs.AccountSteps.{account_locking_list};
 ghost use Rattle.shared_rule.specs.declared.kept.Kept.TheVariants.{Nothing};
@@ -54,14 +54,15 @@ fn lock_list<T: PartTable, R: Wait>(
     requires no_look { (todo_at seat.old).due ≡ None }
     requires tells_nobody { TellsNobodyBy (account_at T.content seat.old) }
     ensures led { Led T.content seat.old seat.new
-        (account_locking_list (account_at T.content seat.old) (lock_number lock.now) result.value) }
+        (account_locking_list (account_at T.content seat.old) (lock_number lock.now) result.value.waiters) }
     ensures shelves { seat.new.me.1 ≡ (list_shelf_of (lock_number lock.now), Nothing) ∷ seat.old.me.1 }
-    ensures stands { stands_in (number_at seat.old) result.value ≡ true
+    ensures stands { stands_in (number_at seat.old) result.value.waiters ≡ true
         → (account_at T.content seat.old).lists.stands ≡ Some (lock_number lock.now) }
+    ensures room { result.value.room ≡ words.now.key.sessions }
 {
     let backoff = Backoff::new();
     for _ in rt.forever() {
-        if let Some(list) = try_lock_list(words, seat, lock) {
+        if let Some(list) = try_lock_list::<T, Brand>(words, seat, lock) {
             return list;
         }
         backoff.snooze();
@@ -85,6 +86,7 @@ pub(crate) fn queue_self<T: PartTable, R: Wait>(
     requires there { LockIsInTable lock.now }
     requires session { HasSession seat.old.me.0 }
     requires own { number ≡ number_at seat.old }
+    requires among { number < words.now.key.sessions }
     requires idle { (account_at T.content seat.old).lists ≡ no_lists }
     requires todo { TriesAtMost (lock_number lock.now) (todo_at seat.old) }
     requires latest { IsLatestBy (account_at T.content seat.old) lock.now }

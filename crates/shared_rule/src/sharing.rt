@@ -97,6 +97,7 @@ pub(crate) fn share_fast<T: PartTable, R: Wait>(
     requires exists { owner < words.now.key.sessions }
     requires session { HasSession seat.old.me.0 }
     requires own { number ≡ number_at seat.old }
+    requires among { number < words.now.key.sessions }
     requires lawful { MayShareFastBy (account_at T.content seat.old) owner }
     requires idle { (account_at T.content seat.old).lists ≡ no_lists }
     requires todo { todo_at seat.old ≡ nothing_to_do }

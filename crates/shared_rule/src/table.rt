@@ -59,33 +59,36 @@ fn next_part<T: PartTable>(parts: &mut Vec<T>, index: usize) -> Kept<T>
     }
 }
 
-// What a shelf for wait lists has, by its index: an empty one where it is a lock's.
-fn next_list<T: PartTable>(alloc: Global, index: usize) -> Result<Kept<T>, NoMemory>
-    ensures { IfOk result (λ kept. index % 8 ≡ 0 → IsEmptyList (Some kept)) }
+// What a shelf for wait lists has, by its index: an empty one where it is a lock's, with room for `sessions`.
+fn next_list<T: PartTable>(alloc: Global, index: usize, sessions: u8) -> Result<Kept<T>, NoMemory>
+    ensures { IfOk result (λ kept. index % 8 ≡ 0 → IsEmptyList sessions (Some kept)) }
 {
     if index % CONTENT_GAP == 0 {
-        Ok(Kept::List(Box::new(alloc, WaitList::new())?))
+        let list = WaitList::new(alloc, sessions)?;
+        Ok(Kept::List(Box::new(alloc, list)?))
     } else {
         Ok(Kept::Nothing)
     }
 }
 
 /// The shelves of the table with `parts`, the sixteen partitions, each on its own (`content_shelf`), and with the
-/// wait lists of all lightweight locks. Where memory, by `alloc`, runs out the parts are let go.
+/// wait lists of all lightweight locks, each with room for `sessions` of them. Where memory, by `alloc`, runs out the
+/// parts are let go.
 pub fn in_shelves<T: PartTable + Drop>(
     alloc: Global,
     mut parts: Vec<T>,
+    sessions: u8,
 ) -> Result<Vec<Kept<T>>, NoMemory>
     requires sixteen { length parts.items ≡ 16 }
     requires new { AreEmptyParts T.content T.begun parts.items }
-    ensures { IfOk result (λ shelves. AreNew T.content T.begun shelves.items) }
+    ensures { IfOk result (λ shelves. AreNew T.content T.begun sessions shelves.items) }
 {
     let mut shelves = Vec::with_capacity(alloc, TABLE_SHELVES)?;
     for index in 0..CONTENT_SHELVES {
         shelves.push_reserved(next_part(&mut parts, index));
     }
     for index in CONTENT_SHELVES..TABLE_SHELVES {
-        shelves.push_reserved(next_list(alloc, index)?);
+        shelves.push_reserved(next_list(alloc, index, sessions)?);
     }
     Ok(shelves)
 }
@@ -100,7 +103,7 @@ pub fn open<T: PartTable>(
     requires few { sizes.now.sessions ≤ most_sessions }
     requires some_groups { 0 < sizes.now.groups }
     requires few_groups { sizes.now.groups ≤ most_groups }
-    requires parts { AreNew T.content T.begun parts.items }
+    requires parts { AreNew T.content T.begun sizes.now.sessions parts.items }
     ensures key { IfOk result (λ opened. opened.0.shared.key ≡ sizes.now) }
     ensures opener { IfOk result (λ opened.
         opened.1 ≡ record {

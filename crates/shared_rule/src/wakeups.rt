@@ -84,11 +84,12 @@ fn unlock_after_wakeup<T: PartTable>(
     requires session { HasSession seat.old.me.0 }
     requires out { seat.old.me.1 ≡ (list_shelf_of (lock_number lock.now), Nothing) ∷ rest seat.old.me.1 }
     requires in_hand { (account_at T.content seat.old).lists.in_hand
-        ≡ Some (record { lock = lock_number lock.now; waiters = list.value }) }
+        ≡ Some (record { lock = lock_number lock.now; waiters = list.value.waiters }) }
+    requires room { list.value.room ≡ words.now.key.sessions }
     requires owes_no_ok { (todo_at seat.old).owes_release_ok ≡ None }
     requires release_stays { release_ok ≡ false
         → (other : ℕ) × ((account_at T.content seat.old).lists.off other ≡ true) }
-    requires left_well { IsLeftWellBy (account_at T.content seat.old) (todo_at seat.old) lock.now list.value }
+    requires left_well { IsLeftWellBy (account_at T.content seat.old) (todo_at seat.old) lock.now list.value.waiters }
     ensures led { Led T.content seat.old seat.new (account_unlocking_list (account_at T.content seat.old)) }
     ensures shelves { seat.new.me.1 ≡ rest seat.old.me.1 }
 {
@@ -97,8 +98,8 @@ fn unlock_after_wakeup<T: PartTable>(
     unlock_list(words, seat, lock, list, some_left, release_ok);
 }
 
-/// Wakes those first in the wait list of `lock`: one that wants it exclusively, or all that want to share it
-/// (`LWLockWakeup` in lwlock.c). Where another session has the list, the waking is left to it: a session that has a
+/// Wakes those first in the wait list of `lock`: one that wants it exclusively, or those that want to share it, as many
+/// as go at a time (`LWLockWakeup` in lwlock.c). Where another session has the list, the waking is left to it: a session that has a
 /// list in hand attempts the lock afterwards, holds it, or has taken somebody off.
 #[cold]
 #[inline(never)]
@@ -115,7 +116,7 @@ pub(crate) fn wake_waiters<T: PartTable>(words: &SharedWords<T>, seat: &mut Seat
         (todo_looked (todo_at seat.old)) }
     ensures shelves { seat.new.me.1 ≡ seat.old.me.1 }
 {
-    let Some(mut list) = try_lock_list(words, seat, lock) else {
+    let Some(mut list) = try_lock_list::<T, Brand>(words, seat, lock) else {
         return;
     };
     let _each_once = list.waiters();

@@ -109,11 +109,12 @@ impl Crew {
 /// A session at the shared table, on a board that pauses.
 type Unsteady<'a> = OwnSession<Part, WatchedBoard<SeatBoard<'a, Part>, Pauses>>;
 
-/// Sixteen empty partitions, each on its shelf.
-fn empty_shelves(alloc: Global) -> Result<Vec<Kept<Part>>, Fail>
-    ensures new { let T = ⟦<Part as PartTable>⟧ in IfOk result (λ shelves. AreNew T.content T.begun shelves.items) }
+/// Sixteen empty partitions, each on its shelf, and the wait lists of `sessions` sessions.
+fn empty_shelves(alloc: Global, sessions: u8) -> Result<Vec<Kept<Part>>, Fail>
+    ensures new { let T = ⟦<Part as PartTable>⟧ in
+        IfOk result (λ shelves. AreNew T.content T.begun sessions shelves.items) }
 {
-    Ok(in_shelves(alloc, empty_parts(alloc, Part::new)?)?)
+    Ok(in_shelves(alloc, empty_parts(alloc, Part::new)?, sessions)?)
 }
 
 /// A table for `sessions` sessions, and the opener that gives their numbers out.
@@ -128,7 +129,7 @@ fn open_table(alloc: Global, sessions: u8) -> Result<(SharedTable<Part>, Opener<
         sessions,
         groups: GROUPS,
     };
-    match open(alloc, &sizes, empty_shelves(alloc)?) {
+    match open(alloc, &sizes, empty_shelves(alloc, sessions)?) {
         Ok(opened) => Ok(opened),
         Err(_) => Err("out of memory".into()),
     }

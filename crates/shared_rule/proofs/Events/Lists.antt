@@ -13,7 +13,7 @@ use Rattle.atomic_table.proofs.Lists.{set_here, set_else}
 use Rattle.lw_word.specs.declared.wait_lists.LwWaiter.{LwWaiter}
 use Rattle.lw_word.specs.declared.words.LwMode.{LwMode}
 use Rattle.lw_word.specs.LightweightWord.{list_locked_word, list_unlocked_word, kept_bits, release_ok_word, has_waiters_word}
-use Rattle.lw_word.specs.WaitList.{stands_in, without}
+use Rattle.lw_word.specs.WaitList.{Waiting, stands_in, without}
 use Rattle.lw_word.proofs.FlagLemmas.{list_locked_word-locked}
 use Rattle.lock_table.specs.declared.request.Request.{Request}
 use Rattle.lock_table.specs.Content.{Content}
@@ -129,7 +129,7 @@ no_list-known None list nothing = refl
 no_list-known (Some lock) list nothing = absurd (cc (nothing))
 
 -- A shelf keeps one list.
-pub list-same : {T : Type 0} (one other : Box (List LwWaiter)) → ◌≡◌ {A = Kept T} (kept.List one) (kept.List other) → one ≡ other
+pub list-same : {T : Type 0} (one other : Box Waiting) → ◌≡◌ {A = Kept T} (kept.List one) (kept.List other) → one ≡ other
 list-same one other same = cc (same)
 
 module _ {T : Type 0} where
@@ -142,11 +142,11 @@ module _ {T : Type 0} where
 
   -- Lists stay at home where one is taken in hand,
   list-taken :
-      (homes : List (maybe.Option (Kept T))) (has_list : ℕ → Option ℕ) (list : ℕ → List LwWaiter) (lock s : ℕ) → has_list s ≡ None → ListsAreHome homes has_list list
-      → ListsAreHome (slice_set homes (list_shelf_of lock) none) (set_at has_list s (Some lock)) list
-  list-taken homes has_list list lock s free home l within nobody = elim (cases_eq l lock) [
+      (sessions : ℕ) (homes : List (maybe.Option (Kept T))) (has_list : ℕ → Option ℕ) (list : ℕ → List LwWaiter) (lock s : ℕ) → has_list s ≡ None → ListsAreHome sessions homes has_list list
+      → ListsAreHome sessions (slice_set homes (list_shelf_of lock) none) (set_at has_list s (Some lock)) list
+  list-taken sessions homes has_list list lock s free home l within nobody = elim (cases_eq l lock) [
     | inl same ↦ absurd (nobody s (set_at-here has_list s (Some lock) s refl ∙ ap Some (sym same)))
-    | inr other ↦ subst (ListIsAtHome (list l)) (sym (set_else homes (list_shelf_of lock) (list_shelf_of l) none (lists-apart l lock other)))
+    | inr other ↦ subst (ListIsAtHome sessions (list l)) (sym (set_else homes (list_shelf_of lock) (list_shelf_of l) none (lists-apart l lock other)))
         (home l within (λ k had. elim (cases_eq k s) [
           | inl its ↦ let never : ◌≡◌ {A = Option ℕ} None (Some l) = sym free ∙ ap has_list (sym its) ∙ had in cc (never)
           | inr away ↦ nobody k (set_at-else has_list s (Some lock) k away ∙ had)
@@ -155,17 +155,18 @@ module _ {T : Type 0} where
 
   -- and where it is put home.
   list-put :
-      (homes : List (maybe.Option (Kept T))) (has_list : ℕ → Option ℕ) (list : ℕ → List LwWaiter) (lock s : ℕ) (put : Box (List LwWaiter)) → length homes ≡ TABLE_SHELVES → lock < lock_count
-      → has_list s ≡ Some lock → put.value ≡ list lock → ListsAreHome homes has_list list
-      → ListsAreHome (slice_set homes (list_shelf_of lock) (some (kept.List put))) (set_at has_list s None) list
-  list-put homes has_list list lock s put many below had is home l within nobody = elim (cases_eq l lock) [
+      (sessions : ℕ) (homes : List (maybe.Option (Kept T))) (has_list : ℕ → Option ℕ) (list : ℕ → List LwWaiter) (lock s : ℕ) (put : Box Waiting) → length homes ≡ TABLE_SHELVES → lock < lock_count
+      → has_list s ≡ Some lock → put.value.waiters ≡ list lock → put.value.room ≡ sessions → ListsAreHome sessions homes has_list list
+      → ListsAreHome sessions (slice_set homes (list_shelf_of lock) (some (kept.List put))) (set_at has_list s None) list
+  list-put sessions homes has_list list lock s put many below had is room home l within nobody = elim (cases_eq l lock) [
     | inl same ↦ record {
       list = put;
       at_home = ap (λ j. get_elem? (slice_set homes (list_shelf_of lock) (some (kept.List put))) (list_shelf_of j)) same
           ∙ set_here homes (list_shelf_of lock) (some (kept.List put)) (omega (arith, many, below));
       is_list = is ∙ ap list (sym same);
+      has_room = room;
     }
-    | inr other ↦ subst (ListIsAtHome (list l)) (sym (set_else homes (list_shelf_of lock) (list_shelf_of l) (some (kept.List put)) (lists-apart l lock other)))
+    | inr other ↦ subst (ListIsAtHome sessions (list l)) (sym (set_else homes (list_shelf_of lock) (list_shelf_of l) (some (kept.List put)) (lists-apart l lock other)))
         (home l within (λ k has. elim (cases_eq k s) [
           | inl its ↦ let both : Some lock ≡ Some l = sym had ∙ ap has_list (sym its) ∙ has in let same : lock ≡ l = cc (both) in other (sym same)
           | inr away ↦ nobody k (set_at-else has_list s None k away ∙ has)
@@ -507,7 +508,7 @@ module _ {T : Type 0} (content : T → Content) (begun : T → Option Request) (
   -- The fetch-or takes the list in hand where it finds its bit not set.
   locks_list : LockExists sizes.sessions lock → MayLockListBy (told content x.number x.marks) → NoneOr (todo_told_by x.number x.marks).due (lock_number lock)
       → TellsNobodyBy (told content x.number x.marks)
-      → Allows (Ruled content begun sizes) slots id me at_word (λ n. bit_or n (2 ^ 28)) (LockedListOr content (step slots at_word (2 ^ 28) 0 none) me)
+      → Allows (Ruled content begun sizes) slots id me at_word (λ n. bit_or n (2 ^ 28)) (LockedListOr content sizes.sessions (step slots at_word (2 ^ 28) 0 none) me)
   locks_list exists may fits nobody s r many at_view below = elim (cases_eq (n / 2 ^ 28 % 2) 0) [
     | inl unlocked ↦
         let w : World = r.world in
@@ -515,31 +516,32 @@ module _ {T : Type 0} (content : T → Content) (begun : T → Option Request) (
         let shown : word_in w.words (word_of_lock lock) ≡ n = sym (r.words.word (word_of_lock lock) (lock-word_there lock there most_groups)) in
         let free : word_in w.words (word_of_lock lock) / 2 ^ 28 % 2 ≡ 0 = ap (λ k. k / 2 ^ 28 % 2) shown ∙ unlocked in
         let home = r.lists (lock_number lock) (lock-below lock there) (unlocked-in_no_hand w r.safe lock free) in
-        let changes = locking-noted content sizes x lock w steps exists may free fits nobody home.list.value home.is_list in
+        let changes = locking-noted content sizes x lock w steps exists may free fits nobody home.list.value.waiters home.is_list in
         let none_had : w.sessions.has_list x.number ≡ None = no_list-known (w.sessions.has_list x.number) w.words.list
         (ap (λ (b : Account). b.lists.in_hand) (sym steps.account) ∙ may.no_list) in (
-          noting me.0 (mark.LockedList (lock_number lock) home.list.value),
+          noting me.0 (mark.LockedList (lock_number lock) home.list.value.waiters),
           takes (list_shelf_of (lock_number lock)) (kept.List home.list),
           home.at_home,
-          ruled-noted content begun sizes s r id me.0 x others at_view is (mark.LockedList (lock_number lock) home.list.value)
+          ruled-noted content begun sizes s r id me.0 x others at_view is (mark.LockedList (lock_number lock) home.list.value.waiters)
               (set_word w.words (word_of_lock lock) (list_locked_word (word_in w.words (word_of_lock lock)))) (slice_set s.words at_word (bit_or n (2 ^ 28)))
               (slice_set s.homes (list_shelf_of (lock_number lock)) none) changes.noted
               (subst (λ k. WordsAreShown sizes.groups (slice_set s.words at_word (list_locked_word k)) (set_word w.words (word_of_lock lock) (list_locked_word (word_in w.words (word_of_lock lock))))) shown
               (words-set sizes.groups r.some_groups r.few_groups s.words w.words (word_of_lock lock) (list_locked_word (word_in w.words (word_of_lock lock))) r.words (lock-word_there lock there sizes.groups)))
               (subst (ContentsAreHome content begun (slice_set s.homes (list_shelf_of (lock_number lock)) none)) (sym changes.contents)
               (contents-beside content begun s.homes (lock_number lock) none w.contents r.contents))
-              (subst (λ has. ListsAreHome (slice_set s.homes (list_shelf_of (lock_number lock)) none) has changes.noted.after.words.list) (sym changes.has_list)
-              (subst (ListsAreHome (slice_set s.homes (list_shelf_of (lock_number lock)) none) (set_at w.sessions.has_list x.number (Some (lock_number lock)))) (sym changes.list)
-              (list-taken s.homes w.sessions.has_list w.words.list (lock_number lock) x.number none_had r.lists))),
+              (subst (λ has. ListsAreHome sizes.sessions (slice_set s.homes (list_shelf_of (lock_number lock)) none) has changes.noted.after.words.list) (sym changes.has_list)
+              (subst (ListsAreHome sizes.sessions (slice_set s.homes (list_shelf_of (lock_number lock)) none) (set_at w.sessions.has_list x.number (Some (lock_number lock)))) (sym changes.list)
+              (list-taken sizes.sessions s.homes w.sessions.has_list w.words.list (lock_number lock) x.number none_had r.lists))),
           (
             (λ _ other also same.
                 let one : lock ≡ other = same-lock lock other there also same in
-                subst (λ l. TookList content l me (noting me.0 (mark.LockedList (lock_number lock) home.list.value), (list_shelf_of (lock_number lock), kept.List home.list) ∷ me.1)) one (record {
+                subst (λ l. TookList content sizes.sessions l me (noting me.0 (mark.LockedList (lock_number lock) home.list.value.waiters), (list_shelf_of (lock_number lock), kept.List home.list) ∷ me.1)) one (record {
                   list = home.list;
                   side = refl;
+                  room = home.has_room;
                   stands = λ stood.
                       let stood' : stands_in x.number (w.words.list (lock_number lock)) ≡ true =
-                      ap (λ ws. stands_in x.number ws) (sym home.is_list) ∙ ap (λ (sessions : List (History T)). stands_in (first_number sessions) home.list.value) (sym is) ∙ stood in
+                      ap (λ ws. stands_in x.number ws) (sym home.is_list) ∙ ap (λ (sessions : List (History T)). stands_in (first_number sessions) home.list.value.waiters) (sym is) ∙ stood in
                       ap (λ (sessions : List (History T)). (first_account content sessions).lists.stands) is
                       ∙ ap (λ (b : Account). b.lists.stands) steps.account
                       ∙ r.safe.lists.sleepers.named (lock_number lock) x.number stood';
@@ -567,23 +569,23 @@ module _ {T : Type 0} (content : T → Content) (begun : T → Option Request) (
 
   -- The fetch-and puts the list home that came last.
   unlocks_list :
-      (has_waiters release_ok : Bool) (list : Box (List LwWaiter)) → slots ≡ TABLE_SHELVES
-      → (told content x.number x.marks).lists.in_hand ≡ Some (record { lock = lock_number lock; waiters = list.value })
-      → me.1 ≡ (list_shelf_of (lock_number lock), kept.List list) ∷ rest me.1 → (has_waiters ≡ false → list.value ≡ [])
+      (has_waiters release_ok : Bool) (list : Box Waiting) → list.value.room ≡ sizes.sessions → slots ≡ TABLE_SHELVES
+      → (told content x.number x.marks).lists.in_hand ≡ Some (record { lock = lock_number lock; waiters = list.value.waiters })
+      → me.1 ≡ (list_shelf_of (lock_number lock), kept.List list) ∷ rest me.1 → (has_waiters ≡ false → list.value.waiters ≡ [])
       → (release_ok ≡ false → (other : ℕ) × ((told content x.number x.marks).lists.off other ≡ true))
-      → IsLeftWellBy (told content x.number x.marks) (todo_told_by x.number x.marks) lock list.value → (step : Step (Kept T))
+      → IsLeftWellBy (told content x.number x.marks) (todo_told_by x.number x.marks) lock list.value.waiters → (step : Step (Kept T))
       → Allows (Ruled content begun sizes) slots id me at_word (λ n. bit_and n (kept_bits has_waiters release_ok)) (WentHome (λ _. mark.UnlockedList) step me)
-  unlocks_list has_waiters release_ok list sized known carried waiters_stay release_stays well step s r many at_view below =
+  unlocks_list has_waiters release_ok list room sized known carried waiters_stay release_stays well step s r many at_view below =
       let w : World = r.world in
       let n : ℕ = slice_index s.words at_word in
       let number : ℕ = lock_number lock in
       let steps = ruled-steps content begun sizes s r id me.0 x others at_view is in
       let shown : word_in w.words (word_of_lock lock) ≡ n = sym (r.words.word (word_of_lock lock) (lock-word_there lock there most_groups)) in
-      let mine : ListInHand = record { lock = number; waiters = list.value } in
+      let mine : ListInHand = record { lock = number; waiters = list.value.waiters } in
       let known' : (account w x.number).lists.in_hand ≡ Some mine = ap (λ (b : Account). b.lists.in_hand) (sym steps.account) ∙ known in
       let its = known-list (w.sessions.has_list x.number) w.words.list mine known' in
       let has = has_list-lawful w steps.safe x.number steps.makes mine known' in
-      let changes = unlocking-noted content sizes x lock has_waiters release_ok w steps has list.value its.1 waiters_stay release_stays well in
+      let changes = unlocking-noted content sizes x lock has_waiters release_ok w steps has list.value.waiters its.1 waiters_stay release_stays well in
       let homes : List (maybe.Option (Kept T)) = slice_set s.homes (list_shelf_of number) (some (kept.List list)) in
       let back : put_back s.homes me.1 ≡ homes = ap (put_back s.homes) carried in (
         noting me.0 mark.UnlockedList,
@@ -597,33 +599,34 @@ module _ {T : Type 0} (content : T → Content) (begun : T → Option Request) (
             (words-set sizes.groups r.some_groups r.few_groups s.words w.words (word_of_lock lock) (list_unlocked_word (word_in w.words (word_of_lock lock)) has_waiters release_ok) r.words (lock-word_there lock there sizes.groups)))
             (subst (λ (h : List (maybe.Option (Kept T))). ContentsAreHome content begun h changes.noted.after.contents) (sym back)
             (subst (ContentsAreHome content begun homes) (sym changes.contents) (contents-beside content begun s.homes number (some (kept.List list)) w.contents r.contents)))
-            (subst (λ (h : List (maybe.Option (Kept T))). ListsAreHome h changes.noted.after.sessions.has_list changes.noted.after.words.list) (sym back)
-            (subst (λ had. ListsAreHome homes had changes.noted.after.words.list) (sym changes.has_list)
-            (subst (ListsAreHome homes (set_at w.sessions.has_list x.number None)) (sym changes.list)
-            (list-put s.homes w.sessions.has_list w.words.list number x.number list (many ∙ sized) (lock-below lock there) its.0 (sym its.1) r.lists)))),
+            (subst (λ (h : List (maybe.Option (Kept T))). ListsAreHome sizes.sessions h changes.noted.after.sessions.has_list changes.noted.after.words.list) (sym back)
+            (subst (λ had. ListsAreHome sizes.sessions homes had changes.noted.after.words.list) (sym changes.has_list)
+            (subst (ListsAreHome sizes.sessions homes (set_at w.sessions.has_list x.number None)) (sym changes.list)
+            (list-put sizes.sessions s.homes w.sessions.has_list w.words.list number x.number list (many ∙ sized) (lock-below lock there) its.0 (sym its.1) room r.lists)))),
         refl,
       )
 
   -- The same of the word at an index.
   pub locks_list_at : LockExists sizes.sessions lock → MayLockListBy (told content x.number x.marks) → NoneOr (todo_told_by x.number x.marks).due (lock_number lock)
-      → TellsNobodyBy (told content x.number x.marks) → (i : ℕ) → i ≡ at_word
-      → Allows (Ruled content begun sizes) slots id me i (λ n. bit_or n (2 ^ 28)) (LockedListOr content (step slots i (2 ^ 28) 0 none) me)
-  locks_list_at exists may fits nobody i at =
-      subst (λ k. Allows (Ruled content begun sizes) slots id me k (λ n. bit_or n (2 ^ 28)) (LockedListOr content (step slots k (2 ^ 28) 0 none) me)) (sym at) (locks_list exists may fits nobody)
+      → TellsNobodyBy (told content x.number x.marks) → (sessions : ℕ) → sessions ≡ sizes.sessions → (i : ℕ) → i ≡ at_word
+      → Allows (Ruled content begun sizes) slots id me i (λ n. bit_or n (2 ^ 28)) (LockedListOr content sessions (step slots i (2 ^ 28) 0 none) me)
+  locks_list_at exists may fits nobody sessions many i at =
+      subst (λ m. Allows (Ruled content begun sizes) slots id me i (λ n. bit_or n (2 ^ 28)) (LockedListOr content m (step slots i (2 ^ 28) 0 none) me)) (sym many)
+      (subst (λ k. Allows (Ruled content begun sizes) slots id me k (λ n. bit_or n (2 ^ 28)) (LockedListOr content sizes.sessions (step slots k (2 ^ 28) 0 none) me)) (sym at) (locks_list exists may fits nobody))
 
   pub unlocks_list_at :
-      (has_waiters release_ok : Bool) (list : Box (List LwWaiter)) → slots ≡ TABLE_SHELVES
-      → (told content x.number x.marks).lists.in_hand ≡ Some (record { lock = lock_number lock; waiters = list.value })
-      → me.1 ≡ (list_shelf_of (lock_number lock), kept.List list) ∷ rest me.1 → (has_waiters ≡ false → list.value ≡ [])
+      (has_waiters release_ok : Bool) (list : Box Waiting) → list.value.room ≡ sizes.sessions → slots ≡ TABLE_SHELVES
+      → (told content x.number x.marks).lists.in_hand ≡ Some (record { lock = lock_number lock; waiters = list.value.waiters })
+      → me.1 ≡ (list_shelf_of (lock_number lock), kept.List list) ∷ rest me.1 → (has_waiters ≡ false → list.value.waiters ≡ [])
       → (release_ok ≡ false → (other : ℕ) × ((told content x.number x.marks).lists.off other ≡ true))
-      → IsLeftWellBy (told content x.number x.marks) (todo_told_by x.number x.marks) lock list.value → (i : ℕ) → i ≡ at_word → (mask : ℕ) → mask ≡ kept_bits has_waiters release_ok
+      → IsLeftWellBy (told content x.number x.marks) (todo_told_by x.number x.marks) lock list.value.waiters → (i : ℕ) → i ≡ at_word → (mask : ℕ) → mask ≡ kept_bits has_waiters release_ok
       → (mark' : ℕ → Mark T) → mark' ≡ (λ _. mark.UnlockedList)
       → Allows (Ruled content begun sizes) slots id me i (λ n. bit_and n mask) (WentHome mark' (step slots i mask 0 none) me)
-  unlocks_list_at has_waiters release_ok list sized known carried waiters_stay release_stays well i at mask is_mask mark' marked =
+  unlocks_list_at has_waiters release_ok list room sized known carried waiters_stay release_stays well i at mask is_mask mark' marked =
       subst (λ k. Allows (Ruled content begun sizes) slots id me i (λ n. bit_and n k) (WentHome mark' (step slots i k 0 none) me)) (sym is_mask)
       (subst (λ k. Allows (Ruled content begun sizes) slots id me k (λ n. bit_and n (kept_bits has_waiters release_ok)) (WentHome mark' (step slots k (kept_bits has_waiters release_ok) 0 none) me)) (sym at)
       (subst (λ (m : ℕ → Mark T). Allows (Ruled content begun sizes) slots id me at_word (λ n. bit_and n (kept_bits has_waiters release_ok)) (WentHome m (step slots at_word (kept_bits has_waiters release_ok) 0 none) me)) (sym marked)
-      (unlocks_list has_waiters release_ok list sized known carried waiters_stay release_stays well (step slots at_word (kept_bits has_waiters release_ok) 0 none))))
+      (unlocks_list has_waiters release_ok list room sized known carried waiters_stay release_stays well (step slots at_word (kept_bits has_waiters release_ok) 0 none))))
 
   -- A load sees whether the lock is held.
   sees_it_held : NoneOr (todo_told_by x.number x.marks).tries (lock_number lock) → (its : Step (Kept T)) → its.word ≡ at_word → Allows (Ruled content begun sizes) slots id me at_word (λ n. n) (SawHeldOr its me)

@@ -196,7 +196,7 @@ module _ {T : Type 0} (content : T → Content) (begun : T → Option Request) (
                   (set_word w.words (Fast owner) new) (slice_set s.words at_word new) s.homes sees.noted
                   (words-set sizes.groups r.some_groups r.few_groups s.words w.words (Fast owner) new r.words (tt, inside))
                   (subst (ContentsAreHome content begun s.homes) (sym sees.contents) r.contents)
-                  (lists-kept s.homes w sees.noted.after sees.lists r.lists),
+                  (lists-kept sizes.sessions s.homes w sees.noted.after sees.lists r.lists),
               (
                 (λ _ k within same.
                     let one : owner ≡ k = omega (arith, same) in

@@ -84,11 +84,11 @@ list-apart p lock exists same = omega (arith, same, exists)
 
 -- so lists stay at home where a content comes or goes.
 lists-beside :
-    {T : Type 0} (homes : List (maybe.Option (Kept T))) (p : ℕ) (there : maybe.Option (Kept T))
-    (has_list : ℕ → Option ℕ) (list : ℕ → List LwWaiter) → p < 16 → ListsAreHome homes has_list list
-    → ListsAreHome (slice_set homes (content_shelf_of p) there) has_list list
-lists-beside homes p there has_list list exists home lock within nobody =
-    subst (ListIsAtHome (list lock))
+    {T : Type 0} (sessions : ℕ) (homes : List (maybe.Option (Kept T))) (p : ℕ) (there : maybe.Option (Kept T))
+    (has_list : ℕ → Option ℕ) (list : ℕ → List LwWaiter) → p < 16 → ListsAreHome sessions homes has_list list
+    → ListsAreHome sessions (slice_set homes (content_shelf_of p) there) has_list list
+lists-beside sessions homes p there has_list list exists home lock within nobody =
+    subst (ListIsAtHome sessions (list lock))
     (sym (set_else homes (content_shelf_of p) (list_shelf_of lock) there (list-apart p lock exists)))
     (home lock within nobody)
 
@@ -178,7 +178,7 @@ module _ {T : Type 0} (content : T → Content) (begun : T → Option Request) (
             (words-set sizes.groups r.some_groups r.few_groups s.words r.world.words (Partition p) (taken_word (r.world.words.partition p)) r.words (exists, tt)))
             (home-taken content begun s.homes r.world.contents p
             (record { holder = x.number; taken = r.world.contents.now p; recorded = None; unmarked = λ _. Rattle.std.proofs.Common.false }) r.contents)
-            (lists-beside s.homes p none r.world.sessions.has_list r.world.words.list exists r.lists),
+            (lists-beside sizes.sessions s.homes p none r.world.sessions.has_list r.world.words.list exists r.lists),
         (
           (λ _ q within same.
               let one : p ≡ q = omega (arith, same, word) in
@@ -269,8 +269,8 @@ module _ {T : Type 0} (content : T → Content) (begun : T → Option Request) (
             (words-set sizes.groups r.some_groups r.few_groups s.words r.world.words (Partition p) (put_word (r.world.words.partition p)) r.words (exists, tt)))
             (subst (λ (homes : List (maybe.Option (Kept T))). ContentsAreHome content begun homes noted.after.contents) (sym (ap (Rattle.atomic_table.specs.Table.put_back s.homes) carried))
             (home-put content begun s.homes r.world.contents p part many exists none_begun r.contents))
-            (subst (λ (homes : List (maybe.Option (Kept T))). ListsAreHome homes r.world.sessions.has_list r.world.words.list) (sym (ap (Rattle.atomic_table.specs.Table.put_back s.homes) carried))
-            (lists-beside s.homes p (some (Part part)) r.world.sessions.has_list r.world.words.list exists r.lists)),
+            (subst (λ (homes : List (maybe.Option (Kept T))). ListsAreHome sizes.sessions homes r.world.sessions.has_list r.world.words.list) (sym (ap (Rattle.atomic_table.specs.Table.put_back s.homes) carried))
+            (lists-beside sizes.sessions s.homes p (some (Part part)) r.world.sessions.has_list r.world.words.list exists r.lists)),
         refl,
       )
 

@@ -62,12 +62,12 @@ KeepsLists before after =
     → IsInNoHand lock before.sessions.has_list × (after.words.list lock ≡ before.words.list lock)
 
 pub lists-kept :
-    {T : Type 0} (homes : List (maybe.Option (Kept T))) (before after : World) → KeepsLists before after
-    → ListsAreHome homes before.sessions.has_list before.words.list
-    → ListsAreHome homes after.sessions.has_list after.words.list
-lists-kept homes before after kept home lock within nobody =
+    {T : Type 0} (sessions : ℕ) (homes : List (maybe.Option (Kept T))) (before after : World) → KeepsLists before after
+    → ListsAreHome sessions homes before.sessions.has_list before.words.list
+    → ListsAreHome sessions homes after.sessions.has_list after.words.list
+lists-kept sessions homes before after kept home lock within nobody =
     let was = kept lock nobody in
-    subst (λ waiters. ListIsAtHome waiters (get_elem? homes (list_shelf_of lock))) (sym was.1) (home lock within was.0)
+    subst (λ waiters. ListIsAtHome sessions waiters (get_elem? homes (list_shelf_of lock))) (sym was.1) (home lock within was.0)
 
 -- No word shows who stands in a list.
 listed-same : (words : Words) (list : ℕ → List LwWaiter) (word : Word)
@@ -142,7 +142,7 @@ module _ {T : Type 0} (content : T → Content) (begun : T → Option Request) (
       (listed-shown sizes.groups (slice_set s.words (index_of_word word) (next n)) (set_word r.world.words word (next n)) now.list
       (words-set sizes.groups r.some_groups r.few_groups s.words r.world.words word (next n) r.words exists))
       (home-kept content begun s.homes r.world.contents now.noted.after.contents now.home r.contents)
-      (lists-kept s.homes r.world now.noted.after now.lists r.lists)
+      (lists-kept sizes.sessions s.homes r.world now.noted.after now.lists r.lists)
 
   -- A fetch-and-add, a fetch-and-subtract, or with `next` as it is a load.
   pub marks : (step : Step (Kept T)) → IsAlwaysLawful content sizes x word (λ _. Unit {0}) next mark

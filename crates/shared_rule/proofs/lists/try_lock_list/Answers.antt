@@ -4,6 +4,7 @@ use Rattle.lock_world.specs.AccountSteps.{account_locking_list}
 use Rattle.shared_rule.specs.declared.history.History.{History}
 use Rattle.shared_rule.specs.Marks.{LockedList, SawListLocked}
 use Rattle.shared_rule.specs.declared.kept.Kept.TheVariants as kept
+use Rattle.shared_rule.specs.declared.rule.TableSizes.{TableSizes}
 use Rattle.shared_rule.specs.Layout.{list_shelf_of}
 use Rattle.shared_rule.specs.LwLocks.{lock_number}
 use Rattle.shared_rule.specs.History.{noting, first_account}
@@ -11,8 +12,7 @@ use Rattle.shared_rule.specs.Todos.{TellsNobodyBy}
 use Rattle.shared_rule.proofs.Taken.{look-known}
 use Rattle.shared_rule.proofs.Events.Lists.{locks_list_at, list-same}
 use Rattle.std.specs.Global.{Box}
-use Rattle.lw_word.specs.declared.wait_lists.LwWaiter.{LwWaiter}
-use Rattle.lw_word.specs.WaitList.{stands_in}
+use Rattle.lw_word.specs.WaitList.{Waiting, stands_in}
 use Rattle.shared_rule.specs.Plays.{Side, account_at, number_at}
 use Rattle.shared_rule.proofs.Led.{led-noted, led_to-as}
 use Rattle.shared_rule.proofs.Sides.{last-shelf, last-came, last-set}
@@ -31,7 +31,7 @@ fetch_or-found-requires g c =
           session.history session.others session.sessions c.args.lock.now c.requires.there c.requires.exists
           (record { no_list = free }) (look-known seat.me.0 session (lock_number c.args.lock.now) c.requires.no_other_look)
           (subst (λ (sessions : List (History g.row.T.Denot)). TellsNobodyBy (first_account content sessions)) session.sessions c.requires.tells_nobody)
-          c.word.result c.word.ensures.index,
+          g.G.Sizing.sizes.sessions (ap (λ (sizes : TableSizes). sizes.sessions) c.requires.sizes) c.word.result c.word.ensures.index,
     )
 
 pub exchange-kept-requires : goal.exchange-kept-requires
@@ -41,7 +41,7 @@ exchange-kept-requires g c =
       c.fetch_or-found.ensures.0 ∙ c.requires.table.at,
       (
         kept.List took.list,
-        last-shelf c.fetch_or-found.new.seat.me (noting c.args.seat.now.me.0 (LockedList n took.list.value)) c.list_shelf.result
+        last-shelf c.fetch_or-found.new.seat.me (noting c.args.seat.now.me.0 (LockedList n took.list.value.waiters)) c.list_shelf.result
             (list_shelf_of n) (kept.List took.list) c.args.seat.now.me.1 took.side c.list_shelf.ensures.shelf,
       ),
     )
@@ -51,7 +51,7 @@ into_list-requires g c =
     let n = lock_number c.args.lock.now in
     let took = c.fetch_or-found.ensures.2.0 (c.has_locked_list.ensures.0 c.if-has_locked_list.true) c.args.lock.now c.requires.there c.word.ensures.index in (
       took.list,
-      last-came c.fetch_or-found.new.seat.me (noting c.args.seat.now.me.0 (LockedList n took.list.value)) c.list_shelf.result
+      last-came c.fetch_or-found.new.seat.me (noting c.args.seat.now.me.0 (LockedList n took.list.value.waiters)) c.list_shelf.result
           (list_shelf_of n) (kept.List took.list) c.exchange-kept.result c.args.seat.now.me.1 took.side c.exchange-kept.ensures.2,
     )
 
@@ -61,20 +61,20 @@ returns-then-has_locked_list-clause-led g c =
     let seat = c.args.seat.now in
     let n = lock_number c.args.lock.now in
     let took = c.fetch_or-found.ensures.2.0 (c.has_locked_list.ensures.0 c.if-has_locked_list.true) c.args.lock.now c.requires.there c.word.ensures.index in
-    let came = last-came c.fetch_or-found.new.seat.me (noting seat.me.0 (LockedList n took.list.value)) c.list_shelf.result
+    let came = last-came c.fetch_or-found.new.seat.me (noting seat.me.0 (LockedList n took.list.value.waiters)) c.list_shelf.result
     (list_shelf_of n) (kept.List took.list) c.exchange-kept.result seat.me.1 took.side c.exchange-kept.ensures.2 in
     let same : took.list ≡ c.into_list.result = list-same took.list c.into_list.result (sym came ∙ c.into_list.ensures) in
     let set = last-set c.fetch_or-found.new.seat.me c.exchange-kept.new.seat.me
-    (noting seat.me.0 (LockedList n took.list.value)) c.list_shelf.result (list_shelf_of n) (kept.List took.list) kept.Nothing
+    (noting seat.me.0 (LockedList n took.list.value.waiters)) c.list_shelf.result (list_shelf_of n) (kept.List took.list) kept.Nothing
     seat.me.1 took.side c.list_shelf.ensures.shelf c.exchange-kept.ensures.3 in
     led_to-as content seat c.exchange-kept.new.seat _ _ _
-    (led-noted content seat c.exchange-kept.new.seat (LockedList n took.list.value) c.requires.session
+    (led-noted content seat c.exchange-kept.new.seat (LockedList n took.list.value.waiters) c.requires.session
     (record {
       table_id = c.exchange-kept.ensures.0 ∙ c.fetch_or-found.ensures.0;
       id = c.exchange-kept.ensures.1 ∙ c.fetch_or-found.ensures.1;
     })
     (ap (λ (side : Side g.row.T.Denot). side.0) set) (λ owed i. owed))
-    (ap (λ (list : Box (List LwWaiter)). account_locking_list (account_at content seat) n list.value) same)
+    (ap (λ (list : Box Waiting). account_locking_list (account_at content seat) n list.value.waiters) same)
 
 pub returns-then-has_locked_list-clause-shelves : goal.returns-then-has_locked_list-clause-shelves
 returns-then-has_locked_list-clause-shelves g c =
@@ -82,7 +82,7 @@ returns-then-has_locked_list-clause-shelves g c =
     let n = lock_number c.args.lock.now in
     let took = c.fetch_or-found.ensures.2.0 (c.has_locked_list.ensures.0 c.if-has_locked_list.true) c.args.lock.now c.requires.there c.word.ensures.index in
     ap (λ (side : Side g.row.T.Denot). side.1) (last-set c.fetch_or-found.new.seat.me c.exchange-kept.new.seat.me
-    (noting seat.me.0 (LockedList n took.list.value)) c.list_shelf.result (list_shelf_of n) (kept.List took.list) kept.Nothing
+    (noting seat.me.0 (LockedList n took.list.value.waiters)) c.list_shelf.result (list_shelf_of n) (kept.List took.list) kept.Nothing
     seat.me.1 took.side c.list_shelf.ensures.shelf c.exchange-kept.ensures.3)
 
 pub returns-then-has_locked_list-clause-stands : goal.returns-then-has_locked_list-clause-stands
@@ -90,10 +90,10 @@ returns-then-has_locked_list-clause-stands g c = λ there.
     let seat = c.args.seat.now in
     let n = lock_number c.args.lock.now in
     let took = c.fetch_or-found.ensures.2.0 (c.has_locked_list.ensures.0 c.if-has_locked_list.true) c.args.lock.now c.requires.there c.word.ensures.index in
-    let came = last-came c.fetch_or-found.new.seat.me (noting seat.me.0 (LockedList n took.list.value)) c.list_shelf.result
+    let came = last-came c.fetch_or-found.new.seat.me (noting seat.me.0 (LockedList n took.list.value.waiters)) c.list_shelf.result
     (list_shelf_of n) (kept.List took.list) c.exchange-kept.result seat.me.1 took.side c.exchange-kept.ensures.2 in
     let same : took.list ≡ c.into_list.result = list-same took.list c.into_list.result (sym came ∙ c.into_list.ensures) in
-    took.stands (ap (λ (list : Box (List LwWaiter)). stands_in (number_at seat) list.value) same ∙ there)
+    took.stands (ap (λ (list : Box Waiting). stands_in (number_at seat) list.value.waiters) same ∙ there)
 
 pub returns-else-has_locked_list-clause-none : goal.returns-else-has_locked_list-clause-none
 returns-else-has_locked_list-clause-none g c =

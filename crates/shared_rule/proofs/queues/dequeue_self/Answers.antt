@@ -1,6 +1,6 @@
 use Rattle.std.proofs.Common.{◌≡◌, false, List, Some, inl, sym, ap, ◌∙◌}
 use Rattle.lw_word.specs.declared.wait_lists.LwWaiter.{LwWaiter}
-use Rattle.lw_word.specs.WaitList.{stands_in, without}
+use Rattle.lw_word.specs.WaitList.{Waiting, stands_in, without}
 use Rattle.shared_rule.specs.LwLocks.{lock_number}
 use Rattle.shared_rule.proofs.TakenOff.{left-alone}
 use Rattle.lock_world.specs.Account.{Account, ListAccount}
@@ -14,12 +14,12 @@ use Rattle.shared_rule.proofs.queues.dequeue_self.Goals as goal
 pub leave_list-requires-clause-lawful : goal.leave_list-requires-clause-lawful
 leave_list-requires-clause-lawful g c =
     let n = lock_number c.args.lock.now in (
-      record { lock = n; waiters = c.lock_list-list.result.value },
+      record { lock = n; waiters = c.lock_list-list.result.value.waiters },
       record {
-        in_hand = list-in_hand g.T.PartTable.content c.args.seat.now c.lock_list-list.new.seat n c.lock_list-list.result.value c.lock_list-list.ensures.led;
+        in_hand = list-in_hand g.T.PartTable.content c.args.seat.now c.lock_list-list.new.seat n c.lock_list-list.result.value.waiters c.lock_list-list.ensures.led;
         stands =
-            ap (λ k. stands_in k c.lock_list-list.result.value) (c.lock_list-list.ensures.led.number ∙ sym c.requires.own)
-            ∙ ap (stands_in c.args.number) (sym c.deref_mut.ensures.value)
+            ap (λ k. stands_in k c.lock_list-list.result.value.waiters) (c.lock_list-list.ensures.led.number ∙ sym c.requires.own)
+            ∙ ap (λ (list : Waiting). stands_in c.args.number list.waiters) (sym c.deref_mut.ensures.value)
             ∙ sym c.leave.ensures.found
             ∙ c.if-leave.true;
       },
@@ -28,27 +28,28 @@ leave_list-requires-clause-lawful g c =
 pub unlock_list-requires-else-leave-clause-in_hand : goal.unlock_list-requires-else-leave-clause-in_hand
 unlock_list-requires-else-leave-clause-in_hand g c =
     let n = lock_number c.args.lock.now in
-    let waiters = c.lock_list-list.result.value in
+    let waiters = c.lock_list-list.result.value.waiters in
     let missing : stands_in c.args.number waiters ≡ false =
-    ap (stands_in c.args.number) (sym c.deref_mut.ensures.value) ∙ sym c.leave.ensures.found ∙ c.if-leave.false in
+    ap (λ (list : Waiting). stands_in c.args.number list.waiters) (sym c.deref_mut.ensures.value) ∙ sym c.leave.ensures.found ∙ c.if-leave.false in
     ap (λ (a : Account). a.lists.in_hand) c.set_release_ok.ensures.led.account
     ∙ list-in_hand g.T.PartTable.content c.args.seat.now c.lock_list-list.new.seat n waiters c.lock_list-list.ensures.led
     ∙ ap (λ (ws : List LwWaiter). Some (record { lock = n; waiters = ws }))
-    (sym (c.leave.ensures.left ∙ ap (without c.args.number) c.deref_mut.ensures.value ∙ left-alone c.args.number waiters missing))
+    (sym (ap (λ (list : Waiting). list.waiters) c.leave.ensures.left ∙ ap (λ (list : Waiting). without c.args.number list.waiters) c.deref_mut.ensures.value
+    ∙ left-alone c.args.number waiters missing))
 
 pub returns-then-leave-clause-led : goal.returns-then-leave-clause-led
 returns-then-leave-clause-led g c =
     dequeued g.T.PartTable.content c.args.seat.now c.lock_list-list.new.seat (lock_number c.args.lock.now)
-    c.lock_list-list.result.value c.lock_list-list.ensures.led
+    c.lock_list-list.result.value.waiters c.lock_list-list.ensures.led
     c.leave_list.new.seat c.unlock_list.new.seat c.args.number c.requires.queued c.requires.todo
     c.leave_list.ensures.led c.unlock_list.ensures.led
 
 pub returns-else-leave-clause-led : goal.returns-else-leave-clause-led
 returns-else-leave-clause-led g c =
-    let waiters = c.lock_list-list.result.value in
+    let waiters = c.lock_list-list.result.value.waiters in
     let number = c.lock_list-list.ensures.led.number ∙ sym c.requires.own in
     let missing : stands_in c.args.number waiters ≡ false =
-    ap (stands_in c.args.number) (sym c.deref_mut.ensures.value) ∙ sym c.leave.ensures.found ∙ c.if-leave.false in
+    ap (λ (list : Waiting). stands_in c.args.number list.waiters) (sym c.deref_mut.ensures.value) ∙ sym c.leave.ensures.found ∙ c.if-leave.false in
     taken_off-told g.T.PartTable.content c.args.seat.now c.lock_list-list.new.seat (lock_number c.args.lock.now)
     waiters c.lock_list-list.ensures.led
     c.set_release_ok.new.seat c.unlock_list-else-leave.new.seat c.sleep_until_told.new.seat (number_at c.lock_list-list.new.seat) c.requires.queued c.requires.todo
@@ -74,10 +75,10 @@ set_release_ok-requires-clause-tells_nobody g c = λ owes in_hand other.
 
 pub sleep_until_told-requires-clause-may : goal.sleep_until_told-requires-clause-may
 sleep_until_told-requires-clause-may g c =
-    let waiters = c.lock_list-list.result.value in
+    let waiters = c.lock_list-list.result.value.waiters in
     let number = c.lock_list-list.ensures.led.number ∙ sym c.requires.own in
     let missing : stands_in c.args.number waiters ≡ false =
-    ap (stands_in c.args.number) (sym c.deref_mut.ensures.value) ∙ sym c.leave.ensures.found ∙ c.if-leave.false in
+    ap (λ (list : Waiting). stands_in c.args.number list.waiters) (sym c.deref_mut.ensures.value) ∙ sym c.leave.ensures.found ∙ c.if-leave.false in
     let done = c.unlock_list-else-leave.ensures.led.todo ∙ c.set_release_ok.ensures.led.todo
     ∙ won-todo g.T.PartTable.content c.args.seat.now c.lock_list-list.new.seat (lock_number c.args.lock.now) waiters c.lock_list-list.ensures.led
     (number_at c.lock_list-list.new.seat) c.requires.queued c.requires.todo (ap (λ n. stands_in n waiters) number ∙ missing) in

@@ -20,7 +20,7 @@ returns-in-Some-try_lock_list-clause-led g c =
     let seat = c.args.seat.now in
     led_by-todo content seat c.try_lock_list.new.seat _ _ (todo_looked (todo_at seat)) (todo_at seat)
     (led_to-then content seat c.loop.seat c.try_lock_list.new.seat (account_at content seat) (todo_at seat)
-    (λ a. account_locking_list a (lock_number c.args.lock.now) c.in-Some-try_lock_list.list.value) todo_looked
+    (λ a. account_locking_list a (lock_number c.args.lock.now) c.in-Some-try_lock_list.list.value.waiters) todo_looked
     c.loop.invariant.led (c.in-Some-try_lock_list.ensures {u = tt}).led)
     (looked-same (todo_at seat) c.requires.no_look)
 
@@ -33,7 +33,7 @@ pub returns-in-Some-try_lock_list-clause-stands : goal.returns-in-Some-try_lock_
 returns-in-Some-try_lock_list-clause-stands g c = λ there.
     ap (λ (a : Account). a.lists.stands) (sym c.loop.invariant.led.account)
     ∙ (c.in-Some-try_lock_list.ensures {u = tt}).stands
-    (ap (λ n. stands_in n c.in-Some-try_lock_list.list.value) c.loop.invariant.led.number ∙ there)
+    (ap (λ n. stands_in n c.in-Some-try_lock_list.list.value.waiters) c.loop.invariant.led.number ∙ there)
 
 pub try_lock_list-requires-clause-no_list : goal.try_lock_list-requires-clause-no_list
 try_lock_list-requires-clause-no_list g c = ap (λ (a : Account). a.lists.in_hand) c.loop.invariant.led.account ∙ c.requires.no_list

@@ -15,9 +15,9 @@ number_or (Some mine) = mine.lock
 
 pub set_has_waiters-requires-clause-lawful : goal.set_has_waiters-requires-clause-lawful
 set_has_waiters-requires-clause-lawful g c = (
-  record { lock = lock_number c.args.lock.now; waiters = c.lock_list-list.result.value },
+  record { lock = lock_number c.args.lock.now; waiters = c.lock_list-list.result.value.waiters },
   list-in_hand g.T.PartTable.content c.args.seat.now c.lock_list-list.new.seat (lock_number c.args.lock.now)
-      c.lock_list-list.result.value c.lock_list-list.ensures.led,
+      c.lock_list-list.result.value.waiters c.lock_list-list.ensures.led,
   refl,
 )
 
@@ -26,12 +26,12 @@ join_list-requires-clause-lawful g c =
     let content = g.T.PartTable.content in
     let n = lock_number c.args.lock.now in
     let flags = c.set_has_waiters.ensures.led.account in (
-      record { lock = n; waiters = c.lock_list-list.result.value },
+      record { lock = n; waiters = c.lock_list-list.result.value.waiters },
       record {
         in_hand = ap (λ (a : Account). a.lists.in_hand) flags
-            ∙ list-in_hand content c.args.seat.now c.lock_list-list.new.seat n c.lock_list-list.result.value c.lock_list-list.ensures.led;
+            ∙ list-in_hand content c.args.seat.now c.lock_list-list.new.seat n c.lock_list-list.result.value.waiters c.lock_list-list.ensures.led;
         in_none = ap (λ (a : Account). a.lists.stands) flags
-            ∙ stands-still content c.args.seat.now c.lock_list-list.new.seat n c.lock_list-list.result.value c.lock_list-list.ensures.led
+            ∙ stands-still content c.args.seat.now c.lock_list-list.new.seat n c.lock_list-list.result.value.waiters c.lock_list-list.ensures.led
             ∙ ap (λ (lists : ListAccount). lists.stands) c.requires.idle;
       },
     )
@@ -39,7 +39,7 @@ join_list-requires-clause-lawful g c =
 pub returns-clause-led : goal.returns-clause-led
 returns-clause-led g c =
     queued g.T.PartTable.content c.args.seat.now c.lock_list-list.new.seat (lock_number c.args.lock.now)
-    c.lock_list-list.result.value c.lock_list-list.ensures.led
+    c.lock_list-list.result.value.waiters c.lock_list-list.ensures.led
     c.set_has_waiters.new.seat c.join_list.new.seat c.unlock_list.new.seat
     (record { session = c.args.number; mode = c.args.mode }) c.requires.idle c.requires.todo
     c.set_has_waiters.ensures.led c.join_list.ensures.led c.unlock_list.ensures.led
@@ -51,9 +51,9 @@ join_list-requires-clause-owes_no_ok g c =
 pub join_list-requires-clause-no_other : goal.join_list-requires-clause-no_other
 join_list-requires-clause-no_other g c = λ mine in_hand.
     let n = lock_number c.args.lock.now in
-    let both : Some (record { lock = n; waiters = c.lock_list-list.result.value }) ≡ Some mine =
+    let both : Some (record { lock = n; waiters = c.lock_list-list.result.value.waiters }) ≡ Some mine =
     sym (ap (λ (a : Account). a.lists.in_hand) c.set_has_waiters.ensures.led.account
-    ∙ list-in_hand g.T.PartTable.content c.args.seat.now c.lock_list-list.new.seat n c.lock_list-list.result.value c.lock_list-list.ensures.led) ∙ in_hand in
+    ∙ list-in_hand g.T.PartTable.content c.args.seat.now c.lock_list-list.new.seat n c.lock_list-list.result.value.waiters c.lock_list-list.ensures.led) ∙ in_hand in
     let same : n ≡ mine.lock = ap (λ its. number_or its) both in
     subst (NoneOr (todo_at c.set_has_waiters.new.seat).tries) same
     (subst (λ (todo : Todo). NoneOr todo.tries n) (sym (c.set_has_waiters.ensures.led.todo ∙ c.lock_list-list.ensures.led.todo)) c.requires.todo.no_other)
@@ -62,13 +62,13 @@ pub unlock_list-requires-clause-left_well : goal.unlock_list-requires-clause-lef
 unlock_list-requires-clause-left_well g c =
     tries_next (ap (λ (todo : Todo). todo.tries) c.join_list.ensures.led.todo
     ∙ ap (λ (a : Account). lock_of_list a.lists.in_hand) c.set_has_waiters.ensures.led.account
-    ∙ ap lock_of_list (list-in_hand g.T.PartTable.content c.args.seat.now c.lock_list-list.new.seat (lock_number c.args.lock.now) c.lock_list-list.result.value c.lock_list-list.ensures.led))
+    ∙ ap lock_of_list (list-in_hand g.T.PartTable.content c.args.seat.now c.lock_list-list.new.seat (lock_number c.args.lock.now) c.lock_list-list.result.value.waiters c.lock_list-list.ensures.led))
 
 pub join_list-requires-clause-latest : goal.join_list-requires-clause-latest
 join_list-requires-clause-latest g c =
     let content = g.T.PartTable.content in
     let n = lock_number c.args.lock.now in
-    let list = list-in_hand content c.args.seat.now c.lock_list-list.new.seat n c.lock_list-list.result.value c.lock_list-list.ensures.led in
+    let list = list-in_hand content c.args.seat.now c.lock_list-list.new.seat n c.lock_list-list.result.value.waiters c.lock_list-list.ensures.led in
     record {
       lock = c.args.lock.now;
       there = c.requires.there;

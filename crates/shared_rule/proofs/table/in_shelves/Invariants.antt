@@ -20,5 +20,5 @@ invariant-loop-index-2 g l = record {
   room : vec_capacity l.shelves ≡ TABLE_SHELVES;
   past : 128 ≤ l.index;
   there : (p : ℕ) → p < 16 → IsNew g.T.PartTable.content g.T.PartTable.begun (slice_get l.shelves.items (content_shelf_of p));
-  empty : (lock : ℕ) → lock < lock_count → list_shelf_of lock < l.index → IsEmptyList (slice_get l.shelves.items (list_shelf_of lock));
+  empty : (lock : ℕ) → lock < lock_count → list_shelf_of lock < l.index → IsEmptyList l.sessions (slice_get l.shelves.items (list_shelf_of lock));
 }

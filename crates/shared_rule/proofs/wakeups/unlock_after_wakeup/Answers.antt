@@ -14,5 +14,5 @@ returns-clause-led g c =
 pub unlock_list-requires-clause-left_well : goal.unlock_list-requires-clause-left_well
 unlock_list-requires-clause-left_well g c =
     well-then (account_at g.T.PartTable.content c.args.seat.now) (account_at g.T.PartTable.content c.set_release_ok_if.new.seat)
-    (todo_at c.args.seat.now) (todo_at c.set_release_ok_if.new.seat) c.args.lock.now c.args.list.value
+    (todo_at c.args.seat.now) (todo_at c.set_release_ok_if.new.seat) c.args.lock.now c.args.list.value.waiters
     c.set_release_ok_if.ensures.led.account c.set_release_ok_if.ensures.led.todo c.requires.left_well

@@ -1,20 +1,24 @@
-use Rattle.std.proofs.Common.{◌<◌, ◌≡◌, false, lit<, subst, ap, ◌∙◌}
+use Rattle.std.proofs.Common.{◌<◌, ◌≡◌, false, ap, ◌∙◌, subst, sym, arith, length}
+use Rattle.std.specs.Vec.{vec_len}
 use Rattle.lw_word.specs.declared.wait_lists.LwWaiter.{LwWaiter}
-use Rattle.lw_word.specs.WaitList.{stands_in}
+use Rattle.lw_word.specs.WaitList.{Waiting, stands_in}
 use Rattle.lw_word.proofs.WaitLemmas.{EachStandsOnce-join, room_to_join}
 use Rattle.lw_word.proofs.wait_lists.WaitList.join.Goals as goal
-use Rattle.modes_core.specs.Sessions.{most_sessions}
 
-pub push-requires : goal.push-requires
-push-requires c =
+pub push_reserved-requires : goal.push_reserved-requires
+push_reserved-requires c =
     let new : LwWaiter = record { session = c.args.session; mode = c.args.mode } in
-    let within : c.args.session < most_sessions = subst (λ n. n < most_sessions) c.number-number.ensures.value c.number-number.ensures.within in
-    let absent : stands_in c.args.session c.self.inside.waiters.items ≡ false = ap (stands_in c.args.session) c.self.view_is ∙ c.requires in
-    (lit< tt, room_to_join c.self.inside.waiters.items new within absent c.self.invariant)
+    let within : c.args.session < c.self.inside.room = subst (λ (list : Waiting). c.args.session < list.room) (sym c.self.view_is) c.requires.within in
+    let absent : stands_in c.args.session c.self.inside.waiters.items ≡ false = ap (λ (list : Waiting). stands_in c.args.session list.waiters) c.self.view_is ∙ c.requires.absent in
+    let len : vec_len c.self.inside.waiters ≡ length c.self.inside.waiters.items = c.self.inside.waiters.ok.0 in
+    omega (arith, len, room_to_join c.self.inside.room c.self.inside.waiters.items new within absent c.self.invariant.0, c.self.invariant.1)
 
 pub invariant_of-self : goal.invariant_of-self
 invariant_of-self c =
     let new : LwWaiter = record { session = c.args.session; mode = c.args.mode } in
-    let within : c.args.session < most_sessions = subst (λ n. n < most_sessions) c.number-number.ensures.value c.number-number.ensures.within in
-    let absent : stands_in c.args.session c.self.inside.waiters.items ≡ false = ap (stands_in c.args.session) c.self.view_is ∙ c.requires in
-    rw c.push.ensures.items (EachStandsOnce-join c.self.inside.waiters.items new within absent c.self.invariant)
+    let within : c.args.session < c.self.inside.room = subst (λ (list : Waiting). c.args.session < list.room) (sym c.self.view_is) c.requires.within in
+    let absent : stands_in c.args.session c.self.inside.waiters.items ≡ false = ap (λ (list : Waiting). stands_in c.args.session list.waiters) c.self.view_is ∙ c.requires.absent in
+    rw c.push_reserved.ensures.items (
+      EachStandsOnce-join c.self.inside.room c.self.inside.waiters.items new within absent c.self.invariant.0,
+      omega (arith, c.push_reserved.ensures.capacity, c.self.invariant.1),
+    )

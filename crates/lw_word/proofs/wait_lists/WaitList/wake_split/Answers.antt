@@ -1,13 +1,18 @@
-use Rattle.std.proofs.Common.{not}
-use Rattle.lw_word.specs.declared.wait_lists.LwWaiter.{LwWaiter}
-use Rattle.lw_word.specs.WaitList.{wants_to_share}
-use Rattle.lw_word.proofs.WaitLemmas.{EachStandsOnce-filter, EachStandsOnce-rest}
+use Rattle.std.proofs.Common.{arith}
+use Rattle.lw_word.specs.declared.wait_lists.TheConstants.{MOST_TAKEN_OFF}
+use Rattle.lw_word.proofs.WaitLemmas.{EachStandsOnce-without, EachStandsOnce-rest}
 use Rattle.lw_word.proofs.wait_lists.WaitList.wake_split.Goals as goal
 
 pub invariant_of-self : goal.invariant_of-self
 invariant_of-self c =
-    rw (c.parted-sharers.ensures.others, c.as_slice.ensures.value)
-    (EachStandsOnce-filter (λ (waiter : LwWaiter). not (wants_to_share waiter)) c.self.inside.waiters.items c.self.invariant)
+    rw c.take_sharers_off-taken.ensures.left (
+      EachStandsOnce-without c.self.inside.room MOST_TAKEN_OFF c.self.inside.waiters.items c.self.invariant.0,
+      omega (arith, c.take_sharers_off-taken.ensures.capacity, c.self.invariant.1),
+    )
 
 pub invariant_of-self-else-is_shared : goal.invariant_of-self-else-is_shared
-invariant_of-self-else-is_shared c = rw c.remove.ensures.items (EachStandsOnce-rest c.self.inside.waiters.items c.self.invariant)
+invariant_of-self-else-is_shared c =
+    rw c.remove.ensures.items (
+      EachStandsOnce-rest c.self.inside.room c.self.inside.waiters.items c.self.invariant.0,
+      omega (arith, c.remove.ensures.capacity, c.self.invariant.1),
+    )
