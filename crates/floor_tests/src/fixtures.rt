@@ -3,7 +3,7 @@
 ghost use Rattle.std.specs.Prelude.{◌≡◌, true, false, None, IfOk};
 ghost use Rattle.lock_table.specs.Queue.{awaits_mode, waits_there};
 
-use lock_table::{NoMemory, PartTable, PlainPart, Woken};
+use lock_table::{NoMemory, PartTable, PlainPart};
 use modes_core::{Mode, SessionId, Tag};
 use std::alloc::Global;
 use std::process::Abort;
@@ -72,7 +72,7 @@ pub fn may_release<P: PartTable>(
 }
 
 /// Whether `woken` has those who are `expected`, in this order.
-pub fn are_woken(woken: &Woken, expected: &[(u8, Mode)]) -> bool {
+pub fn are_woken(woken: &[(SessionId, Mode)], expected: &[(u8, Mode)]) -> bool {
     if woken.len() != expected.len() {
         return false;
     }

@@ -172,7 +172,8 @@ fn wakes<P: PartTable>(
     if !take_hold_out(part, session, &OBJECT, mode) {
         return expected.is_empty();
     }
-    are_woken(&part.wake(&OBJECT), expected)
+    part.wake(&OBJECT);
+    are_woken(part.woken(), expected)
 }
 
 /// Makes `step` in `part`, and answers whether it leads to what it says.
@@ -188,8 +189,10 @@ fn make<P: PartTable>(rt: &impl Abort, part: &mut P, step: Step) -> bool
             wakes(rt, part, session(rt, number), mode, expected)
         }
         Step::Leaves(number, was_granted, expected) => {
-            let removed = remove_waiter(part, session(rt, number), &OBJECT);
-            removed.was_granted == was_granted && are_woken(&removed.woken, expected)
+            if remove_waiter(part, session(rt, number), &OBJECT) {
+                return was_granted && expected.is_empty();
+            }
+            !was_granted && are_woken(part.woken(), expected)
         }
         Step::Awaited(mode, awaited) => awaited_in_conflict(part, &OBJECT, mode) == awaited,
     }

@@ -6,9 +6,9 @@ ghost use Rattle.std.specs.Prelude.{◌≡◌, None};
 mod steps;
 
 use crate::fixtures::{ANOTHER_OBJECT, OBJECT, new_part, session};
-use lock_table::{NoMemory, PartTable, PlainPart, TableRow, Woken, empty_parts};
-use modes_core::Mode;
+use lock_table::{NoMemory, PartTable, PlainPart, TableRow, empty_parts};
 use modes_core::Mode::{AccessShare, Exclusive, RowExclusive, RowShare, Share};
+use modes_core::{Mode, SessionId};
 use std::alloc::Global;
 use std::process::Abort;
 use std::test::Fail;
@@ -126,18 +126,19 @@ fn a_request_is_told_where_it_stands(rt: HostRuntime) -> Result<(), Fail> {
 
 /// Has `many` sessions wait in `part` for what nobody holds, each after those with lower numbers, and wakes the
 /// queue.
-fn many_woken<P: PartTable>(rt: &impl Abort, part: &mut P, many: u8) -> Result<Woken, NoMemory>
+fn wake_many<P: PartTable>(rt: &impl Abort, part: &mut P, many: u8) -> Result<(), NoMemory>
     requires none_begun { P.begun part.old ≡ None }
 {
     'waits: for number in 0..many {
         let place = usize::from(number);
         waits(rt, part, session(rt, number), &OBJECT, Share, place)?;
     }
-    Ok(part.wake(&OBJECT))
+    part.wake(&OBJECT);
+    Ok(())
 }
 
 /// Whether each session in `woken` is at the place of its number, granted ShareLock.
-fn are_in_order(woken: &Woken) -> bool {
+fn are_in_order(woken: &[(SessionId, Mode)]) -> bool {
     for place in 0..woken.len() {
         let (session, mode) = woken[place];
         if usize::from(session.number()) != place || mode != Share {
@@ -150,8 +151,8 @@ fn are_in_order(woken: &Woken) -> bool {
 #[test]
 fn several_go_in_the_queues_order(rt: HostRuntime) -> Result<(), Fail> {
     let mut part = new_part(rt.alloc())?;
-    let woken = many_woken(&rt, &mut part, 40)?;
-    assert!(rt; woken.len() == 40 && are_in_order(&woken));
+    wake_many(&rt, &mut part, 40)?;
+    assert!(rt; part.woken().len() == 40 && are_in_order(part.woken()));
     assert!(rt; queue_is(&part, &OBJECT, &[]));
     Ok(())
 }

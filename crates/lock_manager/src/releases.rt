@@ -19,7 +19,7 @@ ghost use Rattle.lock_manager.specs.Quiet.{QuietOfReleases, quiet_releasing};
 use crate::sessions::Own;
 use fast_path::{UseCounts, ungrant};
 use local_locks::End;
-use lock_table::{Move, PartTable, Woken};
+use lock_table::{Move, PartTable};
 use modes_core::{Mode, Tag, is_eligible, is_strong};
 use shared_rule::Board;
 use std::sync::Wait;
@@ -133,8 +133,7 @@ fn release_in_part<T: PartTable, B: Board<T>, R: Wait>(rt: &R, board: &mut B, ta
 }
 
 /// Ends the move `done` by a wakeup of the queue of `tag`: wakes the sessions that may go, if any, and puts the
-/// partition `part` with `content` (`ProcLockWakeup` in proc.c). A function of its own, since the list of those woken
-/// is large and mostly not needed.
+/// partition `part` with `content` (`ProcLockWakeup` in proc.c). A function of its own, since mostly nobody may go.
 #[cold]
 #[inline(never)]
 fn wake_and_put<T: PartTable, B: Board<T>>(
@@ -156,42 +155,37 @@ fn wake_and_put<T: PartTable, B: Board<T>>(
     ensures stack { B.stack board.new ≡ stack_putting (B.stack board.old) }
     ensures seat { B.seat board.new ≡ B.seat board.old }
 {
-    let woken = content.wake(tag);
-    if woken.is_empty() {
+    content.wake(tag);
+    if content.woken().is_empty() {
         board.put_part(part, done, content);
     } else {
-        put_with_woken(board, part, done, &woken, content);
+        put_with_woken(board, part, done, content);
     }
 }
 
-/// Marks the wait of each session that the move `done` granted, those in `woken`, puts the partition `part` with
-/// `content`, and wakes them (`ProcLockWakeup` in proc.c). The first mark makes the move, where it doesn't stand
-/// recorded already.
-pub fn put_with_woken<T: PartTable, B: Board<T>>(
-    board: &mut B,
-    part: u8,
-    done: &Move,
-    woken: &Woken,
-    content: T,
-)
+/// Marks the wait of each session that the move `done` granted, those whom `content` names as woken, wakes them, and
+/// puts the partition `part` with `content` (`ProcLockWakeup` in proc.c, whose `ProcWakeup` sets each latch under the
+/// partition's lock). The first mark makes the move, where it doesn't stand recorded already.
+pub fn put_with_woken<T: PartTable, B: Board<T>>(board: &mut B, part: u8, done: &Move, content: T)
     requires exists { part < 16 }
     requires grants { IsGrantingIn part done.now }
     requires none_begun { T.begun content ≡ None }
     requires in_hand { (others : List ℕ) × ((B.stack board.old).parts ≡ part ∷ others) }
     requires none_owed { (B.stack board.old).owed ≡ [] }
     requires wait_is_over { WaitIsOver (B.view board.old).awaited part done.now }
-    requires lawful { Tells (B.seat board.old) (B.view board.old) part done.now woken.now.items (T.content content) }
+    requires lawful { Tells (B.seat board.old) (B.view board.old) part done.now (T.woken content) (T.content content) }
     ensures account { B.view board.new ≡
         account_putting (B.view board.old) part (taken_of ((B.view board.old).hand part)) (T.content content) done.now }
     ensures quiet { B.quiet board.new ≡ B.quiet board.old }
     ensures stack { B.stack board.new ≡ stack_putting (B.stack board.old) }
     ensures seat { B.seat board.new ≡ B.seat board.old }
 {
-    for (other, _mode) in woken.as_slice() {
+    let woken = content.woken();
+    for (other, _mode) in woken {
         board.mark_granted(part, *other, done, woken, &content);
     }
-    board.put_part(part, &Move::Keep, content);
-    for (session, _mode) in woken.as_slice() {
+    for (session, _mode) in woken {
         board.wake(*session);
     }
+    board.put_part(part, &Move::Keep, content);
 }

@@ -299,19 +299,12 @@ fn leave_in_part<T: PartTable, B: Board<T>, R: Wait>(
     let number = board.number();
     let part = tag.partition();
     let mut content = board.take_part(rt, part);
-    let removed = remove_waiter(&mut content, number, tag);
-    if removed.was_granted {
+    if remove_waiter(&mut content, number, tag) {
         board.clear_wait();
         board.put_part(part, &Move::Keep, content);
         return true;
     }
-    board.leave_queue(&removed.woken, &content);
-    put_with_woken(
-        board,
-        part,
-        &Move::Leave { tag: *tag },
-        &removed.woken,
-        content,
-    );
+    board.leave_queue(content.woken(), &content);
+    put_with_woken(board, part, &Move::Leave { tag: *tag }, content);
     false
 }

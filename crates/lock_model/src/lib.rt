@@ -4,8 +4,6 @@
 
 mod machine;
 
-pub use lock_table::{
-    Clash, Move, NoMemory, PartTable, PlainPart, Request, TableRow, Waiter, Woken,
-};
+pub use lock_table::{Clash, Move, NoMemory, PartTable, PlainPart, Request, TableRow, Waiter};
 pub use lock_world::{Event, Step, Word};
 pub use machine::{Hold, Plain, QueuedWait, Sleeper, Spot, run_events};

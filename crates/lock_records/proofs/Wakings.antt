@@ -17,8 +17,7 @@ use Rattle.lock_table.specs.Walk.{StandFor}
 use Rattle.lock_table.proofs.PutLemmas.{put_here, put_else}
 use Rattle.lock_table.proofs.HoldLists.{count_by-cons, count_by-append}
 use Rattle.lock_table.proofs.ListLemmas.{any-counted}
-use Rattle.lock_records.proofs.Queues.{OneEach, queue-short, without-nobody}
-use Rattle.modes_core.specs.Sessions.{most_sessions}
+use Rattle.lock_records.proofs.Queues.{OneEach, without-nobody}
 
 -- The holds with one wait more among those that became holds.
 hold_all-push : (granted : List Wait) (holds : Holds) (t : Tag) (w : Wait) → hold_all holds t (granted ++ w ∷ []) ≡ set_hold (hold_all holds t granted) w.session t w.mode true
@@ -35,7 +34,6 @@ pub record WakingTo (before : Content) (t : Tag) (now : Content) (done todo : Li
   pub others : (o : Tag) → tag_eq o t ≡ false → now.waits o ≡ before.waits o
   pub queue : (more left : List Wait) → SplitsBehind done now.holds t todo more left → SplitsBehind [] before.holds t (before.waits t) (granted ++ more) (done ++ left)
   pub each : (s : ℕ) → count_by (λ wait. wait.session == s) granted + count_by (λ wait. wait.session == s) (done ++ todo) ≤ 1
-  pub below : (s : ℕ) → waits_there granted s ≡ true → s < most_sessions
 
 pub waking-start : (before : Content) (t : Tag) (woken : List (ℕ × Mode)) → woken ≡ [] → OneEach (before.waits t) → WakingTo before t before [] (before.waits t) woken
 waking-start before t woken none each = record {
@@ -46,7 +44,6 @@ waking-start before t woken none each = record {
   others = λ o other. refl;
   queue = λ more left split. split;
   each = λ s. omega (arith, each s);
-  below = λ s any. absurd (false≢true any);
 }
 
 -- A wait that is not free is passed.
@@ -64,7 +61,6 @@ waking-stay before t now done todo w woken not_free so_far =
           subst (λ stay. SplitsBehind [] before.holds t (before.waits t) (so_far.granted ++ more) stay) (sym (append_assoc done (w ∷ []) left))
           (so_far.queue more (w ∷ left) (inr (not_free, (left, refl, split))));
       each = λ s. rw all (so_far.each s);
-      below = so_far.below;
     }
 
 -- A queue without the wait between others of other sessions.
@@ -105,9 +101,9 @@ module _ (done todo : List Wait) (w : Wait) (one : count_by (λ wait. wait.sessi
       ∙ without-nobody todo w.session (alone todo back))
 
 -- A wait that is free becomes a hold.
-pub waking-go : (before : Content) (t : Tag) (now next : Content) (done todo : List Wait) (w : Wait) (woken : List (ℕ × Mode)) → IsFree now.holds w.session t w.mode done → w.session < most_sessions →
+pub waking-go : (before : Content) (t : Tag) (now next : Content) (done todo : List Wait) (w : Wait) (woken : List (ℕ × Mode)) → IsFree now.holds w.session t w.mode done →
     next ≡ add_hold (remove_wait now w.session t) w.session t w.mode → WakingTo before t now done (w ∷ todo) woken → WakingTo before t next done todo (woken ++ (w.session, w.mode) ∷ [])
-waking-go before t now next done todo w woken free small is so_far = record {
+waking-go before t now next done todo w woken free is so_far = record {
   granted = so_far.granted ++ w ∷ [];
   told = ap (λ ones. ones ++ (w.session, w.mode) ∷ []) so_far.told ∙ sym (map-append whose_and_mode so_far.granted (w ∷ []));
   holds = held ∙ ap (λ holds. set_hold holds w.session t w.mode true) so_far.holds ∙ sym (hold_all-push so_far.granted before.holds t w);
@@ -119,7 +115,6 @@ waking-go before t now next done todo w woken free small is so_far = record {
       subst (λ granted. SplitsBehind [] before.holds t (before.waits t) granted (done ++ left)) (sym (append_assoc so_far.granted (w ∷ []) more))
       (so_far.queue (w ∷ more) left (inl (free, (more, refl, subst (λ holds. SplitsBehind done holds t todo more left) held split))));
   each = λ s. each s;
-  below = λ s any. below s any;
 } where
   held : next.holds ≡ set_hold now.holds w.session t w.mode true
   held = ap (λ (content : Content). content.holds) is
@@ -139,26 +134,6 @@ waking-go before t now next done todo w woken free small is so_far = record {
       let left : count_by (λ (wait : Wait). wait.session == s) (done ++ todo) ≡ count_by (λ (wait : Wait). wait.session == s) done + count_by (λ (wait : Wait). wait.session == s) todo =
       count_by-append (λ (wait : Wait). wait.session == s) done todo in
       omega (arith, so_far.each s)
-
-  below : (s : ℕ) → waits_there (so_far.granted ++ w ∷ []) s ≡ true → s < most_sessions
-  below s any =
-      elim (cases_Bool (waits_there so_far.granted s)) [
-        | inl before ↦ so_far.below s before
-        | inr not_before ↦
-            let last : (w.session == s) ≡ true = last-one _ _ not_before (sym (list_any-append (λ (wait : Wait). wait.session == s) so_far.granted (w ∷ [])) ∙ any) in
-            subst (λ x. x < most_sessions) (eqb-true _ _ last) small
-      ] where
-        last-one : (a b : Bool) → a ≡ false → (a || (b || false)) ≡ true → b ≡ true
-        last-one true b e any = absurd (false≢true (sym e))
-        last-one false true e any = refl
-        last-one false false e any = any
-
--- At most as many are woken as there are sessions.
-pub waking-fits : (before : Content) (t : Tag) (now : Content) (done todo : List Wait) (woken : List (ℕ × Mode)) → WakingTo before t now done todo woken → length woken ≤ most_sessions
-waking-fits before t now done todo woken so_far =
-    let few : length so_far.granted ≤ most_sessions = queue-short so_far.granted (λ s. omega (arith, so_far.each s)) so_far.below in
-    let same : length woken ≡ length so_far.granted = ap length so_far.told ∙ length-map so_far.granted whose_and_mode in
-    omega arith
 
 -- At the end of the queue the wakeup is whole.
 pub waking-end : (before : Content) (t : Tag) (now : Content) (done : List Wait) (woken : List (ℕ × Mode)) → WakingTo before t now done [] woken →

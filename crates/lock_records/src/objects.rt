@@ -1,6 +1,6 @@
 //! What a call does to the records of one object, whose lock record stands at a known place.
 
-ghost use Rattle.std.specs.Prelude.{◌≡◌, ◌<◌, ◌≤◌, ◌+◌, [], false, true, OnOk, IfSome, IfNone};
+ghost use Rattle.std.specs.Prelude.{◌≡◌, ◌<◌, ◌≤◌, ◌+◌, [], false, true, OnOk, IfSome, IfNone, vec_capacity};
 ghost use Rattle.modes_core.specs.declared.modes.Mode.{Mode};
 ghost use Rattle.slab.specs.Slab.{slab_len, HasRoomFor};
 ghost use Rattle.place_index.specs.Notes.{HasSameNotes};
@@ -21,13 +21,15 @@ use place_index::PlaceIndex;
 use slab::Slab;
 
 /// Makes room for a request: in `index` for one lock record more, in `locks` for that record, in `holders` for the
-/// hold that it and each wait becomes, and in `queues` for a queue record more. No record changes.
+/// hold that it and each wait becomes, in `queues` for a queue record more, and in `woken` for the names of all who wait
+/// then. No record changes.
 #[inline(always)]
 pub(crate) fn make_room(
     locks: &mut Slab<LockRecord>,
     holders: &mut Slab<HolderRecord>,
     queues: &mut WaitQueues,
     index: &mut PlaceIndex,
+    woken: &mut Vec<(SessionId, Mode)>,
 ) -> Result<(), NoMemory>
     ensures room { OnOk result (HasRoom locks.new holders.new queues.new index.new) }
     ensures locks { locks.new ≡ record locks.old { capacity = locks.new.capacity } }
@@ -36,12 +38,16 @@ pub(crate) fn make_room(
     ensures queues { queues.new.slots ≡ queues.old.slots }
     ensures notes { HasSameNotes index.old index.new }
     ensures places { index.old.places ≤ index.new.places }
+    ensures woken_room { OnOk result (waiting_in queues.new.slots < vec_capacity woken.new) }
+    ensures woken_capacity { vec_capacity woken.old ≤ vec_capacity woken.new }
 
     // Each grows only where it is full.
     ensures locks_grow { HasRoomFor locks.old 1 → locks.new.capacity ≡ locks.old.capacity }
     ensures holders_grow { HasRoomFor holders.old (waiting_in queues.old.slots + 1) →
         holders.new.capacity ≡ holders.old.capacity }
     ensures queues_grow { HasRoomFor queues.old 1 → queues.new.capacity ≡ queues.old.capacity }
+    ensures woken_grows { waiting_in queues.old.slots < vec_capacity woken.old →
+        vec_capacity woken.new ≡ vec_capacity woken.old }
     ensures index_grows { locks.old.vacant_key < index.old.places → index.new.places ≡ index.old.places }
 {
     let Ok(place) = u32::try_from(locks.vacant_key()) else {
@@ -53,7 +59,23 @@ pub(crate) fn make_room(
     index.reserve(place)?;
     locks.reserve(1)?;
     holders.reserve(holds)?;
-    queues.reserve()
+    queues.reserve()?;
+    if woken.capacity() < holds {
+        grow_woken(woken, holds)?;
+    }
+    Ok(())
+}
+
+/// Makes room in `woken`, which has too little, for `most` names. The names that are there are forgotten.
+#[cold]
+#[inline(never)]
+fn grow_woken(woken: &mut Vec<(SessionId, Mode)>, most: usize) -> Result<(), NoMemory>
+    ensures room { OnOk result (most ≤ vec_capacity woken.new) }
+    ensures capacity { vec_capacity woken.old ≤ vec_capacity woken.new }
+{
+    woken.clear();
+    woken.reserve(most)?;
+    Ok(())
 }
 
 /// Adds the hold of `session` on `tag` in `mode`, which is not there, to the lock record at `place`.

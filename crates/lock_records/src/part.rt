@@ -1,7 +1,7 @@
 use crate::counts::Counts;
 use crate::records::Records;
 use crossbeam_utils::CachePadded;
-use lock_table::{NoMemory, PartTable, TableRow, Waiter, Woken};
+use lock_table::{NoMemory, PartTable, TableRow, Waiter};
 use modes_core::{Mode, ModeSet, SessionId, Tag};
 use std::alloc::Global;
 use std::marker::Model;
@@ -60,6 +60,8 @@ impl PartTable for RecordPart {
     ghost begun = { λ part. part.begun };
 
     ghost prepared = { λ part. part.prepared };
+
+    ghost woken = { λ part. part.woken };
 
     #[inline(always)]
     fn begin(&mut self, session: SessionId, tag: &Tag, mode: Mode) -> Result<(), NoMemory>
@@ -129,8 +131,12 @@ impl PartTable for RecordPart {
         self.records.leave(session, tag)
     }
 
-    fn wake(&mut self, tag: &Tag) -> Woken {
-        self.records.wake(tag)
+    fn wake(&mut self, tag: &Tag) {
+        self.records.wake(tag);
+    }
+
+    fn woken(&self) -> &[(SessionId, Mode)] {
+        self.records.woken()
     }
 
     fn rows(&self, rows: &mut Vec<TableRow>) -> Result<(), NoMemory> {

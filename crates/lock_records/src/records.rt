@@ -9,7 +9,7 @@ use crate::objects::{
 };
 use crate::pending::Pending;
 use crate::wait_queues::{WaitQueues, queue_up};
-use lock_table::{NoMemory, PartTable, Request, TableRow, Waiter, Woken, is_against, sort_rows};
+use lock_table::{NoMemory, PartTable, Request, TableRow, Waiter, is_against, sort_rows};
 use modes_core::{Mode, ModeSet, SessionId, Tag};
 use place_index::PlaceIndex;
 use slab::Slab;
@@ -17,7 +17,7 @@ use std::alloc::Global;
 use std::marker::Model;
 
 /// One partition of the lock table as lock.c keeps it: lock records, found through an index by the hash of the tag,
-/// holder records, and queue records of the objects that somebody awaits.
+/// holder records, queue records of the objects that somebody awaits, and the list of those whom the last wakeup granted.
 #[derive(Drop)]
 pub struct Records {
     locks: Slab<LockRecord>,
@@ -35,6 +35,8 @@ pub struct Records {
     absent: bool,
     /// Whether that object's lock record stands at `hint`.
     known: bool,
+    /// Whose waits the last wakeup granted. There is room for the name of each who waits.
+    woken: Vec<(SessionId, Mode)>,
 }
 
 impl Model for Records {
@@ -71,6 +73,7 @@ impl Records {
             hint: 0,
             absent: false,
             known: false,
+            woken: Vec::new(alloc),
         })
     }
 
@@ -89,10 +92,10 @@ impl Records {
 }
 
 impl Records {
-    ghost use Rattle.std.specs.Prelude.{ℕ, [], length, option_map, slice_get, OnOk, OnErr, IfSome, IfNone, if◌then◌else◌};
+    ghost use Rattle.std.specs.Prelude.{ℕ, ◌+◌, [], ◌∷◌, ◌++◌, length, option_map, slice_get, OnOk, OnErr, IfSome, IfNone, if◌then◌else◌};
     ghost use Rattle.lock_table.specs.Waiter.{shown_wait};
     ghost use Rattle.lock_table.specs.Listing.{has_row};
-    ghost use Rattle.lock_records.specs.Queues.{IsQueueAt};
+    ghost use Rattle.lock_records.specs.Queues.{IsQueueAt, waiting_in};
     ghost use Rattle.lock_records.specs.Rows.{AppendsRows, HasMoreRows};
     ghost use Rattle.modes_core.specs.declared.modes.Mode.{Mode};
     ghost use Rattle.modes_core.specs.ModeSet.{set_has};
@@ -157,6 +160,9 @@ impl Records {
         ensures content { content_of self.new
             ≡ add_hold (remove_wait (content_of self.old) session tag.now) session tag.now mode }
         ensures begun { self.new.begun ≡ self.old.begun }
+        ensures one_less { waiting_in self.new.queues + 1 ≡ waiting_in self.old.queues }
+        ensures woken { self.new.woken ≡ self.old.woken }
+        ensures woken_room { self.new.capacity.woken ≡ self.old.capacity.woken }
     {
         let Some(at) = self.queue_of(tag) else {
             unreachable!()
@@ -176,6 +182,21 @@ impl Records {
             session,
             mode,
         );
+    }
+
+    /// Forgets whom the last wakeup granted.
+    fn forget_woken(&mut self)
+        ensures { self.new ≡ record self.old { woken = [] } }
+    {
+        self.woken.clear();
+    }
+
+    /// Notes last among those woken that the wait of `session` for `mode` was granted.
+    fn note_woken(&mut self, session: SessionId, mode: Mode)
+        requires { length self.old.woken < self.old.capacity.woken }
+        ensures { self.new ≡ record self.old { woken = self.old.woken ++ (session, mode) ∷ [] } }
+    {
+        self.woken.push_reserved((session, mode));
     }
 
     /// Appends the content's rows to `rows`, in no order. After a refusal some may be there.
@@ -202,6 +223,8 @@ impl PartTable for Records {
 
     ghost prepared = { λ part. part.prepared };
 
+    ghost woken = { λ part. part.woken };
+
     #[inline(always)]
     fn begin(&mut self, session: SessionId, tag: &Tag, mode: Mode) -> Result<(), NoMemory>
         requires new { (content_of self.old).holds session tag.now mode ≡ false }
@@ -219,6 +242,7 @@ impl PartTable for Records {
             &mut self.holders,
             &mut self.queues,
             &mut self.index,
+            &mut self.woken,
         )?;
         let found = find_lock(&self.locks, &self.index, self.hint, tag);
         self.absent = found.is_none();
@@ -365,23 +389,25 @@ impl PartTable for Records {
         Some(mode)
     }
 
-    fn wake(&mut self, tag: &Tag) -> Woken {
+    fn wake(&mut self, tag: &Tag) {
         let _waiting = self.queues.waiting();
-        let mut woken = Woken::new();
+        self.forget_woken();
         let mut ahead = ModeSet::empty();
         let mut place = 0;
         while let Some(waiter) = self.waiter(tag, place) {
             let Waiter { session, mode, .. } = waiter;
-            let _number = session.number();
             if self.is_free(session, tag, mode, ahead) {
                 self.grant_wait(session, tag, mode);
-                woken.push((session, mode));
+                self.note_woken(session, mode);
             } else {
                 ahead = ahead.with(mode);
                 place += 1;
             }
         }
-        woken
+    }
+
+    fn woken(&self) -> &[(SessionId, Mode)] {
+        self.woken.as_slice()
     }
 
     fn rows(&self, rows: &mut Vec<TableRow>) -> Result<(), NoMemory> {

@@ -27,7 +27,6 @@ use Rattle.lock_table.proofs.HoldLists.{add_hold-push, count_by-cons, count_by-a
 use Rattle.lock_table.proofs.ListingLemmas.{count_by-map}
 use Rattle.lock_table.proofs.Holders.{in_the_way-from, InTheWay-from}
 use Rattle.lock_table.proofs.WaitLists.{any-kept, waits_in-on, waits_in-off, waits_in-push_on, waits_in-without, count_by-insert, times_in-hold, times_in-wait}
-use Rattle.modes_core.specs.Sessions.{most_sessions}
 
 -- Whether some hold of a list is in the way says whether there is a conflicting holder.
 no_holder-from : (hs : List Request) (s : ℕ) (t : Tag) (m : Mode) → list_any (λ hold. is_in_the_way_of hold s t (conflict m)) hs ≡ false → NoConflictingHolder (holds_in hs) s t m
@@ -94,11 +93,9 @@ pub record Waking (hs0 : List Request) (ws0 : List PartWait) (t : Tag) (hs : Lis
       → SplitsBehind [] (holds_in hs0) t (queues_in ws0 t) (granted ++ more) (queues_in done t ++ left)
   pub same_requests : (s : ℕ) (o : Tag) (m : Mode) → times_in hs (done ++ todo) s o m ≡ times_in hs0 ws0 s o m
   pub no_more_waits : (s : ℕ) (o : Tag) → count_by (λ wait. is_request_on (request_of wait) s o) (done ++ todo) ≤ count_by (λ wait. is_request_on (request_of wait) s o) ws0
-  pub each_session : (s : ℕ) → count_by (λ one. s == one.0) woken + count_by (λ wait. is_request_on (request_of wait) s t) (done ++ todo) ≤ 1
-  pub below : (s : ℕ) → list_any (λ one. s == one.0) woken ≡ true → s < most_sessions
 
-pub Waking-start : (hs : List Request) (ws : List PartWait) (t : Tag) → OneWaitEach ws → Waking hs ws t hs [] ws []
-Waking-start hs ws t each = record {
+pub Waking-start : (hs : List Request) (ws : List PartWait) (t : Tag) → Waking hs ws t hs [] ws []
+Waking-start hs ws t = record {
   granted = [];
   told = refl;
   holds = refl;
@@ -106,8 +103,6 @@ Waking-start hs ws t each = record {
   queue = λ more left split. split;
   same_requests = λ s o m. refl;
   no_more_waits = λ s o. omega arith;
-  each_session = λ s. omega (arith, each s t);
-  below = λ s none. absurd (false≢true none);
 }
 
 -- A wait that doesn't go is passed.
@@ -124,8 +119,6 @@ Waking-stay hs0 ws0 t hs done w todo woken stays so_far =
       queue = passed;
       same_requests = λ s o m. ap (λ ws. times_in hs ws s o m) all ∙ so_far.same_requests s o m;
       no_more_waits = rw all so_far.no_more_waits;
-      each_session = rw all so_far.each_session;
-      below = so_far.below;
     } where
       on_it : tag_eq t w.tag ≡ true → (more left : List Wait) → SplitsBehind (queues_in (done ++ w ∷ []) t) (holds_in hs) t (queues_in todo t) more left
           → SplitsBehind [] (holds_in hs0) t (queues_in ws0 t) (so_far.granted ++ more) (queues_in (done ++ w ∷ []) t ++ left)
@@ -155,9 +148,9 @@ Waking-stay hs0 ws0 t hs done w todo woken stays so_far =
 -- A wait that goes becomes a hold.
 pub Waking-go :
     (hs0 : List Request) (ws0 : List PartWait) (t : Tag) (hs : List Request) (done : List PartWait) (w : PartWait) (todo : List PartWait) (woken : List (ℕ × Mode)) →
-    goes_now hs done w t ≡ true → w.waiter.session < most_sessions → Waking hs0 ws0 t hs done (w ∷ todo) woken →
+    goes_now hs done w t ≡ true → Waking hs0 ws0 t hs done (w ∷ todo) woken →
     Waking hs0 ws0 t (hs ++ request_of w ∷ []) done todo (woken ++ (w.waiter.session, w.waiter.mode) ∷ [])
-Waking-go hs0 ws0 t hs done w todo woken goes small so_far = record {
+Waking-go hs0 ws0 t hs done w todo woken goes so_far = record {
   granted = so_far.granted ++ shown_wait w.waiter ∷ [];
   told = ap (λ ones. ones ++ (w.waiter.session, w.waiter.mode) ∷ []) so_far.told ∙ sym (map-append whose_and_mode so_far.granted (shown_wait w.waiter ∷ []));
   holds = held ∙ ap (λ holds. set_hold holds w.waiter.session t w.waiter.mode true) so_far.holds ∙ sym (hold_all-push so_far.granted (holds_in hs0) t (shown_wait w.waiter));
@@ -168,8 +161,6 @@ Waking-go hs0 ws0 t hs done w todo woken goes small so_far = record {
       let more : count_by (λ wait. is_request_on (request_of wait) s o) (done ++ w ∷ todo) ≡ count_by (λ wait. is_request_on (request_of wait) s o) (done ++ todo) + (if is_request_on (request_of w) s o then 1 else 0) =
       count_by-insert (λ wait. is_request_on (request_of wait) s o) w done todo in
       omega (arith, so_far.no_more_waits s o);
-  each_session = each;
-  below = small_ones;
 } where
   on : t ≡ w.tag
   on = goes_now-on hs done w t goes
@@ -189,35 +180,6 @@ Waking-go hs0 ws0 t hs done w todo woken goes small so_far = record {
       (inl (goes_now-free hs done w t goes, (more, refl, rest))) in
       subst (λ granted. SplitsBehind [] (holds_in hs0) t (queues_in ws0 t) granted (queues_in done t ++ left))
       (sym (append_assoc so_far.granted (shown_wait w.waiter ∷ []) more)) (so_far.queue (shown_wait w.waiter ∷ more) left whole)
-
-  is_its : (s : ℕ) → is_request_on (request_of w) s t ≡ (s == w.waiter.session)
-  is_its s = rw on_it and_true where
-    and_true : ((s == w.waiter.session) && true) ≡ (s == w.waiter.session)
-    and_true = elim (cases_Bool (s == w.waiter.session)) [ inl same ↦ rw same refl | inr other ↦ rw other refl ]
-
-  each : (s : ℕ) → count_by (λ one. s == one.0) (woken ++ (w.waiter.session, w.waiter.mode) ∷ []) + count_by (λ wait. is_request_on (request_of wait) s t) (done ++ todo) ≤ 1
-  each s =
-      let more : count_by (λ wait. is_request_on (request_of wait) s t) (done ++ w ∷ todo) ≡ count_by (λ wait. is_request_on (request_of wait) s t) (done ++ todo) + (if is_request_on (request_of w) s t then 1 else 0) =
-      count_by-insert (λ wait. is_request_on (request_of wait) s t) w done todo in
-      let same : ◌≡◌ {A = ℕ} (if is_request_on (request_of w) s t then 1 else 0) (if s == w.waiter.session then 1 else 0) = ap (λ b. if b then 1 else 0) (is_its s) in
-      let whole : count_by (λ (one : ℕ × Mode). s == one.0) (woken ++ (w.waiter.session, w.waiter.mode) ∷ []) ≡ count_by (λ (one : ℕ × Mode). s == one.0) woken + count_by (λ (one : ℕ × Mode). s == one.0) ((w.waiter.session, w.waiter.mode) ∷ []) =
-      count_by-append (λ (one : ℕ × Mode). s == one.0) woken ((w.waiter.session, w.waiter.mode) ∷ []) in
-      let one : count_by (λ (one : ℕ × Mode). s == one.0) ((w.waiter.session, w.waiter.mode) ∷ []) ≡ (if s == w.waiter.session then 1 else 0) + 0 = count_by-cons (λ (one : ℕ × Mode). s == one.0) (w.waiter.session, w.waiter.mode) [] in
-      omega (arith, so_far.each_session s)
-
-  small_ones : (s : ℕ) → list_any (λ one. s == one.0) (woken ++ (w.waiter.session, w.waiter.mode) ∷ []) ≡ true → s < most_sessions
-  small_ones s any =
-      elim (cases_Bool (list_any (λ (one : ℕ × Mode). s == one.0) woken)) [
-        | inl before ↦ so_far.below s before
-        | inr not_before ↦
-            let last : (s == w.waiter.session) ≡ true = or_last _ _ not_before (sym (list_any-append (λ (one : ℕ × Mode). s == one.0) woken ((w.waiter.session, w.waiter.mode) ∷ [])) ∙ any) in
-            let same : s ≡ w.waiter.session = eqb-true s w.waiter.session last in
-            omega arith
-      ] where
-        or_last : (a b : Bool) → a ≡ false → (a || (b || false)) ≡ true → b ≡ true
-        or_last true b e any = absurd (false≢true (sym e))
-        or_last false true e any = refl
-        or_last false false e any = any
 
 -- At the end of the list the wakeup is whole.
 pub Waking-end :
@@ -242,50 +204,6 @@ Waking-end hs0 ws0 t hs ws woken all = (
         | inr other ↦ ap (λ xs. queues_in xs o) (sym (append-nil ws)) ∙ all.others o other ∙ sym (put_else tag_eq (queues_in ws0) t (queues_in ws t) o other)
       ]
 
--- Numbers of which each is there once at most are distinct.
-none_alike : (x : ℕ) (xs : List ℕ) → list_any (eqb x) xs ≡ false → AllByRecursion (λ y. eqb x y ≡ false) xs
-none_alike x [] none = tt
-none_alike x (y ∷ xs) none =
-    elim (cases_Bool (eqb x y)) [
-      | inl same ↦ absurd (false≢true (sym none ∙ ap (λ b. b || list_any (eqb x) xs) same))
-      | inr other ↦ (other, none_alike x xs (sym (ap (λ b. b || list_any (eqb x) xs) other) ∙ none))
-    ]
-
-distinct-from : (xs : List ℕ) → ((x : ℕ) → count_by (eqb x) xs ≤ 1) → IsDistinct eqb xs
-unfolding IsDistinct
-distinct-from [] once = tt
-distinct-from (x ∷ xs) once = (none_alike x xs none, distinct-from xs (λ y. fewer y)) where
-  none : list_any (eqb x) xs ≡ false
-  none = false_from_ne_true (list_any (eqb x) xs) (λ any.
-      let more : 0 < count_by (eqb x) xs = any-counted (eqb x) xs any in
-      let sum : count_by (eqb x) (x ∷ xs) ≡ (if eqb x x then 1 else 0) + count_by (eqb x) xs = count_by-cons (eqb x) x xs in
-      let one : ◌≡◌ {A = ℕ} (if eqb x x then 1 else 0) 1 = rw (eq-eqb x x refl) refl in
-      omega (arith, once x))
-
-  fewer : (y : ℕ) → count_by (eqb y) xs ≤ 1
-  fewer y =
-      let sum : count_by (eqb y) (x ∷ xs) ≡ (if eqb y x then 1 else 0) + count_by (eqb y) xs = count_by-cons (eqb y) x xs in
-      omega (arith, once y)
-
--- At most as many are woken as there are sessions.
-pub woken_fit :
-    (hs0 : List Request) (ws0 : List PartWait) (t : Tag) (hs : List Request) (done todo : List PartWait) (woken : List (ℕ × Mode)) →
-    Waking hs0 ws0 t hs done todo woken → length woken ≤ most_sessions
-woken_fit hs0 ws0 t hs done todo woken so_far =
-    let fit : length (map (λ (one : ℕ × Mode). one.0) woken) ≤ most_sessions =
-    length-le_from_distinct_below (map (λ (one : ℕ × Mode). one.0) woken) most_sessions (distinct-from (map (λ (one : ℕ × Mode). one.0) woken) once)
-    (λ s any. so_far.below s (sym (any-map s woken) ∙ any)) in
-    let same : length (map (λ (one : ℕ × Mode). one.0) woken) ≡ length woken = length-map woken (λ (one : ℕ × Mode). one.0) in
-    omega arith where
-      once : (s : ℕ) → count_by (eqb s) (map (λ (one : ℕ × Mode). one.0) woken) ≤ 1
-      once s =
-          let same : count_by (eqb s) (map (λ (one : ℕ × Mode). one.0) woken) ≡ count_by (λ (one : ℕ × Mode). eqb s one.0) woken = count_by-map (eqb s) (λ (one : ℕ × Mode). one.0) woken in
-          omega (arith, so_far.each_session s)
-
-      any-map : (s : ℕ) (ones : List (ℕ × Mode)) → list_any (eqb s) (map (λ (one : ℕ × Mode). one.0) ones) ≡ list_any (λ (one : ℕ × Mode). s == one.0) ones
-      any-map s [] = refl
-      any-map s (one ∷ ones) = ap (λ b. eqb s one.0 || b) (any-map s ones)
-
 -- The same at a place of the list.
 pub Waking-stay_at :
     (hs0 : List Request) (ws0 : List PartWait) (t : Tag) (hs : List Request) (ws : List PartWait) (i : ℕ) (w : PartWait) (woken : List (ℕ × Mode)) →
@@ -298,14 +216,14 @@ Waking-stay_at hs0 ws0 t hs ws i w woken within is stays so_far =
 
 pub Waking-go_at :
     (hs0 : List Request) (ws0 : List PartWait) (t : Tag) (hs : List Request) (ws : List PartWait) (i : ℕ) (w : PartWait) (woken : List (ℕ × Mode)) →
-    i < length ws → w ≡ get_or ws i w → goes_now hs (take i ws) w t ≡ true → w.waiter.session < most_sessions → Waking hs0 ws0 t hs (take i ws) (drop i ws) woken →
+    i < length ws → w ≡ get_or ws i w → goes_now hs (take i ws) w t ≡ true → Waking hs0 ws0 t hs (take i ws) (drop i ws) woken →
     Waking hs0 ws0 t (hs ++ request_of w ∷ []) (take i (remove ws i)) (drop i (remove ws i)) (woken ++ (w.waiter.session, w.waiter.mode) ∷ [])
-Waking-go_at hs0 ws0 t hs ws i w woken within is goes small so_far =
+Waking-go_at hs0 ws0 t hs ws i w woken within is goes so_far =
     let front : length (take i ws) ≡ i = length-take-le i ws (omega arith) in
     let done : take i (remove ws i) ≡ take i ws = take_at (take i ws) (drop (suc i) ws) i front in
     let todo : drop i (remove ws i) ≡ drop (i + 1) ws = drop_at (take i ws) (drop (suc i) ws) i front ∙ ap (λ n. drop n ws) (sym (add-one i)) in
     rw (done, todo)
-    (Waking-go hs0 ws0 t hs (take i ws) w (drop (i + 1) ws) woken goes small
+    (Waking-go hs0 ws0 t hs (take i ws) w (drop (i + 1) ws) woken goes
     (subst (λ rest. Waking hs0 ws0 t hs (take i ws) rest woken) (drop_more ws i w within ∙ ap (λ v. v ∷ drop (i + 1) ws) (sym is)) so_far))
 
 pub Waking-end_at :

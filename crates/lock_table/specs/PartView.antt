@@ -1,5 +1,6 @@
-use Rattle.std.specs.Prelude.{true, List, Option}
+use Rattle.std.specs.Prelude.{ℕ, true, List, Option}
 use Rattle.std.specs.List.{list_any}
+use Rattle.modes_core.specs.declared.modes.Mode.{Mode}
 use Rattle.lock_table.specs.declared.request.Request.{Request}
 use Rattle.lock_table.specs.declared.rows.TableRow.{TableRow}
 use Rattle.lock_table.specs.declared.part_waits.PartWait.{PartWait}
@@ -7,11 +8,12 @@ use Rattle.lock_table.specs.Request.{is_request_of}
 use Rattle.lock_table.specs.Content.{Holds, Content}
 use Rattle.lock_table.specs.PartWaits.{queues_in}
 
--- what contracts see of a `PlainPart`: its list of holds, its list of waits, the request that is begun, and the one that room was
--- made for last
+-- what contracts see of a `PlainPart`: its list of holds, its list of waits, whom its last wakeup granted, the request that is begun, and
+-- the one that room was made for last
 pub record PartView : Type 0 where
   pub holds : List Request
   pub waits : List PartWait
+  pub woken : List (ℕ × Mode)
   pub begun : Option Request
   pub prepared : Option Request
 

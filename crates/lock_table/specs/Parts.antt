@@ -10,7 +10,7 @@ use Rattle.lock_table.specs.PartView.{PartView, content_of}
 
 -- a partition with nothing in it
 abbrev pub no_part : PartView
-no_part = record { holds = []; waits = []; begun = None; prepared = None }
+no_part = record { holds = []; waits = []; woken = []; begun = None; prepared = None }
 
 -- the part with this number
 abbrev pub part_at : List PartView → ℕ → PartView

@@ -26,4 +26,4 @@ pub use parts::empty_parts;
 pub use plain_part::PlainPart;
 pub use request::Request;
 pub use rows::{SlotRow, TableRow, sort_rows};
-pub use waits::{Waiter, Woken};
+pub use waits::Waiter;

@@ -13,17 +13,18 @@ use crate::part_waits::{
 };
 use crate::request::Request;
 use crate::rows::{TableRow, sort_rows};
-use crate::waits::{Waiter, Woken};
+use crate::waits::Waiter;
 use modes_core::{Mode, ModeSet, SessionId, Tag, conflicts};
 use std::alloc::{AllocError, Global};
 use std::marker::Model;
 
-/// A list of the holds of a partition, in no order, and one of the waits of all its objects. Most calls look
-/// through a whole list.
+/// A list of the holds of a partition, in no order, one of the waits of all its objects, and one of those whom the last
+/// wakeup granted. Most calls look through a whole list.
 #[derive(Drop)]
 pub struct PartLists {
     holds: Vec<Request>,
     waits: Vec<PartWait>,
+    woken: Vec<(SessionId, Mode)>,
     begun: Option<Request>,
     prepared: Option<Request>,
 }
@@ -46,11 +47,12 @@ impl PartLists {
 
     /// Lists with nothing in them, which grow by `alloc`.
     pub fn new(alloc: Global) -> Self
-        ensures { result ≡ record { holds = []; waits = []; begun = None; prepared = None } }
+        ensures { result ≡ record { holds = []; waits = []; woken = []; begun = None; prepared = None } }
     {
         PartLists {
             holds: Vec::new(alloc),
             waits: Vec::new(alloc),
+            woken: Vec::new(alloc),
             begun: None,
             prepared: None,
         }
@@ -80,11 +82,14 @@ impl Clone for PartLists {
         let alloc = *self.holds.allocator();
         let mut holds = Vec::from_slice(alloc, self.holds.as_slice())?;
         let mut waits = Vec::from_slice(alloc, self.waits.as_slice())?;
+        let mut woken = Vec::from_slice(alloc, self.woken.as_slice())?;
         holds.reserve(self.waits.len() + 1)?;
         waits.reserve(1)?;
+        woken.reserve(self.waits.len() + 1)?;
         Ok(PartLists {
             holds,
             waits,
+            woken,
             begun: self.begun,
             prepared: self.prepared,
         })
@@ -100,9 +105,13 @@ impl PartTable for PartLists {
 
     ghost prepared = { λ lists. lists.prepared };
 
+    ghost woken = { λ lists. lists.woken };
+
     fn begin(&mut self, session: SessionId, tag: &Tag, mode: Mode) -> Result<(), NoMemory> {
         self.holds.reserve(self.waits.len() + 1)?;
         self.waits.reserve(1)?;
+        self.woken.clear();
+        self.woken.reserve(self.waits.len() + 1)?;
         let tag = *tag;
         self.begun = Some(Request { session, tag, mode });
         self.prepared = Some(Request { session, tag, mode });
@@ -189,8 +198,12 @@ impl PartTable for PartLists {
         mode
     }
 
-    fn wake(&mut self, tag: &Tag) -> Woken {
-        wake_queue(&mut self.holds, &mut self.waits, tag)
+    fn wake(&mut self, tag: &Tag) {
+        wake_queue(&mut self.holds, &mut self.waits, &mut self.woken, tag);
+    }
+
+    fn woken(&self) -> &[(SessionId, Mode)] {
+        self.woken.as_slice()
     }
 
     fn rows(&self, rows: &mut Vec<TableRow>) -> Result<(), NoMemory> {

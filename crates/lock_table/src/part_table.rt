@@ -1,4 +1,5 @@
 ghost use Rattle.std.specs.Prelude.{◌≡◌, ◌≤◌, ℕ, false, true, List, length, map, slice_get, Option, Some, None, option_map, OnOk, OnErr};
+ghost use Rattle.modes_core.specs.declared.modes.Mode.{Mode};
 ghost use Rattle.modes_core.specs.ModeSet.{set_has};
 ghost use Rattle.lock_table.specs.Content.{Wait, Content, add_hold, remove_hold};
 ghost use Rattle.lock_table.specs.Clash.{NoConflictingHolder, HolderInTheWay};
@@ -10,20 +11,24 @@ ghost use Rattle.lock_table.specs.declared.request.Request.{Request};
 use crate::no_memory::NoMemory;
 use crate::request::Request;
 use crate::rows::TableRow;
-use crate::waits::{Waiter, Woken};
+use crate::waits::Waiter;
 use modes_core::{Mode, ModeSet, SessionId, Tag};
 
 /// One partition of the lock table, however it keeps its holds and wait queues. Contracts see its `content`, the
-/// request that is begun in it, and the request that it was `prepared` for last: for which `begin` made room.
+/// request that is begun in it, the request that it was `prepared` for last, for which `begin` made room, and whose
+/// waits its last wakeup granted, `woken`.
 ///
-/// A request is made in two steps: `begin` takes all the memory that it can need, as a wait and as the
-/// hold that it becomes; `grant`, `join` or `withdraw`, which ends it, takes none.
+/// A request is made in two steps: `begin` takes all the memory that it can need, as a wait, as the hold that it
+/// becomes, and to name it among those woken; `grant`, `join` or `withdraw`, which ends it, takes none, nor does what
+/// ends a hold or a wait.
 pub trait PartTable {
     ghost content: { Self → Content };
 
     ghost begun: { Self → Option Request };
 
     ghost prepared: { Self → Option Request };
+
+    ghost woken: { Self → List (ℕ × Mode) };
 
     /// Makes room and records for the request of `session` for `tag` in `mode` (`SetupLockInTable` in lock.c). After
     /// `NoMemory` the part is as before.
@@ -107,13 +112,18 @@ pub trait PartTable {
         ensures content { content self.new ≡ remove_wait (content self.old) session tag.now }
         ensures begun { begun self.new ≡ begun self.old };
 
-    /// Grants each wait of the queue of `tag` that is free to go, and answers whose they are (`ProcLockWakeup` in
-    /// proc.c).
-    fn wake(&mut self, tag: &Tag) -> Woken
+    /// Grants each wait of the queue of `tag` that is free to go, and notes whose they are, for `woken`
+    /// (`ProcLockWakeup` in proc.c). No memory is taken.
+    fn wake(&mut self, tag: &Tag)
         ensures woken { (granted : List Wait)
             × Wakes (content self.old) tag.now granted (content self.new)
-            × (result.items ≡ map whose_and_mode granted) }
+            × (woken self.new ≡ map whose_and_mode granted) }
         ensures begun { begun self.new ≡ begun self.old };
+
+    /// Whose waits the last `wake` granted, with the modes that they awaited, in the order of granting. What another call
+    /// on the part leaves of it is not said.
+    fn woken(&self) -> &[(SessionId, Mode)]
+        ensures { result.now ≡ woken self.now };
 
     /// Appends the content's rows to `rows`, in the listing's order (`GetLockStatusData` in lock.c). After
     /// `NoMemory` the list is as before.

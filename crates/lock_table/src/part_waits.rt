@@ -12,11 +12,10 @@ ghost use Rattle.lock_table.specs.Waiter.{shown_wait, whose_and_mode};
 ghost use Rattle.lock_table.specs.Request.{is_request_on, is_in_the_way_of};
 ghost use Rattle.lock_table.specs.PartView.{content_in};
 ghost use Rattle.lock_table.specs.PartWaits.{request_of, awaited_row_of, queues_in, times_in, OneWaitEach, awaits_one_of, goes_now};
-ghost use Rattle.modes_core.specs.Sessions.{most_sessions};
 
 use crate::request::Request;
 use crate::rows::TableRow;
-use crate::waits::{Waiter, Woken};
+use crate::waits::Waiter;
 use modes_core::{Mode, ModeSet, SessionId, Tag, conflicts};
 
 /// A wait of a partition: on which object, and what the object's queue has of it.
@@ -40,13 +39,10 @@ impl PartWait {
         }
     }
 
-    /// What a wakeup answers of the wait: its session and mode. Sessions have numbers below the most that there can be.
+    /// What a wakeup notes of the wait: its session and mode.
     pub fn whose(&self) -> (SessionId, Mode)
-        ensures value { result ≡ whose_and_mode (shown_wait self.now.waiter) }
-        ensures within { self.now.waiter.session < most_sessions }
+        ensures { result ≡ whose_and_mode (shown_wait self.now.waiter) }
     {
-        // A session's number is known to be below that where it was asked for.
-        let _number = self.waiter.session.number();
         (self.waiter.session, self.waiter.mode)
     }
 
@@ -174,14 +170,21 @@ fn goes(holds: &[Request], ahead: &[PartWait], wait: PartWait, tag: &Tag) -> boo
 }
 
 /// Makes holds of the waits on `tag` that are free to go, from the front, each beside those granted before it and
-/// behind those left before it. `holds` and `waits` together keep their length.
-pub fn wake_queue(holds: &mut Vec<Request>, waits: &mut Vec<PartWait>, tag: &Tag) -> Woken
+/// behind those left before it, and writes into `woken` whose they were. `holds` and `waits` together keep their length,
+/// and no list grows.
+pub fn wake_queue(
+    holds: &mut Vec<Request>,
+    waits: &mut Vec<PartWait>,
+    woken: &mut Vec<(SessionId, Mode)>,
+    tag: &Tag,
+)
     requires one_wait_each { OneWaitEach waits.old.items }
     requires room { vec_len holds.old + vec_len waits.old ≤ vec_capacity holds.old }
+    requires room_to_name { vec_len waits.old ≤ vec_capacity woken.old }
     ensures woken { (granted : List Wait)
         × Wakes (content_in holds.old.items waits.old.items) tag.now granted
         (content_in holds.new.items waits.new.items)
-        × (result.items ≡ map whose_and_mode granted) }
+        × (woken.new.items ≡ map whose_and_mode granted) }
     ensures same_requests { (session : ℕ) (tag : Tag) (mode : Mode) →
         times_in holds.new.items waits.new.items session tag mode
         ≡ times_in holds.old.items waits.old.items session tag mode }
@@ -189,19 +192,19 @@ pub fn wake_queue(holds: &mut Vec<Request>, waits: &mut Vec<PartWait>, tag: &Tag
     ensures len { vec_len holds.new + vec_len waits.new ≡ vec_len holds.old + vec_len waits.old }
     ensures fewer { vec_len waits.new ≤ vec_len waits.old }
     ensures capacity { (vec_capacity holds.new ≡ vec_capacity holds.old)
-        × (vec_capacity waits.new ≡ vec_capacity waits.old) }
+        × (vec_capacity waits.new ≡ vec_capacity waits.old)
+        × (vec_capacity woken.new ≡ vec_capacity woken.old) }
 {
-    let mut woken = Woken::new();
+    woken.clear();
     let mut place = 0;
     while place < waits.len() {
         let wait = waits[place];
         if goes(holds.as_slice(), &waits[..place], wait, tag) {
             waits.remove(place);
             holds.push_reserved(wait.request());
-            woken.push(wait.whose());
+            woken.push_reserved(wait.whose());
         } else {
             place += 1;
         }
     }
-    woken
 }

@@ -4,15 +4,15 @@ use crate::part_table::PartTable;
 use crate::part_waits::{PartWait, awaited_mode};
 use crate::request::Request;
 use crate::rows::TableRow;
-use crate::waits::{Waiter, Woken};
+use crate::waits::Waiter;
 use crossbeam_utils::CachePadded;
 use modes_core::{Mode, ModeSet, SessionId, Tag};
 use std::alloc::{AllocError, Global};
 use std::marker::Model;
 
-/// The plain keeper of a partition: a list of its holds, and one of the waits of all its objects. Most
-/// calls look through a whole list. Both lists are on the heap, so that the part is one pointer wide: who
-/// takes a partition gets it by value, and puts it back so. The boxes of two parts share no cache line.
+/// The plain keeper of a partition: a list of its holds, one of the waits of all its objects, and one of those whom its
+/// last wakeup granted. Most calls look through a whole list. The lists are on the heap, so that the part is one pointer
+/// wide: who takes a partition gets it by value, and puts it back so. The boxes of two parts share no cache line.
 #[derive(Drop)]
 pub struct PlainPart {
     lists: Box<CachePadded<PartLists>>,
@@ -98,6 +98,8 @@ impl PartTable for PlainPart {
 
     ghost prepared = { λ part. part.prepared };
 
+    ghost woken = { λ part. part.woken };
+
     fn begin(&mut self, session: SessionId, tag: &Tag, mode: Mode) -> Result<(), NoMemory> {
         self.lists.begin(session, tag, mode)
     }
@@ -147,8 +149,12 @@ impl PartTable for PlainPart {
         self.lists.leave(session, tag)
     }
 
-    fn wake(&mut self, tag: &Tag) -> Woken {
-        self.lists.wake(tag)
+    fn wake(&mut self, tag: &Tag) {
+        self.lists.wake(tag);
+    }
+
+    fn woken(&self) -> &[(SessionId, Mode)] {
+        self.lists.woken()
     }
 
     fn rows(&self, rows: &mut Vec<TableRow>) -> Result<(), NoMemory> {

@@ -1,7 +1,6 @@
 ghost use Rattle.modes_core.specs.ModeSet.{set_has};
 
-use arrayvec::ArrayVec;
-use modes_core::{MOST_SESSIONS, Mode, ModeSet, SessionId};
+use modes_core::{Mode, ModeSet, SessionId};
 
 /// A wait in the queue of an object (`PGPROC` with its `waitLockMode` and `heldLocks` in proc.h): who
 /// waits, for which mode, and the modes of the object that it held when it joined.
@@ -25,9 +24,3 @@ impl Default for Waiter {
         }
     }
 }
-
-/// How many sessions a wakeup can grant: all that there are, each once.
-const MOST_WOKEN: usize = MOST_SESSIONS as usize;
-
-/// The sessions whom a wakeup granted, with their modes, in the order of granting. Each session waits once at most.
-pub type Woken = ArrayVec<(SessionId, Mode), MOST_WOKEN>;

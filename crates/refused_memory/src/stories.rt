@@ -46,26 +46,26 @@ pub static STORIES: [(&'static str, Story<'static>, u16); 15] = [
     (
         "begin of a part with records",
         Story::OfRecords(PartCall::Begin),
-        3,
+        4,
     ),
     (
         "decide in a part with records",
         Story::OfRecords(PartCall::Decide),
-        3,
+        4,
     ),
     (
         "rows of a part with records",
         Story::OfRecords(PartCall::Rows),
         1,
     ),
-    ("begin of a plain part", Story::OfPlain(PartCall::Begin), 2),
+    ("begin of a plain part", Story::OfPlain(PartCall::Begin), 3),
     (
         "decide in a plain part",
         Story::OfPlain(PartCall::Decide),
-        2,
+        3,
     ),
     ("rows of a plain part", Story::OfPlain(PartCall::Rows), 1),
-    ("run_events", Story::RunsEvents, 20),
+    ("run_events", Story::RunsEvents, 21),
     (
         "audit, five rows of the table",
         Story::AtDesk(Act::Audits),

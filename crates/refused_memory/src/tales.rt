@@ -73,7 +73,8 @@ const ONE_OF_MANY: [Option<Hold>; 3] = [Some((MANY, Exclusive)), None, None];
 
 /// The tales that are run with sessions.
 pub static TALES: [Tale; 15] = [
-    // Three in a partition that has had nothing yet: a lock record, a holder record, and room for a queue.
+    // Four in a partition that has had nothing yet: a lock record, a holder record, room for a queue, and for a name among those
+    // woken.
     Tale {
         name: "try_lock, an object",
         others: NOBODY,
@@ -81,7 +82,7 @@ pub static TALES: [Tale; 15] = [
         waiters: 0,
         call: Call::Try(OBJECT, Exclusive),
         answer: Answer::Granted,
-        growths: 3,
+        growths: 4,
     },
     // Four more in the local table: its slots, the counts of outer levels, and both lists of the index.
     Tale {
@@ -91,7 +92,7 @@ pub static TALES: [Tale; 15] = [
         waiters: 0,
         call: Call::Try(OBJECT, Exclusive),
         answer: Answer::Granted,
-        growths: 7,
+        growths: 8,
     },
     // Four in the local table, and four in a partition that is full: both lists of its index, lock records, holder
     // records.
@@ -123,7 +124,7 @@ pub static TALES: [Tale; 15] = [
         waiters: 0,
         call: Call::Try(TABLE, AccessExclusive),
         answer: Answer::Conflict(0, AccessShare),
-        growths: 3,
+        growths: 4,
     },
     Tale {
         name: "try_lock, a strong mode, with one object beside",
@@ -168,7 +169,7 @@ pub static TALES: [Tale; 15] = [
         waiters: 0,
         call: Call::Start(OBJECT, Share),
         answer: Answer::Granted,
-        growths: 3,
+        growths: 4,
     },
     // Four lock records and four holder records are full.
     Tale {
@@ -180,7 +181,8 @@ pub static TALES: [Tale; 15] = [
         answer: Answer::Queued,
         growths: 2,
     },
-    // Five lock records and their holder records, with one for each wait, have room. Four queue records are full.
+    // Five lock records and their holder records, with one for each wait, have room. Four queue records are full, and the list of
+    // those woken has room for four names.
     Tale {
         name: "start, queued, with four objects awaited beside",
         others: ONE_OF_MANY,
@@ -188,7 +190,7 @@ pub static TALES: [Tale; 15] = [
         waiters: 4,
         call: Call::Start(MANY, Share),
         answer: Answer::Queued,
-        growths: 1,
+        growths: 2,
     },
     Tale {
         name: "lock, granted",
@@ -197,7 +199,7 @@ pub static TALES: [Tale; 15] = [
         waiters: 0,
         call: Call::Lock(OBJECT, Share),
         answer: Answer::Granted,
-        growths: 7,
+        growths: 8,
     },
     Tale {
         name: "lock, a conflict for a conditional one",

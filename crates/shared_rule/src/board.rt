@@ -35,7 +35,7 @@ ghost use Rattle.shared_rule.specs.Lawful.{IsAboveHand};
 ghost use Rattle.shared_rule.specs.Seats.{HoldsNothing};
 
 use crate::busy::Busy;
-use lock_table::{Move, PartTable, Woken};
+use lock_table::{Move, PartTable};
 use lw_word::SlotWord;
 use modes_core::{Mode, SessionId, Tag};
 use std::sync::Wait;
@@ -300,16 +300,23 @@ pub trait Board<T: PartTable> {
     /// partition `part` in hand, grants. By the first mark the move stands recorded, and own holds follow it; the
     /// partition is put once all are marked, as after `Keep` (`ProcWakeup` in proc.c sets `waitStatus`). That
     /// session is owed a wake from then on.
-    fn mark_granted(&mut self, part: u8, other: SessionId, done: &Move, woken: &Woken, content: &T)
+    fn mark_granted(
+        &mut self,
+        part: u8,
+        other: SessionId,
+        done: &Move,
+        woken: &[(SessionId, Mode)],
+        content: &T,
+    )
         requires grants { IsGrantingIn part done.now }
         requires lawful { (mine : InHand) × (granted : List contents.Wait)
-            × (woken.now.items ≡ map whose_and_mode granted)
+            × (woken.now ≡ map whose_and_mode granted)
             × MayMarkBy (seat self.old).limit (seat self.old).number (view self.old) part mine done.now granted
             (T.content content.now) other }
         ensures seat { seat self.new ≡ seat self.old }
         ensures view { view self.new ≡ account_granting (view self.old) part
             (in_hand ((view self.old).hand part)) other done.now
-            (sessions_told woken.now.items) (T.content content.now) }
+            (sessions_told woken.now) (T.content content.now) }
         ensures stack { stack self.new ≡ stack_owing (stack self.old) other }
         ensures quiet { quiet self.new ≡ quiet self.old };
 
@@ -343,14 +350,14 @@ pub trait Board<T: PartTable> {
 
     /// Clears its own wait word and records that the wait was taken out of the queue of `content` in hand, which
     /// granted the waits of those in `woken` (`RemoveFromWaitQueue` in lock.c).
-    fn leave_queue(&mut self, woken: &Woken, content: &T)
+    fn leave_queue(&mut self, woken: &[(SessionId, Mode)], content: &T)
         requires lawful { (wait : OwnWait) × (mine : InHand) × (granted : List contents.Wait)
-            × (woken.now.items ≡ map whose_and_mode granted)
+            × (woken.now ≡ map whose_and_mode granted)
             × MayLeaveBy (seat self.old).limit (seat self.old).number (view self.old)
             wait mine granted (T.content content.now) }
         ensures seat { seat self.new ≡ seat self.old }
         ensures view { view self.new ≡ account_left (view self.old) (view self.old).awaited (T.content content.now)
-            (sessions_told woken.now.items) }
+            (sessions_told woken.now) }
         ensures stack { stack self.new ≡ stack self.old }
         ensures quiet { quiet self.new ≡ quiet self.old };
 

@@ -20,7 +20,7 @@ use crate::rule::{Seat, TableSizes};
 use crate::table::{SharedTable, open};
 use crate::{counters, locks, partitions, sharing, slots, waits};
 use atomic_table::Refused;
-use lock_table::{Move, PartTable, Woken};
+use lock_table::{Move, PartTable};
 use lw_word::SlotWord;
 use modes_core::{Mode, SessionId, Tag};
 use std::alloc::Global;
@@ -245,7 +245,7 @@ impl<T: PartTable> Board<T> for OneThread<T> {
         part: u8,
         other: SessionId,
         done: &Move,
-        woken: &Woken,
+        woken: &[(SessionId, Mode)],
         content: &T,
     ) {
         let table = &self.table;
@@ -275,7 +275,7 @@ impl<T: PartTable> Board<T> for OneThread<T> {
         waits::clear_wait::<T, Brand>(&table.shared, &mut self.seat, self.number);
     }
 
-    fn leave_queue(&mut self, woken: &Woken, content: &T) {
+    fn leave_queue(&mut self, woken: &[(SessionId, Mode)], content: &T) {
         let table = &self.table;
         waits::leave_queue::<T, Brand>(&table.shared, &mut self.seat, self.number, woken, content);
     }

@@ -17,7 +17,7 @@ use crate::busy::Busy;
 use crate::layout::wait_word;
 use crate::rule::{Seat, SharedWords, TableSizes};
 use crate::{counters, locks, partitions, seats, sharing, slots, waits};
-use lock_table::{Move, PartTable, Woken};
+use lock_table::{Move, PartTable};
 use lw_word::SlotWord;
 use modes_core::{Mode, SessionId, Tag};
 use std::marker::Brand;
@@ -274,7 +274,7 @@ impl<'a, T: PartTable> Board<T> for SeatBoard<'a, T> {
         part: u8,
         other: SessionId,
         done: &Move,
-        woken: &Woken,
+        woken: &[(SessionId, Mode)],
         content: &T,
     ) {
         waits::mark_granted::<T, Brand>(
@@ -300,7 +300,7 @@ impl<'a, T: PartTable> Board<T> for SeatBoard<'a, T> {
         waits::clear_wait::<T, Brand>(self.table, &mut self.seat, self.number);
     }
 
-    fn leave_queue(&mut self, woken: &Woken, content: &T) {
+    fn leave_queue(&mut self, woken: &[(SessionId, Mode)], content: &T) {
         waits::leave_queue::<T, Brand>(self.table, &mut self.seat, self.number, woken, content);
     }
 

@@ -20,7 +20,7 @@ use crate::layout::wait_word;
 use crate::plays::Marking;
 use crate::rule::{Seat, SharedWords};
 use crate::words::{fetch_add_as, fetch_or_as, load_as, store_as};
-use lock_table::{Move, PartTable, Woken};
+use lock_table::{Move, PartTable};
 use lw_word::{CANCEL_ASKED, WaitState};
 use modes_core::{Mode, SessionId, Tag};
 
@@ -57,22 +57,22 @@ pub(crate) fn mark_granted<T: PartTable, M: Marking<T>>(
     part: u8,
     other: SessionId,
     done: &Move,
-    woken: &Woken,
+    woken: &[(SessionId, Mode)],
     content: &T,
 )
     requires table { FitsTable seat.old words.now.table_id }
     requires session { HasSession seat.old.me.0 }
     requires grants { IsGrantingIn part done.now }
     requires lawful { (mine : InHand) × (granted : List contents.Wait)
-        × (woken.now.items ≡ map whose_and_mode granted)
+        × (woken.now ≡ map whose_and_mode granted)
         × MayMarkBy words.now.key.sessions (number_at seat.old) (account_at T.content seat.old) part
         mine done.now granted (T.content content.now) other }
     requires mark { M.mark
-        ≡ (λ _. MarkedGranted part other done.now (sessions_told woken.now.items) content.now) }
+        ≡ (λ _. MarkedGranted part other done.now (sessions_told woken.now) content.now) }
     ensures same_seat { IsSameSeat seat.old seat.new }
     ensures side { seat.new.me
         ≡ (
-          noting seat.old.me.0 (MarkedGranted part other done.now (sessions_told woken.now.items) content.now),
+          noting seat.old.me.0 (MarkedGranted part other done.now (sessions_told woken.now) content.now),
           seat.old.me.1,
         ) }
 {
@@ -154,20 +154,20 @@ pub(crate) fn leave_queue<T: PartTable, M: Marking<T>>(
     words: &SharedWords<T>,
     seat: &mut Seat<T>,
     number: SessionId,
-    woken: &Woken,
+    woken: &[(SessionId, Mode)],
     content: &T,
 )
     requires table { FitsTable seat.old words.now.table_id }
     requires session { HasSession seat.old.me.0 }
     requires own { number ≡ number_at seat.old }
     requires lawful { (wait : OwnWait) × (mine : InHand) × (granted : List contents.Wait)
-        × (woken.now.items ≡ map whose_and_mode granted)
+        × (woken.now ≡ map whose_and_mode granted)
         × MayLeaveBy words.now.key.sessions (number_at seat.old) (account_at T.content seat.old) wait
         mine granted (T.content content.now) }
-    requires mark { M.mark ≡ (λ _. LeftQueue (sessions_told woken.now.items) content.now) }
+    requires mark { M.mark ≡ (λ _. LeftQueue (sessions_told woken.now) content.now) }
     ensures same_seat { IsSameSeat seat.old seat.new }
     ensures side { seat.new.me
-        ≡ (noting seat.old.me.0 (LeftQueue (sessions_told woken.now.items) content.now), seat.old.me.1) }
+        ≡ (noting seat.old.me.0 (LeftQueue (sessions_told woken.now) content.now), seat.old.me.1) }
 {
     store_as::<T, M>(words, seat, wait_word(number), WaitState::NotWaiting as u64);
 }

@@ -9,5 +9,5 @@ mod requests;
 
 pub use queues::{Blocker, blockers_of, queue_of};
 pub use releases::{awaited_in_conflict, take_hold_out};
-pub use removals::{Removed, remove_waiter};
+pub use removals::remove_waiter;
 pub use requests::{Decision, Kind, decide};

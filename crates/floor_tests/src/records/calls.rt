@@ -3,7 +3,7 @@
 ghost use Rattle.std.specs.Prelude.{◌≡◌, ◌≤◌, false, true, None, length};
 ghost use Rattle.lock_table.specs.Queue.{awaits_mode, waits_there};
 
-use lock_table::{NoMemory, PartTable, Woken};
+use lock_table::{NoMemory, PartTable};
 use modes_core::{Mode, SessionId, Tag};
 use std::process::Abort;
 
@@ -106,7 +106,7 @@ pub fn release<P: PartTable>(part: &mut P, session: SessionId, tag: &Tag, mode: 
 }
 
 /// Whether two wakeups, `woken` and `others`, granted alike.
-pub fn are_same(woken: &Woken, others: &Woken) -> bool {
+pub fn are_same(woken: &[(SessionId, Mode)], others: &[(SessionId, Mode)]) -> bool {
     if woken.len() != others.len() {
         return false;
     }

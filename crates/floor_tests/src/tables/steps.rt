@@ -179,7 +179,10 @@ fn make<P: PartTable>(rt: &impl Abort, part: &mut P, step: Step) -> Result<bool,
             Ok(true)
         }
         Step::Leaves(number, tag, mode) => Ok(part.leave(session(rt, number), &tag) == mode),
-        Step::Wakes(tag, expected) => Ok(are_woken(&part.wake(&tag), expected)),
+        Step::Wakes(tag, expected) => {
+            part.wake(&tag);
+            Ok(are_woken(part.woken(), expected))
+        }
         Step::Queue(tag, numbers) => Ok(queue_is(part, &tag, numbers)),
         Step::First(tag, mode, held) => Ok(first_is(part, &tag, mode, held)),
         Step::Has(number, tag, held) => Ok(part.held(session(rt, number), &tag).mask() == held),

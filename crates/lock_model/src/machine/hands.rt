@@ -6,9 +6,9 @@ ghost use Rattle.lock_model.specs.Transfers.{may_adopt};
 
 use super::lw_words::put;
 use super::state::Machine;
-use lock_table::{Move, Woken};
+use lock_table::Move;
 use lw_word::{LwMode, LwWord};
-use modes_core::SessionId;
+use modes_core::{Mode, SessionId};
 
 /// A partition in a session's hand.
 #[derive(Clone, Copy)]
@@ -175,18 +175,18 @@ impl Machine {
 }
 
 /// Whether `session` is among those in `woken`.
-pub fn is_among(woken: &Woken, session: SessionId) -> bool
-    ensures { result ≡ names_in woken.now.items session }
+pub fn is_among(woken: &[(SessionId, Mode)], session: SessionId) -> bool
+    ensures { result ≡ names_in woken.now session }
 {
     woken.iter().any(|(other, _)| *other == session)
 }
 
 /// The sessions in `woken`, by number: none of their grants is marked yet.
-pub fn unmarked_of(woken: &Woken) -> [bool; 64]
-    ensures { (session : ℕ) → is_unmarked_in result session ≡ names_in woken.now.items session }
+pub fn unmarked_of(woken: &[(SessionId, Mode)]) -> [bool; 64]
+    ensures { (session : ℕ) → is_unmarked_in result session ≡ names_in woken.now session }
 {
     let mut marks = [false; 64];
-    for whose in woken.as_slice() {
+    for whose in woken {
         marks[usize::from(whose.0.number())] = true;
     }
     marks

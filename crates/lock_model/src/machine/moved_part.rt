@@ -9,10 +9,10 @@ ghost use Rattle.lock_table.specs.PartView.{PartView, content_of};
 ghost use Rattle.lock_table.specs.Waiter.{whose_and_mode};
 ghost use Rattle.lock_table.specs.declared.moves.Move.{Move};
 ghost use Rattle.lock_table.specs.declared.moves.Move.TheVariants.{Release, Leave};
-ghost use Rattle.lock_model.specs.MovedPart.{IsMoved};
+ghost use Rattle.lock_model.specs.MovedPart.{IsMoved, woken_by};
 
 use super::state::Machine;
-use lock_table::{Move, NoMemory, PartTable, PlainPart, Woken};
+use lock_table::{Move, NoMemory, PartTable, PlainPart};
 use modes_core::{Mode, SessionId, Tag};
 use wait_queue::{remove_waiter, take_hold_out};
 
@@ -21,20 +21,27 @@ use wait_queue::{remove_waiter, take_hold_out};
 pub struct MovedPart {
     /// The partition's content after the move.
     pub part: PlainPart,
-    /// The sessions whose waits the move granted.
-    pub woken: Woken,
+    /// Whether the move ended by a wakeup, and granted the waits of those whom `part` names then.
+    pub wakes: bool,
 }
 
 impl MovedPart {
     /// The part `part` after a move that granted nobody.
     fn alone(part: PlainPart) -> Self
         ensures part { result.part ≡ part }
-        ensures nobody { result.woken.items ≡ [] }
+        ensures nobody { woken_by result ≡ [] }
     {
-        MovedPart {
-            part,
-            woken: Woken::new(),
+        MovedPart { part, wakes: false }
+    }
+
+    /// The sessions whose waits the move granted, with their modes.
+    pub fn woken(&self) -> &[(SessionId, Mode)]
+        ensures { result.now ≡ woken_by self.now }
+    {
+        if self.wakes {
+            return self.part.woken();
         }
+        &[]
     }
 }
 
@@ -56,8 +63,11 @@ pub fn after_release(
     if !take_hold_out(&mut after, session, &tag, mode) {
         return Ok(Some(MovedPart::alone(after)));
     }
-    let woken = after.wake(&tag);
-    Ok(Some(MovedPart { part: after, woken }))
+    after.wake(&tag);
+    Ok(Some(MovedPart {
+        part: after,
+        wakes: true,
+    }))
 }
 
 /// `part` once the wait of `session` has left the queue of `tag`, with those woken whom that lets go. Nothing where
@@ -72,13 +82,12 @@ pub fn after_leaving(
         waits_there ((content_of part.now).waits tag) session ≡ false) }
 {
     let mut after = part.clone()?;
-    let removed = remove_waiter(&mut after, session, &tag);
-    if removed.was_granted {
+    if remove_waiter(&mut after, session, &tag) {
         return Ok(None);
     }
     Ok(Some(MovedPart {
         part: after,
-        woken: removed.woken,
+        wakes: true,
     }))
 }
 

@@ -170,7 +170,7 @@ impl Machine {
         let Some(moved) = self.after_move(session, partition, &done)? else {
             return Ok(());
         };
-        if moved.woken.is_empty() {
+        if moved.woken().is_empty() {
             self.contents.parts[usize::from(partition)] = moved.part;
             self.set_free(partition);
         }

@@ -188,8 +188,8 @@ impl Machine {
         let Some(moved) = self.after_move(session, partition, &done)? else {
             return Ok(());
         };
-        if is_among(&moved.woken, other) {
-            let unmarked = unmarked_of(&moved.woken);
+        if is_among(moved.woken(), other) {
+            let unmarked = unmarked_of(moved.woken());
             self.contents.parts[usize::from(partition)] = moved.part;
             self.mark(partition, hand, other, done, unmarked);
         }
@@ -248,13 +248,9 @@ impl Machine {
     {
         let partition = tag.partition();
         let part = &mut self.contents.parts[usize::from(partition)];
-        let removed = remove_waiter(part, session, &tag);
-        self.record(
-            partition,
-            hand,
-            Move::Leave { tag },
-            unmarked_of(&removed.woken),
-        );
+        remove_waiter(part, session, &tag);
+        let unmarked = unmarked_of(part.woken());
+        self.record(partition, hand, Move::Leave { tag }, unmarked);
         self.end_wait(session);
     }
 }

@@ -2,7 +2,7 @@
 
 ghost use Rattle.std.specs.Prelude.{◌≡◌};
 
-use lock_table::{Move, PartTable, Woken};
+use lock_table::{Move, PartTable};
 use lw_word::SlotWord;
 use modes_core::{Mode, SessionId, Tag};
 use shared_rule::{Board, Busy};
@@ -191,7 +191,7 @@ impl<T: PartTable, B: Board<T>, W: Watch> Board<T> for WatchedBoard<B, W> {
         part: u8,
         other: SessionId,
         done: &Move,
-        woken: &Woken,
+        woken: &[(SessionId, Mode)],
         content: &T,
     ) {
         self.watch.before();
@@ -219,7 +219,7 @@ impl<T: PartTable, B: Board<T>, W: Watch> Board<T> for WatchedBoard<B, W> {
         self.watch.after();
     }
 
-    fn leave_queue(&mut self, woken: &Woken, content: &T) {
+    fn leave_queue(&mut self, woken: &[(SessionId, Mode)], content: &T) {
         self.watch.before();
         self.board.leave_queue(woken, content);
         self.watch.after();

@@ -1,7 +1,7 @@
 use Rattle.std.proofs.Common.{◌≡◌, ℕ, ◌≤◌, ◌<◌, ◌+◌, List, [], ◌∷◌, ◌++◌, take, drop, length, get_or, sym, ap, ◌∙◌}
 use Rattle.std.proofs.lemmas.List.{take_more, take_all, drop_more, drop_all, map-append}
 use Rattle.modes_core.specs.declared.modes.Mode.{Mode}
-use Rattle.shared_rule.specs.Boards.{Stack, stack_owing, stack_putting, stack_waking}
+use Rattle.shared_rule.specs.Boards.{Stack, stack_owing, stack_waking}
 use Rattle.shared_rule.specs.History.{sessions_told}
 use Rattle.shared_rule.specs.Owed.{owing, waking}
 use Rattle.shared_rule.proofs.Stacks.{with_owed, waking-first}
@@ -27,12 +27,11 @@ pub owed-next :
 owed-next s t u items i told within is so_far marked =
     marked ∙ ap (λ (x : Stack). stack_owing x told.0) so_far ∙ ap (with_owed s) (sym (told-next items i told within is))
 
--- until it owes all, and has put the partition;
+-- until it owes all;
 pub owed-all :
-    (s t u : Stack) (items its : List (ℕ × Mode)) (i : ℕ) → length items ≤ i → items ≡ its
-    → t ≡ with_owed s (sessions_told (take i items)) → u ≡ stack_putting t → u ≡ with_owed (stack_putting s) (sessions_told (drop 0 its))
-owed-all s t u items its i past same so_far put =
-    put ∙ ap stack_putting so_far ∙ ap (λ told. with_owed (stack_putting s) (sessions_told told)) (take_all i items past ∙ same)
+    (s t : Stack) (items : List (ℕ × Mode)) (i : ℕ) → length items ≤ i
+    → t ≡ with_owed s (sessions_told (take i items)) → t ≡ with_owed s (sessions_told (drop 0 items))
+owed-all s t items i past so_far = so_far ∙ ap (λ told. with_owed s (sessions_told told)) (take_all i items past)
 
 -- with each wake it owes one less,
 pub woken-next :
@@ -49,8 +48,8 @@ woken-next s t u items i told within is so_far woke =
 -- until it owes nobody one.
 pub woken-all :
     (s t : Stack) (items : List (ℕ × Mode)) (i : ℕ) → length items ≤ i → s.owed ≡ []
-    → t ≡ with_owed (stack_putting s) (sessions_told (drop i items)) → t ≡ stack_putting s
+    → t ≡ with_owed s (sessions_told (drop i items)) → t ≡ s
 woken-all s t items i past none so_far =
     so_far
-    ∙ ap (λ (its : List (ℕ × Mode)). with_owed (stack_putting s) (sessions_told its)) (drop_all i items past)
-    ∙ ap (with_owed (stack_putting s)) (sym none)
+    ∙ ap (λ (its : List (ℕ × Mode)). with_owed s (sessions_told its)) (drop_all i items past)
+    ∙ ap (with_owed s) (sym none)

@@ -7,21 +7,22 @@ use Rattle.lock_manager.proofs.releases.put_with_woken.Goals as goal
 
 pub loop-other-init : goal.loop-other-init
 loop-other-init g c = record {
-  telling = telling-begins (g.B.Board.seat c.args.board.now) (g.B.Board.view c.args.board.now) c.args.part c.args.done.now c.args.woken.now.items
-      c.as_slice-other-items.result.now (g.T.PartTable.content c.args.content) c.requires.lawful c.as_slice-other-items.ensures.value;
+  telling = telling-begins (g.B.Board.seat c.args.board.now) (g.B.Board.view c.args.board.now) c.args.part c.args.done.now (g.T.PartTable.woken c.args.content)
+      c.woken-woken.result.now (g.T.PartTable.content c.args.content) c.requires.lawful c.woken-woken.ensures;
   seat = refl;
   quiet = refl;
-  stack = owed-none (g.B.Board.stack c.args.board.now) c.as_slice-other-items.result.now c.requires.none_owed;
+  stack = owed-none (g.B.Board.stack c.args.board.now) c.woken-woken.result.now c.requires.none_owed;
 }
 
 -- At a turn the session is the first of those left.
 pub mark_granted-requires-clause-lawful : goal.mark_granted-requires-clause-lawful
 mark_granted-requires-clause-lawful g c =
     let telling = c.loop-other.invariant.telling in
-    may_mark-at (g.B.Board.seat c.args.board.now) telling.from c.args.part c.args.done.now c.args.woken.now.items
+    rw c.woken-woken.ensures
+    (may_mark-at (g.B.Board.seat c.args.board.now) telling.from c.args.part c.args.done.now (g.T.PartTable.woken c.args.content)
     (g.T.PartTable.content c.args.content) telling.wakens (g.B.Board.seat c.loop-other.board) (g.B.Board.view c.loop-other.board)
-    c.as_slice-other-items.result.now c.loop-other.other-index c.loop-other-item.result c.loop-other.invariant.seat
-    c.as_slice-other-items.ensures.value c.loop-other-test.true c.loop-other-item.is telling.left
+    c.woken-woken.result.now c.loop-other.other-index c.loop-other-item.result c.loop-other.invariant.seat
+    c.woken-woken.ensures c.loop-other-test.true c.loop-other-item.is telling.left)
 
 pub loop-other-preserved : goal.loop-other-preserved
 loop-other-preserved g c =
@@ -32,47 +33,25 @@ loop-other-preserved g c =
         wakens = telling.wakens;
         begun_so = telling.begun_so;
         left =
-            marking-next_at (g.B.Board.seat c.args.board.now) telling.from c.args.part c.args.done.now c.args.woken.now.items
+            marking-next_at (g.B.Board.seat c.args.board.now) telling.from c.args.part c.args.done.now (g.T.PartTable.woken c.args.content)
             (g.T.PartTable.content c.args.content) telling.wakens (g.B.Board.view c.loop-other.board) (g.B.Board.view c.mark_granted.new.self)
-            c.as_slice-other-items.result.now c.loop-other.other-index c.loop-other-item.result
-            c.as_slice-other-items.ensures.value c.loop-other-test.true c.loop-other-item.is telling.left c.mark_granted.ensures.view;
+            c.woken-woken.result.now c.loop-other.other-index c.loop-other-item.result
+            c.woken-woken.ensures c.loop-other-test.true c.loop-other-item.is telling.left (rw c.woken-woken.ensures at c.mark_granted.ensures.view);
       };
       seat = c.mark_granted.ensures.seat ∙ c.loop-other.invariant.seat;
       quiet = c.mark_granted.ensures.quiet ∙ c.loop-other.invariant.quiet;
       stack = owed-next (g.B.Board.stack c.args.board.now) (g.B.Board.stack c.loop-other.board) (g.B.Board.stack c.mark_granted.new.self)
-          c.as_slice-other-items.result.now c.loop-other.other-index c.loop-other-item.result c.loop-other-test.true c.loop-other-item.is
+          c.woken-woken.result.now c.loop-other.other-index c.loop-other-item.result c.loop-other-test.true c.loop-other-item.is
           c.loop-other.invariant.stack c.mark_granted.ensures.stack;
     }
-
-pub put_part-requires-clause-in_hand : goal.put_part-requires-clause-in_hand
-put_part-requires-clause-in_hand g c = (
-  c.requires.in_hand.0,
-  ap (λ (s : Stack). s.parts) c.loop-other.invariant.stack ∙ c.requires.in_hand.1,
-)
-
--- After the loop nobody is left.
-pub put_part-requires-clause-lawful : goal.put_part-requires-clause-lawful
-put_part-requires-clause-lawful g c =
-    let telling = c.loop-other.invariant.telling in
-    let marked = all_marked (g.B.Board.seat c.args.board.now) telling.from c.args.part c.args.done.now c.args.woken.now.items
-    (g.T.PartTable.content c.args.content) telling.wakens (g.B.Board.view c.loop-other.board)
-    c.as_slice-other-items.result.now c.loop-other.other-index (omega arith) telling.left in
-    let over = subst (λ awaited. WaitIsOver awaited c.args.part c.args.done.now)
-    (wait-same (g.B.Board.seat c.args.board.now) telling.from c.args.part c.args.done.now c.args.woken.now.items
-    (g.T.PartTable.content c.args.content) telling.wakens (g.B.Board.view c.args.board.now) telling.begun_so) c.requires.wait_is_over in
-    may_put_marked (g.B.Board.seat c.args.board.now) telling.from c.args.part c.args.done.now c.args.woken.now.items
-    (g.T.PartTable.content c.args.content) telling.wakens (g.B.Board.seat c.loop-other.board) (g.B.Board.view c.loop-other.board)
-    c.loop-other.invariant.seat marked over
 
 pub loop-session-init : goal.loop-session-init
 loop-session-init g c = record {
   view = refl;
   seat = refl;
   quiet = refl;
-  stack = owed-all (g.B.Board.stack c.args.board.now) (g.B.Board.stack c.loop-other.board) (g.B.Board.stack c.put_part.new.self)
-      c.as_slice-other-items.result.now c.as_slice-session-items.result.now c.loop-other.other-index (omega arith)
-      (c.as_slice-other-items.ensures.value ∙ sym c.as_slice-session-items.ensures.value)
-      c.loop-other.invariant.stack c.put_part.ensures.stack;
+  stack = owed-all (g.B.Board.stack c.args.board.now) (g.B.Board.stack c.loop-other.board)
+      c.woken-woken.result.now c.loop-other.other-index (omega arith) c.loop-other.invariant.stack;
 }
 
 pub loop-session-preserved : goal.loop-session-preserved
@@ -80,28 +59,49 @@ loop-session-preserved g c = record {
   view = c.wake.ensures.view ∙ c.loop-session.invariant.view;
   seat = c.wake.ensures.seat ∙ c.loop-session.invariant.seat;
   quiet = c.wake.ensures.quiet ∙ c.loop-session.invariant.quiet;
-  stack = woken-next (stack_putting (g.B.Board.stack c.args.board.now)) (g.B.Board.stack c.loop-session.board) (g.B.Board.stack c.wake.new.self)
-      c.as_slice-session-items.result.now c.loop-session.session-index c.loop-session-item.result c.loop-session-test.true c.loop-session-item.is
+  stack = woken-next (g.B.Board.stack c.args.board.now) (g.B.Board.stack c.loop-session.board) (g.B.Board.stack c.wake.new.self)
+      c.woken-woken.result.now c.loop-session.session-index c.loop-session-item.result c.loop-session-test.true c.loop-session-item.is
       c.loop-session.invariant.stack c.wake.ensures.stack;
 }
+
+pub put_part-requires-clause-in_hand : goal.put_part-requires-clause-in_hand
+put_part-requires-clause-in_hand g c = (
+  c.requires.in_hand.0,
+  ap (λ (s : Stack). s.parts) c.loop-session.invariant.stack ∙ c.requires.in_hand.1,
+)
+
+-- After the loops all are marked, and nobody is owed a wake.
+pub put_part-requires-clause-lawful : goal.put_part-requires-clause-lawful
+put_part-requires-clause-lawful g c =
+    let telling = c.loop-other.invariant.telling in
+    let marked = all_marked (g.B.Board.seat c.args.board.now) telling.from c.args.part c.args.done.now (g.T.PartTable.woken c.args.content)
+    (g.T.PartTable.content c.args.content) telling.wakens (g.B.Board.view c.loop-other.board)
+    c.woken-woken.result.now c.loop-other.other-index (omega arith) telling.left in
+    let over = subst (λ awaited. WaitIsOver awaited c.args.part c.args.done.now)
+    (wait-same (g.B.Board.seat c.args.board.now) telling.from c.args.part c.args.done.now (g.T.PartTable.woken c.args.content)
+    (g.T.PartTable.content c.args.content) telling.wakens (g.B.Board.view c.args.board.now) telling.begun_so) c.requires.wait_is_over in
+    may_put_marked (g.B.Board.seat c.args.board.now) telling.from c.args.part c.args.done.now (g.T.PartTable.woken c.args.content)
+    (g.T.PartTable.content c.args.content) telling.wakens (g.B.Board.seat c.loop-session.board) (g.B.Board.view c.loop-session.board)
+    (c.loop-session.invariant.seat ∙ c.loop-other.invariant.seat) (c.loop-session.invariant.view ∙ marked) over
 
 pub returns-clause-account : goal.returns-clause-account
 returns-clause-account g c =
     let telling = c.loop-other.invariant.telling in
-    let marked = all_marked (g.B.Board.seat c.args.board.now) telling.from c.args.part c.args.done.now c.args.woken.now.items
+    let marked = all_marked (g.B.Board.seat c.args.board.now) telling.from c.args.part c.args.done.now (g.T.PartTable.woken c.args.content)
     (g.T.PartTable.content c.args.content) telling.wakens (g.B.Board.view c.loop-other.board)
-    c.as_slice-other-items.result.now c.loop-other.other-index (omega arith) telling.left in
-    c.loop-session.invariant.view ∙ told-put (g.B.Board.seat c.args.board.now) telling.from c.args.part c.args.done.now c.args.woken.now.items
-    (g.T.PartTable.content c.args.content) telling.wakens (g.B.Board.view c.args.board.now) (g.B.Board.view c.loop-other.board) (g.B.Board.view c.put_part.new.self)
-    telling.begun_so marked c.put_part.ensures.view
+    c.woken-woken.result.now c.loop-other.other-index (omega arith) telling.left in
+    told-put (g.B.Board.seat c.args.board.now) telling.from c.args.part c.args.done.now (g.T.PartTable.woken c.args.content)
+    (g.T.PartTable.content c.args.content) telling.wakens (g.B.Board.view c.args.board.now) (g.B.Board.view c.loop-session.board) (g.B.Board.view c.put_part.new.self)
+    telling.begun_so (c.loop-session.invariant.view ∙ marked) c.put_part.ensures.view
 
 pub returns-clause-stack : goal.returns-clause-stack
 returns-clause-stack g c =
-    woken-all (g.B.Board.stack c.args.board.now) (g.B.Board.stack c.loop-session.board) c.as_slice-session-items.result.now
-    c.loop-session.session-index (omega arith) c.requires.none_owed c.loop-session.invariant.stack
+    c.put_part.ensures.stack
+    ∙ ap stack_putting (woken-all (g.B.Board.stack c.args.board.now) (g.B.Board.stack c.loop-session.board) c.woken-woken.result.now
+    c.loop-session.session-index (omega arith) c.requires.none_owed c.loop-session.invariant.stack)
 
 pub returns-clause-seat : goal.returns-clause-seat
-returns-clause-seat g c = c.loop-session.invariant.seat ∙ c.put_part.ensures.seat ∙ c.loop-other.invariant.seat
+returns-clause-seat g c = c.put_part.ensures.seat ∙ c.loop-session.invariant.seat ∙ c.loop-other.invariant.seat
 
 pub returns-clause-quiet : goal.returns-clause-quiet
-returns-clause-quiet g c = c.loop-session.invariant.quiet ∙ c.put_part.ensures.quiet ∙ c.loop-other.invariant.quiet
+returns-clause-quiet g c = c.put_part.ensures.quiet ∙ c.loop-session.invariant.quiet ∙ c.loop-other.invariant.quiet

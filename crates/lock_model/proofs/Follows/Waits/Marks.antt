@@ -9,7 +9,7 @@ use Rattle.lock_model.specs.declared.machine.hands.InHand.{InHand}
 use Rattle.lock_model.specs.declared.machine.moved_part.MovedPart.{MovedPart}
 use Rattle.lock_model.specs.declared.machine.state.Machine.{Machine}
 use Rattle.lock_table.specs.Content.{Wait, Content}
-use Rattle.lock_model.specs.MovedPart.{IsMoved}
+use Rattle.lock_model.specs.MovedPart.{IsMoved, woken_by}
 use Rattle.lock_table.specs.Moves.{Moves, IsInPartition, FitsOwn}
 use Rattle.lock_table.specs.MoveTests.{move_eq}
 use Rattle.lock_table.specs.Parts.{part_at, contents_in}
@@ -158,7 +158,7 @@ module _ (m : Machine) (w : World) (safe : SafeWorld w) (shows : Shows m w) wher
 
   -- The move is made, and one of those is marked whom it granted.
   pub mark_first : (s k p : ℕ) (hand : InHand) (done : Move) (after : MovedPart) (unmarked : List Bool) → hand_of m s p ≡ Some hand → hand.recorded ≡ None → IsInPartition p done → IsWaking done
-      → IsMoved (part_at m.contents.parts.items p) s done after → IsOwnFor (get_or m.waits.awaited s None) done → names_in after.woken.items k ≡ true → ((j : ℕ) → is_unmarked_in unmarked j ≡ names_in after.woken.items j) → k ≢ s
+      → IsMoved (part_at m.contents.parts.items p) s done after → IsOwnFor (get_or m.waits.awaited s None) done → names_in (woken_by after) k ≡ true → ((j : ℕ) → is_unmarked_in unmarked j ≡ names_in (woken_by after) j) → k ≢ s
       → wait_state (get_or m.words.waits k 0) ≡ 1 → Marks w s k p done (marked_by (record m { contents = record (m.contents) { parts = with_item m.contents.parts p after.part } }) p hand k done unmarked)
   mark_first s k p hand done after unmarked in_hand unmoved object wakes moved own among marks another waiting = (
     after_marking_first w s k p done moved.granted (content_of after.part),
@@ -174,7 +174,7 @@ module _ (m : Machine) (w : World) (safe : SafeWorld w) (shows : Shows m w) wher
     has : HasInHand w s p hand
     has = hand_from m w safe shows s p hand in_hand
 
-    granted_named : (j : ℕ) → names_in after.woken.items j ≡ waits_there moved.granted j
+    granted_named : (j : ℕ) → names_in (woken_by after) j ≡ waits_there moved.granted j
     granted_named j = ap (λ xs. names_in xs j) moved.named ∙ names_in-granted moved.granted j
 
     moves : Moves (w.contents.now p) s done moved.granted (content_of after.part)
@@ -192,7 +192,7 @@ module _ (m : Machine) (w : World) (safe : SafeWorld w) (shows : Shows m w) wher
     }
 
   -- The move grants no wait of the session.
-  pub mark_not_woken : (s k p : ℕ) (hand : InHand) (done : Move) (after : MovedPart) → hand_of m s p ≡ Some hand → hand.recorded ≡ None → IsMoved (part_at m.contents.parts.items p) s done after → names_in after.woken.items k ≡ false → Marks w s k p done m
+  pub mark_not_woken : (s k p : ℕ) (hand : InHand) (done : Move) (after : MovedPart) → hand_of m s p ≡ Some hand → hand.recorded ≡ None → IsMoved (part_at m.contents.parts.items p) s done after → names_in (woken_by after) k ≡ false → Marks w s k p done m
   mark_not_woken s k p hand done after in_hand unmoved moved not_among = not_lawful s k p done never where
     has : HasInHand w s p hand
     has = hand_from m w safe shows s p hand in_hand
@@ -202,7 +202,7 @@ module _ (m : Machine) (w : World) (safe : SafeWorld w) (shows : Shows m w) wher
 
     never : (u : World) → HappensMarkingIn w s k p done u → ⊥
     never u (inl first) =
-        both_ways (names_in after.woken.items k) not_among
+        both_ways (names_in (woken_by after) k) not_among
         (ap (λ xs. names_in xs k) moved.named ∙ names_in-granted moved.granted k
         ∙ ap (λ g. waits_there g k) (one_moved (w.contents.now p) s done moved.granted first.0 (content_of after.part) first.1 moves first.2.may_move.moved).0 ∙ first.2.among)
     never u (inr next) = recorded_some (recorded_in (w.contents.hand p)) done next.0.recorded (recorded_from w s p hand has ∙ unmoved)

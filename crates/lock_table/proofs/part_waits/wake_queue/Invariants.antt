@@ -9,7 +9,9 @@ invariant-loop-place l =
       within : l.place ≤ length l.waits.items;
       len : vec_len l.holds + vec_len l.waits ≡ vec_len l.fn.holds + vec_len l.fn.waits;
       fewer : vec_len l.waits ≤ vec_len l.fn.waits;
-      capacity : (vec_capacity l.holds ≡ vec_capacity l.fn.holds) × (vec_capacity l.waits ≡ vec_capacity l.fn.waits);
+      named : vec_len l.woken + vec_len l.waits ≤ vec_len l.fn.waits;
+      capacity : (vec_capacity l.holds ≡ vec_capacity l.fn.holds) × (vec_capacity l.waits ≡ vec_capacity l.fn.waits)
+          × (vec_capacity l.woken ≡ vec_capacity l.fn.woken);
     }
 
 abbrev pub decreases-loop-place : goal.decreases-loop-place

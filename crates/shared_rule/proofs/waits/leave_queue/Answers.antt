@@ -22,9 +22,9 @@ store_as-requires-clause-allowed g c =
     let own : c.args.number ≡ session.history.number = c.requires.own ∙ ap (λ (sessions : List (History g.row.T.Denot)). first_number sessions) session.sessions in
     let exists : session.history.number < most_sessions = subst (λ n. n < most_sessions) own (search rules) in
     let at = c.wait_word.ensures.index ∙ ap (λ n. index_of_word (Wait n)) own in
-    let may = subst (λ (sessions : List (History g.row.T.Denot)). (wait : OwnWait) × (mine : InHand) × (granted : List contents.Wait) × (c.args.woken.now.items ≡ map whose_and_mode granted) × MayLeaveBy c.args.words.now.key.sessions (first_number sessions) (first_account content sessions) wait mine granted (content c.args.content.now)) session.sessions c.requires.lawful in
+    let may = subst (λ (sessions : List (History g.row.T.Denot)). (wait : OwnWait) × (mine : InHand) × (granted : List contents.Wait) × (c.args.woken.now ≡ map whose_and_mode granted) × MayLeaveBy c.args.words.now.key.sessions (first_number sessions) (first_account content sessions) wait mine granted (content c.args.content.now)) session.sessions c.requires.lawful in
     let marked : g.M.Marking.mark ≡ (λ _. LeftQueue (map (λ (wait : contents.Wait). wait.session) may.2) c.args.content.now) =
-    c.requires.mark ∙ ap (λ woken. λ _. LeftQueue woken c.args.content.now) (told-granted c.args.woken.now.items may.2 may.3) in
+    c.requires.mark ∙ ap (λ woken. λ _. LeftQueue woken c.args.content.now) (told-granted c.args.woken.now may.2 may.3) in
     stores_at content g.T.PartTable.begun c.args.words.now.key c.args.words.now.table_id.slots seat.id seat.me session.history session.others session.sessions
     (Wait session.history.number) (tt, exists) c.wait_word.result at 0 g.M.Marking.mark _ marked
     (leaving-lawful content c.args.words.now.key session.history may.0 may.1 may.2 c.args.content.now may.4)

@@ -16,9 +16,9 @@ fetch_add_as-requires-clause-allowed g c =
     let content = g.T.PartTable.content in
     let seat = c.args.seat.now in
     let session = c.requires.session in
-    let may = subst (λ (sessions : List (History g.row.T.Denot)). (mine : InHand) × (granted : List contents.Wait) × (c.args.woken.now.items ≡ map whose_and_mode granted) × MayMarkBy c.args.words.now.key.sessions (first_number sessions) (first_account content sessions) c.args.part mine c.args.done.now granted (content c.args.content.now) c.args.other) session.sessions c.requires.lawful in
+    let may = subst (λ (sessions : List (History g.row.T.Denot)). (mine : InHand) × (granted : List contents.Wait) × (c.args.woken.now ≡ map whose_and_mode granted) × MayMarkBy c.args.words.now.key.sessions (first_number sessions) (first_account content sessions) c.args.part mine c.args.done.now granted (content c.args.content.now) c.args.other) session.sessions c.requires.lawful in
     let marked : g.M.Marking.mark ≡ (λ _. MarkedGranted c.args.part c.args.other c.args.done.now (map (λ (wait : contents.Wait). wait.session) may.1) c.args.content.now) =
-    c.requires.mark ∙ ap (λ woken. λ _. MarkedGranted c.args.part c.args.other c.args.done.now woken c.args.content.now) (told-granted c.args.woken.now.items may.1 may.2) in
+    c.requires.mark ∙ ap (λ woken. λ _. MarkedGranted c.args.part c.args.other c.args.done.now woken c.args.content.now) (told-granted c.args.woken.now may.1 may.2) in
     marks_at content g.T.PartTable.begun c.args.words.now.key c.args.words.now.table_id.slots seat.id seat.me session.history session.others session.sessions
     (Wait c.args.other) (tt, search rules) c.wait_word.result c.wait_word.ensures.index (λ n. (n + 1) % 2 ^ 64) g.M.Marking.mark
     (subst (IsAlwaysLawful content c.args.words.now.key session.history (Wait c.args.other) (λ _. Unit {0}) (λ n. (n + 1) % 2 ^ 64)) (sym marked)

@@ -17,10 +17,10 @@ loop-whose-preserved c =
     let below = c.number.ensures.within in
     let within : c.from.result < length marks = omega arith in (
       length-set marks c.from.result true ∙ sixty_four,
-      marks-one_more marks c.as_slice-whose-items.result.now c.loop-whose.whose-index c.whose-item.result c.from.result within place c.loop-whose-test.true c.whose-item.is c.loop-whose.invariant.1,
+      marks-one_more marks c.args.woken.now c.loop-whose.whose-index c.whose-item.result c.from.result within place c.loop-whose-test.true c.whose-item.is c.loop-whose.invariant.1,
     )
 
 pub returns : goal.returns
 returns c = λ k.
     c.loop-whose.invariant.1 k
-    ∙ ap (λ xs. names_in xs k) (take_all c.loop-whose.whose-index c.as_slice-whose-items.result.now c.loop-whose-test.false ∙ c.as_slice-whose-items.ensures.value)
+    ∙ ap (λ xs. names_in xs k) (take_all c.loop-whose.whose-index c.args.woken.now c.loop-whose-test.false)

@@ -26,11 +26,11 @@ returns-then-not-take_hold_out-clause-moved c =
 
 pub returns-clause-moved : goal.returns-clause-moved
 returns-clause-moved c =
-    let woken = c.wake-woken.ensures.woken in
+    let woken = c.wake.ensures.woken in
     record {
       granted = woken.0;
-      moves = subst (λ (before : PartView). Moves (content_of before) c.args.session (Release c.args.tag c.args.mode) woken.0 (content_of c.wake-woken.new.self))
-          c.in_ok-after.ensures.cases (c.take_hold_out.ensures.to_wake c.if-not-take_hold_out.false woken.0 (content_of c.wake-woken.new.self) woken.1);
+      moves = subst (λ (before : PartView). Moves (content_of before) c.args.session (Release c.args.tag c.args.mode) woken.0 (content_of c.wake.new.self))
+          c.in_ok-after.ensures.cases (c.take_hold_out.ensures.to_wake c.if-not-take_hold_out.false woken.0 (content_of c.wake.new.self) woken.1);
       named = woken.2;
-      begun = c.wake-woken.ensures.begun ∙ c.take_hold_out.ensures.begun ∙ ap (λ (part : PartView). part.begun) c.in_ok-after.ensures.cases;
+      begun = c.wake.ensures.begun ∙ c.take_hold_out.ensures.begun ∙ ap (λ (part : PartView). part.begun) c.in_ok-after.ensures.cases;
     }

@@ -71,6 +71,7 @@ invariant_of-self c =
           noted-relocked c.lower_awaited.new.locks.slots c.add_hold.new.locks.slots c.self.inside.index c.args.tag.now c.in-Some-find_lock.place add.0
           (noted-relocked c.self.inside.locks.slots c.lower_awaited.new.locks.slots c.self.inside.index c.args.tag.now c.in-Some-find_lock.place lower.0 c.self.invariant.noted);
       room = omega (arith, c.self.invariant.room, c.leave.ensures.one_less, c.add_hold.ensures.len, c.add_hold.ensures.capacity);
+      woken_room = omega (arith, c.self.invariant.woken_room, c.leave.ensures.one_less);
       begun_new = λ request is.
           let none = c.self.invariant.begun_not_awaited request is in
           ap (λ holds. holds request.session request.tag request.mode) c.add_hold.ensures.set.holds
@@ -90,6 +91,7 @@ invariant_of-self c =
             holder = omega (arith, room.holder, c.leave.ensures.one_less, c.add_hold.ensures.len, c.add_hold.ensures.capacity);
             queue = c.leave.ensures.room room.queue;
           };
+      begun_woken = λ request is. omega (arith, c.self.invariant.begun_woken request is, c.leave.ensures.one_less);
       absent = λ there. let no_way : ⊥ = cc in absurd no_way;
       known = λ there. let no_way : ⊥ = cc in absurd no_way;
     }

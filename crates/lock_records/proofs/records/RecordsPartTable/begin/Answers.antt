@@ -1,6 +1,6 @@
 use Rattle.std.proofs.lemmas.Bool.{true≢false, false≢true}
 use Rattle.std.specs.Prelude.{is_some, not, IfSome, IfNone, Option, Some, unwrap_or}
-use Rattle.std.proofs.Common.{◌≡◌, ℕ, true, false, None, List, refl, sym, ap, ◌∙◌, subst, arith}
+use Rattle.std.proofs.Common.{◌≡◌, ◌<◌, vec_capacity, ℕ, true, false, None, List, refl, sym, ap, ◌∙◌, subst, arith}
 use Rattle.slab.specs.Slab.{Slab, slab_len}
 use Rattle.lock_table.specs.declared.request.Request.{Request}
 use Rattle.lock_records.specs.declared.wait_queues.QueueRecord.{QueueRecord}
@@ -54,9 +54,11 @@ invariant_of-self c =
       objects = objects at;
       noted = noted at;
       room = omega (arith, c.self.invariant.room, len at, total at, c.make_room.ensures.capacity);
+      woken_room = omega (arith, c.self.invariant.woken_room, total at, c.make_room.ensures.woken_capacity);
       begun_new = λ request is. let no_way : ⊥ = cc in absurd no_way;
       begun_not_awaited = λ request is. let no_way : ⊥ = cc in absurd no_way;
       begun_room = λ request is. let no_way : ⊥ = cc in absurd no_way;
+      begun_woken = λ request is. let no_way : ⊥ = cc in absurd no_way;
       absent = λ there request is. let no_way : ⊥ = cc in absurd no_way;
       known = λ there request is. let no_way : ⊥ = cc in absurd no_way;
     }
@@ -72,6 +74,7 @@ invariant_of-self-2 c =
       objects = objects at;
       noted = noted at;
       room = omega (arith, c.self.invariant.room, len at, total at, c.make_room.ensures.capacity);
+      woken_room = omega (arith, c.self.invariant.woken_room, total at, c.make_room.ensures.woken_capacity);
       begun_new =
           one-said (λ (x : Request). holds_in c.make_room.new.holders.slots x.session x.tag x.mode ≡ false) c.of-self-inside.result.request request c.of-self-inside.ensures
           (ap (λ slots. holds_in slots c.args.session c.args.tag.now c.args.mode) (holders at)
@@ -83,6 +86,9 @@ invariant_of-self-2 c =
       begun_room =
           one-said (λ (x : Request). HasRoom c.make_room.new.locks c.make_room.new.holders c.make_room.new.queues c.make_room.new.index) c.of-self-inside.result.request request c.of-self-inside.ensures
           (c.in_ok-make_room.ensures {u = tt}).room;
+      begun_woken =
+          one-said (λ (x : Request). waiting_in c.make_room.new.queues.slots < vec_capacity c.make_room.new.woken) c.of-self-inside.result.request request c.of-self-inside.ensures
+          (c.in_ok-make_room.ensures {u = tt}).woken_room;
       absent = λ there.
           let none = c.is_none-self-inside.ensures ∙ ap not there in
           one-said (λ (x : Request). HasNoLock c.make_room.new.locks.slots x.tag) c.of-self-inside.result.request request c.of-self-inside.ensures
@@ -100,6 +106,7 @@ grows :
       locks = c.make_room.new.locks.capacity;
       holders = c.make_room.new.holders.capacity;
       queues = c.make_room.new.queues.capacity;
+      woken = vec_capacity c.make_room.new.woken;
       places = c.make_room.new.index.places;
     } → GrowsWhereFull c.args.self.now new
 grows c new is =
@@ -108,6 +115,7 @@ grows c new is =
       locks = λ room. ap (λ (x : Capacity). x.locks) is ∙ c.make_room.ensures.locks_grow (omega (arith, room));
       holders = λ room. ap (λ (x : Capacity). x.holders) is ∙ c.make_room.ensures.holders_grow (omega (arith, room));
       queues = λ room. ap (λ (x : Capacity). x.queues) is ∙ c.make_room.ensures.queues_grow (omega (arith, room));
+      woken = λ room. ap (λ (x : Capacity). x.woken) is ∙ c.make_room.ensures.woken_grows room;
       places = λ room. ap (λ (x : Capacity). x.places) is ∙ c.make_room.ensures.index_grows room;
     })
 

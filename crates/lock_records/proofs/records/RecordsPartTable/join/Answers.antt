@@ -1,11 +1,11 @@
-use Rattle.std.proofs.Common.{◌≡◌, ◌<◌, false, ap, ◌∙◌, arith}
+use Rattle.std.proofs.Common.{◌≡◌, ◌<◌, vec_capacity, false, ap, ◌∙◌, arith}
 use Rattle.modes_core.specs.ModeSet.{set_has}
 use Rattle.lock_table.specs.Content.{Wait}
 use Rattle.lock_table.specs.Queue.{awaits_mode, waits_there}
 use Rattle.lock_table.specs.declared.request.Request.{Request}
 use Rattle.lock_records.specs.Holders.{holds_in}
 use Rattle.lock_records.specs.Objects.{HasRoom}
-use Rattle.lock_records.specs.Queues.{queue_on}
+use Rattle.lock_records.specs.Queues.{queue_on, waiting_in}
 use Rattle.lock_records.specs.View.{RecordView}
 use Rattle.lock_records.proofs.Changes.{objects-joined}
 use Rattle.lock_records.proofs.IndexLaws.{noted-relocked}
@@ -54,9 +54,11 @@ invariant_of-self c =
       noted =
           noted-relocked c.find_or_make_lock-at.new.locks.slots c.raise_awaited.new.locks.slots c.find_or_make_lock-at.new.index c.args.tag.now c.find_or_make_lock-at.result lock.0 c.find_or_make_lock-at.ensures.noted;
       room = omega (arith, room.holder, c.queue_up-queue.ensures.one_more);
+      woken_room = omega (arith, c.self.invariant.begun_woken _ begun, c.queue_up-queue.ensures.one_more);
       begun_new = nothing-said (λ (request : Request). holds_in c.self.inside.holders.slots request.session request.tag request.mode ≡ false) _ c.nothing-self-inside.ensures;
       begun_not_awaited = nothing-said (λ (request : Request). awaits_mode (queue_on c.queue_up-queue.new.queues.slots request.tag) request.session request.mode ≡ false) _ c.nothing-self-inside.ensures;
       begun_room = nothing-said (λ (request : Request). HasRoom c.raise_awaited.new.locks c.self.inside.holders c.queue_up-queue.new.queues c.find_or_make_lock-at.new.index) _ c.nothing-self-inside.ensures;
+      begun_woken = nothing-said (λ (request : Request). waiting_in c.queue_up-queue.new.queues.slots < vec_capacity c.self.inside.woken) _ c.nothing-self-inside.ensures;
       absent = λ there. let no_way : ⊥ = cc in absurd no_way;
       known = λ there. let no_way : ⊥ = cc in absurd no_way;
     }

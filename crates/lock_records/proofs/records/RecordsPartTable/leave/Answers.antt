@@ -54,6 +54,7 @@ invariant_of-self c =
           lower.0 lower.1 lower.2 lower.3 c.leave.ensures.waits there c.drop_empty.ensures.dropped;
       noted = c.drop_empty.ensures.noted;
       room = omega (arith, c.self.invariant.room, c.leave.ensures.one_less);
+      woken_room = omega (arith, c.self.invariant.woken_room, c.leave.ensures.one_less);
       begun_new = c.self.invariant.begun_new;
       begun_not_awaited = λ request is.
           not-awaited-left c.self.inside.queues.slots c.leave.new.self.slots c.args.session c.args.tag.now c.leave.ensures.waits request.session request.tag request.mode (c.self.invariant.begun_not_awaited request is);
@@ -65,6 +66,7 @@ invariant_of-self c =
             holder = omega (arith, room.holder, c.leave.ensures.one_less);
             queue = c.leave.ensures.room room.queue;
           };
+      begun_woken = λ request is. omega (arith, c.self.invariant.begun_woken request is, c.leave.ensures.one_less);
       absent = λ there. let no_way : ⊥ = cc in absurd no_way;
       known = λ there. let no_way : ⊥ = cc in absurd no_way;
     }

@@ -37,6 +37,7 @@ invariant_of-self c =
           c.args.session c.args.tag.now c.args.mode c.in-Some.place c.self.inside.index c.self.invariant.objects c.self.invariant.noted lock.0 lock.1 lock.2 c.remove_hold.ensures.set c.drop_empty.ensures.dropped;
       noted = c.drop_empty.ensures.noted;
       room = omega (arith, c.self.invariant.room, c.remove_hold.ensures.len, c.remove_hold.ensures.capacity);
+      woken_room = c.self.invariant.woken_room;
       begun_new = λ request is.
           ap (λ holds. holds request.session request.tag request.mode) c.remove_hold.ensures.set.holds
           ∙ not-held-less (holds_in c.self.inside.holders.slots) c.args.session c.args.tag.now c.args.mode request.session request.tag request.mode (c.self.invariant.begun_new request is);
@@ -49,6 +50,7 @@ invariant_of-self c =
             holder = omega (arith, room.holder, c.remove_hold.ensures.len, c.remove_hold.ensures.capacity);
             queue = room.queue;
           };
+      begun_woken = c.self.invariant.begun_woken;
       absent = λ there. let no_way : ⊥ = cc in absurd no_way;
       known = λ there. let no_way : ⊥ = cc in absurd no_way;
     }

@@ -21,6 +21,8 @@ invariant_of-self c =
       room = omega (arith, c.self.invariant.begun_has_room _ begun, c.push_reserved.ensures.len, c.push_reserved.ensures.capacity);
       begun_has_room = ForSome-none (λ _. vec_len c.push_reserved.new.self + vec_len c.self.inside.waits < vec_capacity c.push_reserved.new.self);
       begun_may_wait = ForSome-none (λ _. vec_len c.self.inside.waits < vec_capacity c.self.inside.waits);
+      woken_room = c.self.invariant.woken_room;
+      begun_may_be_woken = ForSome-none (λ _. vec_len c.self.inside.waits < vec_capacity c.self.inside.woken);
     }
 
 pub returns-clause-content : goal.returns-clause-content

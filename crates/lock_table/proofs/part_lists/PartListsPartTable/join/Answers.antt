@@ -26,6 +26,8 @@ invariant_of-self c =
       room = omega (arith, c.self.invariant.begun_has_room _ begun, c.in-Ok.ensures.len);
       begun_has_room = ForSome-none (λ _. vec_len c.self.inside.holds + vec_len c.insert.new.self < vec_capacity c.self.inside.holds);
       begun_may_wait = ForSome-none (λ _. vec_len c.insert.new.self < vec_capacity c.insert.new.self);
+      woken_room = omega (arith, c.self.invariant.begun_may_be_woken _ begun, c.in-Ok.ensures.len);
+      begun_may_be_woken = ForSome-none (λ _. vec_len c.insert.new.self < vec_capacity c.self.inside.woken);
     }
 
 pub returns-clause-content : goal.returns-clause-content

@@ -20,6 +20,8 @@ invariant_of-self c =
       room = omega (arith, c.self.invariant.room, c.take_wait_out.ensures.len);
       begun_has_room = λ x is. omega (arith, c.self.invariant.begun_has_room x is, c.take_wait_out.ensures.len);
       begun_may_wait = λ x is. omega (arith, c.self.invariant.begun_may_wait x is, c.take_wait_out.ensures.len, c.take_wait_out.ensures.capacity);
+      woken_room = omega (arith, c.self.invariant.woken_room, c.take_wait_out.ensures.len);
+      begun_may_be_woken = λ x is. omega (arith, c.self.invariant.begun_may_be_woken x is, c.take_wait_out.ensures.len);
     }
 
 pub returns-clause-mode : goal.returns-clause-mode

@@ -32,6 +32,8 @@ invariant_of-self c =
       room = omega (arith, c.self.invariant.room, c.swap_remove.ensures.len, c.swap_remove.ensures.capacity);
       begun_has_room = λ x is. omega (arith, c.self.invariant.begun_has_room x is, c.swap_remove.ensures.len, c.swap_remove.ensures.capacity);
       begun_may_wait = c.self.invariant.begun_may_wait;
+      woken_room = c.self.invariant.woken_room;
+      begun_may_be_woken = c.self.invariant.begun_may_be_woken;
     }
 
 pub returns-clause-content : goal.returns-clause-content

@@ -10,4 +10,6 @@ invariant_of-self c =
       room = omega (arith, c.self.invariant.room, c.wake_queue.ensures.len, c.wake_queue.ensures.capacity);
       begun_has_room = λ x is. omega (arith, c.self.invariant.begun_has_room x is, c.wake_queue.ensures.len, c.wake_queue.ensures.capacity);
       begun_may_wait = λ x is. omega (arith, c.self.invariant.begun_may_wait x is, c.wake_queue.ensures.fewer, c.wake_queue.ensures.capacity);
+      woken_room = omega (arith, c.self.invariant.woken_room, c.wake_queue.ensures.fewer, c.wake_queue.ensures.capacity);
+      begun_may_be_woken = λ x is. omega (arith, c.self.invariant.begun_may_be_woken x is, c.wake_queue.ensures.fewer, c.wake_queue.ensures.capacity);
     }

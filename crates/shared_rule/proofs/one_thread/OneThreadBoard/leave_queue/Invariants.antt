@@ -3,4 +3,4 @@ use Rattle.shared_rule.specs.Marks.{LeftQueue}
 use Rattle.shared_rule.proofs.one_thread.OneThreadBoard.leave_queue.Given as goal
 
 abbrev pub ghosts-leave_queue : goal.ghosts-leave_queue
-ghosts-leave_queue g a = record { mark = λ _. LeftQueue (sessions_told a.woken.now.items) a.content.now }
+ghosts-leave_queue g a = record { mark = λ _. LeftQueue (sessions_told a.woken.now) a.content.now }

@@ -4,4 +4,4 @@ use Rattle.shared_rule.proofs.one_thread.OneThreadBoard.mark_granted.Given as go
 
 abbrev pub ghosts-mark_granted : goal.ghosts-mark_granted
 ghosts-mark_granted g a =
-    record { mark = λ _. MarkedGranted a.part a.other a.done.now (sessions_told a.woken.now.items) a.content.now }
+    record { mark = λ _. MarkedGranted a.part a.other a.done.now (sessions_told a.woken.now) a.content.now }

@@ -16,12 +16,12 @@ returns c = λ w safe shows.
     let part = partition_read now.contents.parts.items c.from.result _ (partition_of c.args.tag) c.index_mut-part.result.now shows.contents.sixteen c.from.ensures c.partition-partition.ensures.value c.partition-partition.ensures.within c.index_mut-part.ensures.value in
     let stands : waits_there ((content_of c.index_mut-part.result.now).waits c.args.tag) c.args.session ≡ true =
     ap (λ (x : PartView). waits_there ((content_of x).waits c.args.tag) c.args.session) part ∙ c.requires.in_queue in
-    let was_there : c.remove_waiter-removed.result.was_granted ≡ false = c.remove_waiter-removed.ensures.found ∙ ap not stands in
-    let woken = rw was_there at c.remove_waiter-removed.ensures.removed in
+    let was_there : c.remove_waiter.result ≡ false = c.remove_waiter.ensures.found ∙ ap not stands in
+    let woken = rw was_there at c.remove_waiter.ensures.removed in
     rw (c.end_wait.ensures, c.record.ensures, place, c.partition-partition.ensures.value)
-    (left now w safe shows c.args.session c.requires.awaited.0 c.args.tag c.args.hand c.remove_waiter-removed.new.part woken.0 _ c.requires.awaited.1 c.requires.awaited.2 c.requires.in_hand c.requires.unmoved c.requires.in_queue
-    (subst (λ (x : Content). Wakes x c.args.tag woken.0 (content_of c.remove_waiter-removed.new.part))
+    (left now w safe shows c.args.session c.requires.awaited.0 c.args.tag c.args.hand c.remove_waiter.new.part woken.0 _ c.requires.awaited.1 c.requires.awaited.2 c.requires.in_hand c.requires.unmoved c.requires.in_queue
+    (subst (λ (x : Content). Wakes x c.args.tag woken.0 (content_of c.remove_waiter.new.part))
     (ap (λ (x : PartView). remove_wait (content_of x) c.args.session c.args.tag) part) woken.1)
-    (c.remove_waiter-removed.ensures.begun ∙ ap (λ (x : PartView). x.begun) part ∙ shows.contents.none_begun (partition_of c.args.tag))
-    (λ k. c.unmarked_of.ensures k ∙ ap (λ xs. names_in xs k) woken.2 ∙ names_in-granted woken.0 k)
+    (c.remove_waiter.ensures.begun ∙ ap (λ (x : PartView). x.begun) part ∙ shows.contents.none_begun (partition_of c.args.tag))
+    (λ k. c.unmarked_of-unmarked.ensures k ∙ ap (λ xs. names_in xs k) (c.woken.ensures ∙ woken.2) ∙ names_in-granted woken.0 k)
     (omega arith))

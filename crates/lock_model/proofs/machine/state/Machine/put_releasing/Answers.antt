@@ -9,7 +9,7 @@ use Rattle.lock_model.specs.declared.machine.state.Contents.{Contents}
 use Rattle.lock_table.specs.declared.moves.Move.TheVariants.{Release}
 use Rattle.lock_world.specs.declared.events.Step.TheVariants.{PutExclusive}
 use Rattle.lock_world.specs.declared.events.Word.TheVariants.{Partition}
-use Rattle.lock_model.specs.MovedPart.{IsMoved}
+use Rattle.lock_model.specs.MovedPart.{IsMoved, woken_by}
 use Rattle.lock_table.specs.Moves.{Moves}
 use Rattle.lock_table.specs.PartView.{content_of}
 use Rattle.lock_table.specs.Parts.{part_at, contents_in}
@@ -39,7 +39,7 @@ returns-then-is_empty c = λ w safe shows.
     let object : partition_of c.args.tag ≡ c.args.partition = sym c.partition.ensures.value ∙ c.if-partition.false in
     let moved = subst (λ found. IfSome found (IsMoved (part_at now.contents.parts.items c.args.partition) c.args.session done)) c.in-Some.is c.in_ok-moved.ensures.moved in
     let own = subst (λ found. IfSome found (λ _. IsOwnFor (get_or now.waits.awaited c.args.session None) done)) c.in-Some.is c.in_ok-moved.ensures.own in
-    let none : length c.in-Some.moved.woken.items ≡ 0 = eqb-true (length c.in-Some.moved.woken.items) 0 (sym c.is_empty.ensures ∙ c.if-is_empty.true) in
+    let none : length (woken_by c.in-Some.moved) ≡ 0 = ap length (sym c.woken.ensures) ∙ eqb-true (length c.woken.result.now) 0 (sym c.is_empty.ensures ∙ c.if-is_empty.true) in
     let nobody : moved.granted ≡ [] = nil_from_length moved.granted (sym (length-map moved.granted whose_and_mode) ∙ sym (ap length moved.named) ∙ none) in
     let changed : Contents = record (now.contents) { parts = with_item now.contents.parts c.from.result c.in-Some.moved.part } in
     let P : Machine → Type 0 = λ m. (v : World) × Next w (record { session = c.args.session; step = PutExclusive (Partition c.args.partition) (Release c.args.tag c.args.mode) }) v × Shows m v in
@@ -56,7 +56,7 @@ returns-else-is_empty c = λ w safe shows.
     skipped now w safe shows c.args.session (PutExclusive (Partition c.args.partition) done)
     (λ lawful.
     let nobody = release_wakes now w safe shows c.args.session c.args.partition c.args.tag c.args.mode moved.granted (content_of c.in-Some.moved.part) c.requires.in_hand moved.moves lawful in
-    both_ways _ c.if-is_empty.false (c.is_empty.ensures ∙ ap (λ told. length told == 0) (moved.named ∙ ap (map whose_and_mode) nobody)))
+    both_ways _ c.if-is_empty.false (c.is_empty.ensures ∙ ap (λ told. length told == 0) (c.woken.ensures ∙ moved.named ∙ ap (map whose_and_mode) nobody)))
 
 pub returns-then-partition : goal.returns-then-partition
 returns-then-partition c = λ w safe shows.
