@@ -93,6 +93,7 @@ fn append_slots<T: PartTable, B: Board<T>>(
     count: u8,
     rows: &mut Vec<SlotRow>,
 ) -> Result<(), NoMemory>
+    requires exists { owner < (B.seat board.old).limit }
     requires there { count ≤ group_size * (B.seat board.old).groups }
     requires shared { (slots : SlotsInHand) × ((B.view board.old).fast.shared_slots owner ≡ Some slots) }
     ensures loaded { B.view board.new ≡ account_loading (B.view board.old) owner (λ slot. slot)

@@ -31,8 +31,9 @@ pub(crate) struct Sighting {
     pub(crate) used_count: u8,
 }
 
-/// Loads the words of the slots of `owner` in `group`, the lock of whose slots is in hand, one after another, and
-/// keeps of them only what a release or a transfer of a lock on `relation` asks for.
+/// Loads the words of the slots of `owner` in `group`, the lock of whose slots is in hand, and keeps of them only what a release
+/// or a transfer of a lock on `relation` asks for. Where a session has one group of slots this is a walk of its own, in which
+/// the compiler knows where each slot stands, whatever the number of sessions.
 #[inline(always)]
 pub(crate) fn look_through<T: PartTable, B: Board<T>>(
     board: &mut B,
@@ -42,6 +43,33 @@ pub(crate) fn look_through<T: PartTable, B: Board<T>>(
 ) -> Sighting
     requires few { group < most_groups }
     requires there { group < (B.seat board.old).groups }
+    requires exists { owner < (B.seat board.old).limit }
+    requires in_hand { (slots : SlotsInHand) × ((B.view board.old).fast.slots owner ≡ Some slots) }
+    ensures loaded { B.view board.new ≡
+        account_loading (B.view board.old) owner (place_in_group group)
+        (slots_here ((B.view board.old).fast.slots owner)).word group_size }
+    ensures sighted { Sights group (slots_here ((B.view board.old).fast.slots owner)).word relation result }
+    ensures seat { B.seat board.new ≡ B.seat board.old }
+    ensures stack { B.stack board.new ≡ B.stack board.old }
+    ensures quiet { B.quiet board.new ≡ B.quiet board.old }
+{
+    if group == 0 {
+        return look_at_each(board, owner, 0, relation);
+    }
+    look_at_each(board, owner, group, relation)
+}
+
+/// Loads the words of the slots of `owner` in `group`, one after another, as `look_through` does.
+#[inline(always)]
+fn look_at_each<T: PartTable, B: Board<T>>(
+    board: &mut B,
+    owner: SessionId,
+    group: u8,
+    relation: u32,
+) -> Sighting
+    requires few { group < most_groups }
+    requires there { group < (B.seat board.old).groups }
+    requires exists { owner < (B.seat board.old).limit }
     requires in_hand { (slots : SlotsInHand) × ((B.view board.old).fast.slots owner ≡ Some slots) }
     ensures loaded { B.view board.new ≡
         account_loading (B.view board.old) owner (place_in_group group)
@@ -90,6 +118,7 @@ pub(crate) fn look_for_grant<T: PartTable, B: Board<T>>(
 ) -> SightingForGrant
     requires few { group < most_groups }
     requires there { group < (B.seat board.old).groups }
+    requires exists { owner < (B.seat board.old).limit }
     requires in_hand { (slots : SlotsInHand) × ((B.view board.old).fast.slots owner ≡ Some slots) }
     requires enough { used_in group (slots_here ((B.view board.old).fast.slots owner)).word ≤ use_count }
     ensures loaded { (seen : ℕ) × (seen ≤ group_size) × (B.view board.new ≡
@@ -120,6 +149,7 @@ fn look_from_top<T: PartTable, B: Board<T>>(
 ) -> SightingForGrant
     requires few { group < most_groups }
     requires there { group < (B.seat board.old).groups }
+    requires exists { owner < (B.seat board.old).limit }
     requires in_hand { (slots : SlotsInHand) × ((B.view board.old).fast.slots owner ≡ Some slots) }
     requires enough { used_in group (slots_here ((B.view board.old).fast.slots owner)).word ≤ use_count }
     ensures loaded { (seen : ℕ) × (seen ≤ group_size) × (B.view board.new ≡

@@ -8,9 +8,9 @@ ghost use Rattle.shared_rule.specs.Opening.{AreNew};
 use lock_table::{PartTable, PlainPart, empty_parts};
 use modes_core::SessionId;
 use shared_rule::{
-    Board, CONTENT_SHELVES, Kept, OneThread, TABLE_SHELVES, TABLE_WORDS, TableSizes, content_shelf,
-    database_word, fast_word, in_shelves, partition_word, sleep_word, slot_word, strong_word,
-    table_words, wait_word,
+    Board, CONTENT_SHELVES, Kept, OneThread, TableSizes, content_shelf, database_word, fast_word,
+    in_shelves, partition_word, sleep_word, slot_word, strong_word, table_shelves, table_words,
+    wait_word,
 };
 use std::alloc::Global;
 use std::process::Abort;
@@ -21,7 +21,12 @@ mod latecomers;
 mod slots;
 
 // The indexes in these tests are worked by hand: 16 times 16 words for partitions, 1,024 for counters, 16 unused,
-// and 36 for each session, and again for each group of slots after the first.
+// and 36 for each session, and again for each group of slots after the first. Most are of a table for 64 sessions.
+
+/// The number of words of a table for `sessions` sessions with `groups` groups of slots each.
+fn words_of(sessions: u8, groups: u8) -> usize {
+    table_words(TableSizes { sessions, groups })
+}
 
 /// The session with the number `number`.
 fn session(number: u8) -> Result<SessionId, Fail> {
@@ -44,8 +49,8 @@ fn a_session_has_twenty_words_in_a_row(rt: HostRuntime) -> Result<(), Fail> {
     let third = session(2)?;
     assert_eq!(rt; fast_word(third), 1368);
     assert_eq!(rt; database_word(third), 1369);
-    assert_eq!(rt; slot_word(third, 0), 1370);
-    assert_eq!(rt; slot_word(third, 15), 1385);
+    assert_eq!(rt; slot_word(64, third, 0), 1370);
+    assert_eq!(rt; slot_word(64, third, 15), 1385);
     assert_eq!(rt; wait_word(third), 1386);
     assert_eq!(rt; sleep_word(third), 1387);
     Ok(())
@@ -54,20 +59,26 @@ fn a_session_has_twenty_words_in_a_row(rt: HostRuntime) -> Result<(), Fail> {
 #[test]
 fn the_table_ends_with_the_gap_after_the_last_session(rt: HostRuntime) -> Result<(), Fail> {
     assert_eq!(rt; sleep_word(session(63)?), 3583);
-    assert_eq!(rt; TABLE_WORDS, 3600);
-    assert_eq!(rt; table_words(1), 3600);
+    assert_eq!(rt; words_of(64, 1), 3600);
+    assert_eq!(rt; sleep_word(session(7)?), 1567);
+    assert_eq!(rt; words_of(8, 1), 1584);
+    assert_eq!(rt; words_of(1, 1), 1332);
     Ok(())
 }
 
 #[test]
 fn each_further_group_of_slots_has_a_block_for_each_session(rt: HostRuntime) -> Result<(), Fail> {
     let third = session(2)?;
-    assert_eq!(rt; slot_word(third, 16), 3674);
-    assert_eq!(rt; slot_word(third, 31), 3689);
-    assert_eq!(rt; slot_word(third, 32), 5978);
-    assert_eq!(rt; slot_word(session(63)?, 127), 19709);
-    assert_eq!(rt; table_words(2), 5904);
-    assert_eq!(rt; table_words(8), 19728);
+    assert_eq!(rt; slot_word(64, third, 16), 3674);
+    assert_eq!(rt; slot_word(64, third, 31), 3689);
+    assert_eq!(rt; slot_word(64, third, 32), 5978);
+    assert_eq!(rt; slot_word(64, session(63)?, 127), 19709);
+    assert_eq!(rt; words_of(64, 2), 5904);
+    assert_eq!(rt; words_of(64, 8), 19728);
+    assert_eq!(rt; slot_word(8, third, 15), 1385);
+    assert_eq!(rt; slot_word(8, third, 16), 1658);
+    assert_eq!(rt; slot_word(8, session(7)?, 127), 3581);
+    assert_eq!(rt; words_of(8, 8), 3600);
     Ok(())
 }
 
@@ -76,9 +87,9 @@ fn each_further_group_of_slots_has_a_block_for_each_session(rt: HostRuntime) -> 
 fn neighbours_are_128_bytes_apart(rt: HostRuntime) -> Result<(), Fail> {
     assert!(rt; sleep_word(session(0)?) + 16 <= fast_word(session(1)?));
     assert!(rt; sleep_word(session(62)?) + 16 <= fast_word(session(63)?));
-    assert!(rt; sleep_word(session(63)?) + 16 <= slot_word(session(0)?, 16));
-    assert!(rt; slot_word(session(0)?, 31) + 16 <= slot_word(session(1)?, 16));
-    assert!(rt; slot_word(session(63)?, 31) + 16 <= slot_word(session(0)?, 32));
+    assert!(rt; sleep_word(session(63)?) + 16 <= slot_word(64, session(0)?, 16));
+    assert!(rt; slot_word(64, session(0)?, 31) + 16 <= slot_word(64, session(1)?, 16));
+    assert!(rt; slot_word(64, session(63)?, 31) + 16 <= slot_word(64, session(0)?, 32));
     assert!(rt; strong_word(1023) + 16 <= fast_word(session(0)?));
     assert!(rt; partition_word(15) + 16 <= strong_word(0));
     Ok(())
@@ -90,7 +101,10 @@ fn each_content_has_eight_shelves_to_itself(rt: HostRuntime) -> Result<(), Fail>
     assert_eq!(rt; content_shelf(1), 8);
     assert_eq!(rt; content_shelf(15), 120);
     assert_eq!(rt; CONTENT_SHELVES, 128);
-    assert_eq!(rt; TABLE_SHELVES, 1152);
+    assert_eq!(rt; table_shelves(64), 1152);
+    assert_eq!(rt; table_shelves(17), 400);
+    assert_eq!(rt; table_shelves(16), 384);
+    assert_eq!(rt; table_shelves(1), 384);
     Ok(())
 }
 
@@ -100,13 +114,11 @@ const SIZES: TableSizes = TableSizes {
     groups: 1,
 };
 
-/// Sixteen empty partitions, which grow by `alloc`, each on its shelf, and the wait lists of two sessions.
+/// Sixteen empty partitions, which grow by `alloc`, each on its shelf of a table for two sessions, and the wait lists of these.
 fn empty_shelves(alloc: Global) -> Result<Vec<Kept<PlainPart>>, Fail>
-    ensures new { let T = ⟦<PlainPart as PartTable>⟧ in
-        IfOk result (λ shelves. AreNew T.content T.begun 2 shelves.items) }
+    ensures new { let T = ⟦<PlainPart as PartTable>⟧ in IfOk result (λ shelves. AreNew T.content T.begun 2 shelves.items) }
 {
-    let parts = empty_parts(alloc, PlainPart::new)?;
-    Ok(in_shelves(alloc, parts, SIZES.sessions)?)
+    Ok(in_shelves(alloc, empty_parts(alloc, PlainPart::new)?, SIZES.sessions)?)
 }
 
 /// A board for tests, of a table for two sessions that grows by `alloc`.

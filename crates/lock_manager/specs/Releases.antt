@@ -1,4 +1,4 @@
-use Rattle.std.specs.Prelude.{◌≡◌, ◌≢◌, ◌⊎◌, ℕ, ◌≤◌, ◌==◌, true, false}
+use Rattle.std.specs.Prelude.{◌≡◌, ◌≢◌, ◌⊎◌, ℕ, ◌<◌, ◌≤◌, ◌==◌, true, false}
 use Rattle.std.specs.Prelude.{List, [], ◌∷◌, ◌++◌, map, count_by, if◌then◌else◌}
 use Rattle.modes_core.specs.declared.modes.Mode.{Mode}
 use Rattle.modes_core.specs.declared.tags.Tag.{Tag}
@@ -7,7 +7,7 @@ use Rattle.lock_table.specs.declared.moves.Move.{Move}
 use Rattle.lock_table.specs.declared.moves.Move.TheVariants.{Release}
 use Rattle.lock_table.specs.Content.{Wait, Content}
 use Rattle.lock_table.specs.Moves.{Moves}
-use Rattle.lock_table.specs.Queue.{Wakes}
+use Rattle.lock_table.specs.Queue.{Wakes, waits_there}
 use Rattle.lock_table.specs.Waiter.{whose_and_mode}
 use Rattle.lock_world.specs.Account.{Account, InHand}
 use Rattle.lock_world.specs.AccountFacts.{OwnHoldsStand}
@@ -26,7 +26,8 @@ use Rattle.shared_rule.specs.History.{in_hand, is_among, sessions_told, taken_of
 
 -- Releases of holds, as the session's trace has them.
 
--- The sessions whom a move in a partition in hand lets go, each once, by this content: they are still to be told.
+-- The sessions whom a move in a partition in hand lets go, each once, by this content: they are still to be told. Each is one of those
+-- that there can be.
 pub record Wakens (seat : Seated) (a : Account) (partition : ℕ) (done : Move) (woken : List (ℕ × Mode))
     (now : Content) : Type 0 where
   pub mine : InHand
@@ -34,6 +35,7 @@ pub record Wakens (seat : Seated) (a : Account) (partition : ℕ) (done : Move) 
   pub whose : woken ≡ map whose_and_mode granted
   pub may_move : MayMoveBy seat.limit seat.number a partition mine done granted now
   pub once : (session : ℕ) → count_by (λ (told : ℕ × Mode). told.0 == session) woken ≤ 1
+  pub exist : (session : ℕ) → waits_there granted session ≡ true → session < seat.limit
 
 -- the account with the move made and recorded, once all whom it lets go are marked but these
 abbrev pub account_marked : Account → ℕ → Move → Content → List (ℕ × Mode) → Account

@@ -1,4 +1,4 @@
-use Rattle.std.specs.Prelude.{◌≡◌, ◌⊎◌, ◌↔◌, ℕ, ◌==◌, Bool, true, false, List, [], ◌∷◌, ◌++◌, Result, Ok, Err, Some, None, if◌then◌else◌}
+use Rattle.std.specs.Prelude.{◌≡◌, ◌⊎◌, ◌↔◌, ℕ, ◌<◌, ◌≤◌, ◌==◌, Bool, true, false, List, [], ◌∷◌, ◌++◌, Result, Ok, Err, Some, None, if◌then◌else◌}
 use Rattle.modes_core.specs.declared.modes.Mode.{Mode}
 use Rattle.modes_core.specs.declared.tags.Tag.{Tag}
 use Rattle.modes_core.specs.declared.refusals.Refusal.{Refusal}
@@ -76,6 +76,12 @@ pub record Asks (a : Account) (other : ℕ) (answer : Asked) (b : Account) : Typ
   pub shown : ℕ
   pub answered : (answer ≡ asked.Waiting) ↔ (wait_state shown ≡ 1)
   pub account : b ≡ account_tracing a (AskedToCancel other shown)
+
+-- The session asks another so that is one of so many sessions. Of a number that none of them has it says that it doesn't wait, and
+-- makes no step.
+pub record AsksOneOf (limit : ℕ) (a : Account) (other : ℕ) (answer : Asked) (b : Account) : Type 0 where
+  pub one : other < limit → Asks a other answer b
+  pub none : limit ≤ other → (answer ≡ asked.NotWaiting) × (b ≡ a)
 
 -- One episode in the object's partition, which leaves the content as it was taken, tells whether somebody awaits a
 -- mode in conflict with this one.

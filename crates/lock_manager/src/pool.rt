@@ -6,7 +6,7 @@ ghost use Rattle.lock_manager.specs.Desks.{opener_at, session_at};
 ghost use Rattle.lock_manager.specs.Managers.{IsOpened};
 ghost use Rattle.lock_manager.specs.Pools.{IsLowestBelow, LendsLowest, TakesIn, life_of};
 ghost use Rattle.lock_manager.specs.Reuse.{ServesNext};
-ghost use Rattle.lock_manager.specs.Waiting.{Asks};
+ghost use Rattle.lock_manager.specs.Waiting.{AsksOneOf};
 ghost use Rattle.modes_core.specs.Sessions.{most_sessions};
 
 use crate::crews::close_sessions;
@@ -147,7 +147,8 @@ impl<T: PartTable, B: Board<T>> SessionPool<T, B> {
         ensures over { life_of self.now.lives other.number ≢ other.life →
             (result ≡ Asked.NotWaiting) × (session.new ≡ session.old) }
         ensures asked { life_of self.now.lives other.number ≡ other.life →
-            Asks (B.view session.old.board) other.number result (B.view session.new.board) }
+            AsksOneOf (B.seat session.old.board).limit (B.view session.old.board) other.number result
+            (B.view session.new.board) }
         ensures quiet { B.quiet session.new.board ≡ B.quiet session.old.board }
         ensures owned { session.new.owned ≡ session.old.owned }
         ensures uses { session.new.uses ≡ session.old.uses }

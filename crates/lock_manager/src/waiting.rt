@@ -6,7 +6,7 @@ ghost use Rattle.local_locks.specs.Owned.{has_entry, with_one_more, IsReserved};
 ghost use Rattle.lock_manager.specs.Rest.{IsAtRest};
 ghost use Rattle.lock_manager.specs.Sessions.{GainsAwaited, KeepsOwn};
 ghost use Rattle.lock_manager.specs.Acquires.{AnswersByOwned, IsOwnAnswer, IsRefusedForMemory};
-ghost use Rattle.lock_manager.specs.Waiting.{IsWaiting, HasLooked, Asks, LooksForWaiters};
+ghost use Rattle.lock_manager.specs.Waiting.{IsWaiting, HasLooked, AsksOneOf, LooksForWaiters};
 ghost use Rattle.lock_manager.specs.Waiting.{IsInWait, polled_as, Polls, Cancels, Waits, account_cancelled};
 ghost use Rattle.lock_manager.specs.WaitingSessions.{Locks};
 ghost use Rattle.lock_manager.specs.Quiet.{QuietOfAcquire};
@@ -43,16 +43,21 @@ pub enum Looked {
     CancelAsked,
 }
 
-/// Asks `other` to cancel its wait, and wakes it where it waits (`pg_cancel_backend` in signalfuncs.c).
+/// Asks `other` to cancel its wait, and wakes it where it waits (`pg_cancel_backend` in signalfuncs.c). A number that no session
+/// can have doesn't wait, and nothing is done.
 pub fn ask_cancel<T: PartTable, B: Board<T>>(board: &mut B, other: SessionId) -> Asked
     requires none_owed { (B.stack board.old).owed ≡ [] }
-    ensures asked { Asks (B.view board.old) other result (B.view board.new) }
+    ensures asked { AsksOneOf (B.seat board.old).limit (B.view board.old) other result (B.view board.new) }
+    ensures untouched { (B.seat board.old).limit ≤ other → board.new ≡ board.old }
     ensures quiet { B.quiet board.new ≡ B.quiet board.old }
     ensures oneself { other ≡ (B.seat board.old).number → (B.view board.old).awaited ≡ None
         → result ≡ Asked.NotWaiting }
     ensures stack { B.stack board.new ≡ B.stack board.old }
     ensures seat { B.seat board.new ≡ B.seat board.old }
 {
+    if other.number() >= board.sessions() {
+        return Asked::NotWaiting;
+    }
     let shown = board.ask_cancel(other);
     if wait_state(shown) != WaitState::Waiting as u64 {
         return Asked::NotWaiting;

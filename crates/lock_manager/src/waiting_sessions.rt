@@ -1,6 +1,6 @@
 //! Calls that may wait: a session that has begun to wait is a value of its own, which has the calls of a waiting one.
 
-ghost use Rattle.std.specs.Prelude.{◌≡◌, ◌↔◌, false, true, IsErrOf, IsOkUnless, IfOk, IfErr, OnOk, OnErr};
+ghost use Rattle.std.specs.Prelude.{◌≤◌, ◌≡◌, ◌↔◌, false, true, IsErrOf, IsOkUnless, IfOk, IfErr, OnOk, OnErr};
 ghost use Rattle.local_locks.specs.Owned.{has_entry, with_one_more};
 ghost use Rattle.lock_manager.specs.declared.requests.Begun.TheVariants as begun;
 ghost use Rattle.lock_manager.specs.Sessions.{IsSame};
@@ -8,7 +8,7 @@ ghost use Rattle.wait_queue.specs.Decide.{IsAfterRoom};
 ghost use Rattle.lock_manager.specs.Requests.{HadRoom};
 ghost use Rattle.lock_manager.specs.Acquires.{AnswersByOwned, HasEntryRoom, IsOwnAnswer, IsRefusedForMemory, entries_begun, Begins};
 ghost use Rattle.lock_manager.specs.Quiet.{QuietOfAcquire};
-ghost use Rattle.lock_manager.specs.Waiting.{Asks, LooksForWaiters, Polls, Cancels, Waits};
+ghost use Rattle.lock_manager.specs.Waiting.{AsksOneOf, LooksForWaiters, Polls, Cancels, Waits};
 ghost use Rattle.lock_manager.specs.WaitingSessions.{answer_started, board_started, uses_started, owned_started};
 ghost use Rattle.lock_manager.specs.WaitingSessions.{UnlessQueued, IfQueued};
 ghost use Rattle.lock_manager.specs.WaitingSessions.{answer_polled, board_polled, IfGranted, UnlessGranted};
@@ -269,9 +269,12 @@ impl<T: PartTable, B: Board<T>> OwnSession<T, B> {
 
     /// Asks `other` to cancel its wait, and wakes it where it waits (`pg_cancel_backend` in signalfuncs.c). Where it
     /// doesn't wait nothing is left of that; a session that asks itself doesn't wait. An asked session that is
-    /// granted first keeps the grant.
+    /// granted first keeps the grant. A number that no session of the manager can have doesn't wait, and the call makes no step
+    /// then.
     pub fn ask_cancel(&mut self, other: SessionId) -> Asked
-        ensures asked { Asks (B.view self.old.board) other result (B.view self.new.board) }
+        ensures asked { AsksOneOf (B.seat self.old.board).limit (B.view self.old.board) other result
+            (B.view self.new.board) }
+        ensures untouched { (B.seat self.old.board).limit ≤ other → self.new.board ≡ self.old.board }
         ensures quiet { B.quiet self.new.board ≡ B.quiet self.old.board }
         ensures oneself { other ≡ (B.seat self.old.board).number → result ≡ Asked.NotWaiting }
         ensures owned { self.new.owned ≡ self.old.owned }

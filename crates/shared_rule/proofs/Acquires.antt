@@ -106,8 +106,8 @@ module _ {T : Type 0} (content : T → Content) where
         shelves = takes.shelves ∙ first.shelves;
       }
 
-      pub tried-then_part : (begun : T → Option Request) (part : ℕ) (taken : T) → TakesPartition content begun part middle after taken → TakesPartition content begun part before after taken
-      tried-then_part begun part taken takes = record {
+      pub tried-then_part : (begun : T → Option Request) (sessions part : ℕ) (taken : T) → TakesPartition content begun sessions part middle after taken → TakesPartition content begun sessions part before after taken
+      tried-then_part begun sessions part taken takes = record {
         led = led_by-todo content before after _ _ (todo_attempted todo) (todo_attempted (todo_at before))
             (led_to-then content before middle after (account_at content before) todo (λ a. account_taking a part (content taken)) todo_attempted first.led takes.led)
             same;
@@ -115,6 +115,7 @@ module _ {T : Type 0} (content : T → Content) where
         none_begun = takes.none_begun;
         knows = subst (λ n. KnowsContent n (account_at content before) part (content taken)) first.led.number
             (subst (λ a. KnowsContent (number_at middle) a part (content taken)) first.led.account takes.knows);
+        waiters = takes.waiters;
       }
 
   -- The same where it left all as it was.
@@ -132,10 +133,10 @@ module _ {T : Type 0} (content : T → Content) where
 
     -- A partition was got,
     pub took_part-between :
-        (begun : T → Option Request) (part : ℕ) (taken : T) → TakesPartition content begun part queued attempted taken
+        (begun : T → Option Request) (sessions part : ℕ) (taken : T) → TakesPartition content begun sessions part queued attempted taken
         → LedTo content attempted after (with_lists (account_at content attempted) no_lists) nothing_to_do → after.me.1 ≡ attempted.me.1
-        → TakesPartition content begun part before after taken
-    took_part-between begun part taken takes leaves rest =
+        → TakesPartition content begun sessions part before after taken
+    took_part-between begun sessions part taken takes leaves rest =
         let a : Account = account_at content before in
         let twice = led_to-then content before queued attempted (with_lists a (queued_for lock)) (todo_in_list lock) (λ b. account_taking b part (content taken)) todo_attempted queues takes.led in
         let thrice = led_to-then content before attempted after (account_taking (with_lists a (queued_for lock)) part (content taken)) (todo_got lock) (λ b. with_lists b no_lists) (λ _. nothing_to_do) twice leaves in
@@ -148,6 +149,7 @@ module _ {T : Type 0} (content : T → Content) where
           knows = knows-content (number_at before) a (queued_for lock) part (content taken)
               (subst (λ n. KnowsContent n (with_lists a (queued_for lock)) part (content taken)) queues.number
               (subst (λ b. KnowsContent (number_at queued) b part (content taken)) queues.account takes.knows));
+          waiters = takes.waiters;
         }
 
     -- or the lock of a session's slots,

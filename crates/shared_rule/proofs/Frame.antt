@@ -412,7 +412,7 @@ module _ {T : Type 0} (content : T → Content) (begun : T → Option Request) (
 
   pub ruled-noted :
       (mark : Mark T) (words : Words) (table : List ℕ) (homes : List (maybe.Option (Kept T))) (noted : IsNoted content sizes.groups r.world x.number (told content x.number x.marks) (todo_told_by x.number x.marks) (flagged_told_by x.marks) mark words)
-      → WordsAreShown sizes.groups table words → ContentsAreHome content begun homes noted.after.contents
+      → WordsAreShown sizes table words → ContentsAreHome content begun homes noted.after.contents
       → ListsAreHome sizes.sessions homes noted.after.sessions.has_list noted.after.words.list
       → Ruled content begun sizes (record { words = table; homes = homes; views = slice_set s.views id (noting view mark) })
   ruled-noted mark words table homes noted shown home lists =
@@ -432,7 +432,7 @@ module _ {T : Type 0} (content : T → Content) (begun : T → Option Request) (
         few = r.few;
         some_groups = r.some_groups;
         few_groups = r.few_groups;
-        words = subst (WordsAreShown sizes.groups table) (sym noted.words) shown;
+        words = subst (WordsAreShown sizes table) (sym noted.words) shown;
         none_beyond = subst (NoneBeyondSlots sizes.groups) (sym noted.words) noted.none_beyond;
         few_counted = λ k. elim (cases_eq k x.number) [
           | inl same ↦ subst (λ n. length (noted.after.sessions.counted n) ≤ most_counted) (sym same) noted.few_counted

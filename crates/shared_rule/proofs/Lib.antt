@@ -1,3 +1,5 @@
+mod Blocks
+pub mod Waiters
 mod Shown
 pub mod Standing
 pub mod ClosedCounts

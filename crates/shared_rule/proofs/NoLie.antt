@@ -146,7 +146,7 @@ module _ {T : Type 0} (content : T → Content) (begun : T → Option Request) (
     | inr young ↦ r.steps.none other (omega (arith, young))
   ]
 
-  pub load-shows : shown ≡ slice_index s.words (index_of_word (Strong index))
+  pub load-shows : shown ≡ slice_index s.words (index_of_word sizes.sessions (Strong index))
   load-shows = elim (r.steps.at_seat (record { number = number; marks = LoadedStrong index shown ∷ marks }) stands) [
     | inl told ↦
         last-load number (opening sizes.sessions sizes.groups) r.events r.world index shown told.0 r.run no-other (told.2 ∙ ap (λ last. told.0 ++ last ∷ []) told.3)

@@ -1,4 +1,4 @@
-use Rattle.std.proofs.Common.{◌≡◌, ℕ, zero, suc, ◌<◌, ◌≤◌, List, [], ◌∷◌, ◌++◌, length, Option, Some, None, refl, sym, ap, ◌∙◌, subst, arith}
+use Rattle.std.proofs.Common.{◌≡◌, ℕ, zero, suc, ◌+◌, ◌<◌, ◌≤◌, List, [], ◌∷◌, ◌++◌, length, Option, Some, None, refl, sym, ap, ◌∙◌, subst, inl, inr, arith}
 use Rattle.std.specs.Prelude.{slice_get, option_to_list}
 use mathlib.Core.Option.{some, some-injective, some-ne-none}
 use lib.ListN.{get_elem?}
@@ -20,7 +20,8 @@ use Rattle.shared_rule.specs.declared.kept.Kept.TheVariants as kept
 use Rattle.shared_rule.specs.Layout.{content_shelf_of, list_shelf_of}
 use Rattle.shared_rule.specs.Shown.{WordsAreShown}
 use Rattle.shared_rule.specs.History.{opening_view}
-use Rattle.shared_rule.specs.Opening.{IsNew, AreNew}
+use Rattle.std.proofs.lemmas.Bool.{cases_eq}
+use Rattle.shared_rule.specs.Opening.{IsNew, IsEmptyList, AreNew}
 use Rattle.lock_world.specs.Wakes.{nothing_beside}
 use Rattle.std.proofs.lemmas.Bool.{false≢true}
 use Rattle.shared_rule.specs.Ruled.{ClosedAreCounted, SeatsAreShown, StandsAmong, Ruled}
@@ -70,7 +71,7 @@ module _ {T : Type 0} (content : T → Content) (begun : T → Option Request) (
   unfolding total
   none-closed = record { once = λ number. omega arith; all = refl }
 
-  pub opening-ruled : sizes.sessions ≤ most_sessions → 0 < sizes.groups → sizes.groups ≤ most_groups → (words : List ℕ) → WordsAreShown sizes.groups words (opening 0 0).words → (slots : List (Kept T)) → AreNew content begun sizes.sessions slots
+  pub opening-ruled : sizes.sessions ≤ most_sessions → 0 < sizes.groups → sizes.groups ≤ most_groups → (words : List ℕ) → WordsAreShown sizes words (opening 0 0).words → (slots : List (Kept T)) → AreNew content begun sizes.sessions slots
       → Ruled content begun sizes (table.opening words slots opening_view)
   opening-ruled few some_groups few_groups words shown slots new = record {
     world = opening sizes.sessions sizes.groups;
@@ -151,3 +152,43 @@ module _ {T : Type 0} (content : T → Content) (begun : T → Option Request) w
     is_there = refl;
     blank = empty (length new) last (ap (λ parts. slice_get parts (length new)) is ∙ there-last new last);
   }
+
+-- What is there is there in a list that is longer by one, and the last one is where the list ended.
+module _ {T : Type 0} where
+  kept-longer : (xs : List (Kept T)) (y : Kept T) (i : ℕ) (x : Kept T) → slice_get xs i ≡ Some x → slice_get (xs ++ y ∷ []) i ≡ Some x
+  kept-longer [] y i x there = absurd (cc (there))
+  kept-longer (z ∷ xs) y zero x there = there
+  kept-longer (z ∷ xs) y (suc i) x there = kept-longer xs y i x there
+
+  kept-last : (xs : List (Kept T)) (y : Kept T) → slice_get (xs ++ y ∷ []) (length xs) ≡ Some y
+  kept-last [] y = refl
+  kept-last (z ∷ xs) y = kept-last xs y
+
+  pub new-longer : (content : T → Content) (begun : T → Option Request) (old new : List (Kept T)) (y : Kept T) (i : ℕ) → new ≡ old ++ y ∷ []
+      → IsNew content begun (slice_get old i) → IsNew content begun (slice_get new i)
+  new-longer content begun old new y i is its = record {
+    part = its.part;
+    is_there = ap (λ (xs : List (Kept T)). slice_get xs i) is ∙ kept-longer old y i (kept.Part its.part) its.is_there;
+    blank = its.blank;
+  }
+
+  -- The wait lists of all locks below an index are there, and so they are with the one at it.
+  pub lists-longer : (sessions : ℕ) (old new : List (Kept T)) (y : Kept T) (shelf index : ℕ) → new ≡ old ++ y ∷ [] → length old ≡ index → shelf < index + 1
+      → (shelf < index → IsEmptyList sessions (slice_get old shelf)) → (shelf ≡ index → IsEmptyList sessions (Some y))
+      → IsEmptyList sessions (slice_get new shelf)
+  lists-longer sessions old new y shelf index is many below before last = elim (cases_eq shelf index) [
+    | inl at ↦
+        let its = last at in
+        record {
+          list = its.list;
+          is_there = ap (λ (xs : List (Kept T)). slice_get xs shelf) is ∙ ap (slice_get (old ++ y ∷ [])) (at ∙ sym many) ∙ kept-last old y ∙ its.is_there;
+          empty = its.empty;
+        }
+    | inr other ↦
+        let its = before (omega (arith, below, other)) in
+        record {
+          list = its.list;
+          is_there = ap (λ (xs : List (Kept T)). slice_get xs shelf) is ∙ kept-longer old y shelf (kept.List its.list) its.is_there;
+          empty = its.empty;
+        }
+  ]

@@ -17,7 +17,7 @@ use Rattle.shared_rule.specs.declared.history.WordMark.{WordMark}
 use Rattle.shared_rule.specs.declared.history.WordMark.TheVariants as word
 use Rattle.shared_rule.specs.declared.lw_locks.LwLock.{LwLock}
 use Rattle.shared_rule.specs.declared.lw_locks.LwLock.TheVariants.{OfPart, OfSlots}
-use Rattle.shared_rule.specs.LwLocks.{lock_number, LockIsInTable}
+use Rattle.shared_rule.specs.LwLocks.{lock_number, LockExists}
 use Rattle.shared_rule.specs.History.{noted, noted_words, told, account_granting_by, account_cleared, account_left, in_hand}
 use Rattle.shared_rule.specs.Todos.{Todo, HasNoLock, IsLatestBy}
 use Rattle.shared_rule.proofs.Owings.{own-hand, known}
@@ -180,12 +180,12 @@ module _ (w : World) (number : ℕ) (a : Account) (shows : a ≡ account w numbe
     | inr odd ↦ absurd (no-slots (held / 2) latest (odd-has held odd has))
   ]
 
-  bound-of : (l : LwLock) → LockIsInTable l → rank (lock_number l) < 17
-  bound-of (OfPart p) there = let own = rank-of_part p in omega (arith, own, there)
-  bound-of (OfSlots o) there = let own = rank-of_slots o in omega (arith, own)
+  bound-of : (sessions : ℕ) (l : LwLock) → LockExists sessions l → rank (lock_number l) < 17
+  bound-of sessions (OfPart p) there = let own = rank-of_part p in omega (arith, own, there)
+  bound-of sessions (OfSlots o) there = let own = rank-of_slots o in omega (arith, own)
 
-  pub latest-by : (l : LwLock) → LockIsInTable l → IsLatestBy a l → IsLatest w number (lock_number l)
-  latest-by l there latest = record { bound = bound-of l there; earlier = earlier-than l latest }
+  pub latest-by : (sessions : ℕ) (l : LwLock) → LockExists sessions l → IsLatestBy a l → IsLatest w number (lock_number l)
+  latest-by sessions l there latest = record { bound = bound-of sessions l there; earlier = earlier-than l latest }
 
 -- Lists make no difference.
 pub latest-with : (a : Account) (lists : ListAccount) (l : LwLock) → IsLatestBy a l → IsLatestBy (record a { lists = lists }) l

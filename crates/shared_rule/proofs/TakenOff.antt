@@ -145,7 +145,7 @@ fewer-taken test (suc many) (w ∷ ws) =
     let less = fewer-taken test many ws in
     omega (arith, sum, its, less)
 
-taken-stood : (k : ℕ) (ws : List LwWaiter) → stands_in k (taken_off ws) ≡ true → stands_in k ws ≡ true
+pub taken-stood : (k : ℕ) (ws : List LwWaiter) → stands_in k (taken_off ws) ≡ true → stands_in k ws ≡ true
 taken-stood k [] there = there
 taken-stood k (first ∷ others) there = at (wants_to_share first) there where
   at : (shares : Bool) → stands_in k (if shares then take MOST_TAKEN_OFF (filter wants_to_share (first ∷ others)) else first ∷ []) ≡ true

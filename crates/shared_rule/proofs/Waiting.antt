@@ -17,13 +17,13 @@ use Rattle.shared_rule.proofs.Acquires.{took_part-between, got_slots-between, tr
 module _ {T : Type 0} (content : T → Content) (sought : Sought) (first now last : Seat (Kept T) (View T))
     (leaves : LedTo content now last (record (account_at content now) { lists = no_lists }) nothing_to_do) (slots : last.me.1 ≡ now.me.1) where
   pub part-left :
-      (begun : T → Option Request) (part : ℕ) (taken : T)
-      → HasWonQueued content sought (λ at after. TakesPartition content begun part at after taken) first now
-      → TakesPartition content begun part first last taken
-  part-left begun part taken has =
+      (begun : T → Option Request) (sessions part : ℕ) (taken : T)
+      → HasWonQueued content sought (λ at after. TakesPartition content begun sessions part at after taken) first now
+      → TakesPartition content begun sessions part first last taken
+  part-left begun sessions part taken has =
       let waits = has.waits in
-      took_part-between content (lock_number sought.lock) first waits.joined now last waits.began.idle waits.began.todo waits.queues waits.shelves begun part taken
-      (tried-then_part content waits.joined has.at now waits.since.todo waits.since.nothing waits.since.same begun part taken has.won) leaves slots
+      took_part-between content (lock_number sought.lock) first waits.joined now last waits.began.idle waits.began.todo waits.queues waits.shelves begun sessions part taken
+      (tried-then_part content waits.joined has.at now waits.since.todo waits.since.nothing waits.since.same begun sessions part taken has.won) leaves slots
 
   pub slots-left :
       (groups : ℕ) (mode : LwMode) (owner : ℕ) → HasWonQueued content sought (GetsSlots content groups mode owner) first now

@@ -17,6 +17,7 @@ use Rattle.shared_rule.specs.Led.{LedBy, LedTo}
 use Rattle.shared_rule.specs.Plays.{account_at, number_at, quiet_at, todo_at}
 use Rattle.shared_rule.specs.Quiet.{quiet_getting}
 use Rattle.shared_rule.specs.Todos.{Todo, todo_attempted}
+use Rattle.shared_rule.specs.Waiters.{WaitsExist}
 
 -- What an acquire of a lightweight lock leads to, whether it won at once or waited in the lock's list.
 
@@ -58,11 +59,12 @@ module _ {T : Type 0} (content : T → Content) where
     pub shelves : after.me.1 ≡ before.me.1
 
 module _ {T : Type 0} (content : T → Content) (begun : T → Option Request) where
-  -- The session got a partition, with this content.
-  pub record TakesPartition (part : ℕ) (before after : Seat (Kept T) (View T)) (taken : T) : Type 0 where
+  -- The session got a partition, with this content, in which none but some of so many sessions wait.
+  pub record TakesPartition (sessions part : ℕ) (before after : Seat (Kept T) (View T)) (taken : T) : Type 0 where
     pub led :
         LedTo content before after (account_taking (account_at content before) part (content taken))
         (todo_attempted (todo_at before))
     pub shelves : after.me.1 ≡ (content_shelf_of part, Nothing) ∷ before.me.1
     pub none_begun : begun taken ≡ None
     pub knows : KnowsContent (number_at before) (account_at content before) part (content taken)
+    pub waiters : WaitsExist sessions (content taken)

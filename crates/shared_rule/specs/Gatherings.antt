@@ -11,7 +11,7 @@ use Rattle.shared_rule.specs.declared.history.Mark.{Mark}
 use Rattle.shared_rule.specs.declared.history.View.{View}
 use Rattle.shared_rule.specs.declared.kept.Kept.{Kept}
 use Rattle.shared_rule.specs.History.{blank_account, told, first_account}
-use Rattle.shared_rule.specs.Layout.{index_of_word, MayBeInTable}
+use Rattle.shared_rule.specs.Looks.{word_looked_at}
 use Rattle.shared_rule.specs.Plays.{Side, Marked}
 
 -- Sessions gathered at the opener's seat: the first makes steps with it, and keeps the others apart.
@@ -78,11 +78,11 @@ module _ {T : Type 0} (content : T → Content) where
   KnowsOfAll view (Strong index) found = (found ≡ counted_at index (gathered_in view.sessions)) × (found ≤ 4194304)
   KnowsOfAll view (Sleep owner) found = Unit {0}
 
-  -- A load was noted, and the seat learns that of the number found.
+  -- A load was noted, and the seat learns that of the number found, of the word that the mark names.
   abbrev pub LookedOver : (ℕ → Mark T) → Step (Kept T) → Side T → ℕ → Side T → Type 0
   LookedOver mark step before found after =
       Marked mark step before found after
-      × ((word : Word) (issued : ℕ) → MayBeInTable word → step.word ≡ index_of_word word → AreAll issued before.0
+      × ((word : Word) (issued : ℕ) → word_looked_at (mark found) ≡ Some word → AreAll issued before.0
       → KnowsOfAll before.0 word found)
 
   -- What the seat knows where the gathered sessions are all that there are, each with `groups` groups of slots: who

@@ -32,7 +32,7 @@ pub record ShowsHeadline {T : Type 0} (content : T → Content) (begun : T → O
   pub world : World
   pub events : List Event
   pub run : Runs (opening sizes.sessions sizes.groups) events world
-  pub words : WordsAreShown sizes.groups state.words world.words
+  pub words : WordsAreShown sizes state.words world.words
   pub contents : ContentsAreHome content begun state.homes world.contents
   pub seats : SeatsAreShown content state.views world
   pub headline : Headline world
@@ -44,7 +44,7 @@ pub record ShowsHeadline {T : Type 0} (content : T → Content) (begun : T → O
 pub record ShowsReasons {T : Type 0} (content : T → Content) (begun : T → Option Request) (sizes : TableSizes)
     (state : State (Kept T) (View T)) : Type 0 where
   pub world : World
-  pub words : WordsAreShown sizes.groups state.words world.words
+  pub words : WordsAreShown sizes state.words world.words
   pub contents : ContentsAreHome content begun state.homes world.contents
   pub seats : SeatsAreShown content state.views world
   pub reasons :
@@ -58,7 +58,7 @@ pub record ShowsReasons {T : Type 0} (content : T → Content) (begun : T → Op
 pub record ShowsSleepers {T : Type 0} (content : T → Content) (begun : T → Option Request) (sizes : TableSizes)
     (state : State (Kept T) (View T)) : Type 0 where
   pub world : World
-  pub words : WordsAreShown sizes.groups state.words world.words
+  pub words : WordsAreShown sizes state.words world.words
   pub seats : SeatsAreShown content state.views world
   pub beside : Beside
   pub todo :
@@ -74,7 +74,7 @@ pub record ShowsSleepers {T : Type 0} (content : T → Content) (begun : T → O
 pub record ShowsNoCircle {T : Type 0} (content : T → Content) (begun : T → Option Request) (sizes : TableSizes)
     (state : State (Kept T) (View T)) : Type 0 where
   pub world : World
-  pub words : WordsAreShown sizes.groups state.words world.words
+  pub words : WordsAreShown sizes state.words world.words
   pub seats : SeatsAreShown content state.views world
   pub beside : Beside
   pub todo :
@@ -105,7 +105,7 @@ pub record IsOwedBy {T : Type 0} (Has : History T → ℕ → Type 0) (views : L
 pub record ShowsCalls {T : Type 0} (content : T → Content) (begun : T → Option Request) (sizes : TableSizes)
     (state : State (Kept T) (View T)) : Type 0 where
   pub world : World
-  pub words : WordsAreShown sizes.groups state.words world.words
+  pub words : WordsAreShown sizes state.words world.words
   pub seats : SeatsAreShown content state.views world
   pub turns : List Turn
   pub beside : Beside

@@ -1,57 +1,55 @@
-use Rattle.std.specs.Prelude.{◌≢◌, ℕ, ◌+◌, ◌*◌, ◌/◌, ◌%◌, ◌<◌, ◌≤◌, ◌⊎◌}
+use Rattle.std.specs.Prelude.{◌≡◌, ◌≢◌, ℕ, ◌+◌, ◌*◌, ◌/◌, ◌%◌, ◌<◌, ◌≤◌, ◌⊎◌, max}
+use Rattle.atomic_table.specs.Seated.{TableId}
 use Rattle.lock_world.specs.declared.events.Word.{Word}
 use Rattle.lock_world.specs.declared.events.Word.TheVariants.{Partition, Fast, Database, Slot, Wait, Strong, Sleep}
 use Rattle.lock_world.specs.SlotHolds.{group_size, most_groups}
 use Rattle.lock_world.specs.World.{WordExists}
-use Rattle.modes_core.specs.Sessions.{most_sessions}
+use Rattle.shared_rule.specs.declared.rule.TableSizes.{TableSizes}
 
 -- Where each word stands in the table: its index, in words of 8 bytes. First come the partitions, then the strong lock
--- counters, then a block for each session, with the slots of its first group. The slots of each further group have an area
--- of blocks behind that, one for each session.
+-- counters, then blocks of words, one for each session, with the slots of its first group. The slots of each further group
+-- have as many blocks behind those.
 
--- where a session's block begins
+-- where the block of this number begins
 abbrev pub block_start : ℕ → ℕ
-block_start session = 1296 + 36 * session
+block_start block = 1296 + 36 * block
 
--- how many words an area of blocks has
-abbrev pub area_words : ℕ
-area_words = 2304
+-- the number of the block that has a session's slots of this group, by how many sessions there can be
+abbrev pub block_of : ℕ → ℕ → ℕ → ℕ
+block_of sessions session group = session + sessions * group
 
--- how many words the table has for this number of groups of slots
-abbrev pub words_of_groups : ℕ → ℕ
-words_of_groups groups = 1296 + area_words * groups
+-- how many words the table has for so many sessions, each with so many groups of slots
+abbrev pub words_of : ℕ → ℕ → ℕ
+words_of sessions groups = block_start (sessions * groups)
 
--- the index of a word in the table
-abbrev pub index_of_word : Word → ℕ
-index_of_word (Partition p) = 16 * p
-index_of_word (Strong index) = 256 + index
-index_of_word (Fast session) = block_start session
-index_of_word (Database session) = block_start session + 1
-index_of_word (Slot session slot) = block_start session + 2 + area_words * (slot / group_size) + slot % group_size
-index_of_word (Wait session) = block_start session + 18
-index_of_word (Sleep session) = block_start session + 19
+-- the index of a word in a table for so many sessions
+abbrev pub index_of_word : ℕ → Word → ℕ
+index_of_word sessions (Partition p) = 16 * p
+index_of_word sessions (Strong index) = 256 + index
+index_of_word sessions (Fast session) = block_start session
+index_of_word sessions (Database session) = block_start session + 1
+index_of_word sessions (Slot session slot) =
+    block_start (block_of sessions session (slot / group_size)) + 2 + slot % group_size
+index_of_word sessions (Wait session) = block_start session + 18
+index_of_word sessions (Sleep session) = block_start session + 19
 
--- The table has the words of the most sessions that there can be.
-abbrev pub SessionHasWords : Word → Type 0
-SessionHasWords (Partition p) = Unit {0}
-SessionHasWords (Strong index) = Unit {0}
-SessionHasWords (Fast session) = session < most_sessions
-SessionHasWords (Database session) = session < most_sessions
-SessionHasWords (Slot session slot) = session < most_sessions
-SessionHasWords (Wait session) = session < most_sessions
-SessionHasWords (Sleep session) = session < most_sessions
+-- The word is no session's, or is that of one of so many sessions.
+abbrev pub SessionHasWords : ℕ → Word → Type 0
+SessionHasWords sessions (Partition p) = Unit {0}
+SessionHasWords sessions (Strong index) = Unit {0}
+SessionHasWords sessions (Fast session) = session < sessions
+SessionHasWords sessions (Database session) = session < sessions
+SessionHasWords sessions (Slot session slot) = session < sessions
+SessionHasWords sessions (Wait session) = session < sessions
+SessionHasWords sessions (Sleep session) = session < sessions
 
--- The table for this number of groups of slots has this word.
-abbrev pub IsInTable : ℕ → Word → Type 0
-IsInTable groups word = WordExists groups word × SessionHasWords word
+-- The table of these sizes has this word.
+abbrev pub IsInTable : TableSizes → Word → Type 0
+IsInTable sizes word = WordExists sizes.groups word × SessionHasWords sizes.sessions word
 
--- A table has this word, whatever number of groups it is for.
-abbrev pub MayBeInTable : Word → Type 0
-MayBeInTable word = IsInTable most_groups word
-
--- No word stands at this index: it is a gap.
-abbrev pub IsGap : ℕ → Type 0
-IsGap index = (word : Word) → MayBeInTable word → index_of_word word ≢ index
+-- No word of the table of these sizes stands at this index: it is a gap.
+abbrev pub IsGap : TableSizes → ℕ → Type 0
+IsGap sizes index = (word : Word) → IsInTable sizes word → index_of_word sizes.sessions word ≢ index
 
 -- Words of one group may share a cache line: each partition's word is a group, all counters together are one, and a
 -- session's words are one.
@@ -72,10 +70,22 @@ IsApart index other = (index + 16 ≤ other) ⊎ (other + 16 ≤ index)
 abbrev pub content_shelf_of : ℕ → ℕ
 content_shelf_of partition = 8 * partition
 
--- how many numbers of lightweight locks there are shelves for: two for each of the most sessions
-abbrev pub lock_count : ℕ
-lock_count = 128
+-- how many numbers of lightweight locks there are shelves for, where there can be so many sessions: partitions have the
+-- even numbers below 32, and sessions' slots the first odd ones
+abbrev pub lock_count : ℕ → ℕ
+lock_count sessions = max 32 (2 * sessions)
 
 -- on which shelf the wait list of a lightweight lock lies, by the lock's number
 abbrev pub list_shelf_of : ℕ → ℕ
 list_shelf_of lock = 128 + 8 * lock
+
+-- how many shelves the table has for so many sessions
+abbrev pub shelves_of : ℕ → ℕ
+shelves_of sessions = list_shelf_of (lock_count sessions)
+
+-- The table has the words and the shelves of these sizes, with 1 to 8 groups of slots for each session.
+pub record IsSized (sizes : TableSizes) (table : TableId) : Type 0 where
+  pub words : table.words ≡ words_of sizes.sessions sizes.groups
+  pub shelves : table.slots ≡ shelves_of sizes.sessions
+  pub some_groups : 0 < sizes.groups
+  pub few_groups : sizes.groups ≤ most_groups

@@ -15,6 +15,7 @@ pub mod Looks
 pub mod Boards
 pub mod Led
 pub mod Acquires
+pub mod Waiters
 pub mod Waiting
 pub mod Wakeups
 pub mod Lawful

@@ -1,9 +1,12 @@
 use Rattle.std.specs.Prelude.{ℕ, List, [], ◌∷◌, Option, Some, None}
+use Rattle.lock_world.specs.declared.events.Word.{Word}
+use Rattle.lock_world.specs.declared.events.Word.TheVariants.{Database, Slot, Wait, Strong}
 use Rattle.lock_world.specs.Wakes.{Beside}
 use Rattle.shared_rule.specs.declared.history.Mark.{Mark}
 use Rattle.shared_rule.specs.declared.history.Mark.TheVariants.{SetWaiting, LeftQueue, OfWords}
 use Rattle.shared_rule.specs.declared.history.WordMark.{WordMark}
 use Rattle.shared_rule.specs.declared.history.WordMark.TheVariants.{LoadedWait, ClearedWait, LoadedSleep, JoinedList, LeftList}
+use Rattle.shared_rule.specs.declared.history.WordMark.TheVariants.{Asked, LoadedDatabase, LoadedSlot, LoadedStrong}
 
 -- What a session's own words showed as the session loaded them last, where it has stored nothing there since: on that it parks. Its
 -- history tells.
@@ -40,3 +43,16 @@ module _ {T : Type 0} where
 -- the looks of one session, by what stands beside the World
 abbrev pub looks_of : Beside → ℕ → OwnLooks
 looks_of beside number = record { on_wait = beside.waits.looked number; on_sleep = beside.sleeps.looked number }
+
+-- the word of which a step tells what it showed, where that may be another session's or all sessions': by a step that tells of no content
+abbrev pub word_looked_at_by : WordMark → Option Word
+word_looked_at_by (Asked other before) = Some (Wait other)
+word_looked_at_by (LoadedDatabase owner shown) = Some (Database owner)
+word_looked_at_by (LoadedSlot owner slot shown) = Some (Slot owner slot)
+word_looked_at_by (LoadedStrong index shown) = Some (Strong index)
+word_looked_at_by mark = None
+
+-- the word of which a step tells what it showed, where that may be another session's or all sessions'
+abbrev pub word_looked_at : {T : Type 0} → Mark T → Option Word
+word_looked_at (OfWords mark) = word_looked_at_by mark
+word_looked_at mark = None

@@ -5,7 +5,6 @@ use Rattle.lock_world.specs.WaitLists.{partition_lock, fast_lock}
 use Rattle.lock_world.specs.Account.{ListAccount}
 use Rattle.shared_rule.specs.declared.lw_locks.LwLock.{LwLock}
 use Rattle.shared_rule.specs.declared.lw_locks.LwLock.TheVariants.{OfPart, OfSlots}
-use Rattle.modes_core.specs.Sessions.{most_sessions}
 
 -- The lightweight locks of the table: the word of each.
 
@@ -18,15 +17,10 @@ abbrev pub lock_number : LwLock → ℕ
 lock_number (OfPart partition) = partition_lock partition
 lock_number (OfSlots owner) = fast_lock owner
 
--- There is this lock where there can be this number of sessions.
+-- There is this lock where there can be this number of sessions: it has its word and its shelf in their table.
 abbrev pub LockExists : ℕ → LwLock → Type 0
 LockExists limit (OfPart partition) = partition < 16
 LockExists limit (OfSlots owner) = owner < limit
-
--- The lock has its word and its shelf in the table.
-abbrev pub LockIsInTable : LwLock → Type 0
-LockIsInTable (OfPart partition) = partition < 16
-LockIsInTable (OfSlots owner) = owner < most_sessions
 
 -- What a session knows of wait lists between two calls: it has none in hand, stands in none, and owes nobody that it
 -- was taken off one.

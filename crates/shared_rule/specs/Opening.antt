@@ -6,8 +6,7 @@ use Rattle.shared_rule.specs.declared.kept.Kept.{Kept}
 use Rattle.shared_rule.specs.declared.kept.Kept.TheVariants as kept
 use Rattle.lock_table.specs.Content.{Content}
 use Rattle.lock_table.specs.Parts.{IsBlank}
-use Rattle.shared_rule.specs.declared.layout.TheConstants.{TABLE_SHELVES}
-use Rattle.shared_rule.specs.Layout.{content_shelf_of, list_shelf_of, lock_count}
+use Rattle.shared_rule.specs.Layout.{content_shelf_of, list_shelf_of, lock_count, shelves_of}
 
 -- The table before the first step.
 
@@ -25,9 +24,9 @@ module _ {T : Type 0} (content : T → Content) (begun : T → Option Request) w
     pub is_there : there ≡ Some (kept.Part part)
     pub blank : IsBlank content begun part
 
-  -- Each partition's part is on its shelf, with nothing in it, and each lock's wait list on its own, with nobody in it and with room for
-  -- so many sessions.
+  -- Where there can be so many sessions, each partition's part is on its shelf, with nothing in it, and each lock's wait list on its
+  -- own, with nobody in it and with room for all of them.
   pub record AreNew (sessions : ℕ) (shelves : List (Kept T)) : Type 0 where
-    pub many : length shelves ≡ TABLE_SHELVES
+    pub many : length shelves ≡ shelves_of sessions
     pub new : (p : ℕ) → p < 16 → IsNew (slice_get shelves (content_shelf_of p))
-    pub empty : (lock : ℕ) → lock < lock_count → IsEmptyList sessions (slice_get shelves (list_shelf_of lock))
+    pub empty : (lock : ℕ) → lock < lock_count sessions → IsEmptyList sessions (slice_get shelves (list_shelf_of lock))

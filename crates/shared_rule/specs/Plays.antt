@@ -8,7 +8,6 @@ use Rattle.lock_table.specs.declared.request.Request.{Request}
 use Rattle.lock_table.specs.Content.{Content}
 use Rattle.lock_world.specs.declared.events.Word.{Word}
 use Rattle.lock_world.specs.declared.events.Word.TheVariants.{Partition, Fast}
-use Rattle.lock_world.specs.SlotHolds.{most_groups}
 use Rattle.lock_world.specs.Account.{Account}
 use Rattle.lock_world.specs.AccountFacts.{KnowsContent, KnowsSlots}
 use Rattle.atomic_table.specs.declared.shared.Seat.{Seat}
@@ -20,31 +19,21 @@ use Rattle.shared_rule.specs.declared.kept.Kept.{Kept}
 use Rattle.shared_rule.specs.declared.kept.Kept.TheVariants.{Part}
 use Rattle.shared_rule.specs.declared.kept.Kept.TheVariants as kept
 use Rattle.shared_rule.specs.declared.lw_locks.LwLock.{LwLock}
-use Rattle.shared_rule.specs.LwLocks.{word_of_lock, lock_number, LockIsInTable}
-use Rattle.shared_rule.specs.declared.layout.TheConstants.{TABLE_WORDS, TABLE_SHELVES}
-use Rattle.shared_rule.specs.Layout.{index_of_word, content_shelf_of, list_shelf_of, words_of_groups, MayBeInTable}
+use Rattle.shared_rule.specs.declared.rule.TableSizes.{TableSizes}
+use Rattle.shared_rule.specs.LwLocks.{word_of_lock, lock_number, LockExists}
+use Rattle.shared_rule.specs.Layout.{index_of_word, content_shelf_of, list_shelf_of, IsSized}
 use Rattle.shared_rule.specs.History.{noting, first_account, first_number, slots_shown}
 use Rattle.shared_rule.specs.Quiet.{Quiet, first_quiet}
 use Rattle.shared_rule.specs.Owed.{first_owed}
 use Rattle.shared_rule.specs.Todos.{Todo, first_todo, first_flagged}
+use Rattle.shared_rule.specs.Looks.{word_looked_at}
+use Rattle.shared_rule.specs.Waiters.{WaitersExist, WaitsExist}
 use Rattle.shared_rule.specs.Slots.{KnowsWord}
-use Rattle.modes_core.specs.Sessions.{most_sessions}
 
 -- What each step tells. A session's side of a step: its view, and the contents that it has in hand, each with its shelf.
 
 abbrev pub Side : Type 0 → Type 0
 Side T = Me (Kept T) (View T)
-
--- the table has room for each word, those of further groups of slots aside, each content and each list
-pub record IsSized (table : TableId) : Type 0 where
-  pub words : TABLE_WORDS ≤ table.words
-  pub shelves : table.slots ≡ TABLE_SHELVES
-
--- The table has all words for this number of groups of slots, 1 to 8.
-pub record HasGroups (table : TableId) (groups : ℕ) : Type 0 where
-  pub words : table.words ≡ words_of_groups groups
-  pub some : 0 < groups
-  pub few : groups ≤ most_groups
 
 module _ {T : Type 0} where
   -- the number of the session that makes its steps with the seat
@@ -71,10 +60,10 @@ module _ {T : Type 0} where
   abbrev pub owed_at : Seat (Kept T) (View T) → List ℕ
   owed_at seat = first_owed seat.me.0.sessions
 
-  -- the seat is at this table
-  pub record FitsTable (seat : Seat (Kept T) (View T)) (table : TableId) : Type 0 where
+  -- the seat is at this table, which is one of these sizes
+  pub record FitsTable (seat : Seat (Kept T) (View T)) (sizes : TableSizes) (table : TableId) : Type 0 where
     pub at : seat.table_id ≡ table
-    pub sized : IsSized table
+    pub sized : IsSized sizes table
 
   -- the seat is for a session, which makes its steps with it
   pub record HasSession (view : View T) : Type 0 where
@@ -96,11 +85,12 @@ module _ {T : Type 0} where
   WentHome mark step before found after = after ≡ (noting before.0 (mark found), rest before.1)
 
 module _ {T : Type 0} (content : T → Content) where
-  -- The step of the seat's session was noted, and of the number found the session learns what its account knows of the word.
+  -- The step of the seat's session was noted, and of the number found the session learns what its account knows of the word that the
+  -- mark names.
   abbrev pub Looked : (ℕ → Mark T) → Step (Kept T) → Side T → ℕ → Side T → Type 0
   Looked mark step before found after =
       Marked mark step before found after
-      × ((word : Word) → MayBeInTable word → step.word ≡ index_of_word word
+      × ((word : Word) → word_looked_at (mark found) ≡ Some word
       → KnowsWord (first_number before.0.sessions) (first_account content before.0.sessions) word found)
 
   -- What the slots of a session show, of this number of groups, was noted by this mark as the lock of them came into
@@ -125,7 +115,7 @@ module _ {T : Type 0} (content : T → Content) where
   abbrev pub SeesSlotsOr :
       ℕ → (ℕ → ℕ → List ℕ → Mark T) → (ℕ → View T → View T) → Step (Kept T) → Side T → ℕ → Side T → Type 0
   SeesSlotsOr groups mark lost step before found after =
-      (found ≡ step.first → (owner : ℕ) → owner < most_sessions → step.word ≡ index_of_word (Fast owner)
+      (found ≡ step.first → (sessions owner : ℕ) → step.word ≡ index_of_word sessions (Fast owner)
       → SeesSlots groups mark owner before after)
       × (found ≢ step.first → after ≡ (lost found before.0, before.1))
 
@@ -139,7 +129,7 @@ module _ {T : Type 0} (content : T → Content) where
 
 module _ {T : Type 0} (content : T → Content) where
   -- The wait list of a lightweight lock came in hand, and those who stand there were noted. The session is among them
-  -- only if its account has that it stands in the list of this lock, and there is room for so many sessions.
+  -- only if its account has that it stands in the list of this lock, there is room for so many sessions, and all who stand there are among these.
   pub record TookList (sessions : ℕ) (lock : LwLock) (before after : Side T) : Type 0 where
     pub list : Box Waiting
     pub side :
@@ -152,13 +142,15 @@ module _ {T : Type 0} (content : T → Content) where
         stands_in (first_number before.0.sessions) list.value.waiters ≡ true
         → (first_account content before.0.sessions).lists.stands ≡ Some (lock_number lock)
     pub room : list.value.room ≡ sessions
+    pub exist : WaitersExist sessions list.value.waiters
 
   -- A fetch-or of its bit takes the list where it finds that bit not set, and else only sees that another has it.
   abbrev pub LockedListOr : ℕ → Step (Kept T) → Side T → ℕ → Side T → Type 0
   LockedListOr sessions step before found after =
-      (found / 2 ^ 28 % 2 ≡ 0 → (lock : LwLock) → LockIsInTable lock → step.word ≡ index_of_word (word_of_lock lock)
-      → TookList sessions lock before after)
-      × (found / 2 ^ 28 % 2 ≢ 0 → (lock : LwLock) → LockIsInTable lock → step.word ≡ index_of_word (word_of_lock lock)
+      (found / 2 ^ 28 % 2 ≡ 0 → (lock : LwLock) → LockExists sessions lock
+      → step.word ≡ index_of_word sessions (word_of_lock lock) → TookList sessions lock before after)
+      × (found / 2 ^ 28 % 2 ≢ 0 → (lock : LwLock) → LockExists sessions lock
+      → step.word ≡ index_of_word sessions (word_of_lock lock)
       → after ≡ (noting before.0 (SawListLocked (lock_number lock)), before.1))
 
 module _ {T : Type 0} where
@@ -166,7 +158,8 @@ module _ {T : Type 0} where
   abbrev pub SawHeldOr : Step (Kept T) → Side T → ℕ → Side T → Type 0
   SawHeldOr step before found after =
       (IsHeldByNobody found → after ≡ before)
-      × ((IsHeldByNobody found → ⊥) → (lock : LwLock) → LockIsInTable lock → step.word ≡ index_of_word (word_of_lock lock)
+      × ((IsHeldByNobody found → ⊥) → (sessions : ℕ) (lock : LwLock) → LockExists sessions lock
+      → step.word ≡ index_of_word sessions (word_of_lock lock)
       → after ≡ (noting before.0 (SawHeld (lock_number lock)), before.1))
 
   -- A lost exchange is not noted.
@@ -178,16 +171,18 @@ module _ {T : Type 0} where
   noted_load found view = noting view (LoadedFast found)
 
 module _ {T : Type 0} (content : T → Content) (begun : T → Option Request) where
-  -- A partition came into hand with its content, of which the session knows what its account tells, and in which no
-  -- request is begun.
-  pub record TookContent (p : ℕ) (before after : Side T) : Type 0 where
+  -- A partition came into hand with its content, of which the session knows what its account tells, in which no request is
+  -- begun, and in which none but some of so many sessions wait.
+  pub record TookContent (sessions p : ℕ) (before after : Side T) : Type 0 where
     pub part : T
     pub side : after ≡ (noting before.0 (TookPart p part), (content_shelf_of p, Part part) ∷ before.1)
     pub none_begun : begun part ≡ None
     pub knows : KnowsContent (first_number before.0.sessions) (first_account content before.0.sessions) p (content part)
+    pub waiters : WaitsExist sessions (content part)
 
   -- An exchange takes a partition in hand where it finds the number that it expects, and else changes nothing.
-  abbrev pub TookPartition : Step (Kept T) → Side T → ℕ → Side T → Type 0
-  TookPartition step before found after =
-      (found ≡ step.first → (p : ℕ) → p < 16 → step.word ≡ index_of_word (Partition p) → TookContent p before after)
+  abbrev pub TookPartition : ℕ → Step (Kept T) → Side T → ℕ → Side T → Type 0
+  TookPartition sessions step before found after =
+      (found ≡ step.first → (p : ℕ) → p < 16 → step.word ≡ index_of_word sessions (Partition p)
+      → TookContent sessions p before after)
       × (found ≢ step.first → after ≡ before)

@@ -11,6 +11,7 @@ use Rattle.lock_world.specs.Account.{Account, InHand}
 use Rattle.lock_world.specs.AccountSteps.{account_putting}
 use Rattle.shared_rule.specs.declared.history.Mark.{Mark}
 use Rattle.shared_rule.specs.declared.history.View.{View}
+use Rattle.shared_rule.specs.declared.rule.TableSizes.{TableSizes}
 use Rattle.shared_rule.specs.declared.kept.Kept.{Kept}
 use Rattle.shared_rule.specs.declared.kept.Kept.TheVariants.{Nothing}
 use Rattle.shared_rule.specs.declared.lw_locks.LwLock.{LwLock}
@@ -19,20 +20,19 @@ use Rattle.shared_rule.specs.History.{taken_of}
 use Rattle.shared_rule.specs.Layout.{content_shelf_of}
 use Rattle.shared_rule.specs.Lawful.{MayPutPart}
 use Rattle.shared_rule.specs.Led.{Led, LedTo}
-use Rattle.shared_rule.specs.LwLocks.{lock_number, LockExists, LockIsInTable, no_lists}
+use Rattle.shared_rule.specs.LwLocks.{lock_number, LockExists, no_lists}
 use Rattle.shared_rule.specs.Marks.{PutPart}
 use Rattle.shared_rule.specs.Plays.{account_at, number_at, todo_at, FitsTable, HasSession}
 use Rattle.shared_rule.specs.Todos.{nothing_to_do, todo_putting}
 
 -- What a release of a lightweight lock leads to: the members of the lock's trait (`Held` of lw_lock).
 
--- Of a lock of a table for `limit` sessions:
-module _ {T : Type 0} (content : T → Content) (limit : ℕ) (table : TableId) (lock : LwLock) where
+-- Of a lock of a table of these sizes:
+module _ {T : Type 0} (content : T → Content) (sizes : TableSizes) (table : TableId) (lock : LwLock) where
   -- A session may put it, as far as that is the same for all locks.
   pub record MayPut (seat : Seat (Kept T) (View T)) : Type 0 where
-    pub fits : FitsTable seat table
-    pub exists : LockExists limit lock
-    pub there : LockIsInTable lock
+    pub fits : FitsTable seat sizes table
+    pub exists : LockExists sizes.sessions lock
     pub session : HasSession seat.me.0
     pub idle : (account_at content seat).lists ≡ no_lists
     pub todo : todo_at seat ≡ nothing_to_do
@@ -60,17 +60,17 @@ module _ {T : Type 0} (content : T → Content) (part : ℕ) (done : Move) where
       account_putting (account_at content before) part (taken_of ((account_at content before).hand part)) (content taken) done
 
   -- The partition may go home, under this mark.
-  pub record MayPutPartition (begun : T → Option Request) (limit : ℕ) (table : TableId) (mark : ℕ → Mark T)
+  pub record MayPutPartition (begun : T → Option Request) (sizes : TableSizes) (table : TableId) (mark : ℕ → Mark T)
       (seat : Seat (Kept T) (View T)) (taken : T) : Type 0 where
-    pub may : MayPut content limit table (OfPart part) seat
+    pub may : MayPut content sizes table (OfPart part) seat
     pub in_hand : seat.me.1 ≡ (content_shelf_of part, Nothing) ∷ rest seat.me.1
     pub none_begun : begun taken ≡ None
-    pub lawful : (mine : InHand) × MayPutPart limit (number_at seat) (account_at content seat) part mine done (content taken)
+    pub lawful : (mine : InHand) × MayPutPart sizes.sessions (number_at seat) (account_at content seat) part mine done (content taken)
     pub mark_is : mark ≡ PutPart part done taken
 
 -- The lock of a session's slots is put, under this mark, where this is so of the account.
-pub record MayPutSlots {T : Type 0} (content : T → Content) (limit : ℕ) (table : TableId) (owner : ℕ)
+pub record MayPutSlots {T : Type 0} (content : T → Content) (sizes : TableSizes) (table : TableId) (owner : ℕ)
     (may_by : Account → Type 0) (mark its : ℕ → Mark T) (seat : Seat (Kept T) (View T)) : Type 0 where
-  pub may : MayPut content limit table (OfSlots owner) seat
+  pub may : MayPut content sizes table (OfSlots owner) seat
   pub lawful : may_by (account_at content seat)
   pub mark_is : mark ≡ its

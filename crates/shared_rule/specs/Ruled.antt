@@ -72,7 +72,7 @@ module _ {T : Type 0} where
   -- Where nobody has it in hand, the list of each lock is at home, with those who wait for it and with room for so many sessions.
   abbrev pub ListsAreHome : ℕ → List (maybe.Option (Kept T)) → (ℕ → Option ℕ) → (ℕ → List LwWaiter) → Type 0
   ListsAreHome sessions homes has_list list =
-      (lock : ℕ) → lock < lock_count → IsInNoHand lock has_list
+      (lock : ℕ) → lock < lock_count sessions → IsInNoHand lock has_list
       → ListIsAtHome sessions (list lock) (get_elem? homes (list_shelf_of lock))
 
 -- The session of this number was opened, and has closed: the number was given out and is live no more.
@@ -271,7 +271,7 @@ module _ {T : Type 0} (content : T → Content) (begun : T → Option Request) w
     pub few : sizes.sessions ≤ most_sessions
     pub some_groups : 0 < sizes.groups
     pub few_groups : sizes.groups ≤ most_groups
-    pub words : WordsAreShown sizes.groups state.words world.words
+    pub words : WordsAreShown sizes state.words world.words
     pub none_beyond : NoneBeyondSlots sizes.groups world.words
     pub few_counted : (session : ℕ) → length (world.sessions.counted session) ≤ most_counted
     pub contents : ContentsAreHome content begun state.homes world.contents

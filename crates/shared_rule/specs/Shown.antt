@@ -3,16 +3,17 @@ use Rattle.lock_world.specs.declared.events.Word.{Word}
 use Rattle.lock_world.specs.declared.events.Word.TheVariants.{Partition, Fast, Database, Slot, Wait, Strong, Sleep}
 use Rattle.lock_table.specs.Put.{set_at}
 use Rattle.lock_world.specs.World.{Words, word_in}
-use Rattle.shared_rule.specs.Layout.{words_of_groups, index_of_word, MayBeInTable, IsGap}
+use Rattle.shared_rule.specs.declared.rule.TableSizes.{TableSizes}
+use Rattle.shared_rule.specs.Layout.{words_of, index_of_word, IsInTable, IsGap}
 
--- What the table's words say of a World with this number of groups of slots: each word shows what it shows in that World. Where the table has no such
--- word, for want of groups, 0 is read.
+-- What the words of a table of these sizes say of a World: each word that the table has shows what it shows in that World.
 
-pub record WordsAreShown (groups : ℕ) (table : List ℕ) (words : Words) : Type 0 where
-  pub as_many : length table ≡ words_of_groups groups
-  pub word : (word : Word) → MayBeInTable word → slice_index table (index_of_word word) ≡ word_in words word
+pub record WordsAreShown (sizes : TableSizes) (table : List ℕ) (words : Words) : Type 0 where
+  pub as_many : length table ≡ words_of sizes.sessions sizes.groups
+  pub word :
+      (word : Word) → IsInTable sizes word → slice_index table (index_of_word sizes.sessions word) ≡ word_in words word
   -- nobody has written where no word stands: a gap shows what it opened with
-  pub gap : (index : ℕ) → IsGap index → slice_index table index ≡ 0
+  pub gap : (index : ℕ) → IsGap sizes index → slice_index table index ≡ 0
 
 -- the words with one of them set
 abbrev pub set_word : Words → Word → ℕ → Words

@@ -17,7 +17,7 @@ use Rattle.shared_rule.specs.declared.history.History.{History}
 use Rattle.shared_rule.specs.declared.lw_locks.LwLock.{LwLock}
 use Rattle.shared_rule.specs.declared.lw_locks.LwLock.TheVariants.{OfPart, OfSlots}
 use Rattle.shared_rule.specs.History.{told, list_here}
-use Rattle.shared_rule.specs.LwLocks.{lock_number, LockIsInTable}
+use Rattle.shared_rule.specs.LwLocks.{lock_number, LockExists}
 use Rattle.shared_rule.specs.Lawful.{IsAboveHand}
 
 -- What a session has still to do for those who wait for lightweight locks, as its history tells it. `Duties` of the World's wake laws
@@ -207,7 +207,8 @@ IsLatestBy a (OfSlots owner) = HasNoLock a
 
 -- The list in hand is that of such a lock.
 pub record JoinsLatest (a : Account) : Type 0 where
+  pub sessions : ℕ
   pub lock : LwLock
-  pub there : LockIsInTable lock
+  pub there : LockExists sessions lock
   pub in_hand : lock_of_list a.lists.in_hand ≡ Some (lock_number lock)
   pub latest : IsLatestBy a lock

@@ -5,28 +5,29 @@ use Rattle.lock_table.specs.Content.{Content}
 use Rattle.lw_word.specs.declared.words.LwMode.{LwMode}
 use Rattle.lock_world.specs.Account.{Account}
 use Rattle.shared_rule.specs.declared.history.View.{View}
+use Rattle.shared_rule.specs.declared.rule.TableSizes.{TableSizes}
 use Rattle.shared_rule.specs.declared.kept.Kept.{Kept}
 use Rattle.shared_rule.specs.declared.lw_locks.LwLock.{LwLock}
 use Rattle.shared_rule.specs.declared.lw_locks.LwLock.TheVariants.{OfPart, OfSlots}
 use Rattle.shared_rule.specs.Acquires.{GotNothing, IsTrying, MayGetSlots}
 use Rattle.shared_rule.specs.Led.{LedTo}
-use Rattle.shared_rule.specs.LwLocks.{lock_number, LockExists, LockIsInTable, no_lists, queued_for}
+use Rattle.shared_rule.specs.LwLocks.{lock_number, LockExists, no_lists, queued_for}
 use Rattle.shared_rule.specs.Plays.{account_at, number_at, todo_at, FitsTable, HasSession}
 use Rattle.shared_rule.specs.Todos.{IsLatestBy, TriesAtMost, todo_attempted, todo_in_list}
 
 -- What has come since a session was first on its way to a lightweight lock: the members of the lock's trait (`Guarded` of lw_lock).
 
--- Who comes for which lock of which table, for how many sessions, and in which mode.
+-- Who comes for which lock of which table, of which sizes, and in which mode.
 pub record Sought : Type 0 where
-  pub limit : ℕ
+  pub sizes : TableSizes
   pub table : TableId
   pub number : ℕ
   pub lock : LwLock
   pub mode : LwMode
 
 -- the session that comes for a lock, by its parts
-abbrev pub sought_of : ℕ → TableId → ℕ → LwLock → LwMode → Sought
-sought_of limit table number lock mode = record { limit = limit; table = table; number = number; lock = lock; mode = mode }
+abbrev pub sought_of : TableSizes → TableId → ℕ → LwLock → LwMode → Sought
+sought_of sizes table number lock mode = record { sizes = sizes; table = table; number = number; lock = lock; mode = mode }
 
 -- The session may get the lock in the mode: it doesn't share it yet.
 abbrev pub MayGet : LwLock → LwMode → Account → Type 0
@@ -36,10 +37,9 @@ MayGet (OfSlots owner) mode a = MayGetSlots mode a owner
 module _ {T : Type 0} (content : T → Content) (sought : Sought) where
   -- The session may attempt the lock, and wait for it: it is in no list, has earlier locks alone, and at most this one to attempt.
   pub record MayWait (seat : Seat (Kept T) (View T)) : Type 0 where
-    pub fits : FitsTable seat sought.table
-    pub exists : LockExists sought.limit sought.lock
-    pub there : LockIsInTable sought.lock
-    pub one_of_them : sought.number < sought.limit
+    pub fits : FitsTable seat sought.sizes sought.table
+    pub exists : LockExists sought.sizes.sessions sought.lock
+    pub one_of_them : sought.number < sought.sizes.sessions
     pub session : HasSession seat.me.0
     pub own : sought.number ≡ number_at seat
     pub may : MayGet sought.lock sought.mode (account_at content seat)

@@ -21,9 +21,10 @@ ghost use Rattle.shared_rule.specs.Audits.{CountersSeen, CountsAll, CountsFrom, 
 ghost use Rattle.shared_rule.specs.Gatherings.{AreAll, KnowsAll, KnowsOfAll, LookedOver, NoneWaits, gathered_in};
 ghost use Rattle.shared_rule.specs.declared.history.History.{History};
 ghost use Rattle.shared_rule.specs.History.{noting, first_account, taken_of};
-ghost use Rattle.shared_rule.specs.Layout.{content_shelf_of, index_of_word, MayBeInTable};
+ghost use Rattle.shared_rule.specs.Layout.{content_shelf_of};
+ghost use Rattle.shared_rule.specs.Looks.{word_looked_at};
 ghost use Rattle.shared_rule.specs.Lawful.{IsAboveHand, MayPutPart};
-ghost use Rattle.shared_rule.specs.Plays.{account_at, number_at, todo_at, FitsTable, HasGroups, HasSession, IsSameSeat};
+ghost use Rattle.shared_rule.specs.Plays.{account_at, number_at, todo_at, FitsTable, HasSession, IsSameSeat};
 ghost use Rattle.shared_rule.specs.Ruled.{Ruled};
 ghost use Rattle.shared_rule.specs.Seats.{MayBeKeptApartBy};
 ghost use Rattle.modes_core.specs.Sessions.{most_sessions};
@@ -31,7 +32,7 @@ ghost use Rattle.modes_core.specs.Sessions.{most_sessions};
 use crate::layout::{SLOTS_PER_GROUP, slot_word, strong_word};
 use crate::opener::Opener;
 use crate::partitions::{put_part, take_part_alone};
-use crate::plays::{Grouping, LooksOver, Marking, TellsAll};
+use crate::plays::{LooksOver, Marking, Sizing, TellsAll};
 use crate::rule::{Seat, SharedWords, TableSizes};
 use lock_table::{Move, NoMemory, PartTable, TableRow};
 use lw_word::SlotWord;
@@ -57,13 +58,13 @@ fn look_over_as<T: PartTable, M: Marking<T>>(
     seat: &mut Seat<T>,
     word: usize,
 ) -> u64
-    requires table { FitsTable seat.old words.now.table_id × (word < words.now.table_id.words) }
+    requires table { FitsTable seat.old words.now.key words.now.table_id × (word < words.now.table_id.words) }
     requires allowed { Allows (Ruled T.content T.begun words.now.key) words.now.table_id.slots
         seat.old.id seat.old.me word (λ n. n)
         (LookedOver T.content M.mark (step words.now.table_id.slots word 0 0 none) seat.old.me) }
     ensures same_seat { IsSameSeat seat.old seat.new }
     ensures side { seat.new.me ≡ (noting seat.old.me.0 (M.mark result), seat.old.me.1) }
-    ensures knows { (which : Word) (issued : ℕ) → MayBeInTable which → word ≡ index_of_word which
+    ensures knows { (which : Word) (issued : ℕ) → word_looked_at (M.mark result) ≡ Some which
         → AreAll issued seat.old.me.0 → KnowsOfAll T.content seat.old.me.0 which result }
 {
     words.load::<LooksOver<M>>(seat, word)
@@ -73,20 +74,22 @@ fn look_over_as<T: PartTable, M: Marking<T>>(
 fn look_over_slot<T: PartTable, M: Marking<T>>(
     words: &SharedWords<T>,
     seat: &mut Seat<T>,
+    sessions: u8,
     owner: SessionId,
     slot: u8,
 ) -> SlotWord
-    requires table { FitsTable seat.old words.now.table_id }
+    requires table { FitsTable seat.old words.now.key words.now.table_id }
+    requires sessions { sessions ≡ words.now.key.sessions }
+    requires exists { owner < words.now.key.sessions }
     requires session { HasSession seat.old.me.0 }
     requires within { slot < group_size * words.now.key.groups }
-    requires grouped { HasGroups words.now.table_id words.now.key.groups }
     requires mark { M.mark ≡ LoadedSlot owner slot }
     ensures same_seat { IsSameSeat seat.old seat.new }
     ensures side { seat.new.me ≡ (noting seat.old.me.0 (LoadedSlot owner slot result), seat.old.me.1) }
     ensures knows { (issued : ℕ) → AreAll issued seat.old.me.0
         → KnowsOfAll T.content seat.old.me.0 (Slot owner slot) result }
 {
-    SlotWord::from_number(look_over_as::<T, M>(words, seat, slot_word(owner, slot)))
+    SlotWord::from_number(look_over_as::<T, M>(words, seat, slot_word(sessions, owner, slot)))
 }
 
 // Loads a strong lock counter.
@@ -95,7 +98,7 @@ fn look_over_strong<T: PartTable, M: Marking<T>>(
     seat: &mut Seat<T>,
     index: u16,
 ) -> u64
-    requires table { FitsTable seat.old words.now.table_id }
+    requires table { FitsTable seat.old words.now.key words.now.table_id }
     requires session { HasSession seat.old.me.0 }
     requires within { index < 1024 }
     requires mark { M.mark ≡ LoadedStrong index }
@@ -109,10 +112,10 @@ fn look_over_strong<T: PartTable, M: Marking<T>>(
 
 // Has clauses learn which sessions are at `seat`, each with as many groups of slots as `G` says, and where each one's
 // own holds are. Loads a word of `words`, and ignores what it finds.
-fn tell_all_as<T: PartTable, G: Grouping>(words: &SharedWords<T>, seat: &mut Seat<T>)
-    requires table { FitsTable seat.old words.now.table_id }
+fn tell_all_as<T: PartTable, G: Sizing>(words: &SharedWords<T>, seat: &mut Seat<T>)
+    requires table { FitsTable seat.old words.now.key words.now.table_id }
     requires session { HasSession seat.old.me.0 }
-    requires groups { G.groups ≡ words.now.key.groups }
+    requires sizes { G.sizes ≡ words.now.key }
     ensures same_seat { IsSameSeat seat.old seat.new }
     ensures side { seat.new.me ≡ seat.old.me }
     ensures knows { (issued : ℕ) → AreAll issued seat.old.me.0
@@ -123,7 +126,7 @@ fn tell_all_as<T: PartTable, G: Grouping>(words: &SharedWords<T>, seat: &mut Sea
 
 // Has clauses learn what `tell_all_as` does, with as many groups of slots as the table has.
 fn tell_all<T: PartTable>(words: &SharedWords<T>, seat: &mut Seat<T>)
-    requires table { FitsTable seat.old words.now.table_id }
+    requires table { FitsTable seat.old words.now.key words.now.table_id }
     requires session { HasSession seat.old.me.0 }
     ensures same_seat { IsSameSeat seat.old seat.new }
     ensures side { seat.new.me ≡ seat.old.me }
@@ -144,7 +147,7 @@ fn modes_in(word: SlotWord) -> u64
 
 /// The sum of all strong lock counters of `words`, each loaded once by `seat`.
 pub(crate) fn count_counters<T: PartTable>(words: &SharedWords<T>, seat: &mut Seat<T>) -> u64
-    requires table { FitsTable seat.old words.now.table_id }
+    requires table { FitsTable seat.old words.now.key words.now.table_id }
     requires session { HasSession seat.old.me.0 }
     requires all { (issued : ℕ) × AreAll issued seat.old.me.0 }
     requires no_slots { (account_at T.content seat.old).fast.slots (number_at seat.old) ≡ None }
@@ -164,30 +167,29 @@ fn count_slots_of<T: PartTable>(
     words: &SharedWords<T>,
     seat: &mut Seat<T>,
     owner: SessionId,
-    groups: u8,
+    sizes: &TableSizes,
 ) -> u64
-    requires table { FitsTable seat.old words.now.table_id }
+    requires table { FitsTable seat.old words.now.key words.now.table_id }
     requires session { HasSession seat.old.me.0 }
-    requires groups { groups ≡ words.now.key.groups }
-    requires grouped { HasGroups words.now.table_id words.now.key.groups }
+    requires sizes { sizes.now ≡ words.now.key }
+    requires exists { owner < words.now.key.sessions }
     ensures same_seat { IsSameSeat seat.old seat.new }
     ensures shelves { seat.new.me.1 ≡ seat.old.me.1 }
-    ensures sees { SeesSlots T.content owner (group_size * groups) seat.old.me.0 seat.new.me.0 result }
+    ensures sees { SeesSlots T.content owner (group_size * sizes.now.groups) seat.old.me.0 seat.new.me.0 result }
     ensures few { result ≤ 384 }
 {
     let mut sum = 0;
-    for slot in 0..SLOTS_PER_GROUP * groups {
-        sum += modes_in(look_over_slot::<T, Brand>(words, seat, owner, slot));
+    for slot in 0..SLOTS_PER_GROUP * sizes.groups {
+        sum += modes_in(look_over_slot::<T, Brand>(words, seat, sizes.sessions, owner, slot));
     }
     sum
 }
 
 // How many modes all slots show, of the sessions that there can be.
 fn count_slots<T: PartTable>(words: &SharedWords<T>, seat: &mut Seat<T>, sizes: &TableSizes) -> u64
-    requires table { FitsTable seat.old words.now.table_id }
+    requires table { FitsTable seat.old words.now.key words.now.table_id }
     requires session { HasSession seat.old.me.0 }
     requires sizes { sizes.now ≡ words.now.key }
-    requires grouped { HasGroups words.now.table_id words.now.key.groups }
     requires few { sizes.now.sessions ≤ most_sessions }
     ensures same_seat { IsSameSeat seat.old seat.new }
     ensures shelves { seat.new.me.1 ≡ seat.old.me.1 }
@@ -196,7 +198,7 @@ fn count_slots<T: PartTable>(words: &SharedWords<T>, seat: &mut Seat<T>, sizes: 
     let mut sum = 0;
     for number in 0..sizes.sessions {
         let owner = SessionId::new(number).unwrap();
-        sum += count_slots_of(words, seat, owner, sizes.groups);
+        sum += count_slots_of(words, seat, owner, sizes);
     }
     sum
 }
@@ -208,7 +210,7 @@ fn take_next<T: PartTable, R: Wait>(
     seat: &mut Seat<T>,
     part: u8,
 ) -> T
-    requires table { FitsTable seat.old words.now.table_id }
+    requires table { FitsTable seat.old words.now.key words.now.table_id }
     requires session { HasSession seat.old.me.0 }
     requires exists { part < 16 }
     requires none_in_hand { IsAboveHand (account_at T.content seat.old) part }
@@ -229,7 +231,7 @@ fn take_next<T: PartTable, R: Wait>(
 
 // Puts a partition back as it was taken. A session that waits for its lock is woken, though all sessions are gathered.
 fn put_back<T: PartTable>(words: &SharedWords<T>, seat: &mut Seat<T>, part: u8, content: T)
-    requires table { FitsTable seat.old words.now.table_id }
+    requires table { FitsTable seat.old words.now.key words.now.table_id }
     requires exists { part < 16 }
     requires session { HasSession seat.old.me.0 }
     requires in_hand { seat.old.me.1 ≡ (content_shelf_of part, Nothing) ∷ rest seat.old.me.1 }
@@ -257,10 +259,9 @@ pub(crate) fn count_from<T: PartTable, R: Wait>(
     fast: &mut u64,
     rows: &mut Vec<TableRow>,
 ) -> Result<(), NoMemory>
-    requires table { FitsTable seat.old words.now.table_id }
+    requires table { FitsTable seat.old words.now.key words.now.table_id }
     requires session { HasSession seat.old.me.0 }
     requires sizes { sizes.now ≡ words.now.key }
-    requires grouped { HasGroups words.now.table_id words.now.key.groups }
     requires few { sizes.now.sessions ≤ most_sessions }
     requires exists { part ≤ 16 }
     requires none_in_hand { IsAboveHand (account_at T.content seat.old) part }

@@ -33,6 +33,7 @@ ghost use Rattle.shared_rule.specs.Boards.{stack_owing, stack_asking, stack_waki
 ghost use Rattle.shared_rule.specs.Lawful.{MayPutPart, IsGrantingIn, MayMarkBy, MayClearBy, HasJustLooked};
 ghost use Rattle.shared_rule.specs.Lawful.{IsAboveHand};
 ghost use Rattle.shared_rule.specs.Seats.{HoldsNothing};
+ghost use Rattle.shared_rule.specs.Waiters.{WaitsExist};
 
 use crate::busy::Busy;
 use lock_table::{Move, PartTable};
@@ -86,7 +87,8 @@ pub trait Board<T: PartTable> {
         ensures stack { stack self.new ≡ stack_taking (stack self.old) part }
         ensures quiet { quiet self.new ≡ quiet self.old }
         ensures none_begun { T.begun result ≡ None }
-        ensures knows { KnowsContent (seat self.old).number (view self.old) part (T.content result) };
+        ensures knows { KnowsContent (seat self.old).number (view self.old) part (T.content result) }
+        ensures waiters { WaitsExist (seat self.old).limit (T.content result) };
 
     /// Puts `content` home to partition `part` after the move `done`, and its lightweight lock (`LWLockRelease` in
     /// lwlock.c).
@@ -190,6 +192,7 @@ pub trait Board<T: PartTable> {
 
     /// Loads the database of `owner`, 0 where it has none (`databaseId` in proc.h).
     fn load_database(&mut self, owner: SessionId) -> u64
+        requires exists { owner < (seat self.old).limit }
         ensures seat { seat self.new ≡ seat self.old }
         ensures view { view self.new ≡ account_tracing (view self.old) (Loaded (Database owner) result) }
         ensures stack { stack self.new ≡ stack self.old }
@@ -212,6 +215,7 @@ pub trait Board<T: PartTable> {
     /// Loads the fast-path slot `slot` of `owner`, one of those of its groups (`fpRelId` and `fpLockBits` in
     /// proc.h).
     fn load_slot(&mut self, owner: SessionId, slot: u8) -> SlotWord
+        requires exists { owner < (seat self.old).limit }
         requires within { slot < group_size * (seat self.old).groups }
         ensures seat { seat self.new ≡ seat self.old }
         ensures view { view self.new ≡ account_tracing (view self.old) (Loaded (Slot owner slot) result) }
@@ -308,6 +312,7 @@ pub trait Board<T: PartTable> {
         woken: &[(SessionId, Mode)],
         content: &T,
     )
+        requires exists { other < (seat self.old).limit }
         requires grants { IsGrantingIn part done.now }
         requires lawful { (mine : InHand) × (granted : List contents.Wait)
             × (woken.now ≡ map whose_and_mode granted)
@@ -333,6 +338,7 @@ pub trait Board<T: PartTable> {
     /// Asks `other` to cancel its wait, and answers what its wait word showed before (`pg_cancel_backend` in
     /// signalfuncs.c). Where it showed that the session waits, that one is owed a wake from then on.
     fn ask_cancel(&mut self, other: SessionId) -> u64
+        requires exists { other < (seat self.old).limit }
         ensures seat { seat self.new ≡ seat self.old }
         ensures view { view self.new ≡ account_tracing (view self.old) (AskedToCancel other result) }
         ensures stack { stack self.new ≡ stack_asking (stack self.old) other result }
@@ -374,6 +380,7 @@ pub trait Board<T: PartTable> {
     /// Wakes `other`, which sleeps until its wait word changes (`SetLatch` in `ProcWakeup` of proc.c): it is then
     /// owed one wake less. This is not a step, but the session's history tells it.
     fn wake(&mut self, other: SessionId)
+        requires exists { other < (seat self.old).limit }
         ensures seat { seat self.new ≡ seat self.old }
         ensures view { view self.new ≡ view self.old }
         ensures stack { stack self.new ≡ stack_waking (stack self.old) other }

@@ -20,7 +20,7 @@ pub(crate) fn add_strong<T: PartTable, M: Marking<T>>(
     tag: &Tag,
     mode: Mode,
 )
-    requires table { FitsTable seat.old words.now.table_id }
+    requires table { FitsTable seat.old words.now.key words.now.table_id }
     requires session { HasSession seat.old.me.0 }
     requires lawful { MayCountBy (account_at T.content seat.old) tag.now mode }
     requires mark { M.mark ≡ (λ _. Counted tag.now mode) }
@@ -38,7 +38,7 @@ pub(crate) fn sub_strong<T: PartTable, M: Marking<T>>(
     tag: &Tag,
     mode: Mode,
 )
-    requires table { FitsTable seat.old words.now.table_id }
+    requires table { FitsTable seat.old words.now.key words.now.table_id }
     requires session { HasSession seat.old.me.0 }
     requires lawful { MayUncountBy (account_at T.content seat.old) tag.now mode }
     requires mark { M.mark ≡ (λ _. Uncounted tag.now mode) }
@@ -55,7 +55,7 @@ pub(crate) fn load_strong<T: PartTable, M: Marking<T>>(
     seat: &mut Seat<T>,
     index: u16,
 ) -> u64
-    requires table { FitsTable seat.old words.now.table_id }
+    requires table { FitsTable seat.old words.now.key words.now.table_id }
     requires session { HasSession seat.old.me.0 }
     requires within { index < 1024 }
     requires mark { M.mark ≡ LoadedStrong index }

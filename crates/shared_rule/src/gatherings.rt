@@ -29,7 +29,7 @@ pub struct Absent<'a, T: PartTable> {
 impl<'a, T: PartTable> Model for Absent<'a, T> {
     ghost use Rattle.std.specs.Prelude.{◌≡◌, ◌<◌};
     ghost use Rattle.shared_rule.specs.Boards.{Seated};
-    ghost use Rattle.shared_rule.specs.Plays.{HasGroups, IsSized};
+    ghost use Rattle.shared_rule.specs.Layout.{IsSized};
 
     ghost Value = { Seated };
 
@@ -41,8 +41,8 @@ impl<'a, T: PartTable> Model for Absent<'a, T> {
           table = absent.table.now.table_id;
         } };
 
-    ghost invariant = { λ absent. IsSized absent.table.now.table_id × (absent.sizes ≡ absent.table.now.key)
-        × (absent.number < absent.sizes.sessions) × HasGroups absent.table.now.table_id absent.sizes.groups };
+    ghost invariant = { λ absent. IsSized absent.sizes absent.table.now.table_id × (absent.sizes ≡ absent.table.now.key)
+        × (absent.number < absent.sizes.sessions) };
 }
 
 impl<T: PartTable> Opener<T> {

@@ -4,7 +4,6 @@ ghost use Rattle.std.specs.Prelude.{◌≡◌, ◌≢◌, ◌⊎◌, ◌<◌, �
 ghost use mathlib.Core.Option.{some};
 ghost use lib.ListN.{get_elem?};
 ghost use Rattle.atomic_table.specs.Table.{State};
-ghost use Rattle.lock_world.specs.SlotHolds.{most_groups};
 ghost use Rattle.lock_world.specs.World.{World, Hand, TraceEntry, opening};
 ghost use Rattle.shared_rule.specs.declared.rule.TableSizes.{TableSizes};
 ghost use Rattle.shared_rule.specs.declared.history.History.{History};
@@ -15,12 +14,11 @@ ghost use Rattle.modes_core.specs.declared.modes.Mode.{Mode};
 ghost use Rattle.modes_core.specs.declared.tags.Tag.{Tag};
 ghost use Rattle.lock_table.specs.declared.moves.Move.TheVariants.{Adopt};
 ghost use Rattle.lock_world.specs.declared.events.Word.{Word};
-ghost use Rattle.shared_rule.specs.Layout.{index_of_word, words_of_groups, IsInTable, MayBeInTable, IsGap, IsApart, group_of};
+ghost use Rattle.shared_rule.specs.Layout.{index_of_word, words_of, IsInTable, IsGap, IsApart, group_of};
 ghost use Rattle.lock_world.specs.World.{Words};
 ghost use Rattle.shared_rule.specs.Shown.{WordsAreShown, set_word};
 ghost use Rattle.shared_rule.specs.declared.history.View.{View};
 ghost use Rattle.shared_rule.specs.declared.kept.Kept.{Kept};
-ghost use Rattle.shared_rule.specs.declared.layout.TheConstants.{TABLE_WORDS};
 ghost use Rattle.shared_rule.specs.Headline.{ShowsHeadline, ShowsReasons, ShowsSleepers, ShowsCalls, ShowsNoCircle};
 ghost use Rattle.shared_rule.specs.Tells.{Leads, steps_of};
 ghost use Rattle.shared_rule.specs.Quiet.{quiet_told, quiet_of};
@@ -75,32 +73,31 @@ pub fn the_table_lets_no_circle_of_sleepers_come<T: PartTable>()
         → ShowsNoCircle T.content T.begun sizes state }
 {}
 
-/// Each word of a table, for any number of groups of slots, is at an index below the table's length, `TABLE_WORDS` with
-/// one group.
+/// Each word of a table, for any number of sessions and of groups of slots, is at an index below the table's length.
 pub fn each_word_is_within_the_table()
-    ensures within { (groups : ℕ) → 0 < groups → (word : Word) → IsInTable groups word →
-        index_of_word word < words_of_groups groups }
-    ensures one_group { words_of_groups 1 ≡ TABLE_WORDS }
+    ensures { (sizes : TableSizes) → 0 < sizes.groups → (word : Word) → IsInTable sizes word →
+        index_of_word sizes.sessions word < words_of sizes.sessions sizes.groups }
 {}
 
 /// Two words with one index are one word.
 pub fn no_two_words_share_an_index()
-    ensures { (word other : Word) → MayBeInTable word → MayBeInTable other →
-        index_of_word word ≡ index_of_word other → word ≡ other }
+    ensures { (sizes : TableSizes) (word other : Word) → IsInTable sizes word → IsInTable sizes other →
+        index_of_word sizes.sessions word ≡ index_of_word sizes.sessions other → word ≡ other }
 {}
 
 /// Words of two partitions stand 128 bytes apart at least, so do words of two sessions, and so do words of a
 /// partition, of the counters and of a session from each other.
 pub fn words_of_two_groups_stand_apart()
-    ensures { (word other : Word) → MayBeInTable word → MayBeInTable other →
-        group_of word ≢ group_of other → IsApart (index_of_word word) (index_of_word other) }
+    ensures { (sizes : TableSizes) (word other : Word) → IsInTable sizes word → IsInTable sizes other →
+        group_of word ≢ group_of other →
+        IsApart (index_of_word sizes.sessions word) (index_of_word sizes.sessions other) }
 {}
 
 /// Where a table shows the words of a World, a table with one word set shows those with just that word set.
 pub fn a_word_is_set_alone()
-    ensures { (groups : ℕ) → 0 < groups → groups ≤ most_groups → (table : List ℕ) (words : Words) (word : Word)
-        (n : ℕ) → WordsAreShown groups table words → IsInTable groups word →
-        WordsAreShown groups (slice_set table (index_of_word word) n) (set_word words word n) }
+    ensures { (sizes : TableSizes) → 0 < sizes.groups → (table : List ℕ) (words : Words) (word : Word)
+        (n : ℕ) → WordsAreShown sizes table words → IsInTable sizes word →
+        WordsAreShown sizes (slice_set table (index_of_word sizes.sessions word) n) (set_word words word n) }
 {}
 
 /// Where the rule holds, whatever a session's account tells of what it has seen was so: each entry of its trace
@@ -146,7 +143,7 @@ pub fn no_load_of_a_counter_lies<T: PartTable>()
         (number index shown : ℕ) (marks : List (Mark T)) →
         StandsAtSeat state.views (record { number = number; marks = LoadedStrong index shown ∷ marks }) →
         index < 1024 → NobodyElse state.views number →
-        shown ≡ slice_index state.words (index_of_word (Strong index)) }
+        shown ≡ slice_index state.words (index_of_word sizes.sessions (Strong index)) }
 {}
 
 /// The quiet steps of a session are those of the run: where the rule holds, what its history tells of them is what the steps tell that
@@ -175,7 +172,7 @@ pub fn an_adopt_moves_what_its_slot_had<T: PartTable>()
 /// Nobody writes where no word stands: where the rule holds, each gap of the table shows what it opened with.
 pub fn gaps_are_never_written<T: PartTable>()
     ensures { (sizes : TableSizes) (state : State (Kept T) (View T)) → Ruled T.content T.begun sizes state →
-        (index : ℕ) → IsGap index → slice_index state.words index ≡ 0 }
+        (index : ℕ) → IsGap sizes index → slice_index state.words index ≡ 0 }
 {}
 
 /// No seat vanishes: where the rule holds and a seat is one session's, it doesn't hold with that session's view gone and all

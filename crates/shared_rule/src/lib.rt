@@ -38,8 +38,8 @@ pub use gatherings::Absent;
 pub use history::{History, Mark, View, WordMark};
 pub use kept::Kept;
 pub use layout::{
-    CONTENT_SHELVES, TABLE_SHELVES, TABLE_WORDS, content_shelf, database_word, fast_word,
-    partition_word, sleep_word, slot_word, strong_word, table_words, wait_word,
+    CONTENT_SHELVES, content_shelf, database_word, fast_word, partition_word, sleep_word,
+    slot_word, strong_word, table_shelves, table_words, wait_word,
 };
 pub use one_thread::OneThread;
 pub use opener::Opener;

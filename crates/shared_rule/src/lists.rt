@@ -2,7 +2,7 @@
 //! A list is in hand while its bit in the lock's word is set; changes of it are made in memory beside the step that
 //! is told.
 
-ghost use Rattle.std.specs.Prelude.{◌≡◌, ◌≢◌, ◌∷◌, ℕ, Some, None, IfSome, IfNone, true, false, []};
+ghost use Rattle.std.specs.Prelude.{◌≡◌, ◌≢◌, ◌<◌, ◌∷◌, ℕ, Some, None, IfSome, IfNone, true, false, []};
 ghost use Rattle.atomic_table.specs.Table.{rest};
 ghost use Rattle.lw_word.specs.WaitList.{stands_in};
 ghost use Rattle.lock_world.specs.Account.{ListInHand};
@@ -22,7 +22,8 @@ ghost use Rattle.shared_rule.specs.Todos.{todo_owing, todo_calling};
 ghost use Rattle.shared_rule.specs.Todos.{todo_setting_ok, todo_attempted, lock_of_list};
 ghost use Rattle.lw_word.specs.LightweightWord.{IsHeldByNobody};
 ghost use Rattle.lock_world.specs.Wakes.Waking.{NoneOr};
-ghost use Rattle.shared_rule.specs.LwLocks.{lock_number, LockExists, LockIsInTable};
+ghost use Rattle.shared_rule.specs.LwLocks.{lock_number, LockExists};
+ghost use Rattle.shared_rule.specs.Waiters.{WaitersExist};
 ghost use Rattle.shared_rule.specs.Plays.{account_at, number_at, todo_at, flagged_at, FitsTable, HasSession, IsSameSeat};
 
 use crate::kept::Kept;
@@ -37,17 +38,16 @@ use modes_core::SessionId;
 use std::marker::Brand;
 
 /// Makes one attempt to lock the wait list of `lock` (`LWLockWaitListLock` in lwlock.c). A session that gets it is told
-/// that it stands there only if it knows that it waits for that lock, and that the list has room for all sessions that
-/// there can be. A session that has put the lock so that it must wake has done its part then: it has the list in hand, or
-/// another session has.
+/// that it stands there only if it knows that it waits for that lock, that the list has room for all sessions that there
+/// can be, and that all who stand there are among these. A session that has put the lock so that it must wake has done its
+/// part then: it has the list in hand, or another session has.
 pub(crate) fn try_lock_list<T: PartTable, G: Sizing>(
     words: &SharedWords<T>,
     seat: &mut Seat<T>,
     lock: &LwLock,
 ) -> Option<Box<WaitList>>
-    requires table { FitsTable seat.old words.now.table_id }
+    requires table { FitsTable seat.old words.now.key words.now.table_id }
     requires exists { LockExists words.now.key.sessions lock.now }
-    requires there { LockIsInTable lock.now }
     requires session { HasSession seat.old.me.0 }
     requires no_list { (account_at T.content seat.old).lists.in_hand ≡ None }
     requires sizes { G.sizes ≡ words.now.key }
@@ -62,6 +62,7 @@ pub(crate) fn try_lock_list<T: PartTable, G: Sizing>(
     ensures stands { IfSome result (λ list. stands_in (number_at seat.old) list.value.waiters ≡ true
         → (account_at T.content seat.old).lists.stands ≡ Some (lock_number lock.now)) }
     ensures room { IfSome result (λ list. list.value.room ≡ words.now.key.sessions) }
+    ensures exist { IfSome result (λ list. WaitersExist words.now.key.sessions list.value.waiters) }
     ensures none { IfNone result (GotNothing T.content seat.old seat.new (todo_looked (todo_at seat.old))) }
 {
     let found = words.fetch_or::<LocksList<G>>(seat, lock.word(), LwWord::LIST_LOCKED);
@@ -86,8 +87,8 @@ pub(crate) fn unlock_list<T: PartTable>(
     has_waiters: bool,
     release_ok: bool,
 )
-    requires table { FitsTable seat.old words.now.table_id }
-    requires there { LockIsInTable lock.now }
+    requires table { FitsTable seat.old words.now.key words.now.table_id }
+    requires exists { LockExists words.now.key.sessions lock.now }
     requires session { HasSession seat.old.me.0 }
     requires out { seat.old.me.1 ≡ (list_shelf_of (lock_number lock.now), Nothing) ∷ rest seat.old.me.1 }
     requires in_hand { (account_at T.content seat.old).lists.in_hand
@@ -119,9 +120,10 @@ pub(crate) fn join_list<T: PartTable, M: Marking<T>>(
     number: SessionId,
     mode: LwMode,
 )
-    requires table { FitsTable seat.old words.now.table_id }
+    requires table { FitsTable seat.old words.now.key words.now.table_id }
     requires session { HasSession seat.old.me.0 }
     requires own { number ≡ number_at seat.old }
+    requires among { number < words.now.key.sessions }
     requires lawful { (mine : ListInHand) × MayJoinListBy (account_at T.content seat.old) mine }
     requires flagged { flagged_at seat.old ≡ true }
     requires owes_no_ok { (todo_at seat.old).owes_release_ok ≡ None }
@@ -144,9 +146,10 @@ pub(crate) fn leave_list<T: PartTable>(
     seat: &mut Seat<T>,
     number: SessionId,
 )
-    requires table { FitsTable seat.old words.now.table_id }
+    requires table { FitsTable seat.old words.now.key words.now.table_id }
     requires session { HasSession seat.old.me.0 }
     requires own { number ≡ number_at seat.old }
+    requires among { number < words.now.key.sessions }
     requires lawful { (mine : ListInHand)
         × MayLeaveListBy (number_at seat.old) (account_at T.content seat.old) mine }
     ensures led { LedTo T.content seat.old seat.new (account_leaving_list (account_at T.content seat.old)
@@ -168,7 +171,8 @@ pub(crate) fn take_off<T: PartTable, M: Marking<T>>(
     seat: &mut Seat<T>,
     other: SessionId,
 )
-    requires table { FitsTable seat.old words.now.table_id }
+    requires table { FitsTable seat.old words.now.key words.now.table_id }
+    requires exists { other < words.now.key.sessions }
     requires session { HasSession seat.old.me.0 }
     requires lawful { (mine : ListInHand)
         × MayTakeOffBy (number_at seat.old) (account_at T.content seat.old) mine other }
@@ -191,7 +195,8 @@ pub(crate) fn tell<T: PartTable, M: Marking<T>>(
     seat: &mut Seat<T>,
     other: SessionId,
 )
-    requires table { FitsTable seat.old words.now.table_id }
+    requires table { FitsTable seat.old words.now.key words.now.table_id }
+    requires exists { other < words.now.key.sessions }
     requires session { HasSession seat.old.me.0 }
     requires lawful { MayTellBy (account_at T.content seat.old) other }
     requires mark { M.mark ≡ (λ _. Told other) }
@@ -214,7 +219,8 @@ pub(crate) fn call_sleeper<T: PartTable, M: Marking<T>>(
     seat: &mut Seat<T>,
     other: SessionId,
 )
-    requires table { FitsTable seat.old words.now.table_id }
+    requires table { FitsTable seat.old words.now.key words.now.table_id }
+    requires exists { other < words.now.key.sessions }
     requires session { HasSession seat.old.me.0 }
     requires mark { M.mark ≡ (λ _. CalledSleeper other) }
     ensures led { LedTo T.content seat.old seat.new (account_at T.content seat.old)
@@ -232,9 +238,10 @@ pub(crate) fn load_sleep<T: PartTable>(
     seat: &mut Seat<T>,
     number: SessionId,
 ) -> u64
-    requires table { FitsTable seat.old words.now.table_id }
+    requires table { FitsTable seat.old words.now.key words.now.table_id }
     requires session { HasSession seat.old.me.0 }
     requires own { number ≡ number_at seat.old }
+    requires among { number < words.now.key.sessions }
     ensures led { Led T.content seat.old seat.new
         (account_loading_sleep (account_at T.content seat.old) result) }
     ensures shelves { seat.new.me.1 ≡ seat.old.me.1 }
@@ -248,9 +255,8 @@ pub(crate) fn set_release_ok<T: PartTable, M: Marking<T>>(
     seat: &mut Seat<T>,
     lock: &LwLock,
 )
-    requires table { FitsTable seat.old words.now.table_id }
+    requires table { FitsTable seat.old words.now.key words.now.table_id }
     requires exists { LockExists words.now.key.sessions lock.now }
-    requires there { LockIsInTable lock.now }
     requires session { HasSession seat.old.me.0 }
     requires no_other { (todo_at seat.old).owes_release_ok ≡ Some (lock_number lock.now)
         → (account_at T.content seat.old).lists.stands ≡ None
@@ -273,9 +279,8 @@ pub(crate) fn set_has_waiters<T: PartTable, M: Marking<T>>(
     seat: &mut Seat<T>,
     lock: &LwLock,
 )
-    requires table { FitsTable seat.old words.now.table_id }
+    requires table { FitsTable seat.old words.now.key words.now.table_id }
     requires exists { LockExists words.now.key.sessions lock.now }
-    requires there { LockIsInTable lock.now }
     requires session { HasSession seat.old.me.0 }
     requires lawful { (mine : ListInHand) × ((account_at T.content seat.old).lists.in_hand ≡ Some mine)
         × (mine.lock ≡ lock_number lock.now) }
@@ -295,8 +300,8 @@ pub(crate) fn look_at_lock<T: PartTable>(
     seat: &mut Seat<T>,
     lock: &LwLock,
 ) -> u64
-    requires table { FitsTable seat.old words.now.table_id }
-    requires there { LockIsInTable lock.now }
+    requires table { FitsTable seat.old words.now.key words.now.table_id }
+    requires exists { LockExists words.now.key.sessions lock.now }
     requires session { HasSession seat.old.me.0 }
     requires no_other_try { NoneOr (todo_at seat.old).tries (lock_number lock.now) }
     ensures same_seat { IsSameSeat seat.old seat.new }

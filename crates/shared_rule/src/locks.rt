@@ -24,7 +24,7 @@ ghost use Rattle.shared_rule.specs.Boards.{StaysLone};
 
 use crate::busy::Busy;
 use crate::layout::fast_word;
-use crate::plays::{Grouping, Marking, TakesSlots, TriesSlots};
+use crate::plays::{Marking, Sizing, TakesSlots, TriesSlots};
 use crate::rule::{Seat, SharedWords};
 use crate::slot_locks::{SlotsLock, SlotsPassed, SlotsTaken};
 use crate::words::{fetch_sub_as, load_as};
@@ -38,20 +38,20 @@ use std::sync::Wait;
 // One attempt to take the lock of a session's slots, of as many groups as the table has, by the number that its word
 // may show.
 #[inline(always)]
-fn attempt_fast<T: PartTable, G: Grouping>(
+fn attempt_fast<T: PartTable, G: Sizing>(
     words: &SharedWords<T>,
     seat: &mut Seat<T>,
     owner: SessionId,
     shown: u64,
     taken: u64,
 ) -> bool
-    requires table { FitsTable seat.old words.now.table_id }
+    requires table { FitsTable seat.old words.now.key words.now.table_id }
     requires exists { owner < words.now.key.sessions }
     requires session { HasSession seat.old.me.0 }
     requires free { IsHeldByNobody shown × (taken ≡ taken_word shown) }
     requires no_other_try { NoneOr (todo_at seat.old).tries (fast_lock owner) }
     requires no_other_list { NoneOr (account_at T.content seat.old).lists.stands (fast_lock owner) }
-    requires groups { G.groups ≡ words.now.key.groups }
+    requires sizes { G.sizes ≡ words.now.key }
     ensures same_seat { IsSameSeat seat.old seat.new }
     ensures won { OnTrue result (GetsSlots T.content words.now.key.groups Exclusive owner seat.old seat.new) }
     ensures lost { OnFalse result (IsAsBefore T.content seat.old seat.new) }
@@ -69,7 +69,7 @@ pub(crate) fn attempt_free_fast<T: PartTable>(
     seat: &mut Seat<T>,
     owner: SessionId,
 ) -> bool
-    requires table { FitsTable seat.old words.now.table_id }
+    requires table { FitsTable seat.old words.now.key words.now.table_id }
     requires exists { owner < words.now.key.sessions }
     requires session { HasSession seat.old.me.0 }
     requires no_other_try { NoneOr (todo_at seat.old).tries (fast_lock owner) }
@@ -95,7 +95,7 @@ pub(crate) fn take_fast<T: PartTable, R: Wait>(
     number: SessionId,
     owner: SessionId,
 )
-    requires table { FitsTable seat.old words.now.table_id }
+    requires table { FitsTable seat.old words.now.key words.now.table_id }
     requires exists { owner < words.now.key.sessions }
     requires session { HasSession seat.old.me.0 }
     requires own { number ≡ number_at seat.old }
@@ -124,9 +124,10 @@ fn load_fast<T: PartTable, M: Marking<T>>(
     seat: &mut Seat<T>,
     number: SessionId,
 ) -> u64
-    requires table { FitsTable seat.old words.now.table_id }
+    requires table { FitsTable seat.old words.now.key words.now.table_id }
     requires session { HasSession seat.old.me.0 }
     requires own { number ≡ number_at seat.old }
+    requires among { number < words.now.key.sessions }
     requires mark { M.mark ≡ LoadedFast }
     ensures same_seat { IsSameSeat seat.old seat.new }
     ensures side { seat.new.me ≡ (noting seat.old.me.0 (LoadedFast result), seat.old.me.1) }
@@ -136,20 +137,21 @@ fn load_fast<T: PartTable, M: Marking<T>>(
 
 // Takes the lock of the session's own slots where its word still shows this number, and answers the number that it showed.
 #[inline(always)]
-fn take_own_fast<T: PartTable, G: Grouping>(
+fn take_own_fast<T: PartTable, G: Sizing>(
     words: &SharedWords<T>,
     seat: &mut Seat<T>,
     number: SessionId,
     shown: u64,
     taken: u64,
 ) -> u64
-    requires table { FitsTable seat.old words.now.table_id }
+    requires table { FitsTable seat.old words.now.key words.now.table_id }
     requires session { HasSession seat.old.me.0 }
     requires own { number ≡ number_at seat.old }
+    requires among { number < words.now.key.sessions }
     requires free { IsHeldByNobody shown × (taken ≡ taken_word shown) }
     requires no_other_try { NoneOr (todo_at seat.old).tries (fast_lock number) }
     requires no_other_list { NoneOr (account_at T.content seat.old).lists.stands (fast_lock number) }
-    requires groups { G.groups ≡ words.now.key.groups }
+    requires sizes { G.sizes ≡ words.now.key }
     ensures same_seat { IsSameSeat seat.old seat.new }
     ensures won { result ≡ shown → TookSlots T.content words.now.key.groups number seat.old.me seat.new.me }
     ensures lost { result ≢ shown → seat.new.me ≡ (noting seat.old.me.0 (LoadedFast result), seat.old.me.1) }
@@ -164,9 +166,10 @@ pub(crate) fn try_take_fast<T: PartTable>(
     seat: &mut Seat<T>,
     number: SessionId,
 ) -> Result<(), Busy>
-    requires table { FitsTable seat.old words.now.table_id }
+    requires table { FitsTable seat.old words.now.key words.now.table_id }
     requires session { HasSession seat.old.me.0 }
     requires own { number ≡ number_at seat.old }
+    requires among { number < words.now.key.sessions }
     requires idle { (account_at T.content seat.old).lists ≡ no_lists }
     requires todo { todo_at seat.old ≡ nothing_to_do }
     ensures same_seat { IsSameSeat seat.old seat.new }
@@ -195,7 +198,7 @@ pub(crate) fn put_fast_home<T: PartTable, M: Marking<T>>(
     seat: &mut Seat<T>,
     owner: SessionId,
 ) -> u64
-    requires table { FitsTable seat.old words.now.table_id }
+    requires table { FitsTable seat.old words.now.key words.now.table_id }
     requires exists { owner < words.now.key.sessions }
     requires session { HasSession seat.old.me.0 }
     requires lawful { (slots : SlotsInHand) × MayPutFastBy (account_at T.content seat.old) owner slots }
@@ -216,7 +219,7 @@ pub(crate) fn put_fast<T: PartTable, M: Marking<T>>(
     seat: &mut Seat<T>,
     owner: SessionId,
 )
-    requires table { FitsTable seat.old words.now.table_id }
+    requires table { FitsTable seat.old words.now.key words.now.table_id }
     requires exists { owner < words.now.key.sessions }
     requires session { HasSession seat.old.me.0 }
     requires lawful { (slots : SlotsInHand) × MayPutFastBy (account_at T.content seat.old) owner slots }
@@ -239,7 +242,7 @@ pub(crate) fn pass_fast_home<T: PartTable, M: Marking<T>>(
     tag: &Tag,
     mode: Mode,
 ) -> u64
-    requires table { FitsTable seat.old words.now.table_id }
+    requires table { FitsTable seat.old words.now.key words.now.table_id }
     requires exists { owner < words.now.key.sessions }
     requires session { HasSession seat.old.me.0 }
     requires lawful { (slots : SlotsInHand) × MayPassBy (account_at T.content seat.old) owner slots tag.now mode }
@@ -263,7 +266,7 @@ pub(crate) fn pass_fast<T: PartTable, M: Marking<T>>(
     tag: &Tag,
     mode: Mode,
 )
-    requires table { FitsTable seat.old words.now.table_id }
+    requires table { FitsTable seat.old words.now.key words.now.table_id }
     requires exists { owner < words.now.key.sessions }
     requires session { HasSession seat.old.me.0 }
     requires lawful { (slots : SlotsInHand) × MayPassBy (account_at T.content seat.old) owner slots tag.now mode }

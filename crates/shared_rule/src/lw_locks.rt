@@ -1,9 +1,10 @@
 //! The lightweight locks of the table.
 
-ghost use Rattle.std.specs.Prelude.{◌≡◌, ◌<◌};
-ghost use Rattle.shared_rule.specs.declared.layout.TheConstants.{TABLE_WORDS};
-ghost use Rattle.shared_rule.specs.Layout.{index_of_word, list_shelf_of};
-ghost use Rattle.shared_rule.specs.LwLocks.{word_of_lock, lock_number, LockIsInTable};
+ghost use Rattle.std.specs.Prelude.{◌≡◌, ◌<◌, ℕ};
+ghost use Rattle.atomic_table.specs.Seated.{TableId};
+ghost use Rattle.shared_rule.specs.declared.rule.TableSizes.{TableSizes};
+ghost use Rattle.shared_rule.specs.Layout.{index_of_word, list_shelf_of, IsSized};
+ghost use Rattle.shared_rule.specs.LwLocks.{word_of_lock, lock_number, LockExists};
 
 use crate::layout::{fast_word, list_shelf, partition_word};
 use modes_core::SessionId;
@@ -20,9 +21,10 @@ pub(crate) enum LwLock {
 impl LwLock {
     /// The index of the lock's word.
     pub(crate) fn word(&self) -> usize
-        requires there { LockIsInTable self.now }
-        ensures index { result ≡ index_of_word (word_of_lock self.now) }
-        ensures within { result < TABLE_WORDS }
+        requires exists { (sessions : ℕ) × LockExists sessions self.now }
+        ensures index { (sessions : ℕ) → result ≡ index_of_word sessions (word_of_lock self.now) }
+        ensures within { (sizes : TableSizes) (table : TableId) → IsSized sizes table →
+            LockExists sizes.sessions self.now → result < table.words }
     {
         match self {
             LwLock::OfPart(part) => partition_word(*part),
@@ -32,7 +34,7 @@ impl LwLock {
 
     /// The shelf on which its wait list lies while nobody has it in hand.
     pub(crate) fn list_shelf(&self) -> usize
-        requires there { LockIsInTable self.now }
+        requires exists { (sessions : ℕ) × LockExists sessions self.now }
         ensures shelf { result ≡ list_shelf_of (lock_number self.now) }
     {
         match self {

@@ -2,8 +2,7 @@
 
 ghost use Rattle.std.specs.Prelude.{◌≡◌, ◌<◌, ◌≤◌, ℕ, List, [], ◌∷◌, None, IfOk, IfErr};
 ghost use Rattle.lock_world.specs.SlotHolds.{most_groups};
-ghost use Rattle.shared_rule.specs.Layout.{words_of_groups};
-ghost use Rattle.shared_rule.specs.declared.layout.TheConstants.{TABLE_WORDS, TABLE_SHELVES};
+ghost use Rattle.shared_rule.specs.Layout.{IsSized};
 ghost use Rattle.shared_rule.specs.History.{blank_account, first_account, lone};
 ghost use Rattle.shared_rule.specs.Opening.{AreNew};
 ghost use Rattle.shared_rule.specs.Boards.{Seated, nothing_due, parts_in_hand, shelves_out, first_marks};
@@ -35,12 +34,8 @@ pub struct OneThread<T: PartTable> {
     number: SessionId,
     sizes: TableSizes,
     ghost at: { seat.table_id ≡ table.shared.table_id },
-    ghost words: { TABLE_WORDS ≤ table.shared.table_id.words },
-    ghost all_words: { table.shared.table_id.words ≡ words_of_groups sizes.groups },
-    ghost shelves: { table.shared.table_id.slots ≡ TABLE_SHELVES },
+    ghost fits: { IsSized sizes table.shared.table_id },
     ghost sized: { sizes ≡ table.shared.key },
-    ghost some: { 0 < sizes.groups },
-    ghost few: { sizes.groups ≤ most_groups },
     ghost exists: { number < sizes.sessions },
     ghost lone: { seat.me.0 ≡ lone number (first_marks seat.me.0.sessions) },
     ghost out: { seat.me.1 ≡ shelves_out (parts_in_hand seat.me.1) },
@@ -170,7 +165,13 @@ impl<T: PartTable> Board<T> for OneThread<T> {
 
     fn load_slot(&mut self, owner: SessionId, slot: u8) -> SlotWord {
         let table = &self.table;
-        slots::load_slot::<T, Brand>(&table.shared, &mut self.seat, owner, slot)
+        slots::load_slot::<T, Brand>(
+            &table.shared,
+            &mut self.seat,
+            self.sizes.sessions,
+            owner,
+            slot,
+        )
     }
 
     fn load_strong(&mut self, index: u16) -> u64 {
@@ -183,6 +184,7 @@ impl<T: PartTable> Board<T> for OneThread<T> {
         slots::set_slot::<T, Brand>(
             &table.shared,
             &mut self.seat,
+            self.sizes.sessions,
             self.number,
             slot,
             shown,
@@ -196,6 +198,7 @@ impl<T: PartTable> Board<T> for OneThread<T> {
         slots::clear_slot::<T, Brand>(
             &table.shared,
             &mut self.seat,
+            self.sizes.sessions,
             self.number,
             slot,
             shown,
@@ -218,6 +221,7 @@ impl<T: PartTable> Board<T> for OneThread<T> {
         slots::transfer_slot::<T, Brand>(
             &table.shared,
             &mut self.seat,
+            self.sizes.sessions,
             owner,
             slot,
             shown,

@@ -3,7 +3,8 @@
 ghost use Rattle.std.specs.Prelude.{◌≡◌, ◌<◌, ◌≤◌, ◌+◌, ◌↔◌, List, [], ◌∷◌, IfSome, IfNone, IsNone, OnSome};
 ghost use Rattle.shared_rule.specs.History.{blank_account, lone, opening_view};
 ghost use Rattle.shared_rule.specs.Boards.{nothing_due};
-ghost use Rattle.shared_rule.specs.Plays.{FitsTable, HasGroups, IsSized};
+ghost use Rattle.shared_rule.specs.Layout.{IsSized};
+ghost use Rattle.shared_rule.specs.Plays.{FitsTable};
 ghost use Rattle.shared_rule.specs.Openers.{HaveClosed, HasTakenBack};
 ghost use Rattle.shared_rule.specs.Seats.{MayCloseBy};
 ghost use Rattle.shared_rule.specs.declared.history.History.{History};
@@ -32,7 +33,7 @@ impl<T: PartTable> Model for Opener<T> {
     ghost use Rattle.std.specs.Prelude.{◌≡◌, ◌≤◌, Some};
     ghost use Rattle.shared_rule.specs.Boards.{AreFree};
     ghost use Rattle.shared_rule.specs.Openers.{OpenerState};
-    ghost use Rattle.shared_rule.specs.Plays.{HasGroups, IsSized};
+    ghost use Rattle.shared_rule.specs.Layout.{IsSized};
     ghost use Rattle.modes_core.specs.Sessions.{most_sessions};
 
     ghost Value = { OpenerState T };
@@ -48,16 +49,15 @@ impl<T: PartTable> Model for Opener<T> {
 
     ghost invariant = { λ opener.
         (opener.seat.me.0.next ≡ Some opener.issued) × (opener.issued ≤ opener.sizes.sessions)
-        × (opener.sizes.sessions ≤ most_sessions) × IsSized opener.seat.table_id × AreFree opener.seat.me.0.sessions
-        × HasGroups opener.seat.table_id opener.sizes.groups };
+        × (opener.sizes.sessions ≤ most_sessions) × IsSized opener.sizes opener.seat.table_id
+        × AreFree opener.seat.me.0.sessions };
 }
 
 impl<T: PartTable> Opener<T> {
     // The opener at its seat, who has given no number out.
     pub(crate) fn at(seat: Seat<T>, sizes: &TableSizes) -> Opener<T>
         requires first { seat.me ≡ (opening_view, []) }
-        requires sized { IsSized seat.table_id }
-        requires grouped { HasGroups seat.table_id sizes.now.groups }
+        requires sized { IsSized sizes.now seat.table_id }
         requires few { sizes.now.sessions ≤ most_sessions }
         ensures { result ≡ record {
           table = seat.table_id;
@@ -81,7 +81,7 @@ impl<T: PartTable> Opener<T> {
             × (self.groups ≡ table.now.key.groups) }
         requires first { self.issued ≡ 0 }
         requires some { 0 < self.limit }
-        ensures table { FitsTable result table.now.table_id }
+        ensures table { FitsTable result table.now.key table.now.table_id }
         ensures side { result.me ≡ (lone 0 [], []) }
     {
         let Opener {

@@ -35,19 +35,19 @@ impl<'a, T: PartTable> Guarded<Seat<T>, T> for PartLock<'a, T> {
     ghost use Rattle.shared_rule.specs.Waiting.{sought_of, IsOnWay, IsQueued, HasSeenHeld, HasWonQueued};
 
     ghost on_way = { λ it. IsOnWay T.content
-        (sought_of it.words.now.key.sessions it.words.now.table_id it.number (OfPart it.part) Exclusive) };
+        (sought_of it.words.now.key it.words.now.table_id it.number (OfPart it.part) Exclusive) };
 
     ghost queued = { λ it. IsQueued T.content
-        (sought_of it.words.now.key.sessions it.words.now.table_id it.number (OfPart it.part) Exclusive) };
+        (sought_of it.words.now.key it.words.now.table_id it.number (OfPart it.part) Exclusive) };
 
     ghost saw_held = { λ it. HasSeenHeld T.content
-        (sought_of it.words.now.key.sessions it.words.now.table_id it.number (OfPart it.part) Exclusive) };
+        (sought_of it.words.now.key it.words.now.table_id it.number (OfPart it.part) Exclusive) };
 
     ghost won_queued = { λ it first now content. HasWonQueued T.content
-        (sought_of it.words.now.key.sessions it.words.now.table_id it.number (OfPart it.part) Exclusive)
-        (λ at after. TakesPartition T.content T.begun it.part at after content) first now };
+        (sought_of it.words.now.key it.words.now.table_id it.number (OfPart it.part) Exclusive)
+        (λ at after. TakesPartition T.content T.begun it.words.now.key.sessions it.part at after content) first now };
 
-    ghost won = { λ it. TakesPartition T.content T.begun it.part };
+    ghost won = { λ it. TakesPartition T.content T.begun it.words.now.key.sessions it.part };
 
     #[inline(always)]
     fn attempt(&self, seat: &mut Seat<T>) -> Option<T> {
@@ -96,10 +96,10 @@ fn take_part_held<T: PartTable, R: Wait>(
     part: u8,
 ) -> T
     requires { IsSince (IsOnWay T.content
-        (sought_of words.now.key.sessions words.now.table_id number (OfPart part) Exclusive)) seat.old }
+        (sought_of words.now.key words.now.table_id number (OfPart part) Exclusive)) seat.old }
     ensures { Gains (IsOnWay T.content
-        (sought_of words.now.key.sessions words.now.table_id number (OfPart part) Exclusive))
-        (TakesPartition T.content T.begun part) seat.old seat.new result }
+        (sought_of words.now.key words.now.table_id number (OfPart part) Exclusive))
+        (TakesPartition T.content T.begun words.now.key.sessions part) seat.old seat.new result }
 {
     acquire_held(
         rt,
@@ -129,10 +129,10 @@ impl<'a, T: PartTable, M: Marking<T>> Held<Seat<T>, T> for PartInHand<'a, T, M> 
 
     ghost in_mode = { λ _. Exclusive };
 
-    ghost may_put = { λ it. MayPutPartition T.content it.part it.done.now T.begun it.words.now.key.sessions
+    ghost may_put = { λ it. MayPutPartition T.content it.part it.done.now T.begun it.words.now.key
         it.words.now.table_id M.mark };
 
-    ghost due = { λ it before after content. HasPut T.content it.words.now.key.sessions it.words.now.table_id
+    ghost due = { λ it before after content. HasPut T.content it.words.now.key it.words.now.table_id
         (OfPart it.part) Exclusive before after (account_put T.content it.part it.done.now before content)
         (rest before.me.1) };
 

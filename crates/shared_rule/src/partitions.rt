@@ -25,38 +25,39 @@ ghost use Rattle.shared_rule.specs.Plays.{account_at, number_at, todo_at, FitsTa
 use crate::kept::Kept;
 use crate::layout::{content_shelf, partition_word};
 use crate::part_locks::{PartInHand, PartLock};
-use crate::plays::{Marking, TakesPart};
+use crate::plays::{Marking, Sizing, TakesPart};
 use crate::rule::{Seat, SharedWords};
 use crate::words::put_home_as;
 use lock_table::{Move, PartTable};
 use lw_lock::{acquire, release};
 use lw_word::taken;
 use modes_core::SessionId;
-use std::marker::PhantomData;
+use std::marker::{Brand, PhantomData};
 use std::sync::Wait;
 
 // One attempt to take a partition in hand, by the number that its word may show.
-fn attempt_part<T: PartTable>(
+fn attempt_part<T: PartTable, G: Sizing>(
     words: &SharedWords<T>,
     seat: &mut Seat<T>,
     part: u8,
     shown: u64,
     taken: u64,
 ) -> Option<T>
-    requires table { FitsTable seat.old words.now.table_id }
+    requires table { FitsTable seat.old words.now.key words.now.table_id }
     requires exists { part < 16 }
     requires session { HasSession seat.old.me.0 }
     requires free { IsHeldByNobody shown × (taken ≡ taken_word shown) }
+    requires sizes { G.sizes ≡ words.now.key }
     requires no_other_try { NoneOr (todo_at seat.old).tries (partition_lock part) }
     requires no_other_list { NoneOr (account_at T.content seat.old).lists.stands (partition_lock part) }
     ensures same_seat { IsSameSeat seat.old seat.new }
     ensures lost { IfNone result (IsAsBefore T.content seat.old seat.new) }
-    ensures won { IfSome result (TakesPartition T.content T.begun part seat.old seat.new) }
+    ensures won { IfSome result (TakesPartition T.content T.begun words.now.key.sessions part seat.old seat.new) }
     ensures side { IfSome result (λ content. seat.new.me
         ≡ (noting seat.old.me.0 (TookPart part content), (content_shelf_of part, Nothing) ∷ seat.old.me.1)) }
     ensures unmoved { IfNone result (seat.new.me ≡ seat.old.me) }
 {
-    if words.compare_exchange::<TakesPart>(seat, partition_word(part), shown, taken) != shown {
+    if words.compare_exchange::<TakesPart<G>>(seat, partition_word(part), shown, taken) != shown {
         return None;
     }
     Some(
@@ -73,21 +74,21 @@ pub(crate) fn attempt_free_part<T: PartTable>(
     seat: &mut Seat<T>,
     part: u8,
 ) -> Option<T>
-    requires table { FitsTable seat.old words.now.table_id }
+    requires table { FitsTable seat.old words.now.key words.now.table_id }
     requires exists { part < 16 }
     requires session { HasSession seat.old.me.0 }
     requires no_other_try { NoneOr (todo_at seat.old).tries (partition_lock part) }
     requires no_other_list { NoneOr (account_at T.content seat.old).lists.stands (partition_lock part) }
     ensures same_seat { IsSameSeat seat.old seat.new }
     ensures lost { IfNone result (IsAsBefore T.content seat.old seat.new) }
-    ensures won { IfSome result (TakesPartition T.content T.begun part seat.old seat.new) }
+    ensures won { IfSome result (TakesPartition T.content T.begun words.now.key.sessions part seat.old seat.new) }
     ensures side { IfSome result (λ content. seat.new.me
         ≡ (noting seat.old.me.0 (TookPart part content), (content_shelf_of part, Nothing) ∷ seat.old.me.1)) }
     ensures unmoved { IfNone result (seat.new.me ≡ seat.old.me) }
 {
     let shown = words.peek(partition_word(part));
     match taken(shown) {
-        Some(taken) => attempt_part(words, seat, part, shown, taken),
+        Some(taken) => attempt_part::<T, Brand>(words, seat, part, shown, taken),
         None => None,
     }
 }
@@ -100,7 +101,7 @@ pub(crate) fn take_part_alone<T: PartTable, R: Wait>(
     seat: &mut Seat<T>,
     part: u8,
 ) -> T
-    requires table { FitsTable seat.old words.now.table_id }
+    requires table { FitsTable seat.old words.now.key words.now.table_id }
     requires exists { part < 16 }
     requires session { HasSession seat.old.me.0 }
     requires no_other_try { NoneOr (todo_at seat.old).tries (partition_lock part) }
@@ -130,7 +131,7 @@ pub(crate) fn take_part<T: PartTable, R: Wait>(
     number: SessionId,
     part: u8,
 ) -> T
-    requires table { FitsTable seat.old words.now.table_id }
+    requires table { FitsTable seat.old words.now.key words.now.table_id }
     requires exists { part < 16 }
     requires session { HasSession seat.old.me.0 }
     requires own { number ≡ number_at seat.old }
@@ -138,7 +139,7 @@ pub(crate) fn take_part<T: PartTable, R: Wait>(
     requires idle { (account_at T.content seat.old).lists ≡ no_lists }
     requires todo { todo_at seat.old ≡ nothing_to_do }
     requires latest { IsLatestBy (account_at T.content seat.old) (OfPart part) }
-    ensures { TakesPartition T.content T.begun part seat.old seat.new result }
+    ensures { TakesPartition T.content T.begun words.now.key.sessions part seat.old seat.new result }
 {
     acquire(
         rt,
@@ -160,7 +161,7 @@ pub(crate) fn put_part_home<T: PartTable, M: Marking<T>>(
     done: &Move,
     content: T,
 ) -> u64
-    requires table { FitsTable seat.old words.now.table_id }
+    requires table { FitsTable seat.old words.now.key words.now.table_id }
     requires exists { part < 16 }
     requires session { HasSession seat.old.me.0 }
     requires in_hand { seat.old.me.1 ≡ (content_shelf_of part, Nothing) ∷ rest seat.old.me.1 }
@@ -189,7 +190,7 @@ pub(crate) fn put_part<T: PartTable, M: Marking<T>>(
     done: &Move,
     content: T,
 )
-    requires table { FitsTable seat.old words.now.table_id }
+    requires table { FitsTable seat.old words.now.key words.now.table_id }
     requires exists { part < 16 }
     requires session { HasSession seat.old.me.0 }
     requires in_hand { seat.old.me.1 ≡ (content_shelf_of part, Nothing) ∷ rest seat.old.me.1 }

@@ -20,17 +20,6 @@ impl<T> Marking<T> for Brand {
     ghost mark = { λ _. PutFast 0 0 };
 }
 
-/// How many groups of slots each session has, as a step on slots knows it. Each call picks it.
-pub trait Grouping {
-    ghost use Rattle.std.specs.Prelude.{ℕ};
-
-    ghost groups: { ℕ };
-}
-
-impl Grouping for Brand {
-    ghost groups = { 0 };
-}
-
 /// The sizes of the table, as a step on it knows them. Each call picks them.
 pub trait Sizing {
     ghost use Rattle.shared_rule.specs.declared.rule.TableSizes.{TableSizes};
@@ -65,12 +54,14 @@ impl<T, M: Marking<T>> Play<Kept<T>, View<T>> for PutsHome<M> {
 }
 
 /// An exchange that takes a partition in hand where it finds the number that it expects, and else changes nothing.
-pub struct TakesPart;
+pub struct TakesPart<G> {
+    of: PhantomData<G>,
+}
 
-impl<T: PartTable> Play<Kept<T>, View<T>> for TakesPart {
+impl<T: PartTable, G: Sizing> Play<Kept<T>, View<T>> for TakesPart<G> {
     ghost use Rattle.shared_rule.specs.Plays.{TookPartition};
 
-    ghost then = { TookPartition T.content T.begun };
+    ghost then = { TookPartition T.content T.begun G.sizes.sessions };
 }
 
 /// A load or a fetch operation that leaves its mark, and tells what the account knows of the number found.
@@ -90,10 +81,10 @@ pub struct TakesSlots<G> {
     of: PhantomData<G>,
 }
 
-impl<T: PartTable, G: Grouping> Play<Kept<T>, View<T>> for TakesSlots<G> {
+impl<T: PartTable, G: Sizing> Play<Kept<T>, View<T>> for TakesSlots<G> {
     ghost use Rattle.shared_rule.specs.Plays.{TookSlotsOr, unnoted};
 
-    ghost then = { TookSlotsOr T.content G.groups unnoted };
+    ghost then = { TookSlotsOr T.content G.sizes.groups unnoted };
 }
 
 /// An exchange that shares the lock of a session's slots where it finds the number that it expects, and else changes
@@ -102,10 +93,10 @@ pub struct SharesSlots<G> {
     of: PhantomData<G>,
 }
 
-impl<T: PartTable, G: Grouping> Play<Kept<T>, View<T>> for SharesSlots<G> {
+impl<T: PartTable, G: Sizing> Play<Kept<T>, View<T>> for SharesSlots<G> {
     ghost use Rattle.shared_rule.specs.Plays.{SharedSlotsOr, unnoted};
 
-    ghost then = { SharedSlotsOr T.content G.groups unnoted };
+    ghost then = { SharedSlotsOr T.content G.sizes.groups unnoted };
 }
 
 /// An exchange that takes the lock of the session's own slots, as `TakesSlots` does, where a lost exchange is noted as
@@ -114,10 +105,10 @@ pub struct TriesSlots<G> {
     of: PhantomData<G>,
 }
 
-impl<T: PartTable, G: Grouping> Play<Kept<T>, View<T>> for TriesSlots<G> {
+impl<T: PartTable, G: Sizing> Play<Kept<T>, View<T>> for TriesSlots<G> {
     ghost use Rattle.shared_rule.specs.Plays.{TookSlotsOr, noted_load};
 
-    ghost then = { TookSlotsOr T.content G.groups noted_load };
+    ghost then = { TookSlotsOr T.content G.sizes.groups noted_load };
 }
 
 /// A fetch-or of a word's list bit that takes the wait list in hand where it finds the bit not set, and else is noted as
@@ -176,8 +167,8 @@ pub struct TellsAll<G> {
     of: PhantomData<G>,
 }
 
-impl<T: PartTable, G: Grouping> Play<Kept<T>, View<T>> for TellsAll<G> {
+impl<T: PartTable, G: Sizing> Play<Kept<T>, View<T>> for TellsAll<G> {
     ghost use Rattle.shared_rule.specs.Gatherings.{ToldAll};
 
-    ghost then = { ToldAll T.content G.groups };
+    ghost then = { ToldAll T.content G.sizes.groups };
 }

@@ -22,7 +22,8 @@ ghost use Rattle.shared_rule.specs.Layout.{list_shelf_of};
 ghost use Rattle.shared_rule.specs.Led.{Led, LedTo};
 ghost use Rattle.shared_rule.specs.Todos.{HasBy, IsLatestBy, MaySleepBy, TellsNobodyBy, TriesAtMost};
 ghost use Rattle.shared_rule.specs.Todos.{nothing_to_do, todo_in_list, todo_got, todo_back};
-ghost use Rattle.shared_rule.specs.LwLocks.{lock_number, LockExists, LockIsInTable, no_lists, queued_for};
+ghost use Rattle.shared_rule.specs.LwLocks.{lock_number, LockExists, no_lists, queued_for};
+ghost use Rattle.shared_rule.specs.Waiters.{WaitersExist};
 ghost use Rattle.shared_rule.specs.Plays.{account_at, number_at, todo_at, FitsTable, HasSession};
 
 use crate::layout::sleep_word;
@@ -46,9 +47,8 @@ fn lock_list<T: PartTable, R: Wait>(
     seat: &mut Seat<T>,
     lock: &LwLock,
 ) -> Box<WaitList>
-    requires table { FitsTable seat.old words.now.table_id }
+    requires table { FitsTable seat.old words.now.key words.now.table_id }
     requires exists { LockExists words.now.key.sessions lock.now }
-    requires there { LockIsInTable lock.now }
     requires session { HasSession seat.old.me.0 }
     requires no_list { (account_at T.content seat.old).lists.in_hand ≡ None }
     requires no_look { (todo_at seat.old).due ≡ None }
@@ -59,6 +59,7 @@ fn lock_list<T: PartTable, R: Wait>(
     ensures stands { stands_in (number_at seat.old) result.value.waiters ≡ true
         → (account_at T.content seat.old).lists.stands ≡ Some (lock_number lock.now) }
     ensures room { result.value.room ≡ words.now.key.sessions }
+    ensures exist { WaitersExist words.now.key.sessions result.value.waiters }
 {
     let backoff = Backoff::new();
     for _ in rt.forever() {
@@ -81,9 +82,8 @@ pub(crate) fn queue_self<T: PartTable, R: Wait>(
     lock: &LwLock,
     mode: LwMode,
 )
-    requires table { FitsTable seat.old words.now.table_id }
+    requires table { FitsTable seat.old words.now.key words.now.table_id }
     requires exists { LockExists words.now.key.sessions lock.now }
-    requires there { LockIsInTable lock.now }
     requires session { HasSession seat.old.me.0 }
     requires own { number ≡ number_at seat.old }
     requires among { number < words.now.key.sessions }
@@ -111,9 +111,10 @@ pub(crate) fn sleep_until_told<T: PartTable, R: Wait>(
     seat: &mut Seat<T>,
     number: SessionId,
 )
-    requires table { FitsTable seat.old words.now.table_id }
+    requires table { FitsTable seat.old words.now.key words.now.table_id }
     requires session { HasSession seat.old.me.0 }
     requires own { number ≡ number_at seat.old }
+    requires among { number < words.now.key.sessions }
     requires may { MaySleepBy (account_at T.content seat.old) (todo_at seat.old) }
     ensures led { Led T.content seat.old seat.new (record (account_at T.content seat.old) {
       lists = record ((account_at T.content seat.old).lists) { stands = None };
@@ -142,11 +143,11 @@ pub(crate) fn dequeue_self<T: PartTable, R: Wait>(
     number: SessionId,
     lock: &LwLock,
 )
-    requires table { FitsTable seat.old words.now.table_id }
+    requires table { FitsTable seat.old words.now.key words.now.table_id }
     requires exists { LockExists words.now.key.sessions lock.now }
-    requires there { LockIsInTable lock.now }
     requires session { HasSession seat.old.me.0 }
     requires own { number ≡ number_at seat.old }
+    requires among { number < words.now.key.sessions }
     requires queued { (account_at T.content seat.old).lists ≡ queued_for (lock_number lock.now) }
     requires got { HasBy (account_at T.content seat.old) lock.now }
     requires todo { todo_at seat.old ≡ todo_got (lock_number lock.now) }
@@ -175,11 +176,11 @@ pub(crate) fn sleep_for<T: PartTable, R: Wait>(
     number: SessionId,
     lock: &LwLock,
 )
-    requires table { FitsTable seat.old words.now.table_id }
+    requires table { FitsTable seat.old words.now.key words.now.table_id }
     requires exists { LockExists words.now.key.sessions lock.now }
-    requires there { LockIsInTable lock.now }
     requires session { HasSession seat.old.me.0 }
     requires own { number ≡ number_at seat.old }
+    requires among { number < words.now.key.sessions }
     requires queued { (account_at T.content seat.old).lists ≡ queued_for (lock_number lock.now) }
     requires todo { todo_at seat.old ≡ todo_got (lock_number lock.now) }
     ensures led { LedTo T.content seat.old seat.new

@@ -1,10 +1,8 @@
 //! The board that threads run: a seat at the shared table.
 
 ghost use Rattle.std.specs.Prelude.{◌≡◌, ◌<◌, ◌≤◌, ℕ, List, [], ◌∷◌, None};
-ghost use Rattle.lock_world.specs.SlotHolds.{most_groups};
-ghost use Rattle.shared_rule.specs.Layout.{words_of_groups};
+ghost use Rattle.shared_rule.specs.Layout.{IsSized};
 ghost use Rattle.shared_rule.specs.History.{first_account, lone};
-ghost use Rattle.shared_rule.specs.declared.layout.TheConstants.{TABLE_WORDS, TABLE_SHELVES};
 ghost use Rattle.shared_rule.specs.Plays.{FitsTable};
 ghost use Rattle.shared_rule.specs.Seats.{DoNotConflict, MayBeKeptApartBy};
 ghost use Rattle.shared_rule.specs.Boards.{Seated, nothing_due, parts_in_hand, shelves_out, first_marks};
@@ -31,12 +29,8 @@ pub struct SeatBoard<'a, T: PartTable> {
     number: SessionId,
     sizes: TableSizes,
     ghost at: { seat.table_id ≡ table.now.table_id },
-    ghost words: { TABLE_WORDS ≤ table.now.table_id.words },
-    ghost all_words: { table.now.table_id.words ≡ words_of_groups sizes.groups },
-    ghost shelves: { table.now.table_id.slots ≡ TABLE_SHELVES },
+    ghost fits: { IsSized sizes table.now.table_id },
     ghost sized: { sizes ≡ table.now.key },
-    ghost some: { 0 < sizes.groups },
-    ghost few: { sizes.groups ≤ most_groups },
     ghost exists: { number < sizes.sessions },
     ghost lone: { seat.me.0 ≡ lone number (first_marks seat.me.0.sessions) },
     ghost out: { seat.me.1 ≡ shelves_out (parts_in_hand seat.me.1) },
@@ -51,11 +45,8 @@ impl<'a, T: PartTable> SeatBoard<'a, T> {
         number: SessionId,
         sizes: TableSizes,
     ) -> SeatBoard<'a, T>
-        requires table { FitsTable seat table.now.table_id }
-        requires all_words { table.now.table_id.words ≡ words_of_groups sizes.groups }
+        requires table { FitsTable seat table.now.key table.now.table_id }
         requires sized { sizes ≡ table.now.key }
-        requires some { 0 < sizes.groups }
-        requires few { sizes.groups ≤ most_groups }
         requires exists { number < sizes.sessions }
         requires lone { seat.me.0 ≡ lone number (first_marks seat.me.0.sessions) }
         requires out { seat.me.1 ≡ [] }
@@ -211,7 +202,7 @@ impl<'a, T: PartTable> Board<T> for SeatBoard<'a, T> {
     }
 
     fn load_slot(&mut self, owner: SessionId, slot: u8) -> SlotWord {
-        slots::load_slot::<T, Brand>(self.table, &mut self.seat, owner, slot)
+        slots::load_slot::<T, Brand>(self.table, &mut self.seat, self.sizes.sessions, owner, slot)
     }
 
     fn load_strong(&mut self, index: u16) -> u64 {
@@ -222,6 +213,7 @@ impl<'a, T: PartTable> Board<T> for SeatBoard<'a, T> {
         slots::set_slot::<T, Brand>(
             self.table,
             &mut self.seat,
+            self.sizes.sessions,
             self.number,
             slot,
             shown,
@@ -234,6 +226,7 @@ impl<'a, T: PartTable> Board<T> for SeatBoard<'a, T> {
         slots::clear_slot::<T, Brand>(
             self.table,
             &mut self.seat,
+            self.sizes.sessions,
             self.number,
             slot,
             shown,
@@ -255,6 +248,7 @@ impl<'a, T: PartTable> Board<T> for SeatBoard<'a, T> {
         slots::transfer_slot::<T, Brand>(
             self.table,
             &mut self.seat,
+            self.sizes.sessions,
             owner,
             slot,
             shown,

@@ -66,7 +66,7 @@ impl<T> Split<View<T>> for HandsBack {
 /// Opens a session at the seat `opener`, which gives it the next number (`InitProcess` in proc.c), and answers its seat. The
 /// session has made no step yet.
 pub(crate) fn open<T: PartTable>(words: &SharedWords<T>, opener: &mut Seat<T>) -> Seat<T>
-    requires table { FitsTable opener.old words.now.table_id }
+    requires table { FitsTable opener.old words.now.key words.now.table_id }
     requires number { HasNumber opener.old.me.0 words.now.key.sessions }
     ensures same_seat { IsSameSeat opener.old opener.new }
     ensures opener { opener.new.me ≡ (opened opener.old.me.0, opener.old.me.1) }
@@ -79,8 +79,8 @@ pub(crate) fn open<T: PartTable>(words: &SharedWords<T>, opener: &mut Seat<T>) -
 /// Closes the session of the seat `session`, which has nothing any more, nothing to do for those who wait, and nobody to wake:
 /// the seat `opener` has its number as closed (`ProcKill` in proc.c).
 pub(crate) fn close<T: PartTable>(words: &SharedWords<T>, opener: &mut Seat<T>, session: Seat<T>)
-    requires table { FitsTable opener.old words.now.table_id }
-    requires session_table { FitsTable session words.now.table_id }
+    requires table { FitsTable opener.old words.now.key words.now.table_id }
+    requires session_table { FitsTable session words.now.key words.now.table_id }
     requires opener { HasNext opener.old.me.0 }
     requires one { IsForOne session.me.0 }
     requires nothing_in_hand { session.me.1 ≡ [] }
@@ -96,7 +96,7 @@ pub(crate) fn close<T: PartTable>(words: &SharedWords<T>, opener: &mut Seat<T>, 
 /// Tells the seat `opener` that those that have closed were given out, each once. The call loads a word, and ignores what it
 /// finds.
 pub(crate) fn tell_closed<T: PartTable>(words: &SharedWords<T>, opener: &mut Seat<T>)
-    requires table { FitsTable opener.old words.now.table_id }
+    requires table { FitsTable opener.old words.now.key words.now.table_id }
     requires opener { HasNext opener.old.me.0 }
     ensures same_seat { IsSameSeat opener.old opener.new }
     ensures side { opener.new.me ≡ opener.old.me }
@@ -108,8 +108,8 @@ pub(crate) fn tell_closed<T: PartTable>(words: &SharedWords<T>, opener: &mut Sea
 /// Keeps the session of the seat `other` apart, which holds no word, has nothing to do for those who wait, and has nobody to
 /// wake: its history goes behind those at `seat`, for as long as they meet.
 pub(crate) fn keep_apart<T: PartTable>(words: &SharedWords<T>, seat: &mut Seat<T>, other: Seat<T>)
-    requires table { FitsTable seat.old words.now.table_id }
-    requires other_table { FitsTable other words.now.table_id }
+    requires table { FitsTable seat.old words.now.key words.now.table_id }
+    requires other_table { FitsTable other words.now.key words.now.table_id }
     requires one { IsForOne other.me.0 }
     requires nothing_in_hand { other.me.1 ≡ [] }
     requires lawful { MayBeKeptApartBy (first_account T.content other.me.0.sessions) }
@@ -122,7 +122,7 @@ pub(crate) fn keep_apart<T: PartTable>(words: &SharedWords<T>, seat: &mut Seat<T
 
 /// Takes the seat of the session that came last out of `seat`, by a step on `words`, and hands it back: it goes on by itself.
 pub(crate) fn hand_back<T: PartTable>(words: &SharedWords<T>, seat: &mut Seat<T>) -> Seat<T>
-    requires table { FitsTable seat.old words.now.table_id }
+    requires table { FitsTable seat.old words.now.key words.now.table_id }
     requires last { HasLast seat.old.me.0 }
     ensures same_seat { IsSameSeat seat.old seat.new }
     ensures side { seat.new.me ≡ (parted seat.old.me.0, seat.old.me.1) }
@@ -135,7 +135,7 @@ pub(crate) fn hand_back<T: PartTable>(words: &SharedWords<T>, seat: &mut Seat<T>
 /// Has `seat`, in which two sessions meet, tell that no hold of the one conflicts with a hold of the other on an object
 /// (`LockConflicts` in lock.c says which modes do). It loads one of `words`, and ignores what it finds.
 pub(crate) fn tell_apart<T: PartTable>(words: &SharedWords<T>, seat: &mut Seat<T>)
-    requires table { FitsTable seat.old words.now.table_id }
+    requires table { FitsTable seat.old words.now.key words.now.table_id }
     requires two { IsForTwo seat.old.me.0 }
     ensures same_seat { IsSameSeat seat.old seat.new }
     ensures side { seat.new.me ≡ seat.old.me }

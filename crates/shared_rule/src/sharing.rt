@@ -20,7 +20,7 @@ ghost use Rattle.shared_rule.specs.LwLocks.{no_lists};
 ghost use Rattle.shared_rule.specs.Plays.{account_at, number_at, todo_at, FitsTable, HasSession, IsSameSeat};
 
 use crate::layout::fast_word;
-use crate::plays::{Grouping, Marking, SharesSlots};
+use crate::plays::{Marking, SharesSlots, Sizing};
 use crate::rule::{Seat, SharedWords};
 use crate::slot_locks::{SlotsLock, SlotsShared};
 use crate::words::fetch_sub_as;
@@ -34,21 +34,21 @@ use std::sync::Wait;
 // One attempt to share the lock of a session's slots, of as many groups as the table has, by the number that its word
 // may show.
 #[inline(always)]
-fn attempt_share<T: PartTable, G: Grouping>(
+fn attempt_share<T: PartTable, G: Sizing>(
     words: &SharedWords<T>,
     seat: &mut Seat<T>,
     owner: SessionId,
     shown: u64,
     shared: u64,
 ) -> bool
-    requires table { FitsTable seat.old words.now.table_id }
+    requires table { FitsTable seat.old words.now.key words.now.table_id }
     requires exists { owner < words.now.key.sessions }
     requires session { HasSession seat.old.me.0 }
     requires lawful { MayShareFastBy (account_at T.content seat.old) owner }
     requires no_other_try { NoneOr (todo_at seat.old).tries (fast_lock owner) }
     requires no_other_list { NoneOr (account_at T.content seat.old).lists.stands (fast_lock owner) }
     requires free { IsFreeToShare shown × (shared ≡ shared_word shown) }
-    requires groups { G.groups ≡ words.now.key.groups }
+    requires sizes { G.sizes ≡ words.now.key }
     ensures same_seat { IsSameSeat seat.old seat.new }
     ensures won { OnTrue result (GetsSlots T.content words.now.key.groups Shared owner seat.old seat.new) }
     ensures lost { OnFalse result (IsAsBefore T.content seat.old seat.new) }
@@ -66,7 +66,7 @@ pub(crate) fn attempt_free_share<T: PartTable>(
     seat: &mut Seat<T>,
     owner: SessionId,
 ) -> bool
-    requires table { FitsTable seat.old words.now.table_id }
+    requires table { FitsTable seat.old words.now.key words.now.table_id }
     requires exists { owner < words.now.key.sessions }
     requires session { HasSession seat.old.me.0 }
     requires lawful { MayShareFastBy (account_at T.content seat.old) owner }
@@ -93,7 +93,7 @@ pub(crate) fn share_fast<T: PartTable, R: Wait>(
     number: SessionId,
     owner: SessionId,
 )
-    requires table { FitsTable seat.old words.now.table_id }
+    requires table { FitsTable seat.old words.now.key words.now.table_id }
     requires exists { owner < words.now.key.sessions }
     requires session { HasSession seat.old.me.0 }
     requires own { number ≡ number_at seat.old }
@@ -123,7 +123,7 @@ pub(crate) fn unshare_fast_home<T: PartTable, M: Marking<T>>(
     seat: &mut Seat<T>,
     owner: SessionId,
 ) -> u64
-    requires table { FitsTable seat.old words.now.table_id }
+    requires table { FitsTable seat.old words.now.key words.now.table_id }
     requires exists { owner < words.now.key.sessions }
     requires session { HasSession seat.old.me.0 }
     requires lawful { (slots : SlotsInHand) × MayUnshareFastBy (account_at T.content seat.old) owner slots }
@@ -144,7 +144,7 @@ pub(crate) fn unshare_fast<T: PartTable, M: Marking<T>>(
     seat: &mut Seat<T>,
     owner: SessionId,
 )
-    requires table { FitsTable seat.old words.now.table_id }
+    requires table { FitsTable seat.old words.now.key words.now.table_id }
     requires exists { owner < words.now.key.sessions }
     requires session { HasSession seat.old.me.0 }
     requires lawful { (slots : SlotsInHand) × MayUnshareFastBy (account_at T.content seat.old) owner slots }

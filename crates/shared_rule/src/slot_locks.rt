@@ -38,7 +38,7 @@ impl<'a, T: PartTable> SlotsLock<'a, T> {
     // One attempt, where the word shows that nobody is in the way.
     #[inline(always)]
     fn attempt_free(&self, seat: &mut Seat<T>) -> Option<()>
-        requires table { FitsTable seat.old self.now.words.now.table_id }
+        requires table { FitsTable seat.old self.now.words.now.key self.now.words.now.table_id }
         requires exists { self.now.owner < self.now.words.now.key.sessions }
         requires session { HasSession seat.old.me.0 }
         requires lawful { MayGetSlots self.now.mode (account_at T.content seat.old) self.now.owner }
@@ -62,16 +62,16 @@ impl<'a, T: PartTable> Guarded<Seat<T>, ()> for SlotsLock<'a, T> {
     ghost use Rattle.shared_rule.specs.Waiting.{sought_of, IsOnWay, IsQueued, HasSeenHeld, HasWonQueued};
 
     ghost on_way = { λ it. IsOnWay T.content
-        (sought_of it.words.now.key.sessions it.words.now.table_id it.number (OfSlots it.owner) it.mode) };
+        (sought_of it.words.now.key it.words.now.table_id it.number (OfSlots it.owner) it.mode) };
 
     ghost queued = { λ it. IsQueued T.content
-        (sought_of it.words.now.key.sessions it.words.now.table_id it.number (OfSlots it.owner) it.mode) };
+        (sought_of it.words.now.key it.words.now.table_id it.number (OfSlots it.owner) it.mode) };
 
     ghost saw_held = { λ it. HasSeenHeld T.content
-        (sought_of it.words.now.key.sessions it.words.now.table_id it.number (OfSlots it.owner) it.mode) };
+        (sought_of it.words.now.key it.words.now.table_id it.number (OfSlots it.owner) it.mode) };
 
     ghost won_queued = { λ it first now _. HasWonQueued T.content
-        (sought_of it.words.now.key.sessions it.words.now.table_id it.number (OfSlots it.owner) it.mode)
+        (sought_of it.words.now.key it.words.now.table_id it.number (OfSlots it.owner) it.mode)
         (GetsSlots T.content it.words.now.key.groups it.mode it.owner) first now };
 
     ghost won = { λ it first now _. GetsSlots T.content it.words.now.key.groups it.mode it.owner first now };
@@ -128,9 +128,9 @@ fn get_slots_held<T: PartTable, R: Wait>(
     mode: LwMode,
 )
     requires { IsSince (IsOnWay T.content
-        (sought_of words.now.key.sessions words.now.table_id number (OfSlots owner) mode)) seat.old }
+        (sought_of words.now.key words.now.table_id number (OfSlots owner) mode)) seat.old }
     ensures { TurnsInto (IsOnWay T.content
-        (sought_of words.now.key.sessions words.now.table_id number (OfSlots owner) mode))
+        (sought_of words.now.key words.now.table_id number (OfSlots owner) mode))
         (GetsSlots T.content words.now.key.groups mode owner) seat.old seat.new }
 {
     acquire_held(
@@ -165,10 +165,10 @@ impl<'a, T: PartTable, M: Marking<T>> Held<Seat<T>, ()> for SlotsTaken<'a, T, M>
 
     ghost in_mode = { λ _. Exclusive };
 
-    ghost may_put = { λ it seat _. MayPutSlots T.content it.words.now.key.sessions it.words.now.table_id it.owner
+    ghost may_put = { λ it seat _. MayPutSlots T.content it.words.now.key it.words.now.table_id it.owner
         (λ a. (slots : SlotsInHand) × MayPutFastBy a it.owner slots) M.mark (PutFast it.owner) seat };
 
-    ghost due = { λ it before after _. HasPut T.content it.words.now.key.sessions it.words.now.table_id (OfSlots it.owner)
+    ghost due = { λ it before after _. HasPut T.content it.words.now.key it.words.now.table_id (OfSlots it.owner)
         Exclusive before after (account_putting_fast (number_at before) (account_at T.content before) it.owner)
         before.me.1 };
 
@@ -214,11 +214,11 @@ impl<'a, T: PartTable, M: Marking<T>> Held<Seat<T>, ()> for SlotsPassed<'a, T, M
 
     ghost in_mode = { λ _. Exclusive };
 
-    ghost may_put = { λ it seat _. MayPutSlots T.content it.words.now.key.sessions it.words.now.table_id it.owner
+    ghost may_put = { λ it seat _. MayPutSlots T.content it.words.now.key it.words.now.table_id it.owner
         (λ a. (slots : SlotsInHand) × MayPassBy a it.owner slots it.tag.now it.mode) M.mark
         (Passed it.owner it.tag.now it.mode) seat };
 
-    ghost due = { λ it before after _. HasPut T.content it.words.now.key.sessions it.words.now.table_id (OfSlots it.owner)
+    ghost due = { λ it before after _. HasPut T.content it.words.now.key it.words.now.table_id (OfSlots it.owner)
         Exclusive before after
         (account_passing (number_at before) (account_at T.content before) it.owner it.tag.now it.mode) before.me.1 };
 
@@ -261,10 +261,10 @@ impl<'a, T: PartTable, M: Marking<T>> Held<Seat<T>, ()> for SlotsShared<'a, T, M
 
     ghost in_mode = { λ _. Shared };
 
-    ghost may_put = { λ it seat _. MayPutSlots T.content it.words.now.key.sessions it.words.now.table_id it.owner
+    ghost may_put = { λ it seat _. MayPutSlots T.content it.words.now.key it.words.now.table_id it.owner
         (λ a. (slots : SlotsInHand) × MayUnshareFastBy a it.owner slots) M.mark (UnsharedFast it.owner) seat };
 
-    ghost due = { λ it before after _. HasPut T.content it.words.now.key.sessions it.words.now.table_id (OfSlots it.owner)
+    ghost due = { λ it before after _. HasPut T.content it.words.now.key it.words.now.table_id (OfSlots it.owner)
         Shared before after (account_unsharing_fast (account_at T.content before) it.owner) before.me.1 };
 
     ghost released = { λ it before after _. HasReleased T.content before after

@@ -4,7 +4,7 @@
 ghost use Rattle.std.specs.Prelude.{◌≡◌, ◌<◌, ◌*◌, Some};
 ghost use Rattle.lock_world.specs.Account.{InHand, SlotsInHand};
 ghost use Rattle.shared_rule.specs.History.{noting};
-ghost use Rattle.shared_rule.specs.Plays.{account_at, number_at, FitsTable, HasGroups, HasSession, IsSameSeat};
+ghost use Rattle.shared_rule.specs.Plays.{account_at, number_at, FitsTable, HasSession, IsSameSeat};
 ghost use Rattle.lock_table.specs.Content.{add_hold};
 ghost use Rattle.lock_world.specs.SlotHolds.{group_size, slot_holds};
 ghost use Rattle.lock_world.specs.AccountLaw.{MaySetSlotBy, MayClearSlotBy, MayTransferBy};
@@ -26,7 +26,8 @@ pub(crate) fn load_database<T: PartTable, M: Marking<T>>(
     seat: &mut Seat<T>,
     owner: SessionId,
 ) -> u64
-    requires table { FitsTable seat.old words.now.table_id }
+    requires table { FitsTable seat.old words.now.key words.now.table_id }
+    requires exists { owner < words.now.key.sessions }
     requires session { HasSession seat.old.me.0 }
     requires mark { M.mark ≡ LoadedDatabase owner }
     ensures same_seat { IsSameSeat seat.old seat.new }
@@ -45,13 +46,15 @@ pub(crate) fn load_database<T: PartTable, M: Marking<T>>(
 pub(crate) fn load_slot<T: PartTable, M: Marking<T>>(
     words: &SharedWords<T>,
     seat: &mut Seat<T>,
+    sessions: u8,
     owner: SessionId,
     slot: u8,
 ) -> SlotWord
-    requires table { FitsTable seat.old words.now.table_id }
+    requires table { FitsTable seat.old words.now.key words.now.table_id }
+    requires sessions { sessions ≡ words.now.key.sessions }
+    requires exists { owner < words.now.key.sessions }
     requires session { HasSession seat.old.me.0 }
     requires within { slot < group_size * words.now.key.groups }
-    requires grouped { HasGroups words.now.table_id words.now.key.groups }
     requires mark { M.mark ≡ LoadedSlot owner slot }
     ensures same_seat { IsSameSeat seat.old seat.new }
     ensures side { seat.new.me ≡ (noting seat.old.me.0 (LoadedSlot owner slot result), seat.old.me.1) }
@@ -60,7 +63,7 @@ pub(crate) fn load_slot<T: PartTable, M: Marking<T>>(
     ensures of_shared_slots { (slots : SlotsInHand)
         → (account_at T.content seat.old).fast.shared_slots owner ≡ Some slots → result ≡ slots.word slot }
 {
-    SlotWord::from_number(look_as::<T, M>(words, seat, slot_word(owner, slot)))
+    SlotWord::from_number(look_as::<T, M>(words, seat, slot_word(sessions, owner, slot)))
 }
 
 /// Sets `mode` on `tag` in the slot `slot` of the session `number`, its own, which shows `shown`
@@ -68,17 +71,19 @@ pub(crate) fn load_slot<T: PartTable, M: Marking<T>>(
 pub(crate) fn set_slot<T: PartTable, M: Marking<T>>(
     words: &SharedWords<T>,
     seat: &mut Seat<T>,
+    sessions: u8,
     number: SessionId,
     slot: u8,
     shown: SlotWord,
     tag: &Tag,
     mode: Mode,
 )
-    requires table { FitsTable seat.old words.now.table_id }
+    requires table { FitsTable seat.old words.now.key words.now.table_id }
     requires session { HasSession seat.old.me.0 }
     requires own { number ≡ number_at seat.old }
+    requires among { number < words.now.key.sessions }
+    requires sessions { sessions ≡ words.now.key.sessions }
     requires within { slot < group_size * words.now.key.groups }
-    requires grouped { HasGroups words.now.table_id words.now.key.groups }
     requires lawful { (mine : SlotsInHand)
         × MaySetSlotBy words.now.key.groups (number_at seat.old) (account_at T.content seat.old)
         mine slot tag.now mode × (shown ≡ mine.word slot) }
@@ -87,7 +92,12 @@ pub(crate) fn set_slot<T: PartTable, M: Marking<T>>(
     ensures side { seat.new.me ≡ (noting seat.old.me.0 (SetSlot slot tag.now mode), seat.old.me.1) }
 {
     let word = shown.with(tag.relation_number(), mode);
-    store_as::<T, M>(words, seat, slot_word(number, slot), word.number());
+    store_as::<T, M>(
+        words,
+        seat,
+        slot_word(sessions, number, slot),
+        word.number(),
+    );
 }
 
 /// Clears `mode` on `tag` in the slot `slot` of the session `number`, its own, which shows `shown`
@@ -95,17 +105,19 @@ pub(crate) fn set_slot<T: PartTable, M: Marking<T>>(
 pub(crate) fn clear_slot<T: PartTable, M: Marking<T>>(
     words: &SharedWords<T>,
     seat: &mut Seat<T>,
+    sessions: u8,
     number: SessionId,
     slot: u8,
     shown: SlotWord,
     tag: &Tag,
     mode: Mode,
 )
-    requires table { FitsTable seat.old words.now.table_id }
+    requires table { FitsTable seat.old words.now.key words.now.table_id }
     requires session { HasSession seat.old.me.0 }
     requires own { number ≡ number_at seat.old }
+    requires among { number < words.now.key.sessions }
+    requires sessions { sessions ≡ words.now.key.sessions }
     requires within { slot < group_size * words.now.key.groups }
-    requires grouped { HasGroups words.now.table_id words.now.key.groups }
     requires lawful { (mine : SlotsInHand) × MayClearSlotBy (number_at seat.old) (account_at T.content seat.old)
         mine slot tag.now mode × (shown ≡ mine.word slot) }
     requires mark { M.mark ≡ (λ _. ClearedSlot slot tag.now mode) }
@@ -113,7 +125,12 @@ pub(crate) fn clear_slot<T: PartTable, M: Marking<T>>(
     ensures side { seat.new.me ≡ (noting seat.old.me.0 (ClearedSlot slot tag.now mode), seat.old.me.1) }
 {
     let word = shown.without(mode);
-    store_as::<T, M>(words, seat, slot_word(number, slot), word.number());
+    store_as::<T, M>(
+        words,
+        seat,
+        slot_word(sessions, number, slot),
+        word.number(),
+    );
 }
 
 /// Moves `mode` on `tag` from the slot `slot` of `owner`, which shows `shown`, to `content` in hand, which has it
@@ -121,6 +138,7 @@ pub(crate) fn clear_slot<T: PartTable, M: Marking<T>>(
 pub(crate) fn transfer_slot<T: PartTable, M: Marking<T>>(
     words: &SharedWords<T>,
     seat: &mut Seat<T>,
+    sessions: u8,
     owner: SessionId,
     slot: u8,
     shown: SlotWord,
@@ -129,10 +147,10 @@ pub(crate) fn transfer_slot<T: PartTable, M: Marking<T>>(
     strong: Mode,
     content: &T,
 )
-    requires table { FitsTable seat.old words.now.table_id }
+    requires table { FitsTable seat.old words.now.key words.now.table_id }
     requires session { HasSession seat.old.me.0 }
+    requires sessions { sessions ≡ words.now.key.sessions }
     requires within { slot < group_size * words.now.key.groups }
-    requires grouped { HasGroups words.now.table_id words.now.key.groups }
     requires lawful { (its : SlotsInHand) × (mine : InHand)
         × MayTransferBy words.now.key.sessions (account_at T.content seat.old) owner slot its mine tag.now mode strong
         × (shown ≡ its.word slot) × (T.content content.now ≡ add_hold mine.now owner tag.now mode) }
@@ -143,7 +161,7 @@ pub(crate) fn transfer_slot<T: PartTable, M: Marking<T>>(
         ≡ (noting seat.old.me.0 (TransferredSlot owner slot tag.now mode), seat.old.me.1) }
 {
     let word = shown.without(mode);
-    store_as::<T, M>(words, seat, slot_word(owner, slot), word.number());
+    store_as::<T, M>(words, seat, slot_word(sessions, owner, slot), word.number());
 }
 
 /// Stores `database` as that of the session `number`, its own, which holds nothing (`InitPostgres` in postinit.c).
@@ -153,9 +171,10 @@ pub(crate) fn store_database<T: PartTable, M: Marking<T>>(
     number: SessionId,
     database: u32,
 )
-    requires table { FitsTable seat.old words.now.table_id }
+    requires table { FitsTable seat.old words.now.key words.now.table_id }
     requires session { HasSession seat.old.me.0 }
     requires own { number ≡ number_at seat.old }
+    requires among { number < words.now.key.sessions }
     requires no_hold { HoldsNothing (account_at T.content seat.old) }
     requires mark { M.mark ≡ (λ _. StoredDatabase database) }
     ensures same_seat { IsSameSeat seat.old seat.new }

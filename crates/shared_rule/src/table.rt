@@ -11,31 +11,30 @@ ghost use Rattle.modes_core.specs.Sessions.{most_sessions};
 use crate::history::View;
 use crate::kept::Kept;
 use crate::layout::{
-    BLOCK, CONTENT_GAP, CONTENT_SHELVES, GAP, SESSIONS_START, TABLE_SHELVES, table_words,
+    BLOCK, CONTENT_GAP, CONTENT_SHELVES, GAP, SESSIONS_START, table_shelves, table_words,
 };
 use crate::opener::Opener;
 use crate::rule::{LockTableRule, TableSizes};
 use atomic_table::{Refused, Table};
 use lock_table::{NoMemory, PartTable};
 use lw_word::{LwWord, WaitList};
-use modes_core::{MOST_SESSIONS, PARTITIONS};
+use modes_core::PARTITIONS;
 use std::alloc::Global;
 
 /// The table and its memory. Threads share its field `shared`.
 pub type SharedTable<T> = Table<Kept<T>, View<T>, TableSizes, LockTableRule, Global>;
 
-// All words, before the first step, with `groups` groups of slots: those of lightweight locks are free, and all others 0.
-fn first_words(alloc: Global, groups: u8) -> Result<Vec<u64>, NoMemory>
-    requires some { 0 < groups }
-    requires few { groups ≤ most_groups }
-    ensures shown { IfOk result (λ words. WordsAreShown groups words.items (opening 0 0).words) }
+// All words of the table of `sizes`, before the first step: those of lightweight locks are free, and all others 0.
+fn first_words(alloc: Global, sizes: TableSizes) -> Result<Vec<u64>, NoMemory>
+    requires some { 0 < sizes.groups }
+    ensures shown { IfOk result (λ words. WordsAreShown sizes words.items (opening 0 0).words) }
 {
     let free = LwWord::opening().number();
-    let mut words = vec![in alloc; 0; table_words(groups)]?;
+    let mut words = vec![in alloc; 0; table_words(sizes)]?;
     for partition in 0..PARTITIONS as usize {
         words[GAP * partition] = free;
     }
-    for session in 0..MOST_SESSIONS as usize {
+    for session in 0..sizes.sessions as usize {
         words[SESSIONS_START + BLOCK * session] = free;
     }
     Ok(words)
@@ -72,8 +71,8 @@ fn next_list<T: PartTable>(alloc: Global, index: usize, sessions: u8) -> Result<
 }
 
 /// The shelves of the table with `parts`, the sixteen partitions, each on its own (`content_shelf`), and with the
-/// wait lists of all lightweight locks, each with room for `sessions` of them. Where memory, by `alloc`, runs out the
-/// parts are let go.
+/// wait lists of the lightweight locks of `sessions` sessions, each with room for all of these. Where memory, by `alloc`,
+/// runs out the parts are let go.
 pub fn in_shelves<T: PartTable + Drop>(
     alloc: Global,
     mut parts: Vec<T>,
@@ -83,11 +82,12 @@ pub fn in_shelves<T: PartTable + Drop>(
     requires new { AreEmptyParts T.content T.begun parts.items }
     ensures { IfOk result (λ shelves. AreNew T.content T.begun sessions shelves.items) }
 {
-    let mut shelves = Vec::with_capacity(alloc, TABLE_SHELVES)?;
+    let count = table_shelves(sessions);
+    let mut shelves = Vec::with_capacity(alloc, count)?;
     for index in 0..CONTENT_SHELVES {
         shelves.push_reserved(next_part(&mut parts, index));
     }
-    for index in CONTENT_SHELVES..TABLE_SHELVES {
+    for index in CONTENT_SHELVES..count {
         shelves.push_reserved(next_list(alloc, index, sessions)?);
     }
     Ok(shelves)
@@ -116,7 +116,7 @@ pub fn open<T: PartTable>(
         }) }
     ensures refused { IfErr result (λ refused. refused.slots.items ≡ parts.items) }
 {
-    let words = match first_words(alloc, sizes.groups) {
+    let words = match first_words(alloc, *sizes) {
         Ok(words) => words,
         Err(NoMemory) => return Err(Refused { slots: parts }),
     };

@@ -1,7 +1,7 @@
 //! The steps of a session on wait words: its own, by which it learns that its wait was granted or is to be cancelled,
 //! and those of others whom it tells so.
 
-ghost use Rattle.std.specs.Prelude.{◌≡◌, None, [], List, map};
+ghost use Rattle.std.specs.Prelude.{◌≡◌, ◌<◌, None, [], List, map};
 ghost use Rattle.lock_world.specs.Account.{InHand};
 ghost use Rattle.shared_rule.specs.History.{noting, sessions_told};
 ghost use Rattle.shared_rule.specs.Plays.{account_at, number_at, FitsTable, HasSession, IsSameSeat};
@@ -37,9 +37,10 @@ pub(crate) fn set_waiting<T: PartTable, M: Marking<T>>(
     mode: Mode,
     content: &T,
 )
-    requires table { FitsTable seat.old words.now.table_id }
+    requires table { FitsTable seat.old words.now.key words.now.table_id }
     requires session { HasSession seat.old.me.0 }
     requires own { number ≡ number_at seat.old }
+    requires among { number < words.now.key.sessions }
     requires lawful { (mine : InHand) × MayMoveBy words.now.key.sessions (number_at seat.old)
         (account_at T.content seat.old) (partition_of tag.now) mine (Join tag.now mode) [] (T.content content.now) }
     requires mark { M.mark ≡ (λ _. SetWaiting tag.now mode content.now) }
@@ -60,7 +61,8 @@ pub(crate) fn mark_granted<T: PartTable, M: Marking<T>>(
     woken: &[(SessionId, Mode)],
     content: &T,
 )
-    requires table { FitsTable seat.old words.now.table_id }
+    requires table { FitsTable seat.old words.now.key words.now.table_id }
+    requires exists { other < words.now.key.sessions }
     requires session { HasSession seat.old.me.0 }
     requires grants { IsGrantingIn part done.now }
     requires lawful { (mine : InHand) × (granted : List contents.Wait)
@@ -85,9 +87,10 @@ pub(crate) fn load_wait<T: PartTable, M: Marking<T>>(
     seat: &mut Seat<T>,
     number: SessionId,
 ) -> u64
-    requires table { FitsTable seat.old words.now.table_id }
+    requires table { FitsTable seat.old words.now.key words.now.table_id }
     requires session { HasSession seat.old.me.0 }
     requires own { number ≡ number_at seat.old }
+    requires among { number < words.now.key.sessions }
     requires mark { M.mark ≡ LoadedWait }
     ensures same_seat { IsSameSeat seat.old seat.new }
     ensures side { seat.new.me ≡ (noting seat.old.me.0 (LoadedWait result), seat.old.me.1) }
@@ -102,7 +105,8 @@ pub(crate) fn ask_cancel<T: PartTable, M: Marking<T>>(
     seat: &mut Seat<T>,
     other: SessionId,
 ) -> u64
-    requires table { FitsTable seat.old words.now.table_id }
+    requires table { FitsTable seat.old words.now.key words.now.table_id }
+    requires exists { other < words.now.key.sessions }
     requires session { HasSession seat.old.me.0 }
     requires mark { M.mark ≡ Asked other }
     ensures same_seat { IsSameSeat seat.old seat.new }
@@ -120,7 +124,8 @@ pub(crate) fn call_waiter<T: PartTable, M: Marking<T>>(
     seat: &mut Seat<T>,
     other: SessionId,
 )
-    requires table { FitsTable seat.old words.now.table_id }
+    requires table { FitsTable seat.old words.now.key words.now.table_id }
+    requires exists { other < words.now.key.sessions }
     requires session { HasSession seat.old.me.0 }
     requires mark { M.mark ≡ (λ _. CalledWaiter other) }
     ensures same_seat { IsSameSeat seat.old seat.new }
@@ -137,9 +142,10 @@ pub(crate) fn clear_wait<T: PartTable, M: Marking<T>>(
     seat: &mut Seat<T>,
     number: SessionId,
 )
-    requires table { FitsTable seat.old words.now.table_id }
+    requires table { FitsTable seat.old words.now.key words.now.table_id }
     requires session { HasSession seat.old.me.0 }
     requires own { number ≡ number_at seat.old }
+    requires among { number < words.now.key.sessions }
     requires lawful { (wait : OwnWait) × MayClearBy (number_at seat.old) (account_at T.content seat.old) wait }
     requires mark { M.mark ≡ (λ _. ClearedWait) }
     ensures same_seat { IsSameSeat seat.old seat.new }
@@ -157,9 +163,10 @@ pub(crate) fn leave_queue<T: PartTable, M: Marking<T>>(
     woken: &[(SessionId, Mode)],
     content: &T,
 )
-    requires table { FitsTable seat.old words.now.table_id }
+    requires table { FitsTable seat.old words.now.key words.now.table_id }
     requires session { HasSession seat.old.me.0 }
     requires own { number ≡ number_at seat.old }
+    requires among { number < words.now.key.sessions }
     requires lawful { (wait : OwnWait) × (mine : InHand) × (granted : List contents.Wait)
         × (woken.now ≡ map whose_and_mode granted)
         × MayLeaveBy words.now.key.sessions (number_at seat.old) (account_at T.content seat.old) wait

@@ -8,7 +8,8 @@ ghost use Rattle.shared_rule.specs.Layout.{list_shelf_of};
 ghost use Rattle.shared_rule.specs.Led.{Led, LedTo};
 ghost use Rattle.shared_rule.specs.Todos.{IsLeftWellBy, todo_looked};
 ghost use Rattle.lock_world.specs.Wakes.Waking.{NoneOr};
-ghost use Rattle.shared_rule.specs.LwLocks.{lock_number, LockExists, LockIsInTable, no_lists};
+ghost use Rattle.shared_rule.specs.LwLocks.{lock_number, LockExists, no_lists};
+ghost use Rattle.shared_rule.specs.Waiters.{WaitersExist};
 ghost use Rattle.shared_rule.specs.Plays.{account_at, number_at, todo_at, FitsTable, HasSession};
 ghost use Rattle.shared_rule.specs.Wakeups.{all_taken_off, all_told, all_owed, all_called, MayTakeAllOff, MayTellAll};
 
@@ -21,7 +22,8 @@ use std::marker::Brand;
 
 // Takes these off the list in hand, one after the other.
 fn take_all_off<T: PartTable>(words: &SharedWords<T>, seat: &mut Seat<T>, taken: &[LwWaiter])
-    requires table { FitsTable seat.old words.now.table_id }
+    requires table { FitsTable seat.old words.now.key words.now.table_id }
+    requires exist { WaitersExist words.now.key.sessions taken.now }
     requires session { HasSession seat.old.me.0 }
     requires lawful { MayTakeAllOff (number_at seat.old) (account_at T.content seat.old) taken.now }
     ensures led { LedTo T.content seat.old seat.new (all_taken_off (account_at T.content seat.old) taken.now)
@@ -36,7 +38,8 @@ fn take_all_off<T: PartTable>(words: &SharedWords<T>, seat: &mut Seat<T>, taken:
 // Tells each of these that it may go on, and calls it: the sleep word shows 0 before the call, so that nobody
 // sleeps through it.
 fn tell_all<T: PartTable>(words: &SharedWords<T>, seat: &mut Seat<T>, taken: &[LwWaiter])
-    requires table { FitsTable seat.old words.now.table_id }
+    requires table { FitsTable seat.old words.now.key words.now.table_id }
+    requires exist { WaitersExist words.now.key.sessions taken.now }
     requires session { HasSession seat.old.me.0 }
     requires lawful { MayTellAll (account_at T.content seat.old) taken.now }
     ensures led { LedTo T.content seat.old seat.new (all_told (account_at T.content seat.old) taken.now)
@@ -56,9 +59,8 @@ fn set_release_ok_if<T: PartTable>(
     lock: &LwLock,
     release_ok: bool,
 )
-    requires table { FitsTable seat.old words.now.table_id }
+    requires table { FitsTable seat.old words.now.key words.now.table_id }
     requires exists { LockExists words.now.key.sessions lock.now }
-    requires there { LockIsInTable lock.now }
     requires session { HasSession seat.old.me.0 }
     requires owes_no_ok { (todo_at seat.old).owes_release_ok ≡ None }
     ensures led { Led T.content seat.old seat.new (account_at T.content seat.old) }
@@ -78,9 +80,8 @@ fn unlock_after_wakeup<T: PartTable>(
     list: Box<WaitList>,
     release_ok: bool,
 )
-    requires table { FitsTable seat.old words.now.table_id }
+    requires table { FitsTable seat.old words.now.key words.now.table_id }
     requires exists { LockExists words.now.key.sessions lock.now }
-    requires there { LockIsInTable lock.now }
     requires session { HasSession seat.old.me.0 }
     requires out { seat.old.me.1 ≡ (list_shelf_of (lock_number lock.now), Nothing) ∷ rest seat.old.me.1 }
     requires in_hand { (account_at T.content seat.old).lists.in_hand
@@ -104,9 +105,8 @@ fn unlock_after_wakeup<T: PartTable>(
 #[cold]
 #[inline(never)]
 pub(crate) fn wake_waiters<T: PartTable>(words: &SharedWords<T>, seat: &mut Seat<T>, lock: &LwLock)
-    requires table { FitsTable seat.old words.now.table_id }
+    requires table { FitsTable seat.old words.now.key words.now.table_id }
     requires exists { LockExists words.now.key.sessions lock.now }
-    requires there { LockIsInTable lock.now }
     requires session { HasSession seat.old.me.0 }
     requires idle { (account_at T.content seat.old).lists ≡ no_lists }
     requires no_other_look { NoneOr (todo_at seat.old).due (lock_number lock.now) }

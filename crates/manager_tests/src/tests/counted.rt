@@ -179,10 +179,9 @@ fn make_all<T: PartTable, B: Board<T>, R: Abort + Wait>(
     }
 }
 
-/// Sixteen empty partitions, each on its shelf, and the wait lists of one session.
+/// Sixteen empty partitions, each on its shelf of a table for one session.
 fn empty_shelves(alloc: Global) -> Result<Vec<Kept<PlainPart>>, Fail>
-    ensures new { let T = ⟦<PlainPart as PartTable>⟧ in
-        IfOk result (λ shelves. AreNew T.content T.begun 1 shelves.items) }
+    ensures new { let T = ⟦<PlainPart as PartTable>⟧ in IfOk result (λ shelves. AreNew T.content T.begun 1 shelves.items) }
 {
     Ok(in_shelves(alloc, empty_parts(alloc, PlainPart::new)?, 1)?)
 }

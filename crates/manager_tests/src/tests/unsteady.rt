@@ -109,10 +109,9 @@ impl Crew {
 /// A session at the shared table, on a board that pauses.
 type Unsteady<'a> = OwnSession<Part, WatchedBoard<SeatBoard<'a, Part>, Pauses>>;
 
-/// Sixteen empty partitions, each on its shelf, and the wait lists of `sessions` sessions.
+/// Sixteen empty partitions, each on its shelf of a table for `sessions` sessions.
 fn empty_shelves(alloc: Global, sessions: u8) -> Result<Vec<Kept<Part>>, Fail>
-    ensures new { let T = ⟦<Part as PartTable>⟧ in
-        IfOk result (λ shelves. AreNew T.content T.begun sessions shelves.items) }
+    ensures new { let T = ⟦<Part as PartTable>⟧ in IfOk result (λ shelves. AreNew T.content T.begun sessions shelves.items) }
 {
     Ok(in_shelves(alloc, empty_parts(alloc, Part::new)?, sessions)?)
 }

@@ -14,13 +14,13 @@ use Rattle.shared_rule.specs.declared.rule.TableSizes.{TableSizes}
 use Rattle.shared_rule.specs.declared.history.View.{View}
 use Rattle.shared_rule.specs.declared.kept.Kept.{Kept}
 use Rattle.shared_rule.specs.History.{noting, first_account}
-use Rattle.shared_rule.specs.Layout.{index_of_word, IsInTable, MayBeInTable}
+use Rattle.shared_rule.specs.Layout.{index_of_word, IsInTable}
 use Rattle.shared_rule.specs.Plays.{Side}
 use Rattle.shared_rule.specs.Ruled.{Ruled}
 use Rattle.lock_world.specs.Tallies.{OwnStand}
 use Rattle.shared_rule.specs.Gatherings.{AreAll, account_among, gathered_in, HasAllInHand, KnowsOfAll, LookedOver, ToldAll}
 use Rattle.shared_rule.proofs.Events.Counters.{counter-most}
-use Rattle.shared_rule.proofs.Events.Words.{IsAlwaysLawful, rule-after, nothing-changes}
+use Rattle.shared_rule.proofs.Events.Words.{IsAlwaysLawful, NamesNoOther, rule-after, nothing-changes}
 use Rattle.shared_rule.proofs.Told.{leads-runs}
 use Rattle.shared_rule.proofs.Gathered.{distinct, stands-among, slots-among, counters-among}
 use Rattle.modes_core.specs.Sessions.{most_sessions}
@@ -36,13 +36,13 @@ module _ {T : Type 0} (content : T → Content) (begun : T → Option Request) (
   first = ap (λ (xs : List (History T)). slice_get xs 0) is
 
   -- What such a seat knows of a word is so.
-  all-known : (word : Word) → MayBeInTable word → KnowsOfAll content view word (word_in r.world.words word)
+  all-known : (word : Word) → IsInTable sizes word → KnowsOfAll content view word (word_in r.world.words word)
   all-known (Partition p) exists = tt
   all-known (Fast k) exists = tt
   all-known (Database k) exists = tt
   all-known (Slot k slot) exists = λ contents has.
       slots-among content r.world sizes r.events few (leads-runs (opening sizes.sessions sizes.groups) r.events r.world r.run) r.safe s.views id issued view at r.seats r.closed are x first contents
-      (subst (λ (xs : List (History T)). HasAllInHand (first_account content xs) contents) is has) k slot exists.0
+      (subst (λ (xs : List (History T)). HasAllInHand (first_account content xs) contents) is has) k slot (let within = exists.0 in let few_groups = r.few_groups in omega (arith, within, few_groups))
   all-known (Wait k) exists = tt
   all-known (Strong index) exists =
       let most_limit : r.world.numbers.limit ≤ most_sessions = subst (λ n. n ≤ most_sessions) (sym r.is_limit) r.few in
@@ -53,22 +53,23 @@ module _ {T : Type 0} (content : T → Content) (begun : T → Option Request) (
 
 module _ {T : Type 0} (content : T → Content) (begun : T → Option Request) (sizes : TableSizes) (slots id : ℕ) (me : Side T) (x : History T) (others : List (History T)) (is : me.0.sessions ≡ x ∷ others) where
   -- A load that tells what is known of the number found.
-  pub looks_over_at : (word : Word) → IsInTable sizes.groups word → (i : ℕ) → i ≡ index_of_word word → (mark : ℕ → Mark T) → IsAlwaysLawful content sizes x word (λ _. Unit {0}) (λ n. n) mark
+  pub looks_over_at : (word : Word) → IsInTable sizes word → (i : ℕ) → i ≡ index_of_word sizes.sessions word → (mark : ℕ → Mark T) → NamesNoOther word mark → IsAlwaysLawful content sizes x word (λ _. Unit {0}) (λ n. n) mark
       → Allows (Ruled content begun sizes) slots id me i (λ n. n) (LookedOver content mark (step slots i 0 0 none) me)
-  looks_over_at word exists i at mark lawful =
+  looks_over_at word exists i at mark names lawful =
       subst (λ k. Allows (Ruled content begun sizes) slots id me k (λ n. n) (LookedOver content mark (step slots k 0 0 none) me)) (sym at) here where
-        here : Allows (Ruled content begun sizes) slots id me (index_of_word word) (λ n. n) (LookedOver content mark (step slots (index_of_word word) 0 0 none) me)
+        here : Allows (Ruled content begun sizes) slots id me (index_of_word sizes.sessions word) (λ n. n) (LookedOver content mark (step slots (index_of_word sizes.sessions word) 0 0 none) me)
         here s r many at_view below =
-            let n : ℕ = slice_index s.words (index_of_word word) in (
+            let n : ℕ = slice_index s.words (index_of_word sizes.sessions word) in (
               noting me.0 (mark n),
               keeps,
               tt,
               rule-after content begun sizes slots id me x others is word exists (λ k. k) mark (λ _. Unit {0}) lawful s r at_view n below refl tt,
               (
                 refl,
-                (λ other issued there same are.
-                    let shown : word_in r.world.words other ≡ n = sym (ap (slice_index s.words) same ∙ r.words.word other there) in
-                    subst (KnowsOfAll content me.0 other) shown (all-known content begun sizes s r id me.0 at_view x others is issued are other there)),
+                (λ other issued named are.
+                    let its : other ≡ word = names n other named in
+                    subst (λ o. KnowsOfAll content me.0 o n) (sym its)
+                    (subst (KnowsOfAll content me.0 word) (sym (r.words.word word exists)) (all-known content begun sizes s r id me.0 at_view x others is issued are word exists))),
               ),
             )
 

@@ -51,11 +51,12 @@ use Rattle.shared_rule.specs.declared.history.History.{History}
 use Rattle.shared_rule.specs.declared.rule.TableSizes.{TableSizes}
 use Rattle.shared_rule.specs.declared.kept.Kept.{Kept}
 use Rattle.shared_rule.specs.declared.kept.Kept.TheVariants as kept
-use Rattle.shared_rule.specs.declared.layout.TheConstants.{TABLE_SHELVES}
 use Rattle.shared_rule.specs.declared.lw_locks.LwLock.{LwLock}
 use Rattle.shared_rule.specs.declared.lw_locks.LwLock.TheVariants.{OfPart, OfSlots}
-use Rattle.shared_rule.specs.Layout.{index_of_word, content_shelf_of, list_shelf_of, lock_count, IsInTable}
-use Rattle.shared_rule.specs.LwLocks.{word_of_lock, lock_number, LockExists, LockIsInTable}
+use Rattle.shared_rule.specs.Layout.{index_of_word, content_shelf_of, list_shelf_of, lock_count, shelves_of, IsInTable}
+use Rattle.shared_rule.specs.LwLocks.{word_of_lock, lock_number, LockExists}
+use Rattle.shared_rule.specs.Waiters.{WaitersExist}
+use Rattle.shared_rule.proofs.Waiters.{listed-below}
 use Rattle.shared_rule.specs.Shown.{WordsAreShown, set_word}
 use Rattle.shared_rule.specs.History.{told, noting, first_account, first_number, list_here}
 use Rattle.shared_rule.specs.Ruled.{IsHomeUnlessInHand, ContentsAreHome, IsInNoHand, ListIsAtHome, ListsAreHome, Ruled}
@@ -75,13 +76,13 @@ or-locked n set =
     omega (arith, high, low, bit, set)
 
 -- The shelves of lists: one each, and apart from contents.
-pub lock-below : (lock : LwLock) → LockIsInTable lock → lock_number lock < lock_count
-lock-below (OfPart p) there = omega (arith, there)
-lock-below (OfSlots o) there = omega (arith, there)
+pub lock-below : (sessions : ℕ) (lock : LwLock) → LockExists sessions lock → lock_number lock < lock_count sessions
+lock-below sessions (OfPart p) there = omega (arith, there)
+lock-below sessions (OfSlots o) there = omega (arith, there)
 
-pub lock-word_there : (lock : LwLock) → LockIsInTable lock → (groups : ℕ) → IsInTable groups (word_of_lock lock)
-lock-word_there (OfPart p) there groups = (there, tt)
-lock-word_there (OfSlots o) there groups = (tt, there)
+pub lock-word_there : (sizes : TableSizes) (lock : LwLock) → LockExists sizes.sessions lock → IsInTable sizes (word_of_lock lock)
+lock-word_there sizes (OfPart p) there = (there, tt)
+lock-word_there sizes (OfSlots o) there = (tt, there)
 
 lists-apart : (l m : ℕ) → l ≢ m → list_shelf_of l ≢ list_shelf_of m
 lists-apart l m other same = other (omega (arith, same))
@@ -90,11 +91,11 @@ content-apart : (p lock : ℕ) → p < 16 → content_shelf_of p ≢ list_shelf_
 content-apart p lock exists same = omega (arith, same, exists)
 
 -- Two locks with one word are one.
-same-lock : (l m : LwLock) → LockIsInTable l → LockIsInTable m → index_of_word (word_of_lock l) ≡ index_of_word (word_of_lock m) → l ≡ m
-same-lock (OfPart p) (OfPart q) there also same = let one : p ≡ q = omega (arith, same) in ap OfPart one
-same-lock (OfPart p) (OfSlots o) there also same = absurd (omega (arith, same, there))
-same-lock (OfSlots o) (OfPart p) there also same = absurd (omega (arith, same, also))
-same-lock (OfSlots o) (OfSlots k) there also same = let one : o ≡ k = omega (arith, same) in ap OfSlots one
+same-lock : (sessions its : ℕ) (l m : LwLock) → LockExists sessions l → LockExists its m → index_of_word sessions (word_of_lock l) ≡ index_of_word its (word_of_lock m) → l ≡ m
+same-lock sessions its (OfPart p) (OfPart q) there also same = let one : p ≡ q = omega (arith, same) in ap OfPart one
+same-lock sessions its (OfPart p) (OfSlots o) there also same = absurd (omega (arith, same, there))
+same-lock sessions its (OfSlots o) (OfPart p) there also same = absurd (omega (arith, same, also))
+same-lock sessions its (OfSlots o) (OfSlots k) there also same = let one : o ≡ k = omega (arith, same) in ap OfSlots one
 
 -- What the word of a lock shows is what its list's word is.
 word-by_number : (words : Words) (lock : LwLock) → lock_word words.partition words.fast (lock_number lock) ≡ word_in words (word_of_lock lock)
@@ -155,7 +156,7 @@ module _ {T : Type 0} where
 
   -- and where it is put home.
   list-put :
-      (sessions : ℕ) (homes : List (maybe.Option (Kept T))) (has_list : ℕ → Option ℕ) (list : ℕ → List LwWaiter) (lock s : ℕ) (put : Box Waiting) → length homes ≡ TABLE_SHELVES → lock < lock_count
+      (sessions : ℕ) (homes : List (maybe.Option (Kept T))) (has_list : ℕ → Option ℕ) (list : ℕ → List LwWaiter) (lock s : ℕ) (put : Box Waiting) → length homes ≡ shelves_of sessions → lock < lock_count sessions
       → has_list s ≡ Some lock → put.value.waiters ≡ list lock → put.value.room ≡ sessions → ListsAreHome sessions homes has_list list
       → ListsAreHome sessions (slice_set homes (list_shelf_of lock) (some (kept.List put))) (set_at has_list s None) list
   list-put sessions homes has_list list lock s put many below had is room home l within nobody = elim (cases_eq l lock) [
@@ -316,7 +317,7 @@ module _ {T : Type 0} (content : T → Content) (sizes : TableSizes) (x : Histor
               let its : Some (lock_number joins.lock) ≡ Some lock = sym joins.in_hand ∙ ap (λ (b : Account). lock_of_list b.lists.in_hand) steps.account
               ∙ lock-in_hand (w.sessions.has_list x.number) w.words.list ∙ has in
               subst (IsLatest w x.number) (some-same (lock_number joins.lock) lock its)
-              (latest-by w x.number a steps.account steps.safe (none-shared content x.number x.marks) joins.lock joins.there joins.latest));
+              (latest-by w x.number a steps.account steps.safe (none-shared content x.number x.marks) joins.sessions joins.lock joins.there joins.latest));
         };
         home = λ p none. (none, refl);
         lists = λ l nobody. (nobody, kept-beside w mine.lock _ lawful.has.in_hand l nobody);
@@ -501,22 +502,22 @@ module _ {T : Type 0} (content : T → Content) (sizes : TableSizes) (x : Histor
       }
 
 module _ {T : Type 0} (content : T → Content) (begun : T → Option Request) (sizes : TableSizes) (slots id : ℕ) (me : Side T) (x : History T) (others : List (History T)) (is : me.0.sessions ≡ x ∷ others)
-    (lock : LwLock) (there : LockIsInTable lock) where
+    (lock : LwLock) (there : LockExists sizes.sessions lock) where
   abbrev at_word : ℕ
-  at_word = index_of_word (word_of_lock lock)
+  at_word = index_of_word sizes.sessions (word_of_lock lock)
 
   -- The fetch-or takes the list in hand where it finds its bit not set.
-  locks_list : LockExists sizes.sessions lock → MayLockListBy (told content x.number x.marks) → NoneOr (todo_told_by x.number x.marks).due (lock_number lock)
+  locks_list : MayLockListBy (told content x.number x.marks) → NoneOr (todo_told_by x.number x.marks).due (lock_number lock)
       → TellsNobodyBy (told content x.number x.marks)
       → Allows (Ruled content begun sizes) slots id me at_word (λ n. bit_or n (2 ^ 28)) (LockedListOr content sizes.sessions (step slots at_word (2 ^ 28) 0 none) me)
-  locks_list exists may fits nobody s r many at_view below = elim (cases_eq (n / 2 ^ 28 % 2) 0) [
+  locks_list may fits nobody s r many at_view below = elim (cases_eq (n / 2 ^ 28 % 2) 0) [
     | inl unlocked ↦
         let w : World = r.world in
         let steps = ruled-steps content begun sizes s r id me.0 x others at_view is in
-        let shown : word_in w.words (word_of_lock lock) ≡ n = sym (r.words.word (word_of_lock lock) (lock-word_there lock there most_groups)) in
+        let shown : word_in w.words (word_of_lock lock) ≡ n = sym (r.words.word (word_of_lock lock) (lock-word_there sizes lock there)) in
         let free : word_in w.words (word_of_lock lock) / 2 ^ 28 % 2 ≡ 0 = ap (λ k. k / 2 ^ 28 % 2) shown ∙ unlocked in
-        let home = r.lists (lock_number lock) (lock-below lock there) (unlocked-in_no_hand w r.safe lock free) in
-        let changes = locking-noted content sizes x lock w steps exists may free fits nobody home.list.value.waiters home.is_list in
+        let home = r.lists (lock_number lock) (lock-below sizes.sessions lock there) (unlocked-in_no_hand w r.safe lock free) in
+        let changes = locking-noted content sizes x lock w steps there may free fits nobody home.list.value.waiters home.is_list in
         let none_had : w.sessions.has_list x.number ≡ None = no_list-known (w.sessions.has_list x.number) w.words.list
         (ap (λ (b : Account). b.lists.in_hand) (sym steps.account) ∙ may.no_list) in (
           noting me.0 (mark.LockedList (lock_number lock) home.list.value.waiters),
@@ -525,8 +526,8 @@ module _ {T : Type 0} (content : T → Content) (begun : T → Option Request) (
           ruled-noted content begun sizes s r id me.0 x others at_view is (mark.LockedList (lock_number lock) home.list.value.waiters)
               (set_word w.words (word_of_lock lock) (list_locked_word (word_in w.words (word_of_lock lock)))) (slice_set s.words at_word (bit_or n (2 ^ 28)))
               (slice_set s.homes (list_shelf_of (lock_number lock)) none) changes.noted
-              (subst (λ k. WordsAreShown sizes.groups (slice_set s.words at_word (list_locked_word k)) (set_word w.words (word_of_lock lock) (list_locked_word (word_in w.words (word_of_lock lock))))) shown
-              (words-set sizes.groups r.some_groups r.few_groups s.words w.words (word_of_lock lock) (list_locked_word (word_in w.words (word_of_lock lock))) r.words (lock-word_there lock there sizes.groups)))
+              (subst (λ k. WordsAreShown sizes (slice_set s.words at_word (list_locked_word k)) (set_word w.words (word_of_lock lock) (list_locked_word (word_in w.words (word_of_lock lock))))) shown
+              (words-set sizes r.some_groups s.words w.words (word_of_lock lock) (list_locked_word (word_in w.words (word_of_lock lock))) r.words (lock-word_there sizes lock there)))
               (subst (ContentsAreHome content begun (slice_set s.homes (list_shelf_of (lock_number lock)) none)) (sym changes.contents)
               (contents-beside content begun s.homes (lock_number lock) none w.contents r.contents))
               (subst (λ has. ListsAreHome sizes.sessions (slice_set s.homes (list_shelf_of (lock_number lock)) none) has changes.noted.after.words.list) (sym changes.has_list)
@@ -534,7 +535,7 @@ module _ {T : Type 0} (content : T → Content) (begun : T → Option Request) (
               (list-taken sizes.sessions s.homes w.sessions.has_list w.words.list (lock_number lock) x.number none_had r.lists))),
           (
             (λ _ other also same.
-                let one : lock ≡ other = same-lock lock other there also same in
+                let one : lock ≡ other = same-lock sizes.sessions sizes.sessions lock other there also same in
                 subst (λ l. TookList content sizes.sessions l me (noting me.0 (mark.LockedList (lock_number lock) home.list.value.waiters), (list_shelf_of (lock_number lock), kept.List home.list) ∷ me.1)) one (record {
                   list = home.list;
                   side = refl;
@@ -545,6 +546,7 @@ module _ {T : Type 0} (content : T → Content) (begun : T → Option Request) (
                       ap (λ (sessions : List (History T)). (first_account content sessions).lists.stands) is
                       ∙ ap (λ (b : Account). b.lists.stands) steps.account
                       ∙ r.safe.lists.sleepers.named (lock_number lock) x.number stood';
+                  exist = subst (λ n. WaitersExist n home.list.value.waiters) r.is_limit (listed-below w r.safe (lock_number lock) home.list.value.waiters home.is_list);
                 })),
             (λ locked. absurd (locked unlocked)),
           ),
@@ -555,11 +557,11 @@ module _ {T : Type 0} (content : T → Content) (begun : T → Option Request) (
       tt,
       subst (λ k. Ruled content begun sizes (record { words = slice_set s.words at_word k; homes = s.homes; views = slice_set s.views id (noting me.0 (mark.SawListLocked (lock_number lock))) })) (sym (or-locked n locked))
           (looks-only content begun sizes id at_word me.0 x others is s r at_view (mark.SawListLocked (lock_number lock))
-          (sees_list_locked (lock_number lock) refl (shown-locked r.world lock n (sym (r.words.word (word_of_lock lock) (lock-word_there lock there most_groups))) locked) fits)),
+          (sees_list_locked (lock_number lock) refl (shown-locked r.world lock n (sym (r.words.word (word_of_lock lock) (lock-word_there sizes lock there))) locked) fits)),
       (
         (λ unlocked. absurd (locked unlocked)),
         (λ _ other also same.
-            let one : lock ≡ other = same-lock lock other there also same in
+            let one : lock ≡ other = same-lock sizes.sessions sizes.sessions lock other there also same in
             λ i. (noting me.0 (mark.SawListLocked (lock_number (one i))), me.1)),
       ),
     )
@@ -569,7 +571,7 @@ module _ {T : Type 0} (content : T → Content) (begun : T → Option Request) (
 
   -- The fetch-and puts the list home that came last.
   unlocks_list :
-      (has_waiters release_ok : Bool) (list : Box Waiting) → list.value.room ≡ sizes.sessions → slots ≡ TABLE_SHELVES
+      (has_waiters release_ok : Bool) (list : Box Waiting) → list.value.room ≡ sizes.sessions → slots ≡ shelves_of sizes.sessions
       → (told content x.number x.marks).lists.in_hand ≡ Some (record { lock = lock_number lock; waiters = list.value.waiters })
       → me.1 ≡ (list_shelf_of (lock_number lock), kept.List list) ∷ rest me.1 → (has_waiters ≡ false → list.value.waiters ≡ [])
       → (release_ok ≡ false → (other : ℕ) × ((told content x.number x.marks).lists.off other ≡ true))
@@ -580,7 +582,7 @@ module _ {T : Type 0} (content : T → Content) (begun : T → Option Request) (
       let n : ℕ = slice_index s.words at_word in
       let number : ℕ = lock_number lock in
       let steps = ruled-steps content begun sizes s r id me.0 x others at_view is in
-      let shown : word_in w.words (word_of_lock lock) ≡ n = sym (r.words.word (word_of_lock lock) (lock-word_there lock there most_groups)) in
+      let shown : word_in w.words (word_of_lock lock) ≡ n = sym (r.words.word (word_of_lock lock) (lock-word_there sizes lock there)) in
       let mine : ListInHand = record { lock = number; waiters = list.value.waiters } in
       let known' : (account w x.number).lists.in_hand ≡ Some mine = ap (λ (b : Account). b.lists.in_hand) (sym steps.account) ∙ known in
       let its = known-list (w.sessions.has_list x.number) w.words.list mine known' in
@@ -594,28 +596,28 @@ module _ {T : Type 0} (content : T → Content) (begun : T → Option Request) (
         ruled-noted content begun sizes s r id me.0 x others at_view is mark.UnlockedList
             (set_word w.words (word_of_lock lock) (list_unlocked_word (word_in w.words (word_of_lock lock)) has_waiters release_ok)) (slice_set s.words at_word (bit_and n (kept_bits has_waiters release_ok)))
             (put_back s.homes me.1) changes.noted
-            (subst (λ k. WordsAreShown sizes.groups (slice_set s.words at_word (list_unlocked_word k has_waiters release_ok))
+            (subst (λ k. WordsAreShown sizes (slice_set s.words at_word (list_unlocked_word k has_waiters release_ok))
             (set_word w.words (word_of_lock lock) (list_unlocked_word (word_in w.words (word_of_lock lock)) has_waiters release_ok))) shown
-            (words-set sizes.groups r.some_groups r.few_groups s.words w.words (word_of_lock lock) (list_unlocked_word (word_in w.words (word_of_lock lock)) has_waiters release_ok) r.words (lock-word_there lock there sizes.groups)))
+            (words-set sizes r.some_groups s.words w.words (word_of_lock lock) (list_unlocked_word (word_in w.words (word_of_lock lock)) has_waiters release_ok) r.words (lock-word_there sizes lock there)))
             (subst (λ (h : List (maybe.Option (Kept T))). ContentsAreHome content begun h changes.noted.after.contents) (sym back)
             (subst (ContentsAreHome content begun homes) (sym changes.contents) (contents-beside content begun s.homes number (some (kept.List list)) w.contents r.contents)))
             (subst (λ (h : List (maybe.Option (Kept T))). ListsAreHome sizes.sessions h changes.noted.after.sessions.has_list changes.noted.after.words.list) (sym back)
             (subst (λ had. ListsAreHome sizes.sessions homes had changes.noted.after.words.list) (sym changes.has_list)
             (subst (ListsAreHome sizes.sessions homes (set_at w.sessions.has_list x.number None)) (sym changes.list)
-            (list-put sizes.sessions s.homes w.sessions.has_list w.words.list number x.number list (many ∙ sized) (lock-below lock there) its.0 (sym its.1) room r.lists)))),
+            (list-put sizes.sessions s.homes w.sessions.has_list w.words.list number x.number list (many ∙ sized) (lock-below sizes.sessions lock there) its.0 (sym its.1) room r.lists)))),
         refl,
       )
 
   -- The same of the word at an index.
-  pub locks_list_at : LockExists sizes.sessions lock → MayLockListBy (told content x.number x.marks) → NoneOr (todo_told_by x.number x.marks).due (lock_number lock)
-      → TellsNobodyBy (told content x.number x.marks) → (sessions : ℕ) → sessions ≡ sizes.sessions → (i : ℕ) → i ≡ at_word
-      → Allows (Ruled content begun sizes) slots id me i (λ n. bit_or n (2 ^ 28)) (LockedListOr content sessions (step slots i (2 ^ 28) 0 none) me)
-  locks_list_at exists may fits nobody sessions many i at =
-      subst (λ m. Allows (Ruled content begun sizes) slots id me i (λ n. bit_or n (2 ^ 28)) (LockedListOr content m (step slots i (2 ^ 28) 0 none) me)) (sym many)
-      (subst (λ k. Allows (Ruled content begun sizes) slots id me k (λ n. bit_or n (2 ^ 28)) (LockedListOr content sizes.sessions (step slots k (2 ^ 28) 0 none) me)) (sym at) (locks_list exists may fits nobody))
+  pub locks_list_at : MayLockListBy (told content x.number x.marks) → NoneOr (todo_told_by x.number x.marks).due (lock_number lock)
+      → TellsNobodyBy (told content x.number x.marks) → (known : ℕ) → known ≡ sizes.sessions → (i : ℕ) → i ≡ at_word
+      → Allows (Ruled content begun sizes) slots id me i (λ n. bit_or n (2 ^ 28)) (LockedListOr content known (step slots i (2 ^ 28) 0 none) me)
+  locks_list_at may fits nobody known same i at =
+      subst (λ j. Allows (Ruled content begun sizes) slots id me i (λ n. bit_or n (2 ^ 28)) (LockedListOr content j (step slots i (2 ^ 28) 0 none) me)) (sym same)
+      (subst (λ k. Allows (Ruled content begun sizes) slots id me k (λ n. bit_or n (2 ^ 28)) (LockedListOr content sizes.sessions (step slots k (2 ^ 28) 0 none) me)) (sym at) (locks_list may fits nobody))
 
   pub unlocks_list_at :
-      (has_waiters release_ok : Bool) (list : Box Waiting) → list.value.room ≡ sizes.sessions → slots ≡ TABLE_SHELVES
+      (has_waiters release_ok : Bool) (list : Box Waiting) → list.value.room ≡ sizes.sessions → slots ≡ shelves_of sizes.sessions
       → (told content x.number x.marks).lists.in_hand ≡ Some (record { lock = lock_number lock; waiters = list.value.waiters })
       → me.1 ≡ (list_shelf_of (lock_number lock), kept.List list) ∷ rest me.1 → (has_waiters ≡ false → list.value.waiters ≡ [])
       → (release_ok ≡ false → (other : ℕ) × ((told content x.number x.marks).lists.off other ≡ true))
@@ -643,11 +645,11 @@ module _ {T : Type 0} (content : T → Content) (begun : T → Option Request) (
       keeps,
       tt,
       looks-only content begun sizes id at_word me.0 x others is s r at_view (mark.SawHeld (lock_number lock))
-          (sees_held (lock_number lock) refl (shown-held r.world lock n (sym (r.words.word (word_of_lock lock) (lock-word_there lock there most_groups))) held) fits),
+          (sees_held (lock_number lock) refl (shown-held r.world lock n (sym (r.words.word (word_of_lock lock) (lock-word_there sizes lock there))) held) fits),
       (
         (λ free. absurd (held free)),
-        (λ _ other also same.
-            let one : lock ≡ other = same-lock lock other there also (sym word ∙ same) in
+        (λ _ sessions other also same.
+            let one : lock ≡ other = same-lock sizes.sessions sessions lock other there also (sym word ∙ same) in
             λ i. (noting me.0 (mark.SawHeld (lock_number (one i))), me.1)),
       ),
     )

@@ -54,7 +54,6 @@ use Rattle.shared_rule.proofs.Shown.{words-set}
 use Rattle.shared_rule.proofs.Frame.{Stepper, IsNoted, ruled-steps, ruled-noted}
 use Rattle.shared_rule.proofs.Events.Words.{IsAlwaysLawful, KeepsLists, lists-kept, rule-after, nothing-changes}
 use Rattle.shared_rule.proofs.Events.Loads.{loading_fast-lawful}
-use Rattle.modes_core.specs.Sessions.{most_sessions}
 
 -- Taking the lock of a session's fast-path slots, and putting it, with that session passed or not; and sharing it.
 
@@ -149,10 +148,10 @@ record Sees {T : Type 0} (content : T → Content) (groups : ℕ) (x : History T
 
 module _ {T : Type 0} (content : T → Content) (begun : T → Option Request) (sizes : TableSizes) (slots id : ℕ) (me : Side T)
     (x : History T) (others : List (History T)) (is : me.0.sessions ≡ x ∷ others)
-    (owner : ℕ) (inside : owner < most_sessions) where
+    (owner : ℕ) (inside : owner < sizes.sessions) where
   -- where the word stands
   abbrev at_word : ℕ
-  at_word = index_of_word (Fast owner)
+  at_word = index_of_word sizes.sessions (Fast owner)
 
   -- The exchange takes it, or shares it, where it finds the number that it expects, and makes this mark. A lost one is a
   -- step that keeps the rule.
@@ -194,11 +193,11 @@ module _ {T : Type 0} (content : T → Content) (begun : T → Option Request) (
               tt,
               ruled-noted content begun sizes s r id me.0 x others at_view is (mark owner database words)
                   (set_word w.words (Fast owner) new) (slice_set s.words at_word new) s.homes sees.noted
-                  (words-set sizes.groups r.some_groups r.few_groups s.words w.words (Fast owner) new r.words (tt, inside))
+                  (words-set sizes r.some_groups s.words w.words (Fast owner) new r.words (tt, inside))
                   (subst (ContentsAreHome content begun s.homes) (sym sees.contents) r.contents)
                   (lists-kept sizes.sessions s.homes w sees.noted.after sees.lists r.lists),
               (
-                (λ _ k within same.
+                (λ _ sessions k same.
                     let one : owner ≡ k = omega (arith, same) in
                     subst (λ k. SeesSlots content sizes.groups mark k me (noting me.0 (mark owner database words), me.1)) one
                     (record {
@@ -239,15 +238,15 @@ module _ {T : Type 0} (content : T → Content) (begun : T → Option Request) (
       })
 
   -- of a session that there can be
-  pub takes_fast_at : (groups old new : ℕ) → groups ≡ sizes.groups → owner < sizes.sessions → IsHeldByNobody old → new ≡ taken_word old
+  pub takes_fast_at : (groups old new : ℕ) → groups ≡ sizes.groups → IsHeldByNobody old → new ≡ taken_word old
       → MayAttempt (told content x.number x.marks) (todo_told_by x.number x.marks) (fast_lock owner) → (i : ℕ) → i ≡ at_word
       → Allows (Ruled content begun sizes) slots id me i (λ n. either (n == old) new n)
       (TookSlotsOr content groups unnoted (step slots i old new none) me)
-  takes_fast_at groups old new same exists free is_new tries i at =
+  takes_fast_at groups old new same free is_new tries i at =
       subst (λ k. Allows (Ruled content begun sizes) slots id me i (λ n. either (n == old) new n)
       (TookSlotsOr content k unnoted (step slots i old new none) me)) (sym same)
       (sees_slots_or mark.TookFast unnoted old new
-      (taking-sees old new (λ w steps. subst (λ n. owner < n) (sym steps.is_limit) exists) free is_new tries)
+      (taking-sees old new (λ w steps. subst (λ n. owner < n) (sym steps.is_limit) inside) free is_new tries)
       (λ s r at_view below. nothing-changes content begun sizes id at_word me.0 s r at_view) i at)
 
   -- of the session's own slots
@@ -275,18 +274,18 @@ module _ {T : Type 0} (content : T → Content) (begun : T → Option Request) (
 
   -- and sharing it.
   pub shares_fast_at :
-      (groups old new : ℕ) → groups ≡ sizes.groups → owner < sizes.sessions → IsFreeToShare old → new ≡ shared_word old
+      (groups old new : ℕ) → groups ≡ sizes.groups → IsFreeToShare old → new ≡ shared_word old
       → MayShareFastBy (told content x.number x.marks) owner → MayAttempt (told content x.number x.marks) (todo_told_by x.number x.marks) (fast_lock owner) → (i : ℕ) → i ≡ at_word
       → Allows (Ruled content begun sizes) slots id me i (λ n. either (n == old) new n)
       (SharedSlotsOr content groups unnoted (step slots i old new none) me)
-  shares_fast_at groups old new same exists free is_new may tries i at =
+  shares_fast_at groups old new same free is_new may tries i at =
       subst (λ k. Allows (Ruled content begun sizes) slots id me i (λ n. either (n == old) new n)
       (SharedSlotsOr content k unnoted (step slots i old new none) me)) (sym same)
       (sees_slots_or mark.SharedFast unnoted old new
       (λ w steps shown.
       subst (Sees content sizes.groups x owner w mark.SharedFast) (ap shared_word shown ∙ sym is_new)
       (record {
-        noted = sharing_fast-noted content sizes x owner w steps (subst (λ n. owner < n) (sym steps.is_limit) exists)
+        noted = sharing_fast-noted content sizes x owner w steps (subst (λ n. owner < n) (sym steps.is_limit) inside)
             (subst IsFreeToShare (sym shown) free) may tries;
         contents = refl;
         lists = λ lock nobody. (nobody, refl);

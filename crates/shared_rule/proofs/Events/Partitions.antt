@@ -46,13 +46,14 @@ use Rattle.shared_rule.specs.declared.rule.TableSizes.{TableSizes}
 use Rattle.shared_rule.specs.declared.history.View.{View}
 use Rattle.shared_rule.specs.declared.kept.Kept.{Kept}
 use Rattle.shared_rule.specs.declared.kept.Kept.TheVariants.{Part}
-use Rattle.shared_rule.specs.declared.layout.TheConstants.{TABLE_SHELVES}
-use Rattle.shared_rule.specs.Layout.{index_of_word, content_shelf_of, list_shelf_of}
+use Rattle.shared_rule.specs.Layout.{index_of_word, content_shelf_of, list_shelf_of, shelves_of}
 use Rattle.shared_rule.specs.Tells.{Puts}
 use Rattle.shared_rule.specs.Shown.{set_word}
 use Rattle.shared_rule.specs.History.{told, noting, taken_of, first_account, first_number}
 use Rattle.shared_rule.specs.Ruled.{IsAtHome, IsHomeUnlessInHand, ContentsAreHome, ListIsAtHome, ListsAreHome, Ruled}
 use Rattle.shared_rule.specs.Plays.{Side, WentHome, TookContent, TookPartition}
+use Rattle.lock_table.specs.Queue.{waits_there}
+use Rattle.shared_rule.proofs.Waiters.{waits-below}
 use Rattle.shared_rule.proofs.Shown.{words-set}
 use Rattle.shared_rule.proofs.Frame.{Stepper, IsNoted, ruled-steps, ruled-noted}
 use Rattle.shared_rule.proofs.Events.Words.{nothing-changes}
@@ -108,9 +109,9 @@ module _ {T : Type 0} (content : T → Content) (begun : T → Option Request) w
 
   -- and where one goes home.
   home-put :
-      (homes : List (maybe.Option (Kept T))) (contents : Contents) (p : ℕ) (part : T) → length homes ≡ TABLE_SHELVES → p < 16 → begun part ≡ None → ContentsAreHome content begun homes contents
+      (sessions : ℕ) (homes : List (maybe.Option (Kept T))) (contents : Contents) (p : ℕ) (part : T) → length homes ≡ shelves_of sessions → p < 16 → begun part ≡ None → ContentsAreHome content begun homes contents
       → ContentsAreHome content begun (slice_set homes (content_shelf_of p) (some (Part part))) (record { now = set_at contents.now p (content part); hand = set_at contents.hand p None })
-  home-put homes contents p part many exists none_begun home q within =
+  home-put sessions homes contents p part many exists none_begun home q within =
       elim (cases_eq q p) [
         | inl same ↦
             subst (λ h. IsHomeUnlessInHand content begun h (set_at contents.now p (content part) q) (get_elem? (slice_set homes (content_shelf_of p) (some (Part part))) (content_shelf_of q)))
@@ -154,13 +155,13 @@ module _ {T : Type 0} (content : T → Content) (begun : T → Option Request) (
   }
 
   -- The exchange takes it where it finds the number of a free word.
-  pub takes_part : (old new : ℕ) (step : Step (Kept T)) → step.first ≡ old → step.word ≡ index_of_word (Partition p) → IsHeldByNobody old → new ≡ taken_word old
+  pub takes_part : (old new : ℕ) (step : Step (Kept T)) → step.first ≡ old → step.word ≡ index_of_word sizes.sessions (Partition p) → IsHeldByNobody old → new ≡ taken_word old
       → MayAttempt (told content x.number x.marks) (todo_told_by x.number x.marks) (partition_lock p)
-      → Allows (Ruled content begun sizes) TABLE_SHELVES id me (index_of_word (Partition p)) (λ n. either (n == old) new n) (TookPartition content begun step me)
+      → Allows (Ruled content begun sizes) (shelves_of sizes.sessions) id me (index_of_word sizes.sessions (Partition p)) (λ n. either (n == old) new n) (TookPartition content begun sizes.sessions step me)
   takes_part old new step first word free is_new tries s r many at below =
       exchanged n old new (λ m. (view : View T) × (act : Act (Kept T)) × Valid s.homes me.1 act
-      × Ruled content begun sizes (stepped s (index_of_word (Partition p)) m id me.1 view act)
-      × TookPartition content begun step me n (view, carried_after me.1 act))
+      × Ruled content begun sizes (stepped s (index_of_word sizes.sessions (Partition p)) m id me.1 view act)
+      × TookPartition content begun sizes.sessions step me n (view, carried_after me.1 act))
       (λ hit.
       let shown : r.world.words.partition p ≡ old = sym (r.words.word (Partition p) (exists, tt)) ∙ hit in
       let is_free : IsHeldByNobody (r.world.words.partition p) = subst IsHeldByNobody (sym shown) free in
@@ -172,31 +173,34 @@ module _ {T : Type 0} (content : T → Content) (begun : T → Option Request) (
         takes (content_shelf_of p) (Part home.part),
         home.at_home,
         ruled-noted content begun sizes s r id me.0 x others at is (TookPart p home.part)
-            (set_word r.world.words (Partition p) (taken_word (r.world.words.partition p))) (slice_set s.words (index_of_word (Partition p)) new)
+            (set_word r.world.words (Partition p) (taken_word (r.world.words.partition p))) (slice_set s.words (index_of_word sizes.sessions (Partition p)) new)
             (slice_set s.homes (content_shelf_of p) none) noted
-            (subst (λ k. Rattle.shared_rule.specs.Shown.WordsAreShown sizes.groups (slice_set s.words (index_of_word (Partition p)) k) (set_word r.world.words (Partition p) (taken_word (r.world.words.partition p)))) next
-            (words-set sizes.groups r.some_groups r.few_groups s.words r.world.words (Partition p) (taken_word (r.world.words.partition p)) r.words (exists, tt)))
+            (subst (λ k. Rattle.shared_rule.specs.Shown.WordsAreShown sizes (slice_set s.words (index_of_word sizes.sessions (Partition p)) k) (set_word r.world.words (Partition p) (taken_word (r.world.words.partition p)))) next
+            (words-set sizes r.some_groups s.words r.world.words (Partition p) (taken_word (r.world.words.partition p)) r.words (exists, tt)))
             (home-taken content begun s.homes r.world.contents p
             (record { holder = x.number; taken = r.world.contents.now p; recorded = None; unmarked = λ _. Rattle.std.proofs.Common.false }) r.contents)
             (lists-beside sizes.sessions s.homes p none r.world.sessions.has_list r.world.words.list exists r.lists),
         (
           (λ _ q within same.
               let one : p ≡ q = omega (arith, same, word) in
-              subst (λ k. TookContent content begun k me (noting me.0 (TookPart p home.part), (content_shelf_of p, Part home.part) ∷ me.1)) one (record {
+              subst (λ k. TookContent content begun sizes.sessions k me (noting me.0 (TookPart p home.part), (content_shelf_of p, Part home.part) ∷ me.1)) one (record {
                 part = home.part;
                 side = refl;
                 none_begun = home.none_begun;
                 knows = subst (λ (sessions : List (History T)). KnowsContent (first_number sessions) (first_account content sessions) p (content home.part)) (sym is)
                     (subst (λ a. KnowsContent x.number a p (content home.part)) (sym steps.account)
                     (subst (KnowsContent x.number (account r.world x.number) p) (sym home.is_content) (content-known r.world r.safe x.number p (free-in_no_hand r.world r.safe p is_free))));
+                waiters = λ k tag there.
+                    subst (λ n. k < n) r.is_limit (waits-below r.world r.safe p k tag
+                    (ap (λ (now : Content). waits_there (now.waits tag) k) (sym home.is_content) ∙ there));
               })),
           (λ miss. absurd (miss (hit ∙ sym first))),
         ),
       ))
-      (λ miss. (me.0, keeps, tt, nothing-changes content begun sizes id (index_of_word (Partition p)) me.0 s r at, ((λ hit. absurd (miss (hit ∙ first))), λ _. refl)))
+      (λ miss. (me.0, keeps, tt, nothing-changes content begun sizes id (index_of_word sizes.sessions (Partition p)) me.0 s r at, ((λ hit. absurd (miss (hit ∙ first))), λ _. refl)))
     where
       n : ℕ
-      n = slice_index s.words (index_of_word (Partition p))
+      n = slice_index s.words (index_of_word sizes.sessions (Partition p))
 
   -- Whoever may put it has it in hand.
   may_put-in_hand : (a : Account) (its : InHand) (done : Move) (now : Content) → MayPutPart sizes.sessions x.number a p its done now → a.hand p ≡ Some its
@@ -246,29 +250,29 @@ module _ {T : Type 0} (content : T → Content) (begun : T → Option Request) (
 
   pub puts_part : (step : Step (Kept T)) (its : InHand) (done : Move) (part : T) → MayPutPart sizes.sessions x.number (told content x.number x.marks) p its done (content part)
       → begun part ≡ None → me.1 ≡ (content_shelf_of p, Part part) ∷ rest me.1 → (todo_told_by x.number x.marks).due ≡ None
-      → Allows (Ruled content begun sizes) TABLE_SHELVES id me (index_of_word (Partition p)) (λ n. (n + (2 ^ 64 - 2 ^ 24)) % 2 ^ 64) (WentHome (PutPart p done part) step me)
+      → Allows (Ruled content begun sizes) (shelves_of sizes.sessions) id me (index_of_word sizes.sessions (Partition p)) (λ n. (n + (2 ^ 64 - 2 ^ 24)) % 2 ^ 64) (WentHome (PutPart p done part) step me)
   puts_part step its done part may none_begun carried undue s r many at below =
       let steps = ruled-steps content begun sizes s r id me.0 x others at is in
       let own = hand-known (r.world.contents.hand p) (r.world.contents.now p) x.number its (subst (λ (a : Account). a.hand p ≡ Some its) steps.account (may_put-in_hand (told content x.number x.marks) its done (content part) may)) in
       let holds : r.world.sessions.holds_partition x.number p ≡ Rattle.std.proofs.Common.true =
       r.safe.but_slots.table.carriers.hands p x.number ∙ ap (λ h. is_hand_of h x.number) own.is_hand ∙ Rattle.std.proofs.Common.eq-eqb own.hand_of.holder x.number own.whose in
       let shown = r.words.word (Partition p) (exists, tt) in
-      let held : IsHeldExclusively (slice_index s.words (index_of_word (Partition p))) =
+      let held : IsHeldExclusively (slice_index s.words (index_of_word sizes.sessions (Partition p))) =
       subst IsHeldExclusively (sym shown) ((r.safe.but_slots.table.promise.words p).held_is_shown x.number holds) in
       let held_there : IsHeldExclusively (r.world.words.partition p) = (r.safe.but_slots.table.promise.words p).held_is_shown x.number holds in
-      let noted = putting-noted r.world steps its done part (slice_index s.words (index_of_word (Partition p))) may shown held_there undue in
-      let next : put_word (r.world.words.partition p) ≡ (slice_index s.words (index_of_word (Partition p)) + (2 ^ 64 - 2 ^ 24)) % 2 ^ 64 =
-      ap put_word (sym shown) ∙ put_word-wraps (slice_index s.words (index_of_word (Partition p))) below held in (
-        noting me.0 (PutPart p done part (slice_index s.words (index_of_word (Partition p)))),
+      let noted = putting-noted r.world steps its done part (slice_index s.words (index_of_word sizes.sessions (Partition p))) may shown held_there undue in
+      let next : put_word (r.world.words.partition p) ≡ (slice_index s.words (index_of_word sizes.sessions (Partition p)) + (2 ^ 64 - 2 ^ 24)) % 2 ^ 64 =
+      ap put_word (sym shown) ∙ put_word-wraps (slice_index s.words (index_of_word sizes.sessions (Partition p))) below held in (
+        noting me.0 (PutPart p done part (slice_index s.words (index_of_word sizes.sessions (Partition p)))),
         gives,
         tt,
-        ruled-noted content begun sizes s r id me.0 x others at is (PutPart p done part (slice_index s.words (index_of_word (Partition p))))
-            (set_word r.world.words (Partition p) (put_word (r.world.words.partition p))) (slice_set s.words (index_of_word (Partition p)) ((slice_index s.words (index_of_word (Partition p)) + (2 ^ 64 - 2 ^ 24)) % 2 ^ 64))
+        ruled-noted content begun sizes s r id me.0 x others at is (PutPart p done part (slice_index s.words (index_of_word sizes.sessions (Partition p))))
+            (set_word r.world.words (Partition p) (put_word (r.world.words.partition p))) (slice_set s.words (index_of_word sizes.sessions (Partition p)) ((slice_index s.words (index_of_word sizes.sessions (Partition p)) + (2 ^ 64 - 2 ^ 24)) % 2 ^ 64))
             (Rattle.atomic_table.specs.Table.put_back s.homes me.1) noted
-            (subst (λ k. Rattle.shared_rule.specs.Shown.WordsAreShown sizes.groups (slice_set s.words (index_of_word (Partition p)) k) (set_word r.world.words (Partition p) (put_word (r.world.words.partition p)))) next
-            (words-set sizes.groups r.some_groups r.few_groups s.words r.world.words (Partition p) (put_word (r.world.words.partition p)) r.words (exists, tt)))
+            (subst (λ k. Rattle.shared_rule.specs.Shown.WordsAreShown sizes (slice_set s.words (index_of_word sizes.sessions (Partition p)) k) (set_word r.world.words (Partition p) (put_word (r.world.words.partition p)))) next
+            (words-set sizes r.some_groups s.words r.world.words (Partition p) (put_word (r.world.words.partition p)) r.words (exists, tt)))
             (subst (λ (homes : List (maybe.Option (Kept T))). ContentsAreHome content begun homes noted.after.contents) (sym (ap (Rattle.atomic_table.specs.Table.put_back s.homes) carried))
-            (home-put content begun s.homes r.world.contents p part many exists none_begun r.contents))
+            (home-put content begun sizes.sessions s.homes r.world.contents p part many exists none_begun r.contents))
             (subst (λ (homes : List (maybe.Option (Kept T))). ListsAreHome sizes.sessions homes r.world.sessions.has_list r.world.words.list) (sym (ap (Rattle.atomic_table.specs.Table.put_back s.homes) carried))
             (lists-beside sizes.sessions s.homes p (some (Part part)) r.world.sessions.has_list r.world.words.list exists r.lists)),
         refl,
@@ -276,19 +280,20 @@ module _ {T : Type 0} (content : T → Content) (begun : T → Option Request) (
 
 -- The same of the word at an index, in a table with this many shelves.
 module _ {T : Type 0} (content : T → Content) (begun : T → Option Request) (sizes : TableSizes) (id : ℕ) (me : Side T) (x : History T) (others : List (History T)) (is : me.0.sessions ≡ x ∷ others)
-    (p : ℕ) (exists : p < 16) (slots i : ℕ) (many : slots ≡ TABLE_SHELVES) (at : i ≡ index_of_word (Partition p)) where
-  pub takes_part_at : (old new : ℕ) → IsHeldByNobody old → new ≡ taken_word old → MayAttempt (told content x.number x.marks) (todo_told_by x.number x.marks) (partition_lock p)
-      → Allows (Ruled content begun sizes) slots id me i (λ n. either (n == old) new n) (TookPartition content begun (step slots i old new none) me)
-  takes_part_at old new free is_new tries =
-      subst (λ n. Allows (Ruled content begun sizes) n id me i (λ n. either (n == old) new n) (TookPartition content begun (step n i old new none) me)) (sym many)
-      (subst (λ k. Allows (Ruled content begun sizes) TABLE_SHELVES id me k (λ n. either (n == old) new n) (TookPartition content begun (step TABLE_SHELVES k old new none) me)) (sym at)
-      (takes_part content begun sizes id me x others is p exists old new (step TABLE_SHELVES (index_of_word (Partition p)) old new none) refl refl free is_new tries))
+    (p : ℕ) (exists : p < 16) (slots i : ℕ) (many : slots ≡ shelves_of sizes.sessions) (at : i ≡ index_of_word sizes.sessions (Partition p)) where
+  pub takes_part_at : (known old new : ℕ) → known ≡ sizes.sessions → IsHeldByNobody old → new ≡ taken_word old → MayAttempt (told content x.number x.marks) (todo_told_by x.number x.marks) (partition_lock p)
+      → Allows (Ruled content begun sizes) slots id me i (λ n. either (n == old) new n) (TookPartition content begun known (step slots i old new none) me)
+  takes_part_at known old new same free is_new tries =
+      subst (λ j. Allows (Ruled content begun sizes) slots id me i (λ n. either (n == old) new n) (TookPartition content begun j (step slots i old new none) me)) (sym same)
+      (subst (λ n. Allows (Ruled content begun sizes) n id me i (λ n. either (n == old) new n) (TookPartition content begun sizes.sessions (step n i old new none) me)) (sym many)
+      (subst (λ k. Allows (Ruled content begun sizes) (shelves_of sizes.sessions) id me k (λ n. either (n == old) new n) (TookPartition content begun sizes.sessions (step (shelves_of sizes.sessions) k old new none) me)) (sym at)
+      (takes_part content begun sizes id me x others is p exists old new (step (shelves_of sizes.sessions) (index_of_word sizes.sessions (Partition p)) old new none) refl refl free is_new tries)))
 
   pub puts_part_at : (its : InHand) (done : Move) (part : T) → MayPutPart sizes.sessions x.number (told content x.number x.marks) p its done (content part)
       → begun part ≡ None → me.1 ≡ (content_shelf_of p, Part part) ∷ rest me.1 → (todo_told_by x.number x.marks).due ≡ None → (mark : ℕ → Mark T) → mark ≡ PutPart p done part
       → Allows (Ruled content begun sizes) slots id me i (λ n. (n + (2 ^ 64 - 16777216)) % 2 ^ 64) (WentHome mark (step slots i 16777216 0 none) me)
   puts_part_at its done part may none_begun carried undue mark marked =
       subst (λ n. Allows (Ruled content begun sizes) n id me i (λ n. (n + (2 ^ 64 - 16777216)) % 2 ^ 64) (WentHome mark (step n i 16777216 0 none) me)) (sym many)
-      (subst (λ k. Allows (Ruled content begun sizes) TABLE_SHELVES id me k (λ n. (n + (2 ^ 64 - 16777216)) % 2 ^ 64) (WentHome mark (step TABLE_SHELVES k 16777216 0 none) me)) (sym at)
-      (subst (λ (m : ℕ → Mark T). Allows (Ruled content begun sizes) TABLE_SHELVES id me (index_of_word (Partition p)) (λ n. (n + (2 ^ 64 - 16777216)) % 2 ^ 64) (WentHome m (step TABLE_SHELVES (index_of_word (Partition p)) 16777216 0 none) me)) (sym marked)
-      (puts_part content begun sizes id me x others is p exists (step TABLE_SHELVES (index_of_word (Partition p)) 16777216 0 none) its done part may none_begun carried undue)))
+      (subst (λ k. Allows (Ruled content begun sizes) (shelves_of sizes.sessions) id me k (λ n. (n + (2 ^ 64 - 16777216)) % 2 ^ 64) (WentHome mark (step (shelves_of sizes.sessions) k 16777216 0 none) me)) (sym at)
+      (subst (λ (m : ℕ → Mark T). Allows (Ruled content begun sizes) (shelves_of sizes.sessions) id me (index_of_word sizes.sessions (Partition p)) (λ n. (n + (2 ^ 64 - 16777216)) % 2 ^ 64) (WentHome m (step (shelves_of sizes.sessions) (index_of_word sizes.sessions (Partition p)) 16777216 0 none) me)) (sym marked)
+      (puts_part content begun sizes id me x others is p exists (step (shelves_of sizes.sessions) (index_of_word sizes.sessions (Partition p)) 16777216 0 none) its done part may none_begun carried undue)))

@@ -24,12 +24,13 @@ use Rattle.shared_rule.specs.declared.rule.TableSizes.{TableSizes}
 use Rattle.shared_rule.specs.declared.history.View.{View}
 use Rattle.shared_rule.specs.declared.kept.Kept.{Kept}
 use Rattle.shared_rule.specs.Layout.{index_of_word, content_shelf_of, list_shelf_of, IsInTable}
+use Rattle.shared_rule.specs.Looks.{word_looked_at}
 use Rattle.shared_rule.specs.Shown.{WordsAreShown, set_word}
 use Rattle.shared_rule.specs.History.{told, noting, first_account, first_number}
 use Rattle.shared_rule.specs.Ruled.{IsHomeUnlessInHand, ContentsAreHome, IsInNoHand, ListIsAtHome, ListsAreHome, Ruled}
 use Rattle.shared_rule.specs.Slots.{HasOrShares, KnowsWord}
 use Rattle.shared_rule.specs.Plays.{Side, Marked, Looked}
-use Rattle.shared_rule.proofs.Shown.{may_be, words-set}
+use Rattle.shared_rule.proofs.Shown.{words-set}
 use Rattle.shared_rule.specs.Todos.{todo_told_by, flagged_told_by}
 use Rattle.shared_rule.proofs.Frame.{Stepper, IsNoted, IsSeen, ruled-steps, ruled-noted, ruled-looked}
 
@@ -80,9 +81,9 @@ listed-same words list (Wait k) = refl
 listed-same words list (Strong index) = refl
 listed-same words list (Sleep k) = refl
 
-pub listed-shown : (groups : ℕ) (table : List ℕ) (words : Words) (list : ℕ → List LwWaiter) → WordsAreShown groups table words
-    → WordsAreShown groups table (record words { list = list })
-listed-shown groups table words list shown =
+pub listed-shown : (sizes : TableSizes) (table : List ℕ) (words : Words) (list : ℕ → List LwWaiter) → WordsAreShown sizes table words
+    → WordsAreShown sizes table (record words { list = list })
+listed-shown sizes table words list shown =
     record {
       as_many = shown.as_many;
       word = λ word there. shown.word word there ∙ sym (listed-same words list word);
@@ -126,33 +127,33 @@ module _ {T : Type 0} (content : T → Content) where
       → IsLawful sizes x word n (next n) (mark n) w
 
 module _ {T : Type 0} (content : T → Content) (begun : T → Option Request) (sizes : TableSizes) (slots id : ℕ) (me : Side T) (x : History T) (others : List (History T)) (is : me.0.sessions ≡ x ∷ others)
-    (word : Word) (exists : IsInTable sizes.groups word) (next : ℕ → ℕ) (mark : ℕ → Mark T) where
+    (word : Word) (exists : IsInTable sizes word) (next : ℕ → ℕ) (mark : ℕ → Mark T) where
   -- After it the rule holds.
   pub rule-after :
       (expected : ℕ → Type 0) → IsAlwaysLawful content sizes x word expected next mark
       → (s : State (Kept T) (View T)) → Ruled content begun sizes s → get_elem? s.views id ≡ some me.0
-      → (n : ℕ) → n < 2 ^ 64 → n ≡ slice_index s.words (index_of_word word) → expected n
-      → Ruled content begun sizes (record { words = slice_set s.words (index_of_word word) (next n); homes = s.homes; views = slice_set s.views id (noting me.0 (mark n)) })
+      → (n : ℕ) → n < 2 ^ 64 → n ≡ slice_index s.words (index_of_word sizes.sessions word) → expected n
+      → Ruled content begun sizes (record { words = slice_set s.words (index_of_word sizes.sessions word) (next n); homes = s.homes; views = slice_set s.views id (noting me.0 (mark n)) })
   rule-after expected lawful s r at n below shows is_so =
       let steps = ruled-steps content begun sizes s r id me.0 x others at is in
-      let now = lawful r.world steps n below (shows ∙ r.words.word word (may_be sizes.groups r.few_groups word exists)) is_so in
+      let now = lawful r.world steps n below (shows ∙ r.words.word word exists) is_so in
       ruled-noted content begun sizes s r id me.0 x others at is (mark n)
       (record (set_word r.world.words word (next n)) { list = now.list })
-      (slice_set s.words (index_of_word word) (next n)) s.homes now.noted
-      (listed-shown sizes.groups (slice_set s.words (index_of_word word) (next n)) (set_word r.world.words word (next n)) now.list
-      (words-set sizes.groups r.some_groups r.few_groups s.words r.world.words word (next n) r.words exists))
+      (slice_set s.words (index_of_word sizes.sessions word) (next n)) s.homes now.noted
+      (listed-shown sizes (slice_set s.words (index_of_word sizes.sessions word) (next n)) (set_word r.world.words word (next n)) now.list
+      (words-set sizes r.some_groups s.words r.world.words word (next n) r.words exists))
       (home-kept content begun s.homes r.world.contents now.noted.after.contents now.home r.contents)
       (lists-kept sizes.sessions s.homes r.world now.noted.after now.lists r.lists)
 
   -- A fetch-and-add, a fetch-and-subtract, or with `next` as it is a load.
   pub marks : (step : Step (Kept T)) → IsAlwaysLawful content sizes x word (λ _. Unit {0}) next mark
-      → Allows (Ruled content begun sizes) slots id me (index_of_word word) next (Marked mark step me)
+      → Allows (Ruled content begun sizes) slots id me (index_of_word sizes.sessions word) next (Marked mark step me)
   marks step lawful s r many at below = (
-    noting me.0 (mark (slice_index s.words (index_of_word word))),
+    noting me.0 (mark (slice_index s.words (index_of_word sizes.sessions word))),
     keeps,
     tt,
     rule-after (λ _. Unit {0}) lawful s r
-        at (slice_index s.words (index_of_word word)) below refl tt,
+        at (slice_index s.words (index_of_word sizes.sessions word)) below refl tt,
     refl,
   )
 
@@ -168,26 +169,42 @@ nothing-changes {T} content begun sizes id i view s r at =
 -- The same of the word at an index: a play of a mark reads nothing else of its step.
 pub marks_at :
     {T : Type 0} (content : T → Content) (begun : T → Option Request) (sizes : TableSizes) (slots id : ℕ) (me : Side T) (x : History T) (others : List (History T)) → me.0.sessions ≡ x ∷ others
-    → (word : Word) → IsInTable sizes.groups word → (i : ℕ) → i ≡ index_of_word word → (next : ℕ → ℕ) (mark : ℕ → Mark T)
+    → (word : Word) → IsInTable sizes word → (i : ℕ) → i ≡ index_of_word sizes.sessions word → (next : ℕ → ℕ) (mark : ℕ → Mark T)
     → IsAlwaysLawful content sizes x word (λ _. Unit {0}) next mark
     → Allows (Ruled content begun sizes) slots id me i next (Marked mark (step 0 0 0 0 none) me)
 marks_at {T} content begun sizes slots id me x others is word exists i at next mark lawful =
     subst (λ k. Allows (Ruled content begun sizes) slots id me k next (Marked mark (step 0 0 0 0 none) me)) (sym at)
     (marks content begun sizes slots id me x others is word exists next mark (step 0 0 0 0 none) lawful)
 
+-- The mark of what is found in this word names no other word.
+abbrev pub NamesNoOther : {T : Type 0} → Word → (ℕ → Mark T) → Type 0
+NamesNoOther word mark = (n : ℕ) (other : Word) → word_looked_at (mark n) ≡ Some other → other ≡ word
+
+-- So it is of a mark that names this word, or none.
+pub names-one : {T : Type 0} (word : Word) (mark its : ℕ → Mark T) → mark ≡ its → ((n : ℕ) → word_looked_at (its n) ≡ Some word) → NamesNoOther word mark
+names-one word mark its same named n other its_other =
+    let both : Some word ≡ Some other = sym (named n) ∙ ap (λ m. word_looked_at (m n)) (sym same) ∙ its_other in
+    let one : word ≡ other = cc (both) in
+    sym one
+
+pub names-none : {T : Type 0} (word : Word) (mark its : ℕ → Mark T) → mark ≡ its → ((n : ℕ) → word_looked_at (its n) ≡ None) → NamesNoOther word mark
+names-none word mark its same named n other its_other =
+    let never : ◌≡◌ {A = Option Word} None (Some other) = sym (named n) ∙ ap (λ m. word_looked_at (m n)) (sym same) ∙ its_other in
+    absurd (cc (never))
+
 -- A load, or a fetch operation, that tells what the account knows of the number found.
 pub looks_at :
     {T : Type 0} (content : T → Content) (begun : T → Option Request) (sizes : TableSizes) (slots id : ℕ) (me : Side T) (x : History T) (others : List (History T)) → me.0.sessions ≡ x ∷ others
-    → (word : Word) → IsInTable sizes.groups word → (i : ℕ) → i ≡ index_of_word word → (first : ℕ) (next : ℕ → ℕ) (mark : ℕ → Mark T)
-    → IsAlwaysLawful content sizes x word (λ _. Unit {0}) next mark
+    → (word : Word) → IsInTable sizes word → (i : ℕ) → i ≡ index_of_word sizes.sessions word → (first : ℕ) (next : ℕ → ℕ) (mark : ℕ → Mark T)
+    → NamesNoOther word mark → IsAlwaysLawful content sizes x word (λ _. Unit {0}) next mark
     → Allows (Ruled content begun sizes) slots id me i next (Looked content mark (step slots i first 0 none) me)
-looks_at {T} content begun sizes slots id me x others is word exists i at first next mark lawful =
+looks_at {T} content begun sizes slots id me x others is word exists i at first next mark names lawful =
     subst (λ k. Allows (Ruled content begun sizes) slots id me k next (Looked content mark (step slots k first 0 none)
     me)) (sym at) here where
-      here : Allows (Ruled content begun sizes) slots id me (index_of_word word) next
-          (Looked content mark (step slots (index_of_word word) first 0 none) me)
+      here : Allows (Ruled content begun sizes) slots id me (index_of_word sizes.sessions word) next
+          (Looked content mark (step slots (index_of_word sizes.sessions word) first 0 none) me)
       here s r many at_view below =
-          let n : ℕ = slice_index s.words (index_of_word word) in
+          let n : ℕ = slice_index s.words (index_of_word sizes.sessions word) in
           let steps = ruled-steps content begun sizes s r id me.0 x others at_view is in (
             noting me.0 (mark n),
             keeps,
@@ -196,9 +213,8 @@ looks_at {T} content begun sizes slots id me x others is word exists i at first 
                 r at_view n below refl tt,
             (
               refl,
-              (λ other there same.
-                  let shown : word_in r.world.words other ≡ n = sym (ap (slice_index s.words) same
-                  ∙ r.words.word other there) in
+              (λ other named.
+                  let shown : word_in r.world.words other ≡ n = ap (word_in r.world.words) (names n other named) ∙ sym (r.words.word word exists) in
                   subst (λ (sessions : List (History T)). KnowsWord (first_number sessions)
                   (first_account content sessions) other n) (sym is)
                   (subst (λ a. KnowsWord x.number a other n) (sym steps.account)
@@ -210,7 +226,7 @@ looks_at {T} content begun sizes slots id me x others is word exists i at first 
 -- A store, which leaves the same mark whatever it found.
 pub stores_at :
     {T : Type 0} (content : T → Content) (begun : T → Option Request) (sizes : TableSizes) (slots id : ℕ) (me : Side T) (x : History T) (others : List (History T)) → me.0.sessions ≡ x ∷ others
-    → (word : Word) → IsInTable sizes.groups word → (i : ℕ) → i ≡ index_of_word word → (new : ℕ) (mark : ℕ → Mark T) (left : Mark T) → mark ≡ (λ _. left)
+    → (word : Word) → IsInTable sizes word → (i : ℕ) → i ≡ index_of_word sizes.sessions word → (new : ℕ) (mark : ℕ → Mark T) (left : Mark T) → mark ≡ (λ _. left)
     → IsAlwaysLawful content sizes x word (λ _. Unit {0}) (λ _. new) (λ _. left)
     → Allows (Ruled content begun sizes) slots id me i (λ _. new) (λ _. Marked mark (step 0 0 0 0 none) me new)
 stores_at {T} content begun sizes slots id me x others is word exists i at new mark left same lawful =

@@ -14,6 +14,7 @@ append_slots-listed-requires g c =
     c.share_fast.ensures.shared c.load_database-shown.ensures.of_shared_slots (λ same. c.load_database-shown.ensures.own (same ∙ sym (ap (λ (s : Seated). s.number) c.share_fast.ensures.seat)))
     c.load_database-shown.ensures.view in
     record {
+      exists = search rules;
       there = search rules;
       shared = (read.slots, slots-shared groups own a b c.args.owner c.load_database-shown.result read);
     }

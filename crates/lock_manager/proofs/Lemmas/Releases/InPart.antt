@@ -15,13 +15,14 @@ use Rattle.lock_world.specs.World.{TraceEntry, Took, Episode}
 use Rattle.fast_path.specs.Slots.{group_of_tag, group_loads, account_tried}
 use Rattle.fast_path.specs.Releases.{Ungrants, IsUnused}
 use Rattle.shared_rule.specs.Boards.{Seated}
+use Rattle.shared_rule.specs.Waiters.{WaitsExist}
 use Rattle.shared_rule.specs.Lawful.{MayPutPart}
 use Rattle.shared_rule.specs.History.{taken_of}
 use Rattle.shared_rule.specs.Episodes.{account_episode}
 use Rattle.shared_rule.proofs.Episodes.{fresh_hand, taken-in_hand, taken-put}
 use Rattle.fast_path.specs.declared.use_counts.UseCounts.{UseCounts}
 use Rattle.lock_manager.specs.Releases.{Wakens, Tells, ReleasesInPart, ReleasesHold, LooksNowhere, FindsNone, Releases, account_released}
-use Rattle.lock_manager.proofs.Lemmas.Releases.Marks.{release-once}
+use Rattle.lock_manager.proofs.Lemmas.Releases.Marks.{release-once, release-stood}
 
 -- Releasing a hold in a partition that was just taken.
 
@@ -59,8 +60,8 @@ module _ (seat : Seated) (a : Account) (p : ℕ) (tag : Tag) (mode : Mode) (take
   -- and else tell those whom it lets go.
   pub release-tells :
       (its : Seated) (b : Account) → its ≡ seat → b ≡ account_taking a p taken → KnowsContent seat.number a p taken
-      → woken ≢ [] → Tells its b p (Release tag mode) woken put
-  release-tells its b same_seat same knows some =
+      → WaitsExist seat.limit taken → woken ≢ [] → Tells its b p (Release tag mode) woken put
+  release-tells its b same_seat same knows exist some =
       let wakens : Wakens seat (account_taking a p taken) p (Release tag mode) woken put =
       record {
         mine = fresh_hand taken;
@@ -68,6 +69,7 @@ module _ (seat : Seated) (a : Account) (p : ℕ) (tag : Tag) (mode : Mode) (take
         whose = whose;
         may_move = may_release;
         once = λ session. release-once taken put seat.number tag mode granted woken session moved whose (knows.once session tag);
+        exist = λ session there. exist session tag (release-stood taken put seat.number tag mode granted moved session there);
       } in
       record {
         from = b;

@@ -3,6 +3,7 @@ use Rattle.std.specs.Prelude.{map, count_by, if◌then◌else◌}
 use Rattle.std.specs.Bool.{MatchBool}
 use Rattle.std.specs.List.{list_any}
 use Rattle.std.proofs.lemmas.Bool.{cases_eq, eq-eqb, ne_eqb, false_from_ne_true}
+use Rattle.std.proofs.lemmas.List.Folds.{list_any_at}
 use Rattle.std.proofs.lemmas.List.{take-append-drop, drop_more, drop_all}
 use Rattle.modes_core.specs.declared.modes.Mode.{Mode}
 use Rattle.modes_core.specs.declared.tags.Tag.{Tag}
@@ -17,7 +18,7 @@ use Rattle.lock_table.specs.Moves.{Moves}
 use Rattle.lock_table.specs.Put.{set_at}
 use Rattle.lock_table.specs.Waiter.{whose_and_mode}
 use Rattle.lock_table.proofs.HoldLists.{count_by-cons, count_by-append, count_by-filter}
-use Rattle.lock_table.proofs.ListLemmas.{any-counted}
+use Rattle.lock_table.proofs.ListLemmas.{any-counted, counted-any}
 use Rattle.lock_table.proofs.ListingLemmas.{count_by-map}
 use Rattle.lock_table.proofs.PutLemmas.{put_here, set_at-here, set_at-twice}
 use Rattle.lock_table.proofs.QueueLaws.{wakes-split}
@@ -104,6 +105,23 @@ pub release-once :
 release-once before after number tag mode granted woken session moved whose once =
     told-once granted (before.waits tag) woken session
     (release-count (λ wait. wait.session == session) before after number tag mode granted moved) whose once
+
+-- Whom it lets go stood in the queue.
+pub leave-stood :
+    (before after : Content) (number : ℕ) (tag : Tag) (granted : List Wait) → Moves before number (Leave tag) granted after
+    → (session : ℕ) → waits_there granted session ≡ true → waits_there (before.waits tag) session ≡ true
+leave-stood before after number tag granted moved session there =
+    let some = any-counted (λ wait. wait.session == session) granted there in
+    let more = leave-count (λ wait. wait.session == session) before after number tag granted moved in
+    counted-any (λ wait. wait.session == session) (before.waits tag) (omega (arith, some, more))
+
+pub release-stood :
+    (before after : Content) (number : ℕ) (tag : Tag) (mode : Mode) (granted : List Wait) → Moves before number (Release tag mode) granted after
+    → (session : ℕ) → waits_there granted session ≡ true → waits_there (before.waits tag) session ≡ true
+release-stood before after number tag mode granted moved session there =
+    let some = any-counted (λ wait. wait.session == session) granted there in
+    let more = release-count (λ wait. wait.session == session) before after number tag mode granted moved in
+    counted-any (λ wait. wait.session == session) (before.waits tag) (omega (arith, some, more))
 
 -- ---- who is still unmarked
 
@@ -231,7 +249,14 @@ module _ (seat : Seated) (a : Account) (p : ℕ) (done : Move) (woken : List (�
         (record { in_hand = marked-in_hand (told ∷ rest); recorded = refl; still_unmarked = first-among told rest })),
   )
 
-  -- and then the others are left.
+  -- and is one of the sessions that there can be.
+  pub told-exists : (items : List (ℕ × Mode)) (i : ℕ) (told : ℕ × Mode) → items ≡ woken → i < length items → told ≡ get_or items i told → told.0 < seat.limit
+  told-exists items i told same within is =
+      wakens.exist told.0
+      (sym (any-map whose_and_mode (is_told told.0) wakens.granted) ∙ ap (list_any (is_told told.0)) (sym (same ∙ wakens.whose))
+      ∙ list_any_at (is_told told.0) items i told within (ap (is_told told.0) (sym is) ∙ eq-eqb told.0 told.0 refl))
+
+  -- Then the others are left.
   marking-next :
       (told : ℕ × Mode) (rest : List (ℕ × Mode)) (b : Account)
       → count_by (is_told told.0) (told ∷ rest) ≤ 1 → IsMarking a p done now woken (told ∷ rest) b

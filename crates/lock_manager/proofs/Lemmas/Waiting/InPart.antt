@@ -19,12 +19,13 @@ use Rattle.lock_world.specs.AccountLaw.{MayLeaveBy}
 use Rattle.lock_world.specs.AccountSteps.{account_taking, account_putting, account_clearing, hand_recording, own_with}
 use Rattle.lock_world.specs.World.{Took, Episode}
 use Rattle.shared_rule.specs.Boards.{Seated, Stack}
+use Rattle.shared_rule.specs.Waiters.{WaitsExist}
 use Rattle.shared_rule.specs.History.{taken_of, in_hand, is_among, sessions_told, is_granted, account_cleared, account_left}
 use Rattle.shared_rule.specs.Lawful.{MayPutPart, MayClearBy}
 use Rattle.shared_rule.proofs.Episodes.{fresh_hand, taken-in_hand}
 use Rattle.lock_manager.specs.Releases.{Wakens, Tells, account_marked}
 use Rattle.lock_manager.specs.Waiting.{IsInWait, FindsGrant, account_cancelled}
-use Rattle.lock_manager.proofs.Lemmas.Releases.Marks.{leave-once}
+use Rattle.lock_manager.proofs.Lemmas.Releases.Marks.{leave-once, leave-stood}
 
 -- The end of a wait in its partition: it is taken out of the queue, or it was granted.
 
@@ -190,8 +191,8 @@ module _ (number : ℕ) (a : Account) (stack : Stack) (p : ℕ) (tag : Tag) (mod
 
     pub leave-tells :
         (seat its : Seated) (c : Account) → seat.number ≡ number → its ≡ seat → KnowsContent number a p taken
-        → c ≡ account_left b b.awaited put (sessions_told woken) → Tells its c p (Leave tag) woken put
-    leave-tells seat its c same_number same_seat knows leaves = record {
+        → WaitsExist seat.limit taken → c ≡ account_left b b.awaited put (sessions_told woken) → Tells its c p (Leave tag) woken put
+    leave-tells seat its c same_number same_seat knows exist leaves = record {
       from = account_out;
       wakens = subst (λ v. Wakens v account_out p (Leave tag) woken put) {x = seat} {y = its} (sym same_seat) (record {
         mine = fresh_hand taken;
@@ -206,6 +207,7 @@ module _ (number : ℕ) (a : Account) (stack : Stack) (p : ℕ) (tag : Tag) (mod
           moved = subst (λ k. Moves taken k (Leave tag) granted put) (sym same_number) moved;
         };
         once = λ session. leave-once taken put number tag granted woken session moved whose (knows.once session tag);
+        exist = λ session there. exist session tag (leave-stood taken put number tag granted moved session there);
       });
       so_far = inr (left-is c leaves);
     }

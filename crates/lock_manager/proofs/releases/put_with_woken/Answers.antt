@@ -1,8 +1,8 @@
-use Rattle.std.proofs.Common.{refl, sym, ap, ◌∙◌, subst, arith}
+use Rattle.std.proofs.Common.{◌<◌, refl, sym, ap, ◌∙◌, subst, arith}
 use Rattle.lock_world.specs.Happens.Partitions.{WaitIsOver}
-use Rattle.shared_rule.specs.Boards.{Stack, stack_putting}
+use Rattle.shared_rule.specs.Boards.{Seated, Stack, stack_putting}
 use Rattle.lock_manager.proofs.Lemmas.Releases.Owed.{owed-none, owed-next, owed-all, woken-next, woken-all}
-use Rattle.lock_manager.proofs.Lemmas.Releases.Marks.{telling-begins, may_mark-at, marking-next_at, all_marked, may_put_marked, told-put, wait-same}
+use Rattle.lock_manager.proofs.Lemmas.Releases.Marks.{telling-begins, may_mark-at, marking-next_at, told-exists, all_marked, may_put_marked, told-put, wait-same}
 use Rattle.lock_manager.proofs.releases.put_with_woken.Goals as goal
 
 pub loop-other-init : goal.loop-other-init
@@ -105,3 +105,22 @@ returns-clause-seat g c = c.put_part.ensures.seat ∙ c.loop-session.invariant.s
 
 pub returns-clause-quiet : goal.returns-clause-quiet
 returns-clause-quiet g c = c.put_part.ensures.quiet ∙ c.loop-session.invariant.quiet ∙ c.loop-other.invariant.quiet
+
+pub mark_granted-requires-clause-exists : goal.mark_granted-requires-clause-exists
+mark_granted-requires-clause-exists g c =
+    let telling = c.loop-other.invariant.telling in
+    subst (λ (s : Seated). c.loop-other-item.result.0 < s.limit) (sym c.loop-other.invariant.seat)
+    (told-exists (g.B.Board.seat c.args.board.now) telling.from c.args.part c.args.done.now c.args.woken.now
+    (g.T.PartTable.content c.args.content) telling.wakens c.as_slice-other-items.result.now c.loop-other.other-index c.loop-other-item.result
+    c.as_slice-other-items.ensures.value c.loop-other-test.true c.loop-other-item.is)
+
+pub wake-requires : goal.wake-requires
+wake-requires g c =
+    let telling = c.loop-other.invariant.telling in
+    record {
+      exists = subst (λ (s : Seated). c.loop-session-item.result.0 < s.limit)
+          (sym (c.loop-session.invariant.seat ∙ c.put_part.ensures.seat ∙ c.loop-other.invariant.seat))
+          (told-exists (g.B.Board.seat c.args.board.now) telling.from c.args.part c.args.done.now c.args.woken.now
+          (g.T.PartTable.content c.args.content) telling.wakens c.as_slice-session-items.result.now c.loop-session.session-index
+          c.loop-session-item.result c.as_slice-session-items.ensures.value c.loop-session-test.true c.loop-session-item.is);
+    }

@@ -32,7 +32,7 @@ wake_and_put-requires-clause-lawful g c =
           release-tells (g.B.Board.seat c.args.board.now) (g.B.Board.view c.args.board.now) c.partition-part.result c.args.tag.now c.args.mode
           taken after granted woken (sym c.partition-part.ensures.value) c.requires.held (moves granted after wakes) whose
           (g.B.Board.seat c.take_part-content.new.self) (g.B.Board.view c.take_part-content.new.self)
-          c.take_part-content.ensures.seat c.take_part-content.ensures.view c.take_part-content.ensures.knows some;
+          c.take_part-content.ensures.seat c.take_part-content.ensures.view c.take_part-content.ensures.knows c.take_part-content.ensures.waiters some;
     }
 
 pub returns-then-take_hold_out-clause-released : goal.returns-then-take_hold_out-clause-released

@@ -1,5 +1,6 @@
-use Rattle.std.proofs.Common.{◌≡◌, ℕ, ◌+◌, ◌∙◌, subst, sym}
+use Rattle.std.proofs.Common.{rules, ◌≡◌, ℕ, ◌+◌, ◌<◌, ◌∙◌, subst, sym}
 use Rattle.std.specs.Prelude.{IfSome}
+use Rattle.shared_rule.specs.Boards.{Seated}
 use Rattle.lock_manager.specs.Waiting.{Asks}
 use Rattle.lock_manager.specs.ShutDown.{AsksAll}
 use Rattle.lock_manager.proofs.Lemmas.ShutDown.{asks-waiting, asks-idle}
@@ -13,7 +14,9 @@ loop-number-preserved g c =
     let b = g.B.Board.view c.loop-number.board in
     let new = g.B.Board.view c.ask_cancel.new.board in
     let other : c.unwrap-other.result ≡ number = subst (λ found. IfSome found (λ id. id ≡ number)) c.unwrap-other.ensures c.new.ensures.value in
-    let asks : Asks b number c.ask_cancel.result new = subst (λ (n : ℕ). Asks b n c.ask_cancel.result new) other c.ask_cancel.ensures.asked in
+    let asks : Asks b number c.ask_cancel.result new = subst (λ (n : ℕ). Asks b n c.ask_cancel.result new) other (c.ask_cancel.ensures.asked.one
+    (subst (λ (n : ℕ). n < (g.B.Board.seat c.loop-number.board).limit) (sym other)
+    (subst (λ (s : Seated). number < s.limit) (sym c.loop-number.invariant.seat) (search rules)))) in
     record {
       asked =
           elim c.match-ask_cancel.branch [

@@ -98,4 +98,4 @@ put_with_woken-requires-clause-lawful g c =
     c.requires.waiting c.partition-part.ensures.value put left.0 woken left.1 left.2
     (g.B.Board.view c.take_part-content.new.self) c.take_part-content.ensures.view
     seat (g.B.Board.seat c.leave_queue.new.self) (g.B.Board.view c.leave_queue.new.self) refl
-    (c.leave_queue.ensures.seat ∙ c.take_part-content.ensures.seat) c.take_part-content.ensures.knows (rw c.woken.ensures at c.leave_queue.ensures.view)
+    (c.leave_queue.ensures.seat ∙ c.take_part-content.ensures.seat) c.take_part-content.ensures.knows c.take_part-content.ensures.waiters (rw c.woken.ensures at c.leave_queue.ensures.view)

@@ -1,8 +1,10 @@
-use Rattle.std.proofs.Common.{rules, sym, subst}
+use Rattle.std.proofs.Common.{ℕ, refl, sym, ap, ◌∙◌, subst}
 use Rattle.lock_world.specs.declared.events.Word.TheVariants.{Slot}
 use Rattle.shared_rule.specs.Gatherings.{KnowsOfAll}
-use Rattle.shared_rule.proofs.Events.Words.{IsAlwaysLawful}
-use Rattle.shared_rule.proofs.Shown.{may_be}
+use Rattle.shared_rule.proofs.Events.Words.{IsAlwaysLawful, names-one}
+use Rattle.shared_rule.specs.Layout.{index_of_word}
+use Rattle.shared_rule.specs.declared.history.Mark.{Mark}
+use Rattle.shared_rule.specs.Looks.{word_looked_at}
 use Rattle.shared_rule.proofs.Events.Loads.{loading_slot-lawful}
 use Rattle.shared_rule.proofs.Events.Gatherings.{looks_over_at}
 use Rattle.shared_rule.proofs.audits.look_over_slot.Goals as goal
@@ -14,7 +16,9 @@ look_over_as-requires-clause-allowed g c =
     let session = c.requires.session in
     looks_over_at content g.T.PartTable.begun c.args.words.now.key c.args.words.now.table_id.slots seat.id seat.me
     session.history session.others session.sessions
-    (Slot c.args.owner c.args.slot) (c.requires.within, search rules) c.slot_word.result c.slot_word.ensures.index g.M.Marking.mark
+    (Slot c.args.owner c.args.slot) (c.requires.within, c.requires.exists) c.slot_word.result
+    (c.slot_word.ensures.index ∙ ap (λ k. index_of_word k (Slot c.args.owner c.args.slot)) c.requires.sessions) g.M.Marking.mark
+    (names-one (Slot c.args.owner c.args.slot) g.M.Marking.mark _ c.requires.mark (λ _. refl))
     (subst (IsAlwaysLawful content c.args.words.now.key session.history (Slot c.args.owner c.args.slot) (λ _. Unit {0})
     (λ n. n)) (sym c.requires.mark)
     (loading_slot-lawful content c.args.words.now.key session.history c.args.owner c.args.slot c.requires.within))
@@ -23,4 +27,4 @@ pub returns-clause-knows : goal.returns-clause-knows
 returns-clause-knows g c = λ issued are.
     subst (KnowsOfAll g.T.PartTable.content c.args.seat.now.me.0 (Slot c.args.owner c.args.slot)) (sym c.from_number.ensures)
     (c.look_over_as.ensures.knows (Slot c.args.owner c.args.slot) issued
-    (may_be c.args.words.now.key.groups c.requires.grouped.few (Slot c.args.owner c.args.slot) (c.requires.within, search rules)) c.slot_word.ensures.index are)
+    (ap (λ (m : ℕ → Mark g.row.T.Denot). word_looked_at (m c.look_over_as.result)) c.requires.mark) are)

@@ -11,7 +11,7 @@ load_as-requires-clause-allowed g c =
     let session = c.requires.session in
     marks_at content g.T.PartTable.begun c.args.words.now.key c.args.words.now.table_id.slots seat.id seat.me
     session.history session.others session.sessions
-    (Strong c.args.index) (c.requires.within, tt) c.strong_word.result c.strong_word.ensures.index (λ n. n)
+    (Strong c.args.index) (c.requires.within, tt) c.strong_word.result (c.strong_word.ensures.index c.args.words.now.key.sessions) (λ n. n)
     g.M.Marking.mark
     (subst (IsAlwaysLawful content c.args.words.now.key session.history (Strong c.args.index) (λ _. Unit {0}) (λ n. n))
     (sym c.requires.mark)

@@ -16,6 +16,6 @@ fetch_sub_as-requires-clause-allowed g c =
     let session = c.requires.session in
     let may = subst (λ (sessions : List (History g.row.T.Denot)). MayUncountBy (first_account content sessions) c.args.tag.now c.args.mode) session.sessions c.requires.lawful in
     marks_at content g.T.PartTable.begun c.args.words.now.key c.args.words.now.table_id.slots seat.id seat.me session.history session.others session.sessions
-    (Strong (index_of c.args.tag.now)) (search rules, tt) c.strong_word.result (c.strong_word.ensures.index ∙ ap (λ i. index_of_word (Strong i)) c.strong_index.ensures.value) (λ n. (n + (2 ^ 64 - 1)) % 2 ^ 64) g.M.Marking.mark
+    (Strong (index_of c.args.tag.now)) (search rules, tt) c.strong_word.result ((c.strong_word.ensures.index c.args.words.now.key.sessions) ∙ ap (λ i. index_of_word c.args.words.now.key.sessions (Strong i)) c.strong_index.ensures.value) (λ n. (n + (2 ^ 64 - 1)) % 2 ^ 64) g.M.Marking.mark
     (subst (IsAlwaysLawful content c.args.words.now.key session.history (Strong (index_of c.args.tag.now)) (λ _. Unit {0}) (λ n. (n + (2 ^ 64 - 1)) % 2 ^ 64)) (sym c.requires.mark)
     (uncounting-lawful content c.args.words.now.key session.history c.args.tag.now c.args.mode may))

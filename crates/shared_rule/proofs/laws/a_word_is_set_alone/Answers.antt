@@ -2,4 +2,4 @@ use Rattle.shared_rule.proofs.Shown.{words-set}
 use Rattle.shared_rule.proofs.laws.a_word_is_set_alone.Goals as goal
 
 pub returns : goal.returns
-returns c = λ groups some few table words word n shown exists. words-set groups some few table words word n shown exists
+returns c = λ sizes some table words word n shown exists. words-set sizes some table words word n shown exists

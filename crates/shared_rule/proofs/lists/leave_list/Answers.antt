@@ -12,7 +12,6 @@ use Rattle.shared_rule.proofs.Events.Words.{stores_at}
 use Rattle.shared_rule.proofs.Events.Lists.{leaving-lawful}
 use Rattle.shared_rule.proofs.Led.{led-noted, led_to-as}
 use Rattle.shared_rule.proofs.lists.leave_list.Goals as goal
-use Rattle.modes_core.specs.Sessions.{most_sessions}
 
 pub store_as-requires-clause-allowed : goal.store_as-requires-clause-allowed
 store_as-requires-clause-allowed g c =
@@ -21,8 +20,8 @@ store_as-requires-clause-allowed g c =
     let session = c.requires.session in
     let own : c.args.number ≡ session.history.number = c.requires.own
     ∙ ap (λ (sessions : List (History g.row.T.Denot)). first_number sessions) session.sessions in
-    let exists : session.history.number < most_sessions = subst (λ n. n < most_sessions) own (search rules) in
-    let at = c.sleep_word.ensures.index ∙ ap (λ n. index_of_word (Sleep n)) own in
+    let exists : session.history.number < c.args.words.now.key.sessions = subst (λ n. n < c.args.words.now.key.sessions) own c.requires.among in
+    let at = (c.sleep_word.ensures.index c.args.words.now.key.sessions) ∙ ap (λ n. index_of_word c.args.words.now.key.sessions (Sleep n)) own in
     let may = subst (λ (sessions : List (History g.row.T.Denot)). (mine : ListInHand)
     × MayLeaveListBy (first_number sessions) (first_account content sessions) mine) session.sessions c.requires.lawful in
     stores_at content g.T.PartTable.begun c.args.words.now.key c.args.words.now.table_id.slots seat.id seat.me

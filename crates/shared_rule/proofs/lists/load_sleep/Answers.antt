@@ -9,7 +9,6 @@ use Rattle.shared_rule.proofs.Events.Words.{marks_at}
 use Rattle.shared_rule.proofs.Events.Lists.{loading_sleep-lawful}
 use Rattle.shared_rule.proofs.Led.{led-noted}
 use Rattle.shared_rule.proofs.lists.load_sleep.Goals as goal
-use Rattle.modes_core.specs.Sessions.{most_sessions}
 
 pub load_as-requires-clause-allowed : goal.load_as-requires-clause-allowed
 load_as-requires-clause-allowed g c =
@@ -18,8 +17,8 @@ load_as-requires-clause-allowed g c =
     let session = c.requires.session in
     let own : c.args.number ≡ session.history.number = c.requires.own
     ∙ ap (λ (sessions : List (History g.row.T.Denot)). first_number sessions) session.sessions in
-    let exists : session.history.number < most_sessions = subst (λ n. n < most_sessions) own (search rules) in
-    let at = c.sleep_word.ensures.index ∙ ap (λ n. index_of_word (Sleep n)) own in
+    let exists : session.history.number < c.args.words.now.key.sessions = subst (λ n. n < c.args.words.now.key.sessions) own c.requires.among in
+    let at = (c.sleep_word.ensures.index c.args.words.now.key.sessions) ∙ ap (λ n. index_of_word c.args.words.now.key.sessions (Sleep n)) own in
     marks_at content g.T.PartTable.begun c.args.words.now.key c.args.words.now.table_id.slots seat.id seat.me
     session.history session.others session.sessions
     (Sleep session.history.number) (tt, exists) c.sleep_word.result at (λ n. n) LoadedSleep

@@ -14,13 +14,13 @@ load-requires g c =
       c.requires.table.at,
       search rules,
       sees_held_at g.T.PartTable.content g.T.PartTable.begun c.args.words.now.key c.args.words.now.table_id.slots seat.id seat.me
-          session.history session.others session.sessions c.args.lock.now c.requires.there (tries-known seat.me.0 session (lock_number c.args.lock.now) c.requires.no_other_try) c.word.result c.word.ensures.index,
+          session.history session.others session.sessions c.args.lock.now c.requires.exists (tries-known seat.me.0 session (lock_number c.args.lock.now) c.requires.no_other_try) c.word.result (c.word.ensures.index c.args.words.now.key.sessions),
     )
 
 pub returns-clause-held : goal.returns-clause-held
 returns-clause-held g c = λ held.
     let seat = c.args.seat.now in
-    let saw = c.load.ensures.2.1 held c.args.lock.now c.requires.there c.word.ensures.index in
+    let saw = c.load.ensures.2.1 held c.args.words.now.key.sessions c.args.lock.now c.requires.exists (c.word.ensures.index c.args.words.now.key.sessions) in
     record {
       led = led-noted g.T.PartTable.content seat c.load.new.seat (SawHeld (lock_number c.args.lock.now)) c.requires.session
           (record { table_id = c.load.ensures.0; id = c.load.ensures.1 }) (ap (λ (side : Side g.row.T.Denot). side.0) saw) (λ owed i. owed);

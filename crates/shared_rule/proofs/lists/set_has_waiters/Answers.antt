@@ -1,11 +1,11 @@
-use Rattle.std.proofs.Common.{◌≡◌, ◌^◌, List, Some, bit_or, sym, ap, ◌∙◌, subst}
+use Rattle.std.proofs.Common.{◌≡◌, ◌^◌, List, Some, bit_or, refl, sym, ap, ◌∙◌, subst}
 use Rattle.shared_rule.specs.Marks.{SetHasWaiters}
 use Rattle.lock_world.specs.Account.{ListInHand}
 use Rattle.shared_rule.specs.declared.history.History.{History}
 use Rattle.shared_rule.specs.History.{first_account, noting}
 use Rattle.shared_rule.specs.LwLocks.{word_of_lock, lock_number}
 use Rattle.shared_rule.specs.Plays.{Side}
-use Rattle.shared_rule.proofs.Events.Words.{IsAlwaysLawful, looks_at}
+use Rattle.shared_rule.proofs.Events.Words.{IsAlwaysLawful, names-none, looks_at}
 use Rattle.shared_rule.proofs.Events.Lists.{lock-word_there, setting_has_waiters-lawful}
 use Rattle.shared_rule.specs.Todos.{first_flagged}
 use Rattle.shared_rule.proofs.Taken.{flagged-noted}
@@ -23,8 +23,8 @@ fetch_or_as-requires-clause-allowed g c =
     c.requires.lawful in
     looks_at content g.T.PartTable.begun c.args.words.now.key c.args.words.now.table_id.slots seat.id seat.me
     session.history session.others session.sessions
-    (word_of_lock lock) (lock-word_there lock c.requires.there c.args.words.now.key.groups) c.word.result c.word.ensures.index (2 ^ 30)
-    (λ n. bit_or n (2 ^ 30)) g.M.Marking.mark
+    (word_of_lock lock) (lock-word_there c.args.words.now.key lock c.requires.exists) c.word.result (c.word.ensures.index c.args.words.now.key.sessions) (2 ^ 30)
+    (λ n. bit_or n (2 ^ 30)) g.M.Marking.mark (names-none (word_of_lock lock) g.M.Marking.mark _ c.requires.mark (λ _. refl))
     (subst (IsAlwaysLawful content c.args.words.now.key session.history (word_of_lock lock) (λ _. Unit {0})
     (λ n. bit_or n (2 ^ 30))) (sym c.requires.mark)
     (setting_has_waiters-lawful content c.args.words.now.key session.history lock may.0 may.1 may.2))

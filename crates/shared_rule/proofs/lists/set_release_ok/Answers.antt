@@ -1,4 +1,4 @@
-use Rattle.std.proofs.Common.{◌≡◌, ◌≢◌, ◌^◌, bit_or, List, Some, None, sym, ap, ◌∙◌, subst}
+use Rattle.std.proofs.Common.{◌≡◌, ◌≢◌, ◌^◌, bit_or, List, Some, None, refl, sym, ap, ◌∙◌, subst}
 use Rattle.lock_world.specs.Wakes.Waking.{NoneOr}
 use Rattle.shared_rule.specs.declared.history.History.{History}
 use Rattle.shared_rule.specs.History.{first_account}
@@ -7,7 +7,7 @@ use Rattle.shared_rule.specs.Marks.{SetReleaseOk}
 use Rattle.shared_rule.specs.History.{noting}
 use Rattle.shared_rule.specs.LwLocks.{word_of_lock, lock_number}
 use Rattle.shared_rule.specs.Plays.{Side}
-use Rattle.shared_rule.proofs.Events.Words.{IsAlwaysLawful, looks_at}
+use Rattle.shared_rule.proofs.Events.Words.{IsAlwaysLawful, names-none, looks_at}
 use Rattle.shared_rule.proofs.Events.Lists.{lock-word_there, setting_release_ok-lawful}
 use Rattle.shared_rule.proofs.Led.{led-noted}
 use Rattle.shared_rule.proofs.lists.set_release_ok.Goals as goal
@@ -20,8 +20,8 @@ fetch_or_as-requires-clause-allowed g c =
     let lock = c.args.lock.now in
     looks_at content g.T.PartTable.begun c.args.words.now.key c.args.words.now.table_id.slots seat.id seat.me
     session.history session.others session.sessions
-    (word_of_lock lock) (lock-word_there lock c.requires.there c.args.words.now.key.groups) c.word.result c.word.ensures.index (2 ^ 29)
-    (λ n. bit_or n (2 ^ 29)) g.M.Marking.mark
+    (word_of_lock lock) (lock-word_there c.args.words.now.key lock c.requires.exists) c.word.result (c.word.ensures.index c.args.words.now.key.sessions) (2 ^ 29)
+    (λ n. bit_or n (2 ^ 29)) g.M.Marking.mark (names-none (word_of_lock lock) g.M.Marking.mark _ c.requires.mark (λ _. refl))
     (subst (IsAlwaysLawful content c.args.words.now.key session.history (word_of_lock lock) (λ _. Unit {0})
     (λ n. bit_or n (2 ^ 29))) (sym c.requires.mark)
     (setting_release_ok-lawful content c.args.words.now.key session.history lock c.requires.exists

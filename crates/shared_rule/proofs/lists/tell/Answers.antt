@@ -20,7 +20,7 @@ store_as-requires-clause-allowed g c =
     c.requires.lawful in
     stores_at content g.T.PartTable.begun c.args.words.now.key c.args.words.now.table_id.slots seat.id seat.me
     session.history session.others session.sessions
-    (Sleep c.args.other) (tt, search rules) c.sleep_word.result c.sleep_word.ensures.index 0 g.M.Marking.mark _
+    (Sleep c.args.other) (tt, c.requires.exists) c.sleep_word.result (c.sleep_word.ensures.index c.args.words.now.key.sessions) 0 g.M.Marking.mark _
     c.requires.mark
     (telling-lawful content c.args.words.now.key session.history c.args.other may)
 

@@ -6,7 +6,7 @@ use Rattle.shared_rule.specs.Marks.{LockedList, SawListLocked}
 use Rattle.shared_rule.specs.declared.kept.Kept.TheVariants as kept
 use Rattle.shared_rule.specs.declared.rule.TableSizes.{TableSizes}
 use Rattle.shared_rule.specs.Layout.{list_shelf_of}
-use Rattle.shared_rule.specs.LwLocks.{lock_number}
+use Rattle.shared_rule.specs.LwLocks.{lock_number, LockExists}
 use Rattle.shared_rule.specs.History.{noting, first_account}
 use Rattle.shared_rule.specs.Todos.{TellsNobodyBy}
 use Rattle.shared_rule.proofs.Taken.{look-known}
@@ -16,6 +16,8 @@ use Rattle.lw_word.specs.WaitList.{Waiting, stands_in}
 use Rattle.shared_rule.specs.Plays.{Side, account_at, number_at}
 use Rattle.shared_rule.proofs.Led.{led-noted, led_to-as}
 use Rattle.shared_rule.proofs.Sides.{last-shelf, last-came, last-set}
+use Rattle.shared_rule.specs.declared.rule.TableSizes.{TableSizes}
+use Rattle.shared_rule.specs.Waiters.{WaitersExist}
 use Rattle.shared_rule.proofs.lists.try_lock_list.Goals as goal
 
 pub fetch_or-found-requires : goal.fetch_or-found-requires
@@ -28,16 +30,16 @@ fetch_or-found-requires g c =
       c.requires.table.at,
       search rules,
       locks_list_at content g.T.PartTable.begun c.args.words.now.key c.args.words.now.table_id.slots seat.id seat.me
-          session.history session.others session.sessions c.args.lock.now c.requires.there c.requires.exists
+          session.history session.others session.sessions c.args.lock.now c.requires.exists
           (record { no_list = free }) (look-known seat.me.0 session (lock_number c.args.lock.now) c.requires.no_other_look)
           (subst (λ (sessions : List (History g.row.T.Denot)). TellsNobodyBy (first_account content sessions)) session.sessions c.requires.tells_nobody)
-          g.G.Sizing.sizes.sessions (ap (λ (sizes : TableSizes). sizes.sessions) c.requires.sizes) c.word.result c.word.ensures.index,
+          g.G.Sizing.sizes.sessions (ap (λ (s : TableSizes). s.sessions) c.requires.sizes) c.word.result (c.word.ensures.index c.args.words.now.key.sessions),
     )
 
 pub exchange-kept-requires : goal.exchange-kept-requires
 exchange-kept-requires g c =
     let n = lock_number c.args.lock.now in
-    let took = c.fetch_or-found.ensures.2.0 (c.has_locked_list.ensures.0 c.if-has_locked_list.true) c.args.lock.now c.requires.there c.word.ensures.index in (
+    let took = c.fetch_or-found.ensures.2.0 (c.has_locked_list.ensures.0 c.if-has_locked_list.true) c.args.lock.now (subst (λ n. LockExists n c.args.lock.now) (sym (ap (λ (s : TableSizes). s.sessions) c.requires.sizes)) c.requires.exists) (c.word.ensures.index g.G.Sizing.sizes.sessions) in (
       c.fetch_or-found.ensures.0 ∙ c.requires.table.at,
       (
         kept.List took.list,
@@ -49,7 +51,7 @@ exchange-kept-requires g c =
 pub into_list-requires : goal.into_list-requires
 into_list-requires g c =
     let n = lock_number c.args.lock.now in
-    let took = c.fetch_or-found.ensures.2.0 (c.has_locked_list.ensures.0 c.if-has_locked_list.true) c.args.lock.now c.requires.there c.word.ensures.index in (
+    let took = c.fetch_or-found.ensures.2.0 (c.has_locked_list.ensures.0 c.if-has_locked_list.true) c.args.lock.now (subst (λ n. LockExists n c.args.lock.now) (sym (ap (λ (s : TableSizes). s.sessions) c.requires.sizes)) c.requires.exists) (c.word.ensures.index g.G.Sizing.sizes.sessions) in (
       took.list,
       last-came c.fetch_or-found.new.seat.me (noting c.args.seat.now.me.0 (LockedList n took.list.value.waiters)) c.list_shelf.result
           (list_shelf_of n) (kept.List took.list) c.exchange-kept.result c.args.seat.now.me.1 took.side c.exchange-kept.ensures.2,
@@ -60,7 +62,7 @@ returns-then-has_locked_list-clause-led g c =
     let content = g.T.PartTable.content in
     let seat = c.args.seat.now in
     let n = lock_number c.args.lock.now in
-    let took = c.fetch_or-found.ensures.2.0 (c.has_locked_list.ensures.0 c.if-has_locked_list.true) c.args.lock.now c.requires.there c.word.ensures.index in
+    let took = c.fetch_or-found.ensures.2.0 (c.has_locked_list.ensures.0 c.if-has_locked_list.true) c.args.lock.now (subst (λ n. LockExists n c.args.lock.now) (sym (ap (λ (s : TableSizes). s.sessions) c.requires.sizes)) c.requires.exists) (c.word.ensures.index g.G.Sizing.sizes.sessions) in
     let came = last-came c.fetch_or-found.new.seat.me (noting seat.me.0 (LockedList n took.list.value.waiters)) c.list_shelf.result
     (list_shelf_of n) (kept.List took.list) c.exchange-kept.result seat.me.1 took.side c.exchange-kept.ensures.2 in
     let same : took.list ≡ c.into_list.result = list-same took.list c.into_list.result (sym came ∙ c.into_list.ensures) in
@@ -80,7 +82,7 @@ pub returns-then-has_locked_list-clause-shelves : goal.returns-then-has_locked_l
 returns-then-has_locked_list-clause-shelves g c =
     let seat = c.args.seat.now in
     let n = lock_number c.args.lock.now in
-    let took = c.fetch_or-found.ensures.2.0 (c.has_locked_list.ensures.0 c.if-has_locked_list.true) c.args.lock.now c.requires.there c.word.ensures.index in
+    let took = c.fetch_or-found.ensures.2.0 (c.has_locked_list.ensures.0 c.if-has_locked_list.true) c.args.lock.now (subst (λ n. LockExists n c.args.lock.now) (sym (ap (λ (s : TableSizes). s.sessions) c.requires.sizes)) c.requires.exists) (c.word.ensures.index g.G.Sizing.sizes.sessions) in
     ap (λ (side : Side g.row.T.Denot). side.1) (last-set c.fetch_or-found.new.seat.me c.exchange-kept.new.seat.me
     (noting seat.me.0 (LockedList n took.list.value.waiters)) c.list_shelf.result (list_shelf_of n) (kept.List took.list) kept.Nothing
     seat.me.1 took.side c.list_shelf.ensures.shelf c.exchange-kept.ensures.3)
@@ -89,17 +91,28 @@ pub returns-then-has_locked_list-clause-stands : goal.returns-then-has_locked_li
 returns-then-has_locked_list-clause-stands g c = λ there.
     let seat = c.args.seat.now in
     let n = lock_number c.args.lock.now in
-    let took = c.fetch_or-found.ensures.2.0 (c.has_locked_list.ensures.0 c.if-has_locked_list.true) c.args.lock.now c.requires.there c.word.ensures.index in
+    let took = c.fetch_or-found.ensures.2.0 (c.has_locked_list.ensures.0 c.if-has_locked_list.true) c.args.lock.now (subst (λ n. LockExists n c.args.lock.now) (sym (ap (λ (s : TableSizes). s.sessions) c.requires.sizes)) c.requires.exists) (c.word.ensures.index g.G.Sizing.sizes.sessions) in
     let came = last-came c.fetch_or-found.new.seat.me (noting seat.me.0 (LockedList n took.list.value.waiters)) c.list_shelf.result
     (list_shelf_of n) (kept.List took.list) c.exchange-kept.result seat.me.1 took.side c.exchange-kept.ensures.2 in
     let same : took.list ≡ c.into_list.result = list-same took.list c.into_list.result (sym came ∙ c.into_list.ensures) in
     took.stands (ap (λ (list : Box Waiting). stands_in (number_at seat) list.value.waiters) same ∙ there)
 
+pub returns-then-has_locked_list-clause-exist : goal.returns-then-has_locked_list-clause-exist
+returns-then-has_locked_list-clause-exist g c =
+    let seat = c.args.seat.now in
+    let n = lock_number c.args.lock.now in
+    let took = c.fetch_or-found.ensures.2.0 (c.has_locked_list.ensures.0 c.if-has_locked_list.true) c.args.lock.now (subst (λ n. LockExists n c.args.lock.now) (sym (ap (λ (s : TableSizes). s.sessions) c.requires.sizes)) c.requires.exists) (c.word.ensures.index g.G.Sizing.sizes.sessions) in
+    let came = last-came c.fetch_or-found.new.seat.me (noting seat.me.0 (LockedList n took.list.value.waiters)) c.list_shelf.result
+    (list_shelf_of n) (kept.List took.list) c.exchange-kept.result seat.me.1 took.side c.exchange-kept.ensures.2 in
+    let same : took.list ≡ c.into_list.result = list-same took.list c.into_list.result (sym came ∙ c.into_list.ensures) in
+    subst (λ (list : Box Waiting). WaitersExist c.args.words.now.key.sessions list.value.waiters) same
+    (subst (λ n. WaitersExist n took.list.value.waiters) (ap (λ (s : TableSizes). s.sessions) c.requires.sizes) took.exist)
+
 pub returns-else-has_locked_list-clause-none : goal.returns-else-has_locked_list-clause-none
 returns-else-has_locked_list-clause-none g c =
     let seat = c.args.seat.now in
     let n = lock_number c.args.lock.now in
-    let saw = c.fetch_or-found.ensures.2.1 (λ free. false≢true (sym c.if-has_locked_list.false ∙ c.has_locked_list.ensures.1 free)) c.args.lock.now c.requires.there c.word.ensures.index in
+    let saw = c.fetch_or-found.ensures.2.1 (λ free. false≢true (sym c.if-has_locked_list.false ∙ c.has_locked_list.ensures.1 free)) c.args.lock.now (subst (λ n. LockExists n c.args.lock.now) (sym (ap (λ (s : TableSizes). s.sessions) c.requires.sizes)) c.requires.exists) (c.word.ensures.index g.G.Sizing.sizes.sessions) in
     record {
       led = led-noted g.T.PartTable.content seat c.fetch_or-found.new.seat (SawListLocked n) c.requires.session
           (record { table_id = c.fetch_or-found.ensures.0; id = c.fetch_or-found.ensures.1 }) (ap (λ (side : Side g.row.T.Denot). side.0) saw) (λ owed i. owed);

@@ -24,13 +24,13 @@ unlock_as-requires-clause-allowed g c =
     let known = subst (λ (sessions : List (History g.row.T.Denot)). (first_account content sessions).lists.in_hand
     ≡ Some (record { lock = n; waiters = c.args.list.value.waiters })) session.sessions c.requires.in_hand in
     unlocks_list_at content g.T.PartTable.begun c.args.words.now.key c.args.words.now.table_id.slots seat.id seat.me
-    session.history session.others is c.args.lock.now c.requires.there c.args.has_waiters c.args.release_ok c.args.list
+    session.history session.others is c.args.lock.now c.requires.exists c.args.has_waiters c.args.release_ok c.args.list
     c.requires.room c.requires.table.sized.shelves known
     (last-shelf seat.me c.args.seat.now.me.0 (list_shelf_of n) c.list_shelf.result (kept.List c.args.list)
     (rest c.args.seat.now.me.1) set (sym c.list_shelf.ensures.shelf)) c.requires.waiters_stay
     (subst (λ (sessions : List (History g.row.T.Denot)). c.args.release_ok ≡ false → (other : ℕ) × ((first_account content sessions).lists.off other ≡ true)) session.sessions c.requires.release_stays)
     (subst (λ (sessions : List (History g.row.T.Denot)). IsLeftWellBy (first_account content sessions) (first_todo sessions) c.args.lock.now c.args.list.value.waiters) session.sessions c.requires.left_well)
-    c.word.result c.word.ensures.index c.kept_bits.result c.kept_bits.ensures (λ _. UnlockedList) refl
+    c.word.result (c.word.ensures.index c.args.words.now.key.sessions) c.kept_bits.result c.kept_bits.ensures (λ _. UnlockedList) refl
 
 pub returns-clause-led : goal.returns-clause-led
 returns-clause-led g c =

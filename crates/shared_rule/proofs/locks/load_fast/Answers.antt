@@ -6,7 +6,6 @@ use Rattle.shared_rule.specs.History.{first_number}
 use Rattle.shared_rule.proofs.Events.Words.{IsAlwaysLawful, marks_at}
 use Rattle.shared_rule.proofs.Events.Loads.{loading_fast-lawful}
 use Rattle.shared_rule.proofs.locks.load_fast.Goals as goal
-use Rattle.modes_core.specs.Sessions.{most_sessions}
 
 pub load_as-requires-clause-allowed : goal.load_as-requires-clause-allowed
 load_as-requires-clause-allowed g c =
@@ -15,8 +14,8 @@ load_as-requires-clause-allowed g c =
     let session = c.requires.session in
     let own : c.args.number ≡ session.history.number = c.requires.own
     ∙ ap (λ (sessions : List (History g.row.T.Denot)). first_number sessions) session.sessions in
-    let exists : session.history.number < most_sessions = subst (λ n. n < most_sessions) own (search rules) in
-    let at = c.fast_word.ensures.index ∙ ap (λ n. index_of_word (Fast n)) own in
+    let exists : session.history.number < c.args.words.now.key.sessions = subst (λ n. n < c.args.words.now.key.sessions) own c.requires.among in
+    let at = (c.fast_word.ensures.index c.args.words.now.key.sessions) ∙ ap (λ n. index_of_word c.args.words.now.key.sessions (Fast n)) own in
     marks_at content g.T.PartTable.begun c.args.words.now.key c.args.words.now.table_id.slots seat.id seat.me
     session.history session.others session.sessions
     (Fast session.history.number) (tt, exists) c.fast_word.result at (λ n. n) g.M.Marking.mark

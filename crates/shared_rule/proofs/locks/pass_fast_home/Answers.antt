@@ -19,7 +19,7 @@ fetch_sub_as-requires-clause-allowed g c =
     let session = c.requires.session in
     let may = subst (λ (sessions : List (History g.row.T.Denot)). (slots : SlotsInHand) × MayPassBy (first_account content sessions) c.args.owner slots c.args.tag.now c.args.mode) session.sessions c.requires.lawful in
     marks_at content g.T.PartTable.begun c.args.words.now.key c.args.words.now.table_id.slots seat.id seat.me session.history session.others session.sessions
-    (Fast c.args.owner) (tt, search rules) c.fast_word.result c.fast_word.ensures.index (λ n. (n + (2 ^ 64 - c.amount.result)) % 2 ^ 64) g.M.Marking.mark
+    (Fast c.args.owner) (tt, c.requires.exists) c.fast_word.result (c.fast_word.ensures.index c.args.words.now.key.sessions) (λ n. (n + (2 ^ 64 - c.amount.result)) % 2 ^ 64) g.M.Marking.mark
     (subst (IsAlwaysLawful content c.args.words.now.key session.history (Fast c.args.owner) (λ _. Unit {0}) (λ n. (n + (2 ^ 64 - c.amount.result)) % 2 ^ 64)) (sym c.requires.mark)
     (subst (λ k. IsAlwaysLawful content c.args.words.now.key session.history (Fast c.args.owner) (λ _. Unit {0}) (λ n. (n + (2 ^ 64 - k)) % 2 ^ 64) (Passed c.args.owner c.args.tag.now c.args.mode)) (sym c.amount.ensures)
     (passing-lawful content c.args.words.now.key session.history c.args.owner c.requires.exists may.0 c.args.tag.now c.args.mode may.1 (due-known seat.me.0 session c.requires.no_look))))

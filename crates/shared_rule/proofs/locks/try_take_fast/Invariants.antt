@@ -5,4 +5,4 @@ abbrev pub ghosts-load_fast : goal.ghosts-load_fast
 ghosts-load_fast g a = record { mark = LoadedFast }
 
 abbrev pub ghosts-take_own_fast : goal.ghosts-take_own_fast
-ghosts-take_own_fast g a = record { groups = a.words.now.key.groups }
+ghosts-take_own_fast g a = record { sizes = a.words.now.key }

@@ -11,6 +11,8 @@ use Rattle.lock_world.specs.AccountSteps.{account_taking}
 use Rattle.shared_rule.specs.Plays.{Side, account_at, number_at}
 use Rattle.shared_rule.proofs.Led.{led-noted, led_to-as}
 use Rattle.shared_rule.proofs.Sides.{last-shelf, last-came, last-set}
+use Rattle.shared_rule.specs.declared.rule.TableSizes.{TableSizes}
+use Rattle.shared_rule.specs.Waiters.{WaitsExist}
 use Rattle.shared_rule.proofs.partitions.attempt_part.Goals as goal
 
 pub compare_exchange-requires : goal.compare_exchange-requires
@@ -21,13 +23,13 @@ compare_exchange-requires g c =
       c.requires.table.at,
       search rules,
       takes_part_at g.T.PartTable.content g.T.PartTable.begun c.args.words.now.key seat.id seat.me session.history session.others session.sessions
-          c.args.part c.requires.exists c.args.words.now.table_id.slots c.partition_word.result sized.shelves c.partition_word.ensures.index
-          c.args.shown c.args.taken c.requires.free.0 c.requires.free.1 (attempt-known g.T.PartTable.content seat.me.0 session (partition_lock c.args.part) c.requires.no_other_try c.requires.no_other_list),
+          c.args.part c.requires.exists c.args.words.now.table_id.slots c.partition_word.result sized.shelves (c.partition_word.ensures.index c.args.words.now.key.sessions)
+          g.G.Sizing.sizes.sessions c.args.shown c.args.taken (ap (λ (s : TableSizes). s.sessions) c.requires.sizes) c.requires.free.0 c.requires.free.1 (attempt-known g.T.PartTable.content seat.me.0 session (partition_lock c.args.part) c.requires.no_other_try c.requires.no_other_list),
     )
 
 pub exchange-requires : goal.exchange-requires
 exchange-requires g c =
-    let took = c.compare_exchange.ensures.2.0 (search rules) c.args.part c.requires.exists c.partition_word.ensures.index in (
+    let took = c.compare_exchange.ensures.2.0 (search rules) c.args.part c.requires.exists (c.partition_word.ensures.index g.G.Sizing.sizes.sessions) in (
       c.compare_exchange.ensures.0 ∙ c.requires.table.at,
       (
         Part took.part,
@@ -38,7 +40,7 @@ exchange-requires g c =
 
 pub into_part-requires : goal.into_part-requires
 into_part-requires g c =
-    let took = c.compare_exchange.ensures.2.0 (search rules) c.args.part c.requires.exists c.partition_word.ensures.index in
+    let took = c.compare_exchange.ensures.2.0 (search rules) c.args.part c.requires.exists (c.partition_word.ensures.index g.G.Sizing.sizes.sessions) in
     let came : c.exchange.result ≡ Part took.part =
     last-came c.compare_exchange.new.seat.me (noting c.args.seat.now.me.0 (TookPart c.args.part took.part)) c.content_shelf.result (content_shelf_of c.args.part) (Part took.part) c.exchange.result
     c.args.seat.now.me.1 took.side c.exchange.ensures.2 in
@@ -50,7 +52,7 @@ returns-clause-won g c =
     let seat = c.args.seat.now in
     let after = c.exchange.new.seat in
     let part = c.args.part in
-    let took = c.compare_exchange.ensures.2.0 (search rules) part c.requires.exists c.partition_word.ensures.index in
+    let took = c.compare_exchange.ensures.2.0 (search rules) part c.requires.exists (c.partition_word.ensures.index g.G.Sizing.sizes.sessions) in
     let came : c.exchange.result ≡ Part took.part =
     last-came c.compare_exchange.new.seat.me (noting seat.me.0 (TookPart part took.part)) c.content_shelf.result (content_shelf_of part)
     (Part took.part) c.exchange.result seat.me.1 took.side c.exchange.ensures.2 in
@@ -69,13 +71,15 @@ returns-clause-won g c =
       shelves = ap (λ (s : Side g.row.T.Denot). s.1) side;
       none_begun = ap g.T.PartTable.begun (sym same) ∙ took.none_begun;
       knows = subst (λ its. KnowsContent (number_at seat) (account_at content seat) part (content its)) same took.knows;
+      waiters = subst (λ its. WaitsExist c.args.words.now.key.sessions (content its)) same
+          (subst (λ n. WaitsExist n (content took.part)) (ap (λ (s : TableSizes). s.sessions) c.requires.sizes) took.waiters);
     }
 
 pub returns-clause-side : goal.returns-clause-side
 returns-clause-side g c =
     let part = c.args.part in
     let seat = c.args.seat.now in
-    let took = c.compare_exchange.ensures.2.0 (search rules) part c.requires.exists c.partition_word.ensures.index in
+    let took = c.compare_exchange.ensures.2.0 (search rules) part c.requires.exists (c.partition_word.ensures.index g.G.Sizing.sizes.sessions) in
     let came : c.exchange.result ≡ Part took.part =
     last-came c.compare_exchange.new.seat.me (noting seat.me.0 (TookPart part took.part)) c.content_shelf.result (content_shelf_of part)
     (Part took.part) c.exchange.result seat.me.1 took.side c.exchange.ensures.2 in

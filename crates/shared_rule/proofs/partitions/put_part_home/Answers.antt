@@ -25,7 +25,7 @@ put_home_as-requires-clause-allowed g c =
     let may = subst (λ (sessions : List (History g.row.T.Denot)). (mine : InHand) × MayPutPart c.args.words.now.key.sessions (first_number sessions) (first_account content sessions) c.args.part mine c.args.done.now (content c.args.content))
     session.sessions c.requires.lawful in
     puts_part_at content g.T.PartTable.begun c.args.words.now.key seat.id seat.me session.history session.others is
-    c.args.part c.requires.exists c.args.words.now.table_id.slots c.partition_word.result c.requires.table.sized.shelves c.partition_word.ensures.index
+    c.args.part c.requires.exists c.args.words.now.table_id.slots c.partition_word.result c.requires.table.sized.shelves (c.partition_word.ensures.index c.args.words.now.key.sessions)
     may.0 c.args.done.now c.args.content may.1 c.requires.none_begun
     (last-shelf seat.me c.args.seat.now.me.0 (content_shelf_of c.args.part) c.content_shelf.result (Part c.args.content) (rest c.args.seat.now.me.1) set (sym shelf))
     (due-known c.args.seat.now.me.0 session c.requires.no_look) g.M.Marking.mark c.requires.mark

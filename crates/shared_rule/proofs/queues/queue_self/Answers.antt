@@ -70,8 +70,9 @@ join_list-requires-clause-latest g c =
     let n = lock_number c.args.lock.now in
     let list = list-in_hand content c.args.seat.now c.lock_list-list.new.seat n c.lock_list-list.result.value.waiters c.lock_list-list.ensures.led in
     record {
+      sessions = c.args.words.now.key.sessions;
       lock = c.args.lock.now;
-      there = c.requires.there;
+      there = c.requires.exists;
       in_hand = ap (λ (a : Account). lock_of_list a.lists.in_hand) c.set_has_waiters.ensures.led.account ∙ ap lock_of_list list;
       latest = subst (λ (a : Account). IsLatestBy a c.args.lock.now) (sym (c.set_has_waiters.ensures.led.account ∙ c.lock_list-list.ensures.led.account))
           (latest-with (account_at content c.args.seat.now) _ c.args.lock.now c.requires.latest);

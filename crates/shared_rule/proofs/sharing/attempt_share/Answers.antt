@@ -1,4 +1,4 @@
-use Rattle.std.proofs.Common.{rules, List, subst}
+use Rattle.std.proofs.Common.{rules, List, ap, subst}
 use Rattle.lock_world.specs.AccountLaw.{MayShareFastBy}
 use Rattle.shared_rule.specs.declared.history.History.{History}
 use Rattle.shared_rule.specs.History.{first_account}
@@ -8,6 +8,7 @@ use Rattle.lock_world.specs.WaitLists.{fast_lock}
 use Rattle.shared_rule.proofs.Taken.{attempt-known}
 use Rattle.shared_rule.proofs.Acquires.{shared-slots}
 use Rattle.shared_rule.proofs.Events.Locks.{shares_fast_at}
+use Rattle.shared_rule.specs.declared.rule.TableSizes.{TableSizes}
 use Rattle.shared_rule.proofs.sharing.attempt_share.Goals as goal
 
 pub compare_exchange-requires : goal.compare_exchange-requires
@@ -18,15 +19,15 @@ compare_exchange-requires g c =
       search rules,
       shares_fast_at g.T.PartTable.content g.T.PartTable.begun c.args.words.now.key c.args.words.now.table_id.slots
           seat.id seat.me session.history session.others session.sessions
-          c.args.owner (search rules) g.G.Grouping.groups c.args.shown c.args.shared c.requires.groups c.requires.exists c.requires.free.0 c.requires.free.1
+          c.args.owner c.requires.exists g.G.Sizing.sizes.groups c.args.shown c.args.shared (ap (λ (s : TableSizes). s.groups) c.requires.sizes) c.requires.free.0 c.requires.free.1
           (subst (λ (sessions : List (History g.row.T.Denot)). MayShareFastBy (first_account g.T.PartTable.content sessions) c.args.owner)
           session.sessions c.requires.lawful) (attempt-known g.T.PartTable.content seat.me.0 session (fast_lock c.args.owner) c.requires.no_other_try c.requires.no_other_list)
-          c.fast_word.result c.fast_word.ensures.index,
+          c.fast_word.result (c.fast_word.ensures.index c.args.words.now.key.sessions),
     )
 
 pub returns-clause-won : goal.returns-clause-won
 returns-clause-won g c =
-    subst (λ n. GetsSlots g.T.PartTable.content n Shared c.args.owner c.args.seat.now c.compare_exchange.new.seat) c.requires.groups
-    (shared-slots g.T.PartTable.content g.G.Grouping.groups c.args.owner c.args.seat.now c.compare_exchange.new.seat c.requires.session
+    subst (λ n. GetsSlots g.T.PartTable.content n Shared c.args.owner c.args.seat.now c.compare_exchange.new.seat) (ap (λ (s : TableSizes). s.groups) c.requires.sizes)
+    (shared-slots g.T.PartTable.content g.G.Sizing.sizes.groups c.args.owner c.args.seat.now c.compare_exchange.new.seat c.requires.session
     (record { table_id = c.compare_exchange.ensures.0; id = c.compare_exchange.ensures.1 })
-    (c.compare_exchange.ensures.2.0 (search rules) c.args.owner (search rules) c.fast_word.ensures.index))
+    (c.compare_exchange.ensures.2.0 (search rules) c.args.words.now.key.sessions c.args.owner (c.fast_word.ensures.index c.args.words.now.key.sessions)))

@@ -1,6 +1,8 @@
-use Rattle.std.proofs.Common.{rules, sym, subst, inl, inr}
+use Rattle.std.proofs.Common.{ℕ, refl, sym, ap, subst, inl, inr}
 use Rattle.lock_world.specs.declared.events.Word.TheVariants.{Database}
-use Rattle.shared_rule.proofs.Events.Words.{IsAlwaysLawful, looks_at}
+use Rattle.shared_rule.specs.declared.history.Mark.{Mark}
+use Rattle.shared_rule.specs.Looks.{word_looked_at}
+use Rattle.shared_rule.proofs.Events.Words.{IsAlwaysLawful, names-one, looks_at}
 use Rattle.shared_rule.proofs.Events.Loads.{loading_database-lawful}
 use Rattle.shared_rule.proofs.slots.load_database.Goals as goal
 
@@ -11,20 +13,20 @@ look_as-requires-clause-allowed g c =
     let session = c.requires.session in
     looks_at content g.T.PartTable.begun c.args.words.now.key c.args.words.now.table_id.slots seat.id seat.me
     session.history session.others session.sessions
-    (Database c.args.owner) (tt, search rules) c.database_word.result c.database_word.ensures.index
-    0 (λ n. n) g.M.Marking.mark
+    (Database c.args.owner) (tt, c.requires.exists) c.database_word.result (c.database_word.ensures.index c.args.words.now.key.sessions)
+    0 (λ n. n) g.M.Marking.mark (names-one (Database c.args.owner) g.M.Marking.mark _ c.requires.mark (λ _. refl))
     (subst (IsAlwaysLawful content c.args.words.now.key session.history (Database c.args.owner) (λ _. Unit {0})
     (λ n. n)) (sym c.requires.mark)
     (loading_database-lawful content c.args.words.now.key session.history c.args.owner))
 
 pub returns-clause-of_slots : goal.returns-clause-of_slots
-returns-clause-of_slots g c = λ slots has. (c.look_as.ensures.knows (Database c.args.owner) (tt, search rules)
-    c.database_word.ensures.index).0 slots (inl has)
+returns-clause-of_slots g c = λ slots has. (c.look_as.ensures.knows (Database c.args.owner)
+    (ap (λ (m : ℕ → Mark g.row.T.Denot). word_looked_at (m c.look_as.result)) c.requires.mark)).0 slots (inl has)
 
 pub returns-clause-of_shared_slots : goal.returns-clause-of_shared_slots
-returns-clause-of_shared_slots g c = λ slots shares. (c.look_as.ensures.knows (Database c.args.owner) (tt, search rules)
-    c.database_word.ensures.index).0 slots (inr shares)
+returns-clause-of_shared_slots g c = λ slots shares. (c.look_as.ensures.knows (Database c.args.owner)
+    (ap (λ (m : ℕ → Mark g.row.T.Denot). word_looked_at (m c.look_as.result)) c.requires.mark)).0 slots (inr shares)
 
 pub returns-clause-own : goal.returns-clause-own
-returns-clause-own g c = (c.look_as.ensures.knows (Database c.args.owner) (tt, search rules)
-    c.database_word.ensures.index).1
+returns-clause-own g c = (c.look_as.ensures.knows (Database c.args.owner)
+    (ap (λ (m : ℕ → Mark g.row.T.Denot). word_looked_at (m c.look_as.result)) c.requires.mark)).1

@@ -13,7 +13,6 @@ use Rattle.lock_world.proofs.Slots.Eligible.{eligible-is}
 use Rattle.shared_rule.proofs.SlotWords.{its-slot}
 use Rattle.shared_rule.proofs.Events.Slots.{setting-lawful}
 use Rattle.shared_rule.proofs.slots.set_slot.Goals as goal
-use Rattle.modes_core.specs.Sessions.{most_sessions}
 
 pub with-word-requires-clause-slot_mode : goal.with-word-requires-clause-slot_mode
 with-word-requires-clause-slot_mode g c = (eligible-is _ c.args.tag.now c.args.mode c.requires.lawful.1.eligible).2
@@ -32,8 +31,9 @@ store_as-requires-clause-allowed g c =
     let key = c.args.words.now.key in
     let own : c.args.number ≡ session.history.number = c.requires.own
     ∙ ap (λ (sessions : List (History g.row.T.Denot)). first_number sessions) session.sessions in
-    let exists : session.history.number < most_sessions = subst (λ n. n < most_sessions) own (search rules) in
-    let at = c.slot_word.ensures.index ∙ ap (λ n. index_of_word (Slot n c.args.slot)) own in
+    let exists : session.history.number < c.args.words.now.key.sessions = subst (λ n. n < c.args.words.now.key.sessions) own c.requires.among in
+    let at = c.slot_word.ensures.index ∙ ap (λ k. index_of_word k (Slot c.args.number c.args.slot)) c.requires.sessions
+    ∙ ap (λ n. index_of_word key.sessions (Slot n c.args.slot)) own in
     let may = subst (λ (sessions : List (History g.row.T.Denot)). (mine : SlotsInHand)
     × MaySetSlotBy c.args.words.now.key.groups (first_number sessions) (first_account content sessions) mine c.args.slot c.args.tag.now
     c.args.mode × (c.args.shown ≡ mine.word c.args.slot)) session.sessions c.requires.lawful in

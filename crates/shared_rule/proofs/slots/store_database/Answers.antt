@@ -8,7 +8,6 @@ use Rattle.shared_rule.specs.Seats.{HoldsNothing}
 use Rattle.shared_rule.proofs.Events.Words.{IsAlwaysLawful, stores_at}
 use Rattle.shared_rule.proofs.Events.Slots.{storing-lawful}
 use Rattle.shared_rule.proofs.slots.store_database.Goals as goal
-use Rattle.modes_core.specs.Sessions.{most_sessions}
 
 pub store_as-requires-clause-allowed : goal.store_as-requires-clause-allowed
 store_as-requires-clause-allowed g c =
@@ -17,8 +16,8 @@ store_as-requires-clause-allowed g c =
     let session = c.requires.session in
     let own : c.args.number ≡ session.history.number = c.requires.own
     ∙ ap (λ (sessions : List (History g.row.T.Denot)). first_number sessions) session.sessions in
-    let exists : session.history.number < most_sessions = subst (λ n. n < most_sessions) own (search rules) in
-    let at = c.database_word.ensures.index ∙ ap (λ n. index_of_word (Database n)) own in
+    let exists : session.history.number < c.args.words.now.key.sessions = subst (λ n. n < c.args.words.now.key.sessions) own c.requires.among in
+    let at = (c.database_word.ensures.index c.args.words.now.key.sessions) ∙ ap (λ n. index_of_word c.args.words.now.key.sessions (Database n)) own in
     let nothing = subst (λ (sessions : List (History g.row.T.Denot)).
     HoldsNothing (first_account content sessions)) session.sessions c.requires.no_hold in
     stores_at content g.T.PartTable.begun c.args.words.now.key c.args.words.now.table_id.slots seat.id seat.me

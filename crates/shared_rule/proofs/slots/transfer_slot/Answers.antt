@@ -1,4 +1,4 @@
-use Rattle.std.proofs.Common.{rules, ◌≡◌, List, sym, ◌∙◌, subst}
+use Rattle.std.proofs.Common.{◌≡◌, List, sym, ap, ◌∙◌, subst}
 use Rattle.lw_word.specs.SlotWord.{word_without}
 use Rattle.lock_table.specs.Content.{add_hold}
 use Rattle.lock_world.specs.declared.events.Word.TheVariants.{Slot}
@@ -8,6 +8,7 @@ use Rattle.lock_world.specs.AccountLaw.{MayTransferBy}
 use Rattle.shared_rule.specs.declared.history.History.{History}
 use Rattle.shared_rule.specs.Marks as mark
 use Rattle.shared_rule.specs.History.{first_account}
+use Rattle.shared_rule.specs.Layout.{index_of_word}
 use Rattle.shared_rule.proofs.Events.Words.{IsAlwaysLawful, stores_at}
 use Rattle.shared_rule.proofs.SlotWords.{shown-weak}
 use Rattle.shared_rule.proofs.Events.Slots.{transferring-lawful}
@@ -33,7 +34,8 @@ store_as-requires-clause-allowed g c =
     ∙ sym c.number.ensures in
     stores_at content g.T.PartTable.begun key c.args.words.now.table_id.slots seat.id seat.me session.history
     session.others session.sessions
-    (Slot c.args.owner c.args.slot) (c.requires.within, search rules) c.slot_word.result c.slot_word.ensures.index
+    (Slot c.args.owner c.args.slot) (c.requires.within, c.requires.exists) c.slot_word.result
+    (c.slot_word.ensures.index ∙ ap (λ k. index_of_word k (Slot c.args.owner c.args.slot)) c.requires.sessions)
     c.number.result g.M.Marking.mark _ c.requires.mark
     (subst (λ n. IsAlwaysLawful content key session.history (Slot c.args.owner c.args.slot) (λ _. Unit {0}) (λ _. n)
     (λ _. mark.TransferredSlot c.args.owner c.args.slot c.args.tag.now c.args.mode)) new

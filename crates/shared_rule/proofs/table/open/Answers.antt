@@ -7,4 +7,4 @@ use Rattle.shared_rule.proofs.table.open.Goals as goal
 pub new-requires : goal.new-requires
 new-requires g c =
     opening-ruled g.T.PartTable.content g.T.PartTable.begun c.args.sizes.now c.requires.few c.requires.some_groups c.requires.few_groups c.as_slice.result.now
-    (subst (λ (words : List ℕ). WordsAreShown c.args.sizes.now.groups words (opening 0 0).words) (sym c.as_slice.ensures.value) c.in-Ok.ensures.shown) c.args.parts.items c.requires.parts
+    (subst (λ (words : List ℕ). WordsAreShown c.args.sizes.now words (opening 0 0).words) (sym c.as_slice.ensures.value) c.in-Ok.ensures.shown) c.args.parts.items c.requires.parts

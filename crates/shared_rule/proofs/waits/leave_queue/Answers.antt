@@ -12,7 +12,6 @@ use Rattle.lock_world.specs.AccountLaw.{MayLeaveBy}
 use Rattle.shared_rule.specs.Marks.{LeftQueue}
 use Rattle.shared_rule.proofs.Events.Waits.{leaving-lawful, told-granted}
 use Rattle.shared_rule.proofs.waits.leave_queue.Goals as goal
-use Rattle.modes_core.specs.Sessions.{most_sessions}
 
 pub store_as-requires-clause-allowed : goal.store_as-requires-clause-allowed
 store_as-requires-clause-allowed g c =
@@ -20,8 +19,8 @@ store_as-requires-clause-allowed g c =
     let seat = c.args.seat.now in
     let session = c.requires.session in
     let own : c.args.number ≡ session.history.number = c.requires.own ∙ ap (λ (sessions : List (History g.row.T.Denot)). first_number sessions) session.sessions in
-    let exists : session.history.number < most_sessions = subst (λ n. n < most_sessions) own (search rules) in
-    let at = c.wait_word.ensures.index ∙ ap (λ n. index_of_word (Wait n)) own in
+    let exists : session.history.number < c.args.words.now.key.sessions = subst (λ n. n < c.args.words.now.key.sessions) own c.requires.among in
+    let at = (c.wait_word.ensures.index c.args.words.now.key.sessions) ∙ ap (λ n. index_of_word c.args.words.now.key.sessions (Wait n)) own in
     let may = subst (λ (sessions : List (History g.row.T.Denot)). (wait : OwnWait) × (mine : InHand) × (granted : List contents.Wait) × (c.args.woken.now ≡ map whose_and_mode granted) × MayLeaveBy c.args.words.now.key.sessions (first_number sessions) (first_account content sessions) wait mine granted (content c.args.content.now)) session.sessions c.requires.lawful in
     let marked : g.M.Marking.mark ≡ (λ _. LeftQueue (map (λ (wait : contents.Wait). wait.session) may.2) c.args.content.now) =
     c.requires.mark ∙ ap (λ woken. λ _. LeftQueue woken c.args.content.now) (told-granted c.args.woken.now may.2 may.3) in

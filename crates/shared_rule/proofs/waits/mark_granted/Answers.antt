@@ -20,6 +20,6 @@ fetch_add_as-requires-clause-allowed g c =
     let marked : g.M.Marking.mark ≡ (λ _. MarkedGranted c.args.part c.args.other c.args.done.now (map (λ (wait : contents.Wait). wait.session) may.1) c.args.content.now) =
     c.requires.mark ∙ ap (λ woken. λ _. MarkedGranted c.args.part c.args.other c.args.done.now woken c.args.content.now) (told-granted c.args.woken.now may.1 may.2) in
     marks_at content g.T.PartTable.begun c.args.words.now.key c.args.words.now.table_id.slots seat.id seat.me session.history session.others session.sessions
-    (Wait c.args.other) (tt, search rules) c.wait_word.result c.wait_word.ensures.index (λ n. (n + 1) % 2 ^ 64) g.M.Marking.mark
+    (Wait c.args.other) (tt, c.requires.exists) c.wait_word.result (c.wait_word.ensures.index c.args.words.now.key.sessions) (λ n. (n + 1) % 2 ^ 64) g.M.Marking.mark
     (subst (IsAlwaysLawful content c.args.words.now.key session.history (Wait c.args.other) (λ _. Unit {0}) (λ n. (n + 1) % 2 ^ 64)) (sym marked)
     (marking-lawful content c.args.words.now.key session.history c.args.part may.0 c.args.done.now may.1 c.args.content.now c.args.other c.requires.grants may.3))

@@ -10,7 +10,6 @@ use Rattle.lock_table.specs.declared.moves.Move.TheVariants.{Join}
 use Rattle.lock_world.specs.AccountLaw.{MayMoveBy}
 use Rattle.shared_rule.proofs.Events.Waits.{setting_waiting-lawful}
 use Rattle.shared_rule.proofs.waits.set_waiting.Goals as goal
-use Rattle.modes_core.specs.Sessions.{most_sessions}
 
 pub store_as-requires-clause-allowed : goal.store_as-requires-clause-allowed
 store_as-requires-clause-allowed g c =
@@ -18,8 +17,8 @@ store_as-requires-clause-allowed g c =
     let seat = c.args.seat.now in
     let session = c.requires.session in
     let own : c.args.number ≡ session.history.number = c.requires.own ∙ ap (λ (sessions : List (History g.row.T.Denot)). first_number sessions) session.sessions in
-    let exists : session.history.number < most_sessions = subst (λ n. n < most_sessions) own (search rules) in
-    let at = c.wait_word.ensures.index ∙ ap (λ n. index_of_word (Wait n)) own in
+    let exists : session.history.number < c.args.words.now.key.sessions = subst (λ n. n < c.args.words.now.key.sessions) own c.requires.among in
+    let at = (c.wait_word.ensures.index c.args.words.now.key.sessions) ∙ ap (λ n. index_of_word c.args.words.now.key.sessions (Wait n)) own in
     let may = subst (λ (sessions : List (History g.row.T.Denot)). (mine : InHand) × MayMoveBy c.args.words.now.key.sessions (first_number sessions) (first_account content sessions) (partition_of c.args.tag.now) mine (Join c.args.tag.now c.args.mode) [] (content c.args.content.now)) session.sessions c.requires.lawful in
     stores_at content g.T.PartTable.begun c.args.words.now.key c.args.words.now.table_id.slots seat.id seat.me session.history session.others session.sessions
     (Wait session.history.number) (tt, exists) c.wait_word.result at 1 g.M.Marking.mark _ c.requires.mark

@@ -3,6 +3,7 @@ use Rattle.shared_rule.specs.Plays.{account_at, number_at, todo_at}
 use Rattle.shared_rule.specs.Wakeups.{all_owed, MayTakeAllOff}
 use Rattle.shared_rule.proofs.Led.{led_to-as, led_by-todo, led_to-itself, led-self}
 use Rattle.shared_rule.proofs.Queueing.{may_take_off-first, off-next, off-last, owed-next, owed-last}
+use Rattle.shared_rule.proofs.Waiters.{one-below}
 use Rattle.shared_rule.proofs.wakeups.take_all_off.Goals as goal
 
 pub loop-waiter-init : goal.loop-waiter-init
@@ -51,3 +52,8 @@ returns-clause-led g c =
     (owed-last c.args.taken.now c.loop-waiter.waiter-index (todo_at seat) _ (omega arith) c.loop-waiter.invariant.owes))
     (off-last c.args.taken.now c.loop-waiter.waiter-index (account_at content seat) _ (omega arith)
     c.loop-waiter.invariant.ends)
+
+pub take_off-requires-clause-exists : goal.take_off-requires-clause-exists
+take_off-requires-clause-exists g c =
+    one-below c.args.words.now.key.sessions c.args.taken.now c.loop-waiter.waiter-index c.waiter-item.result c.loop-waiter-test.true
+    c.waiter-item.is c.requires.exist

@@ -4,6 +4,7 @@ use Rattle.shared_rule.specs.Plays.{account_at, todo_at}
 use Rattle.shared_rule.specs.Wakeups.{all_called, MayTellAll}
 use Rattle.shared_rule.proofs.Led.{led_to-as, led_by-todo, led_to-itself, led-self}
 use Rattle.shared_rule.proofs.Queueing.{may_tell-first, told-next, told-last, called-next, called-last}
+use Rattle.shared_rule.proofs.Waiters.{one-below}
 use Rattle.shared_rule.proofs.wakeups.tell_all.Goals as goal
 
 pub loop-waiter-init : goal.loop-waiter-init
@@ -54,3 +55,13 @@ returns-clause-led g c =
     (called-last c.args.taken.now c.loop-waiter.waiter-index (todo_at seat) _ (omega arith) c.loop-waiter.invariant.calls))
     (told-last c.args.taken.now c.loop-waiter.waiter-index (account_at content seat) _ (omega arith)
     c.loop-waiter.invariant.ends)
+
+pub tell-requires-clause-exists : goal.tell-requires-clause-exists
+tell-requires-clause-exists g c =
+    one-below c.args.words.now.key.sessions c.args.taken.now c.loop-waiter.waiter-index c.waiter-item.result c.loop-waiter-test.true
+    c.waiter-item.is c.requires.exist
+
+pub call_sleeper-requires-clause-exists : goal.call_sleeper-requires-clause-exists
+call_sleeper-requires-clause-exists g c =
+    one-below c.args.words.now.key.sessions c.args.taken.now c.loop-waiter.waiter-index c.waiter-item.result c.loop-waiter-test.true
+    c.waiter-item.is c.requires.exist

@@ -9,6 +9,8 @@ use Rattle.shared_rule.specs.Todos.{Todo, todo_looked}
 use Rattle.std.proofs.Common.{sym}
 use Rattle.std.proofs.lemmas.Bool.{both_ways}
 use Rattle.shared_rule.proofs.Woken.{some-off, not-there, may-take_all_off, left-in_hand, may-tell_all, woken, left-well, owed-else}
+use Rattle.shared_rule.specs.Waiters.{WaitersExist}
+use Rattle.shared_rule.proofs.Waiters.{taken-below}
 use Rattle.shared_rule.proofs.wakeups.wake_waiters.Goals as goal
 
 pub take_all_off-requires-clause-lawful : goal.take_all_off-requires-clause-lawful
@@ -110,3 +112,15 @@ unlock_after_wakeup-requires-clause-left_well g c =
     left-well (account_at content c.try_lock_list.new.seat) (account_at content c.take_all_off.new.seat) (todo_at c.take_all_off.new.seat) c.args.lock.now ws
     c.as_slice.result.now c.wake_split-wakeup.new.self.waiters (c.as_slice.ensures.value ∙ taken)
     (ap (λ (list : Waiting). list.waiters) c.wake_split-wakeup.ensures.left ∙ ap (λ (list : Waiting). left_waiting list.waiters) c.deref_mut.ensures.value) c.take_all_off.ensures.led.account
+
+pub take_all_off-requires-clause-exist : goal.take_all_off-requires-clause-exist
+take_all_off-requires-clause-exist g c =
+    let sessions = c.args.words.now.key.sessions in
+    subst (WaitersExist sessions) (sym (c.as_slice.ensures.value ∙ c.wake_split-wakeup.ensures.taken ∙ ap (λ (list : Waiting). taken_off list.waiters) c.deref_mut.ensures.value))
+    (taken-below sessions c.in-Some.list.value.waiters (c.in-Some.ensures {u = tt}).exist)
+
+pub tell_all-requires-clause-exist : goal.tell_all-requires-clause-exist
+tell_all-requires-clause-exist g c =
+    let sessions = c.args.words.now.key.sessions in
+    subst (WaitersExist sessions) (sym (c.as_slice-2.ensures.value ∙ c.wake_split-wakeup.ensures.taken ∙ ap (λ (list : Waiting). taken_off list.waiters) c.deref_mut.ensures.value))
+    (taken-below sessions c.in-Some.list.value.waiters (c.in-Some.ensures {u = tt}).exist)

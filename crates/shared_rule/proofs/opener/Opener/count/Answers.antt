@@ -1,11 +1,11 @@
 use Rattle.std.proofs.Common.{◌≡◌, ◌+◌, [], length, sym, ap, ◌∙◌, subst}
 use Rattle.std.specs.Prelude.{count_by, Ok}
 use Rattle.lock_table.specs.declared.rows.TableRow.{TableRow}
-use Rattle.atomic_table.specs.Seated.{TableId}
 use Rattle.shared_rule.specs.Audits.{CountsAll, CountsFrom}
 use Rattle.shared_rule.specs.Gatherings.{NoneWaits, AreAll, gathered_in}
 use Rattle.shared_rule.specs.Openers.{OpenerState}
-use Rattle.shared_rule.specs.Plays.{HasGroups, HasSession, IsSized}
+use Rattle.shared_rule.specs.Plays.{HasSession}
+use Rattle.shared_rule.specs.Layout.{IsSized}
 use Rattle.lock_world.specs.Account.{Account}
 use Rattle.shared_rule.proofs.Idle.{free-further, first-idle, first-free, lists-told}
 use Rattle.shared_rule.proofs.AuditSums.{counts-all, has-first, are-all}
@@ -37,7 +37,7 @@ returns g c =
     CountsAll content o after (Ok (record { fast = c.count_from.new.fast; table = c.granted_in.result; strong = c.count_counters-strong.result })))
     c.self.view_is
     (counts-all content c.self.inside.seat.table_id c.count_from.new.seat.table_id c.self.inside.sizes.sessions c.self.inside.sizes.groups c.self.inside.issued
-    c.count_counters-strong.result c.count_from.new.fast c.self.invariant.5.some c.self.invariant.5.few v0 c.count_counters-strong.new.seat.me.0 v2 c.count_from.new.rows.items c.count_from.result
+    c.count_counters-strong.result c.count_from.new.fast c.self.invariant.3.some_groups c.self.invariant.3.few_groups v0 c.count_counters-strong.new.seat.me.0 v2 c.count_from.new.rows.items c.count_from.result
     (c.count_from.ensures.same_seat.table_id ∙ c.count_counters-strong.ensures.same_seat.table_id) has are c.self.invariant.1 nobody
     c.count_counters-strong.ensures.seen counts c.granted_in.result c.in_ok-count_from.was
     (c.granted_in.ensures ∙ ap (count_by (λ (row : TableRow). row.granted)) c.as_slice.ensures.value))
@@ -53,10 +53,9 @@ invariant_of-self g c =
       counts.further.next ∙ seen.further.next ∙ c.self.invariant.0,
       c.self.invariant.1,
       c.self.invariant.2,
-      subst IsSized (sym (c.count_from.ensures.same_seat.table_id ∙ c.count_counters-strong.ensures.same_seat.table_id)) c.self.invariant.3,
+      subst (IsSized c.self.inside.sizes) (sym (c.count_from.ensures.same_seat.table_id ∙ c.count_counters-strong.ensures.same_seat.table_id)) c.self.invariant.3,
       free-further content v1 v2 counts.further (ap (λ (a : Account). a.lists) counts.account)
           (free-further content v0 v1 seen.further (ap (λ (a : Account). a.lists) seen.account) c.self.invariant.4),
-      subst (λ (t : TableId). HasGroups t c.self.inside.sizes.groups) (sym (c.count_from.ensures.same_seat.table_id ∙ c.count_counters-strong.ensures.same_seat.table_id)) c.self.invariant.5,
     )
 
 pub invariant_of-self-2 : goal.invariant_of-self-2
@@ -70,10 +69,9 @@ invariant_of-self-2 g c =
       counts.further.next ∙ seen.further.next ∙ c.self.invariant.0,
       c.self.invariant.1,
       c.self.invariant.2,
-      subst IsSized (sym (c.count_from.ensures.same_seat.table_id ∙ c.count_counters-strong.ensures.same_seat.table_id)) c.self.invariant.3,
+      subst (IsSized c.self.inside.sizes) (sym (c.count_from.ensures.same_seat.table_id ∙ c.count_counters-strong.ensures.same_seat.table_id)) c.self.invariant.3,
       free-further content v1 v2 counts.further (ap (λ (a : Account). a.lists) counts.account)
           (free-further content v0 v1 seen.further (ap (λ (a : Account). a.lists) seen.account) c.self.invariant.4),
-      subst (λ (t : TableId). HasGroups t c.self.inside.sizes.groups) (sym (c.count_from.ensures.same_seat.table_id ∙ c.count_counters-strong.ensures.same_seat.table_id)) c.self.invariant.5,
     )
 
 pub count_from-requires-clause-idle : goal.count_from-requires-clause-idle

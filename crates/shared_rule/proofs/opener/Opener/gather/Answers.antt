@@ -1,11 +1,11 @@
 use Rattle.std.proofs.Common.{◌≡◌, [], ◌∷◌, ◌++◌, refl, sym, ap, ◌∙◌, subst}
-use Rattle.atomic_table.specs.Seated.{TableId}
 use Rattle.shared_rule.specs.declared.history.History.{History}
 use Rattle.shared_rule.specs.declared.history.View.{View}
 use Rattle.shared_rule.specs.Boards.{first_marks, AreFree}
 use Rattle.shared_rule.specs.History.{first_account}
 use Rattle.shared_rule.specs.Openers.{OpenerState}
-use Rattle.shared_rule.specs.Plays.{Side, HasGroups, IsSized}
+use Rattle.shared_rule.specs.Plays.{Side}
+use Rattle.shared_rule.specs.Layout.{IsSized}
 use Rattle.shared_rule.specs.Quiet.{first_quiet}
 use Rattle.shared_rule.proofs.Idle.{free-with, free-lone}
 use Rattle.shared_rule.proofs.opener.Opener.gather.Goals as goal
@@ -20,11 +20,10 @@ invariant_of-self g c =
       ap (λ (view : View g.row.T.Denot). view.next) side ∙ c.self.invariant.0,
       c.self.invariant.1,
       c.self.invariant.2,
-      subst IsSized (sym c.keep_apart.ensures.same_seat.table_id) c.self.invariant.3,
+      subst (IsSized c.self.inside.sizes) (sym c.keep_apart.ensures.same_seat.table_id) c.self.invariant.3,
       subst (λ (view : View g.row.T.Denot). AreFree view.sessions) (sym side)
           (free-with c.self.inside.seat.me.0.sessions c.into_seat-seat.result.1.me.0.sessions c.self.invariant.4
           (subst (λ (view : View g.row.T.Denot). AreFree view.sessions) (sym came) its)),
-      subst (λ (t : TableId). HasGroups t c.self.inside.sizes.groups) (sym c.keep_apart.ensures.same_seat.table_id) c.self.invariant.5,
     )
 
 pub returns-clause-gathered : goal.returns-clause-gathered

@@ -1,10 +1,10 @@
 use Rattle.std.proofs.Common.{◌≡◌, [], sym, ap, ◌∙◌, subst}
-use Rattle.atomic_table.specs.Seated.{TableId}
 use Rattle.shared_rule.specs.declared.history.View.{View}
 use Rattle.shared_rule.specs.Boards.{parts_in_hand, Seated, first_marks, IsIdle, AreFree}
 use Rattle.shared_rule.specs.History.{lone, first_account}
 use Rattle.shared_rule.specs.Openers.{OpenerState}
-use Rattle.shared_rule.specs.Plays.{Side, HasGroups, IsSized}
+use Rattle.shared_rule.specs.Plays.{Side}
+use Rattle.shared_rule.specs.Layout.{IsSized}
 use Rattle.shared_rule.specs.Quiet.{first_quiet}
 use Rattle.shared_rule.specs.Seats.{all_but_last, last_of}
 use Rattle.shared_rule.proofs.Idle.{free-one, free-last, free-left, first-wakes}
@@ -54,9 +54,8 @@ invariant_of-self g c =
       ap (λ (v : View g.row.T.Denot). v.next) left ∙ c.self.invariant.0,
       c.self.invariant.1,
       c.self.invariant.2,
-      subst IsSized (sym c.hand_back-seat.ensures.same_seat.table_id) c.self.invariant.3,
+      subst (IsSized c.self.inside.sizes) (sym c.hand_back-seat.ensures.same_seat.table_id) c.self.invariant.3,
       subst (λ (v : View g.row.T.Denot). AreFree v.sessions) (sym left) (free-left c.self.inside.seat.me.0.sessions c.self.invariant.4),
-      subst (λ (t : TableId). HasGroups t c.self.inside.sizes.groups) (sym c.hand_back-seat.ensures.same_seat.table_id) c.self.invariant.5,
     )
 
 pub returns-clause-stack : goal.returns-clause-stack

@@ -8,6 +8,6 @@ pub returns : goal.returns
 returns g c = λ first got has.
     let lock = c.args.self.now in
     part-left g.T.PartTable.content
-    (sought_of lock.words.now.key.sessions lock.words.now.table_id lock.number (OfPart lock.part) Exclusive)
+    (sought_of lock.words.now.key lock.words.now.table_id lock.number (OfPart lock.part) Exclusive)
     first c.args.seat.now c.dequeue_self.new.seat c.dequeue_self.ensures.led c.dequeue_self.ensures.shelves
-    g.T.PartTable.begun lock.part got has
+    g.T.PartTable.begun lock.words.now.key.sessions lock.part got has

@@ -7,6 +7,6 @@ pub returns : goal.returns
 returns g c = λ first got has.
     let lock = c.args.self.now in
     slots-left g.T.PartTable.content
-    (sought_of lock.words.now.key.sessions lock.words.now.table_id lock.number (OfSlots lock.owner) lock.mode)
+    (sought_of lock.words.now.key lock.words.now.table_id lock.number (OfSlots lock.owner) lock.mode)
     first c.args.seat.now c.dequeue_self.new.seat c.dequeue_self.ensures.led c.dequeue_self.ensures.shelves
     lock.words.now.key.groups lock.mode lock.owner has
