@@ -1,6 +1,6 @@
-use Rattle.std.proofs.Common.{◌≡◌, ◌≢◌, ℕ, zero, suc, ◌+◌, ◌<◌, ◌≤◌, true, false, not, ◌||◌, ◌==◌, List, [], ◌∷◌, ◌++◌, length, take, drop, map, Option, Some, None, arith, refl, sym, ap, ◌∙◌, inl, inr}
+use Rattle.std.proofs.Common.{◌≡◌, ◌≢◌, ℕ, zero, suc, ◌+◌, ◌<◌, ◌≤◌, true, false, not, ◌||◌, ◌==◌, List, [], ◌∷◌, ◌++◌, length, take, drop, map, Option, Some, None, arith, refl, sym, ap, ◌∙◌, subst, inl, inr}
 use Rattle.std.proofs.Math.ListN.{set}
-use Rattle.std.specs.Prelude.{count_by, find, option_map, if◌then◌else◌}
+use Rattle.std.specs.Prelude.{count_by, find, option_map, is_some, vec_len, vec_capacity, if◌then◌else◌}
 use Rattle.std.specs.List.{list_any, insert, remove, HoldsAt}
 use Rattle.std.proofs.lemmas.Bool.{cases_Bool, cases_eq, cases_lt, false≢true, false_from_ne_true, cond-true, cond-false}
 use Rattle.std.proofs.lemmas.List.{append-nil, map-append, take-map, drop-map, get_or-set_same, get_or-set_other, get_or_past}
@@ -17,7 +17,7 @@ use Rattle.lock_table.proofs.PutLemmas.{put_here, put_else}
 use Rattle.lock_table.proofs.HoldLists.{count_by-cons}
 use Rattle.lock_table.proofs.ListLemmas.{any-counted}
 use Rattle.lock_records.specs.declared.wait_queues.QueueRecord.{QueueRecord}
-use Rattle.lock_records.specs.Queues.{queue_at, is_queue_of, waits_at, queue_on, waits_of, waiting_in, IsQueueAt, AreQueues}
+use Rattle.lock_records.specs.Queues.{queue_at, is_queue_of, waits_at, queue_on, waits_of, waiting_in, IsQueueAt, AreQueues, HasRoomInQueue, QueuesView, HasSameQueues}
 use Rattle.lock_records.proofs.Queues.{without-nobody}
 
 -- Lists of places that show the same waits of an object.
@@ -74,6 +74,10 @@ no-queue slots t are none j i = are.some t j i (nothing-shown i.queue.waiters.it
   nothing-shown : (ws : List Waiter) → map shown_wait ws ≡ [] → ws ≡ []
   nothing-shown [] e = refl
   nothing-shown (w ∷ ws) e = let no_way : ⊥ = cc in absurd no_way
+
+-- So somebody awaits an object that has one.
+pub somebody-there : (slots : List (Option QueueRecord)) (t : Tag) (k : ℕ) → AreQueues slots → IsQueueAt slots t k → queue_on slots t ≢ []
+somebody-there slots t k are i none = no-queue slots t are none k i
 
 -- A place was written, at which the object alone had waits and has some.
 pub record IsWritten (old new : List (Option QueueRecord)) (t : Tag) (k : ℕ) : Type 0 where
@@ -167,6 +171,39 @@ set-here slots k q r there = get_or-set_same slots k (Some r) None (queue-within
 
 pub set-else : (slots : List (Option QueueRecord)) (k : ℕ) (r : QueueRecord) → (j : ℕ) → j ≢ k → queue_at (set slots k (Some r)) j ≡ queue_at slots j
 set-else slots k r j other = get_or-set_other slots k j (Some r) None other
+
+-- A record in place of another one leaves as many.
+pub count-set : (slots : List (Option QueueRecord)) (k : ℕ) (q r : QueueRecord) → queue_at slots k ≡ Some q → count_by is_some (set slots k (Some r)) ≡ count_by is_some slots
+count-set [] k q r there = let no_way : ⊥ = cc in absurd no_way
+count-set (s ∷ slots) zero q r there =
+    let old : count_by is_some (s ∷ slots) ≡ (if is_some s then 1 else 0) + count_by is_some slots = count_by-cons is_some s slots in
+    let new : count_by is_some (Some r ∷ slots) ≡ 1 + count_by is_some slots = count_by-cons is_some (Some r) slots in
+    let was : ◌≡◌ {A = ℕ} (if is_some s then 1 else 0) 1 = ap (λ (x : Option QueueRecord). if is_some x then 1 else 0) there in
+    new ∙ (let sum : 1 + count_by is_some slots ≡ count_by is_some (s ∷ slots) = omega arith in sum)
+count-set (s ∷ slots) (suc k) q r there =
+    let old : count_by is_some (s ∷ slots) ≡ (if is_some s then 1 else 0) + count_by is_some slots = count_by-cons is_some s slots in
+    let new : count_by is_some (s ∷ set slots k (Some r)) ≡ (if is_some s then 1 else 0) + count_by is_some (set slots k (Some r)) = count_by-cons is_some s (set slots k (Some r)) in
+    let rest : count_by is_some (set slots k (Some r)) ≡ count_by is_some slots = count-set slots k q r there in
+    new ∙ (let sum : (if is_some s then 1 else 0) + count_by is_some (set slots k (Some r)) ≡ count_by is_some (s ∷ slots) = omega arith in sum)
+
+-- A record with the same waits in place of another one leaves all waits.
+pub waits-same :
+    (old : List (Option QueueRecord)) (k : ℕ) (q r : QueueRecord) → queue_at old k ≡ Some q → r.tag ≡ q.tag → r.waiters.items ≡ q.waiters.items → queue_on (set old k (Some r)) ≡ queue_on old
+waits-same old k q r there tags items = λ i o. at o i where
+  alike : (o : Tag) → waits_at o (Some r) ≡ waits_at o (Some q)
+  alike o = λ i. if tag_eq o (tags i) then map shown_wait (items i) else []
+
+  at : (o : Tag) → queue_on (set old k (Some r)) o ≡ queue_on old o
+  at o =
+      queue-same old (set old k (Some r)) o (λ j. elim (cases_eq j k) [
+        | inl e ↦
+            ap (λ x. waits_at o (queue_at (set old k (Some r)) x)) e ∙ ap (waits_at o) (set-here old k q r there) ∙ alike o
+            ∙ sym (ap (λ x. waits_at o (queue_at old x)) e ∙ ap (waits_at o) there)
+        | inr apart ↦ ap (waits_at o) (set-else old k r j apart)
+      ])
+
+pub queues-unchanged : (queues : QueuesView) → HasSameQueues queues queues
+queues-unchanged queues = record { waits = refl; total = refl; count = refl; capacity = refl; spare = refl }
 
 -- The records, with another one of the same object at a place.
 pub queues-rewritten :
@@ -310,6 +347,27 @@ module _ (old new : List (Option QueueRecord)) (t : Tag) (k : ℕ) (q r : QueueR
     pub requeued-total : waiting_in new + length q.waiters.items ≡ waiting_in old + length r.waiters.items
     requeued-total = let sum = total-written old new k others in let was = counted-at old k q there in let now = counted-at new k r here in omega arith
 
+    is-it : (o : Tag) (j : ℕ) (i : IsQueueAt new o j) → j ≡ k → i.queue ≡ r
+    is-it o j i e = queue-record new k i.queue r (ap (queue_at new) (sym e) ∙ i.there) here
+
+    pub requeued-has-room : vec_len r.waiters < vec_capacity r.waiters → HasRoomInQueue new t
+    requeued-has-room less some j i =
+        subst (λ (x : QueueRecord). vec_len x.waiters < vec_capacity x.waiters)
+        (sym (is-it t j i (requeued-are.once t j k i (record { queue = r; there = here; on = still })))) less
+
+    pub requeued-room : vec_capacity r.waiters ≡ vec_capacity q.waiters → vec_len r.waiters ≤ vec_len q.waiters → (o : Tag) → HasRoomInQueue old o → HasRoomInQueue new o
+    requeued-room same fewer o room some j i =
+        elim (cases_eq j k) [
+          | inl e ↦
+              let was : IsQueueAt old o k = record { queue = q; there = there; on = on ∙ sym still ∙ ap (λ (x : QueueRecord). x.tag) (sym (is-it o j i e)) ∙ i.on } in
+              let less : vec_len q.waiters < vec_capacity q.waiters = room (somebody-there old o k are was) k was in
+              let now : vec_len r.waiters < vec_capacity r.waiters = omega arith in
+              subst (λ (x : QueueRecord). vec_len x.waiters < vec_capacity x.waiters) (sym (is-it o j i e)) now
+          | inr apart ↦
+              let was : IsQueueAt old o j = record { queue = i.queue; there = sym (others j apart) ∙ i.there; on = i.on } in
+              room (somebody-there old o j are was) j was
+        ]
+
   module _ (gone : queue_at new k ≡ None) where
     pub dropped-are : AreQueues new
     dropped-are = queues-less old new k are gone others
@@ -326,6 +384,15 @@ module _ (old new : List (Option QueueRecord)) (t : Tag) (k : ℕ) (q r : QueueR
     pub dropped-queue : queue_on new ≡ put tag_eq (queue_on old) t []
     dropped-queue =
         queue-put old new t k [] (record { others = others; was_its = its-alone old t k q there on; is_its = λ o other. ap (waits_at o) gone }) (queue-absent new t not-there)
+
+    pub dropped-room : (o : Tag) → HasRoomInQueue old o → HasRoomInQueue new o
+    dropped-room o room some j i =
+        elim (cases_eq j k) [
+          | inl e ↦ let none : queue_at new j ≡ None = ap (queue_at new) e ∙ gone in let there_is = i.there in let no_way : ⊥ = cc in absurd no_way
+          | inr apart ↦
+              let was : IsQueueAt old o j = record { queue = i.queue; there = sym (others j apart) ∙ i.there; on = i.on } in
+              room (somebody-there old o j are was) j was
+        ]
 
     pub dropped-total : waiting_in new + length q.waiters.items ≡ waiting_in old
     dropped-total = let sum = total-written old new k others in let was = counted-at old k q there in let now = uncounted-at new k gone in omega arith

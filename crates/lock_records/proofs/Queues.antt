@@ -314,27 +314,3 @@ none-awaits (w ∷ queue) mode none =
 pub some-awaits : (queue : List Wait) (mode its : Mode) → conflict mode its ≡ true → 0 < awaited_of queue its → some_awaits_conflict queue mode ≡ true
 some-awaits queue mode its hit some =
     any_weaker (λ (wait : Wait). mode_eq wait.mode its) (λ (wait : Wait). conflict mode wait.mode) queue (λ w same. ap (conflict mode) (mode_eq-same w.mode its same) ∙ hit) (counted-any (λ (wait : Wait). mode_eq wait.mode its) queue some)
-
--- Where a session doesn't wait there is room for it.
-pub queue-room : (queue : List Wait) (w : Wait) → OneEach queue → ((s : ℕ) → waits_there queue s ≡ true → s < most_sessions) → w.session < most_sessions → waits_there queue w.session ≡ false → length queue < most_sessions
-queue-room queue w one below small absent = let all : length (w ∷ queue) ≤ most_sessions = queue-short (w ∷ queue) one_more below_more in omega arith where
-  one_more : OneEach (w ∷ queue)
-  one_more k =
-      let all : count_by (λ (wait : Wait). wait.session == k) (w ∷ queue) ≡ (if w.session == k then 1 else 0) + count_by (λ (wait : Wait). wait.session == k) queue = count_by-cons (λ (wait : Wait). wait.session == k) w queue in
-      elim (cases_Bool (w.session == k)) [
-        | inl own ↦
-            let none : count_by (λ (wait : Wait). wait.session == k) queue ≡ 0 =
-            count_by-none (λ (wait : Wait). wait.session == k) queue (ap (waits_there queue) (sym (eqb-true _ _ own)) ∙ absent) in
-            let it : ◌≡◌ {A = ℕ} (if w.session == k then 1 else 0) 1 = ap (λ b. if b then 1 else 0) own in
-            omega arith
-        | inr other ↦
-            let it : ◌≡◌ {A = ℕ} (if w.session == k then 1 else 0) 0 = ap (λ b. if b then 1 else 0) other in
-            omega (arith, one k)
-      ]
-
-  below_more : (s : ℕ) → waits_there (w ∷ queue) s ≡ true → s < most_sessions
-  below_more s there =
-      elim (or_cases _ _ there) [
-        | inl its ↦ subst (λ x. x < most_sessions) (eqb-true _ _ its) small
-        | inr was ↦ below s was
-      ]

@@ -9,7 +9,7 @@ use Rattle.lock_records.specs.Tally.{counts_in}
 use Rattle.lock_records.specs.Counting.{granted_of, awaited_of}
 use Rattle.lock_records.specs.Holders.{holds_in, IsHolderAt, AreHolders, IsHolderChain}
 use Rattle.lock_records.specs.Locks.{IsLockAt, HasLock}
-use Rattle.lock_records.specs.Queues.{queue_on, waiting_in}
+use Rattle.lock_records.specs.Queues.{QueuesView, HasRoomForQueue, queue_on, waiting_in}
 use Rattle.lock_records.specs.declared.holders.HolderRecord.{HolderRecord}
 use Rattle.lock_records.specs.declared.locks.LockRecord.{LockRecord}
 use Rattle.lock_records.specs.declared.wait_queues.QueueRecord.{QueueRecord}
@@ -50,9 +50,14 @@ pub record IsObject (locks : List (Option LockRecord)) (holders : List (Option H
 abbrev pub AreObjects : List (Option LockRecord) → List (Option HolderRecord) → List (Option QueueRecord) → Type 0
 AreObjects locks holders queues = (tag : Tag) → IsObject locks holders (queue_on queues tag) tag
 
+-- The object's lock record at the place counts the waits of its queue.
+pub record CountsWaitsAt (locks : List (Option LockRecord)) (queue : List Wait) (tag : Tag) (place : ℕ) : Type 0 where
+  pub at : IsLockAt locks tag place
+  pub awaited : (mode : Mode) → counts_in at.lock.awaited mode ≡ awaited_of queue mode
+
 -- There is room for a request, as a hold or as a wait, and for a lock record.
-pub record HasRoom (locks : Slab LockRecord) (holders : Slab HolderRecord) (queues : Slab QueueRecord) (index : Notes) : Type 0 where
+pub record HasRoom (locks : Slab LockRecord) (holders : Slab HolderRecord) (queues : QueuesView) (index : Notes) : Type 0 where
   pub lock : HasRoomFor locks 1
   pub noted : locks.vacant_key < index.places
   pub holder : slab_len holders + waiting_in queues.slots < holders.capacity
-  pub queue : HasRoomFor queues 1
+  pub queue : HasRoomForQueue queues

@@ -1,4 +1,4 @@
-use Rattle.std.specs.Prelude.{◌≡◌, ◌≢◌, ℕ, ◌+◌, Bool, false, List, [], ◌∷◌, ◌++◌, length, map, Option, Some, None, slice_index_or, if◌then◌else◌}
+use Rattle.std.specs.Prelude.{◌≡◌, ◌≢◌, ℕ, ◌+◌, ◌<◌, Bool, false, List, [], ◌∷◌, ◌++◌, length, map, Option, Some, None, slice_index_or, is_some, count_by, vec_len, vec_capacity, if◌then◌else◌}
 use Rattle.modes_core.specs.declared.tags.Tag.{Tag}
 use Rattle.modes_core.specs.Tag.{tag_eq}
 use Rattle.lock_table.specs.Content.{Wait}
@@ -46,3 +46,28 @@ pub record IsQueueAt (slots : List (Option QueueRecord)) (tag : Tag) (place : �
 pub record AreQueues (slots : List (Option QueueRecord)) : Type 0 where
   pub once : (tag : Tag) (k j : ℕ) → IsQueueAt slots tag k → IsQueueAt slots tag j → k ≡ j
   pub some : (tag : Tag) (place : ℕ) (i : IsQueueAt slots tag place) → i.queue.waiters.items ≢ []
+
+-- what contracts see of the queue records: the records by their places, for how many there is room, and for how many waits there is room in the
+-- queue that the next new record takes
+pub record QueuesView : Type 0 where
+  pub slots : List (Option QueueRecord)
+  pub capacity : ℕ
+  pub spare : ℕ
+
+-- There is room for one more record, and for a wait in it.
+pub record HasRoomForQueue (queues : QueuesView) : Type 0 where
+  pub slot : count_by is_some queues.slots < queues.capacity
+  pub wait : 0 < queues.spare
+
+-- Where somebody awaits the object, there is room in its queue for one more.
+abbrev pub HasRoomInQueue : List (Option QueueRecord) → Tag → Type 0
+HasRoomInQueue slots tag =
+    queue_on slots tag ≢ [] → (place : ℕ) (i : IsQueueAt slots tag place) → vec_len i.queue.waiters < vec_capacity i.queue.waiters
+
+-- The same waits, with as many records, and room for as many as before.
+pub record HasSameQueues (old new : QueuesView) : Type 0 where
+  pub waits : queue_on new.slots ≡ queue_on old.slots
+  pub total : waiting_in new.slots ≡ waiting_in old.slots
+  pub count : count_by is_some new.slots ≡ count_by is_some old.slots
+  pub capacity : new.capacity ≡ old.capacity
+  pub spare : new.spare ≡ old.spare

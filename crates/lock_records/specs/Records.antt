@@ -4,7 +4,7 @@ use Rattle.lock_table.specs.Queue.{awaits_mode}
 use Rattle.slab.specs.Slab.{slab_len}
 use Rattle.lock_records.specs.Holders.{holds_in}
 use Rattle.lock_records.specs.Locks.{AreNoted, HasNoLock, IsLockAt}
-use Rattle.lock_records.specs.Queues.{queue_on, waiting_in}
+use Rattle.lock_records.specs.Queues.{HasRoomInQueue, queue_on, waiting_in}
 use Rattle.lock_records.specs.Objects.{AreObjects, HasRoom}
 use Rattle.lock_records.specs.View.{RecordView}
 use Rattle.lock_records.specs.declared.records.Records.TheInside.{Inside}
@@ -23,6 +23,7 @@ view_of part = record {
     locks = part.locks.capacity;
     holders = part.holders.capacity;
     queues = part.queues.capacity;
+    spare = part.queues.spare;
     woken = vec_capacity part.woken;
     places = part.index.places;
   };
@@ -39,6 +40,7 @@ pub record AreRecords (part : Inside) : Type 0 where
   pub begun_not_awaited : ForSome part.begun.request
       (λ request. awaits_mode (queue_on part.queues.slots request.tag) request.session request.mode ≡ false)
   pub begun_room : ForSome part.begun.request (λ request. HasRoom part.locks part.holders part.queues part.index)
+  pub begun_queue : ForSome part.begun.request (λ request. HasRoomInQueue part.queues.slots request.tag)
   pub begun_woken : ForSome part.begun.request (λ request. waiting_in part.queues.slots < vec_capacity part.woken)
   pub absent : part.absent ≡ true → ForSome part.begun.request (λ request. HasNoLock part.locks.slots request.tag)
   pub known : part.known ≡ true → ForSome part.begun.request (λ request. IsLockAt part.locks.slots request.tag part.hint)

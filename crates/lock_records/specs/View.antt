@@ -8,11 +8,12 @@ use Rattle.lock_records.specs.declared.locks.LockRecord.{LockRecord}
 use Rattle.lock_records.specs.declared.holders.HolderRecord.{HolderRecord}
 use Rattle.lock_records.specs.declared.wait_queues.QueueRecord.{QueueRecord}
 
--- for how many records of each kind there is room, for how many names of those whom a wakeup grants, and for how many places the index has
+-- for how many records of each kind there is room, for how many waits in the queue of the next new record, for how many names of those whom a wakeup grants, and for how many places the index has
 pub record Capacity : Type 0 where
   pub locks : ℕ
   pub holders : ℕ
   pub queues : ℕ
+  pub spare : ℕ
   pub woken : ℕ
   pub places : ℕ
 
@@ -38,5 +39,6 @@ pub record GrowsWhereFull (old new : RecordView) : Type 0 where
   pub locks : count_by is_some old.locks < old.capacity.locks → new.capacity.locks ≡ old.capacity.locks
   pub holders : count_by is_some old.holders + waiting_in old.queues < old.capacity.holders → new.capacity.holders ≡ old.capacity.holders
   pub queues : count_by is_some old.queues < old.capacity.queues → new.capacity.queues ≡ old.capacity.queues
+  pub spare : 0 < old.capacity.spare → new.capacity.spare ≡ old.capacity.spare
   pub woken : waiting_in old.queues < old.capacity.woken → new.capacity.woken ≡ old.capacity.woken
   pub places : old.next_lock < old.capacity.places → new.capacity.places ≡ old.capacity.places

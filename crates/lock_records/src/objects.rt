@@ -1,6 +1,7 @@
 //! What a call does to the records of one object, whose lock record stands at a known place.
 
-ghost use Rattle.std.specs.Prelude.{◌≡◌, ◌<◌, ◌≤◌, ◌+◌, [], false, true, OnOk, IfSome, IfNone, vec_capacity};
+ghost use Rattle.std.specs.Prelude.{◌≡◌, ◌<◌, ◌≤◌, ◌+◌, [], false, true, OnOk, IfSome, IfNone, is_some, count_by, vec_capacity};
+ghost use Rattle.std.specs.Option.{ForSome, ForNone};
 ghost use Rattle.modes_core.specs.declared.modes.Mode.{Mode};
 ghost use Rattle.slab.specs.Slab.{slab_len, HasRoomFor};
 ghost use Rattle.place_index.specs.Notes.{HasSameNotes};
@@ -8,9 +9,9 @@ ghost use Rattle.lock_table.specs.Clash.{HolderInTheWay};
 ghost use Rattle.lock_records.specs.Tally.{counts_in, one_more, one_less};
 ghost use Rattle.lock_records.specs.Counting.{awaited_of};
 ghost use Rattle.lock_records.specs.Holders.{holds_in, AreHolders, SetsHold};
-ghost use Rattle.lock_records.specs.Queues.{queue_on, waiting_in, IsQueueAt};
+ghost use Rattle.lock_records.specs.Queues.{queue_on, waiting_in, IsQueueAt, HasRoomInQueue, HasSameQueues};
 ghost use Rattle.lock_records.specs.Locks.{IsLockAt, IsRelocked};
-ghost use Rattle.lock_records.specs.Objects.{IsHeldLock, HasRoom};
+ghost use Rattle.lock_records.specs.Objects.{IsHeldLock, CountsWaitsAt, HasRoom};
 
 use crate::holders::{HolderRecord, lower_holder, lowest_holder, lowest_mode, raise_holder};
 use crate::locks::LockRecord;
@@ -21,8 +22,8 @@ use place_index::PlaceIndex;
 use slab::Slab;
 
 /// Makes room for a request: in `index` for one lock record more, in `locks` for that record, in `holders` for the
-/// hold that it and each wait becomes, in `queues` for a queue record more, and in `woken` for the names of all who wait
-/// then. No record changes.
+/// hold that it and each wait becomes, in `queues` for a queue record more with a wait in it, and in `woken` for the names
+/// of all who wait then. No record changes.
 #[inline(always)]
 pub(crate) fn make_room(
     locks: &mut Slab<LockRecord>,
@@ -45,7 +46,9 @@ pub(crate) fn make_room(
     ensures locks_grow { HasRoomFor locks.old 1 → locks.new.capacity ≡ locks.old.capacity }
     ensures holders_grow { HasRoomFor holders.old (waiting_in queues.old.slots + 1) →
         holders.new.capacity ≡ holders.old.capacity }
-    ensures queues_grow { HasRoomFor queues.old 1 → queues.new.capacity ≡ queues.old.capacity }
+    ensures queues_grow { count_by is_some queues.old.slots < queues.old.capacity →
+        queues.new.capacity ≡ queues.old.capacity }
+    ensures spare_grows { 0 < queues.old.spare → queues.new.spare ≡ queues.old.spare }
     ensures woken_grows { waiting_in queues.old.slots < vec_capacity woken.old →
         vec_capacity woken.new ≡ vec_capacity woken.old }
     ensures index_grows { locks.old.vacant_key < index.old.places → index.new.places ≡ index.old.places }
@@ -64,6 +67,49 @@ pub(crate) fn make_room(
         grow_woken(woken, holds)?;
     }
     Ok(())
+}
+
+/// Makes room for one more wait in the queue of `tag`, whose lock record is at `found`, if somebody awaits the object.
+/// Mostly nobody waits in the whole partition.
+#[inline(always)]
+pub(crate) fn make_room_to_wait(
+    locks: &Slab<LockRecord>,
+    queues: &mut WaitQueues,
+    found: Option<usize>,
+    tag: &Tag,
+) -> Result<(), NoMemory>
+    requires counted { ForSome found (CountsWaitsAt locks.now.slots (queue_on queues.old.slots tag.now) tag.now) }
+    requires absent { ForNone found (queue_on queues.old.slots tag.now ≡ []) }
+    ensures room { OnOk result (HasRoomInQueue queues.new.slots tag.now) }
+    ensures same { HasSameQueues queues.old queues.new }
+{
+    if queues.waiting() == 0 {
+        return Ok(());
+    }
+    make_room_in_queue(locks, queues, found, tag)
+}
+
+/// Makes room for one more wait in the queue of `tag`, whose lock record is at `found`, if somebody awaits the object.
+#[cold]
+#[inline(never)]
+fn make_room_in_queue(
+    locks: &Slab<LockRecord>,
+    queues: &mut WaitQueues,
+    found: Option<usize>,
+    tag: &Tag,
+) -> Result<(), NoMemory>
+    requires counted { ForSome found (CountsWaitsAt locks.now.slots (queue_on queues.old.slots tag.now) tag.now) }
+    requires absent { ForNone found (queue_on queues.old.slots tag.now ≡ []) }
+    ensures room { OnOk result (HasRoomInQueue queues.new.slots tag.now) }
+    ensures same { HasSameQueues queues.old queues.new }
+{
+    let Some(place) = found else {
+        return Ok(());
+    };
+    match queue_place(&locks[place], queues, tag) {
+        Some(at) => queues.reserve_in(at, tag),
+        None => Ok(()),
+    }
 }
 
 /// Makes room in `woken`, which has too little, for `most` names. The names that are there are forgotten.

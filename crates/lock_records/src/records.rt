@@ -5,7 +5,8 @@ use crate::holders::{HolderRecord, find_holder};
 use crate::listing::push_holds;
 use crate::locks::{LockRecord, drop_empty, find_lock, find_or_make_lock, hinted_lock};
 use crate::objects::{
-    add_hold, holder_in_the_way, lower_awaited, make_room, queue_place, raise_awaited, remove_hold,
+    add_hold, holder_in_the_way, lower_awaited, make_room, make_room_to_wait, queue_place,
+    raise_awaited, remove_hold,
 };
 use crate::pending::Pending;
 use crate::wait_queues::{WaitQueues, queue_up};
@@ -149,7 +150,12 @@ impl Records {
         ensures countable { length ((content_of self.now).waits tag.now) ≤ usize.MAX }
     {
         match self.queue_of(tag) {
-            Some(at) => self.queues.waiters(at, tag).get(place).copied(),
+            Some(at) => {
+                let waiters = self.queues.waiters(at, tag);
+                // No list is longer than a number of its length can say.
+                let _len = waiters.len();
+                waiters.get(place).copied()
+            }
             None => None,
         }
     }
@@ -245,6 +251,7 @@ impl PartTable for Records {
             &mut self.woken,
         )?;
         let found = find_lock(&self.locks, &self.index, self.hint, tag);
+        make_room_to_wait(&self.locks, &mut self.queues, found, tag)?;
         self.absent = found.is_none();
         self.known = found.is_some();
         self.hint = found.unwrap_or(self.hint);

@@ -1,55 +1,55 @@
 //! The queues of the objects that somebody awaits.
 
-ghost use Rattle.std.specs.Prelude.{◌≡◌, ◌<◌, ◌≤◌, ◌+◌, ◌==◌, [], ◌∷◌, true, length, map, find, option_map, count_by, IfSome, IfNone, OnOk, OnErr};
+ghost use Rattle.std.specs.Prelude.{◌≡◌, ◌<◌, ◌≤◌, ◌+◌, ◌==◌, [], ◌∷◌, true, length, map, find, option_map, count_by, is_some, IfSome, IfNone, OnOk, OnErr, vec_capacity};
 ghost use Rattle.std.specs.List.{list_any, HoldsAt};
 ghost use Rattle.std.specs.Option.{ForSome, ForNone};
+ghost use Rattle.modes_core.specs.declared.tags.Tag.{Tag};
 ghost use Rattle.modes_core.specs.Tag.{tag_eq};
-ghost use Rattle.slab.specs.Slab.{HasRoomFor};
 ghost use Rattle.lock_table.specs.Put.{put};
 ghost use Rattle.lock_table.specs.Queue.{joined, waits_there, wait_in, queue_without};
 ghost use Rattle.lock_table.specs.Waiter.{shown_wait};
-ghost use Rattle.lock_records.specs.Queues.{queue_at, is_queue_of, queue_on, waiting_in, IsQueueAt};
+ghost use Rattle.lock_records.specs.Queues.{queue_at, is_queue_of, queue_on, waiting_in, IsQueueAt, HasRoomForQueue, HasRoomInQueue, HasSameQueues};
 ghost use Rattle.lock_records.specs.Rows.{AppendsRows, HasMoreRows, awaited_below};
-ghost use Rattle.modes_core.specs.Sessions.{most_sessions};
 
 use crate::listing::push_waits;
-use arrayvec::ArrayVec;
 use lock_table::{NoMemory, TableRow, Waiter};
-use modes_core::{MOST_SESSIONS, Mode, SessionId, Tag};
+use modes_core::{Mode, SessionId, Tag};
 use slab::Slab;
 use std::alloc::Global;
 use std::marker::Model;
-
-/// How many sessions can wait in a queue: all that there are, each once.
-const MOST_WAITERS: usize = MOST_SESSIONS as usize;
+use std::mem::replace;
 
 /// The waits for an object (`waitProcs` of `LOCK` in lock.h), the first one first. Each session waits for it once at most.
 #[derive(Drop)]
 pub struct QueueRecord {
     pub tag: Tag,
-    pub waiters: ArrayVec<Waiter, MOST_WAITERS>,
+    pub waiters: Vec<Waiter>,
 }
 
 /// The queue records of a partition, and how many waits they have together. An object has one only while somebody
-/// awaits it.
+/// awaits it. A wait takes no memory: there is room for it before it comes.
 #[derive(Drop)]
 pub struct WaitQueues {
     slots: Slab<QueueRecord>,
     waiting: usize,
+    /// The queue that the next new record takes: empty, with room.
+    spare: Vec<Waiter>,
 }
 
 impl Model for WaitQueues {
-    ghost use Rattle.std.specs.Prelude.{◌≡◌};
-    ghost use Rattle.slab.specs.Slab.{Slab};
-    ghost use Rattle.lock_records.specs.declared.wait_queues.QueueRecord.{QueueRecord};
+    ghost use Rattle.std.specs.Prelude.{◌≡◌, [], vec_capacity};
+    ghost use Rattle.lock_records.specs.Queues.{QueuesView, AreQueues, waiting_in};
 
-    ghost Value = { Slab QueueRecord };
+    ghost Value = { QueuesView };
 
-    ghost use Rattle.lock_records.specs.Queues.{AreQueues, waiting_in};
+    ghost view = { λ queues. record {
+      slots = queues.slots.slots;
+      capacity = queues.slots.capacity;
+      spare = vec_capacity queues.spare;
+    } };
 
-    ghost view = { λ queues. queues.slots };
-
-    ghost invariant = { λ queues. AreQueues queues.slots.slots × (queues.waiting ≡ waiting_in queues.slots.slots) };
+    ghost invariant = { λ queues. AreQueues queues.slots.slots × (queues.waiting ≡ waiting_in queues.slots.slots)
+        × (queues.spare.items ≡ []) };
 }
 
 impl WaitQueues {
@@ -60,17 +60,32 @@ impl WaitQueues {
         WaitQueues {
             slots: Slab::new(alloc),
             waiting: 0,
+            spare: Vec::new(alloc),
         }
     }
 
-    /// Makes room for one more queue.
+    /// Makes room for one more queue, with a wait in it.
     #[inline(always)]
     pub(crate) fn reserve(&mut self) -> Result<(), NoMemory>
-        ensures room { OnOk result (HasRoomFor self.new 1) }
+        ensures room { OnOk result (HasRoomForQueue self.new) }
         ensures same { self.new.slots ≡ self.old.slots }
-        ensures grows { HasRoomFor self.old 1 → self.new.capacity ≡ self.old.capacity }
+        ensures grows { count_by is_some self.old.slots < self.old.capacity → self.new.capacity ≡ self.old.capacity }
+        ensures spare_grows { 0 < self.old.spare → self.new.spare ≡ self.old.spare }
     {
         self.slots.reserve(1)?;
+        if self.spare.capacity() == 0 {
+            grow_spare(&mut self.spare)?;
+        }
+        Ok(())
+    }
+
+    /// Makes room for one more wait in the queue of `tag`, whose record is at `at`.
+    pub(crate) fn reserve_in(&mut self, at: usize, tag: &Tag) -> Result<(), NoMemory>
+        requires { IsQueueAt self.old.slots tag.now at }
+        ensures room { OnOk result (HasRoomInQueue self.new.slots tag.now) }
+        ensures same { HasSameQueues self.old self.new }
+    {
+        self.slots[at].waiters.reserve(1)?;
         Ok(())
     }
 
@@ -113,8 +128,7 @@ impl WaitQueues {
     /// The waits on `tag`, whose record is at `at`, the first one first.
     pub(crate) fn waiters(&self, at: usize, tag: &Tag) -> &[Waiter]
         requires { IsQueueAt self.now.slots tag.now at }
-        ensures waits { map shown_wait result.now ≡ queue_on self.now.slots tag.now }
-        ensures fits { length result.now ≤ most_sessions }
+        ensures { map shown_wait result.now ≡ queue_on self.now.slots tag.now }
     {
         self.slots[at].waiters.as_slice()
     }
@@ -130,14 +144,17 @@ impl WaitQueues {
     /// Puts a wait into the object's queue before the waiter with the index `place`. The queue's record is at `at`.
     pub(crate) fn insert(&mut self, at: usize, tag: &Tag, place: usize, waiter: Waiter)
         requires there { IsQueueAt self.old.slots tag.now at }
-        requires few { length (queue_on self.old.slots tag.now) < most_sessions }
+        requires room { HasRoomInQueue self.old.slots tag.now }
         requires countable { waiting_in self.old.slots < usize.MAX }
         requires place { place ≤ length (queue_on self.old.slots tag.now) }
         ensures waits { queue_on self.new.slots ≡ put tag_eq (queue_on self.old.slots) tag.now
             (joined place (shown_wait waiter) (queue_on self.old.slots tag.now)) }
         ensures one_more { waiting_in self.new.slots ≡ waiting_in self.old.slots + 1 }
     {
-        self.slots[at].waiters.insert(place, waiter);
+        match self.slots[at].waiters.insert(place, waiter) {
+            Ok(()) => {}
+            Err(_) => unreachable!(),
+        }
         self.waiting += 1;
     }
 
@@ -145,21 +162,22 @@ impl WaitQueues {
     #[inline(never)]
     pub(crate) fn start(&mut self, tag: &Tag, waiter: Waiter) -> usize
         requires none { queue_on self.old.slots tag.now ≡ [] }
-        requires room { HasRoomFor self.old 1 }
+        requires room { HasRoomForQueue self.old }
         requires countable { waiting_in self.old.slots < usize.MAX }
         ensures waits { queue_on self.new.slots
             ≡ put tag_eq (queue_on self.old.slots) tag.now (shown_wait waiter ∷ []) }
         ensures one_more { waiting_in self.new.slots ≡ waiting_in self.old.slots + 1 }
     {
-        let mut waiters = ArrayVec::new();
-        waiters.push(waiter);
+        let alloc = *self.spare.allocator();
+        let mut waiters = replace(&mut self.spare, Vec::new(alloc));
+        waiters.push_reserved(waiter);
         self.waiting += 1;
         self.slots
             .insert_reserved(QueueRecord { tag: *tag, waiters })
     }
 
     /// Takes the wait of `session` out of the queue of `tag`, whose record is at `at`, and the record with its last
-    /// wait.
+    /// wait: the larger one of its queue and of the spare one is the spare one then.
     pub(crate) fn leave(&mut self, at: usize, tag: &Tag, session: SessionId)
         requires there { IsQueueAt self.old.slots tag.now at }
         requires waits { waits_there (queue_on self.old.slots tag.now) session ≡ true }
@@ -167,13 +185,15 @@ impl WaitQueues {
         ensures waits { queue_on self.new.slots
             ≡ put tag_eq (queue_on self.old.slots) tag.now (queue_without (queue_on self.old.slots tag.now) session) }
         ensures one_less { waiting_in self.new.slots + 1 ≡ waiting_in self.old.slots }
-        ensures room { HasRoomFor self.old 1 → HasRoomFor self.new 1 }
+        ensures room { HasRoomForQueue self.old → HasRoomForQueue self.new }
+        ensures in_queue { (other : Tag) → HasRoomInQueue self.old.slots other → HasRoomInQueue self.new.slots other }
     {
         let place = place_of(self.slots[at].waiters.as_slice(), session);
         self.slots[at].waiters.remove(place);
         self.waiting -= 1;
         if self.slots[at].waiters.is_empty() {
-            self.slots.remove(at);
+            let gone = self.slots.remove(at);
+            keep_larger(&mut self.spare, gone.waiters);
         }
     }
 
@@ -194,6 +214,29 @@ impl WaitQueues {
     }
 }
 
+/// Makes room for some waits in `spare`, which has none.
+#[cold]
+#[inline(never)]
+fn grow_spare(spare: &mut Vec<Waiter>) -> Result<(), NoMemory>
+    ensures room { OnOk result (0 < vec_capacity spare.new) }
+    ensures items { spare.new.items ≡ spare.old.items }
+{
+    spare.reserve(4)?;
+    Ok(())
+}
+
+/// Lets the one of `spare` and `gone` that has room for more waits be `spare`, and the other go. Both are empty.
+fn keep_larger(spare: &mut Vec<Waiter>, gone: Vec<Waiter>)
+    requires spare { spare.old.items ≡ [] }
+    requires gone { gone.items ≡ [] }
+    ensures empty { spare.new.items ≡ [] }
+    ensures capacity { vec_capacity spare.old ≤ vec_capacity spare.new }
+{
+    if gone.capacity() > spare.capacity() {
+        *spare = gone;
+    }
+}
+
 /// Puts a wait into the object's queue before the waiter with the index `place`, and says where the queue record is.
 pub(crate) fn queue_up(
     queues: &mut WaitQueues,
@@ -204,8 +247,8 @@ pub(crate) fn queue_up(
 ) -> usize
     requires there { ForSome at (IsQueueAt queues.old.slots tag.now) }
     requires none { ForNone at (queue_on queues.old.slots tag.now ≡ []) }
-    requires room { HasRoomFor queues.old 1 }
-    requires few { length (queue_on queues.old.slots tag.now) < most_sessions }
+    requires room { HasRoomForQueue queues.old }
+    requires in_queue { HasRoomInQueue queues.old.slots tag.now }
     requires countable { waiting_in queues.old.slots < usize.MAX }
     requires place { place ≤ length (queue_on queues.old.slots tag.now) }
     ensures waits { queue_on queues.new.slots ≡ put tag_eq (queue_on queues.old.slots) tag.now

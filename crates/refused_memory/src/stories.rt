@@ -46,12 +46,12 @@ pub static STORIES: [(&'static str, Story<'static>, u16); 15] = [
     (
         "begin of a part with records",
         Story::OfRecords(PartCall::Begin),
-        4,
+        5,
     ),
     (
         "decide in a part with records",
         Story::OfRecords(PartCall::Decide),
-        4,
+        5,
     ),
     (
         "rows of a part with records",

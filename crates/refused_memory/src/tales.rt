@@ -73,7 +73,7 @@ const ONE_OF_MANY: [Option<Hold>; 3] = [Some((MANY, Exclusive)), None, None];
 
 /// The tales that are run with sessions.
 pub static TALES: [Tale; 15] = [
-    // Four in a partition that has had nothing yet: a lock record, a holder record, room for a queue, and for a name among those
+    // Five in a partition that has had nothing yet: a lock record, a holder record, a queue record, a queue, and a name among those
     // woken.
     Tale {
         name: "try_lock, an object",
@@ -82,7 +82,7 @@ pub static TALES: [Tale; 15] = [
         waiters: 0,
         call: Call::Try(OBJECT, Exclusive),
         answer: Answer::Granted,
-        growths: 4,
+        growths: 5,
     },
     // Four more in the local table: its slots, the counts of outer levels, and both lists of the index.
     Tale {
@@ -92,7 +92,7 @@ pub static TALES: [Tale; 15] = [
         waiters: 0,
         call: Call::Try(OBJECT, Exclusive),
         answer: Answer::Granted,
-        growths: 8,
+        growths: 9,
     },
     // Four in the local table, and four in a partition that is full: both lists of its index, lock records, holder
     // records.
@@ -124,7 +124,7 @@ pub static TALES: [Tale; 15] = [
         waiters: 0,
         call: Call::Try(TABLE, AccessExclusive),
         answer: Answer::Conflict(0, AccessShare),
-        growths: 4,
+        growths: 5,
     },
     Tale {
         name: "try_lock, a strong mode, with one object beside",
@@ -169,7 +169,7 @@ pub static TALES: [Tale; 15] = [
         waiters: 0,
         call: Call::Start(OBJECT, Share),
         answer: Answer::Granted,
-        growths: 4,
+        growths: 5,
     },
     // Four lock records and four holder records are full.
     Tale {
@@ -181,8 +181,8 @@ pub static TALES: [Tale; 15] = [
         answer: Answer::Queued,
         growths: 2,
     },
-    // Five lock records and their holder records, with one for each wait, have room. Four queue records are full, and the list of
-    // those woken has room for four names.
+    // Five lock records and their holder records, with one for each wait, have room. Four queue records are full, the
+    // fourth one took the spare queue, and the list of those woken has room for four names.
     Tale {
         name: "start, queued, with four objects awaited beside",
         others: ONE_OF_MANY,
@@ -190,7 +190,7 @@ pub static TALES: [Tale; 15] = [
         waiters: 4,
         call: Call::Start(MANY, Share),
         answer: Answer::Queued,
-        growths: 2,
+        growths: 3,
     },
     Tale {
         name: "lock, granted",
@@ -199,7 +199,7 @@ pub static TALES: [Tale; 15] = [
         waiters: 0,
         call: Call::Lock(OBJECT, Share),
         answer: Answer::Granted,
-        growths: 8,
+        growths: 9,
     },
     Tale {
         name: "lock, a conflict for a conditional one",

@@ -2,7 +2,7 @@ use Rattle.std.proofs.Common.{◌≡◌, ◌<◌, false, vec_capacity, Option, L
 use Rattle.std.specs.Prelude.{count_by, is_some}
 use Rattle.lock_table.specs.declared.request.Request.{Request}
 use Rattle.lock_table.specs.Queue.{awaits_mode}
-use Rattle.lock_records.specs.Queues.{queue_on, waiting_in}
+use Rattle.lock_records.specs.Queues.{HasRoomInQueue, queue_on, waiting_in}
 use Rattle.lock_records.proofs.QueueRecords.{total-none}
 use Rattle.lock_records.specs.declared.locks.LockRecord.{LockRecord}
 use Rattle.lock_records.specs.declared.holders.HolderRecord.{HolderRecord}
@@ -23,6 +23,7 @@ invariant_of-result c =
       begun_new = nothing-said (λ (request : Request). holds_in c.new-3.result.slots request.session request.tag request.mode ≡ false) _ c.nothing.ensures;
       begun_not_awaited = nothing-said (λ (request : Request). awaits_mode (queue_on c.new-4.result.slots request.tag) request.session request.mode ≡ false) _ c.nothing.ensures;
       begun_room = nothing-said (λ (request : Request). HasRoom c.new-2.result c.new-3.result c.new-4.result c.in_ok-index.index) _ c.nothing.ensures;
+      begun_queue = nothing-said (λ (request : Request). HasRoomInQueue c.new-4.result.slots request.tag) _ c.nothing.ensures;
       begun_woken = nothing-said (λ (request : Request). waiting_in c.new-4.result.slots < vec_capacity c.new-5.result) _ c.nothing.ensures;
       absent = λ there. let no_way : ⊥ = cc in absurd no_way;
       known = λ there. let no_way : ⊥ = cc in absurd no_way;

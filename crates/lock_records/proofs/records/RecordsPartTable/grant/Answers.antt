@@ -1,7 +1,7 @@
 use Rattle.std.proofs.Common.{◌≡◌, ◌<◌, vec_capacity, false, ap, ◌∙◌, arith}
 use Rattle.lock_table.specs.declared.request.Request.{Request}
 use Rattle.lock_table.specs.Queue.{awaits_mode}
-use Rattle.lock_records.specs.Queues.{queue_on, waiting_in}
+use Rattle.lock_records.specs.Queues.{HasRoomInQueue, queue_on, waiting_in}
 use Rattle.lock_records.specs.Holders.{holds_in}
 use Rattle.lock_records.specs.Objects.{HasRoom}
 use Rattle.lock_records.specs.View.{RecordView}
@@ -35,6 +35,7 @@ invariant_of-self c =
       begun_new = nothing-said (λ (request : Request). holds_in c.add_hold.new.holders.slots request.session request.tag request.mode ≡ false) _ c.nothing-self-inside.ensures;
       begun_not_awaited = nothing-said (λ (request : Request). awaits_mode (queue_on c.self.inside.queues.slots request.tag) request.session request.mode ≡ false) _ c.nothing-self-inside.ensures;
       begun_room = nothing-said (λ (request : Request). HasRoom c.add_hold.new.locks c.add_hold.new.holders c.self.inside.queues c.find_or_make_lock-place.new.index) _ c.nothing-self-inside.ensures;
+      begun_queue = nothing-said (λ (request : Request). HasRoomInQueue c.self.inside.queues.slots request.tag) _ c.nothing-self-inside.ensures;
       begun_woken = nothing-said (λ (request : Request). waiting_in c.self.inside.queues.slots < vec_capacity c.self.inside.woken) _ c.nothing-self-inside.ensures;
       absent = λ there. let no_way : ⊥ = cc in absurd no_way;
       known = λ there. let no_way : ⊥ = cc in absurd no_way;

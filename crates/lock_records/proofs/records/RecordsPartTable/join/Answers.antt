@@ -5,12 +5,11 @@ use Rattle.lock_table.specs.Queue.{awaits_mode, waits_there}
 use Rattle.lock_table.specs.declared.request.Request.{Request}
 use Rattle.lock_records.specs.Holders.{holds_in}
 use Rattle.lock_records.specs.Objects.{HasRoom}
-use Rattle.lock_records.specs.Queues.{queue_on, waiting_in}
+use Rattle.lock_records.specs.Queues.{HasRoomInQueue, queue_on, waiting_in}
 use Rattle.lock_records.specs.View.{RecordView}
 use Rattle.lock_records.proofs.Changes.{objects-joined}
 use Rattle.lock_records.proofs.IndexLaws.{noted-relocked}
 use Rattle.lock_records.proofs.Parts.{nothing-said, counts-few}
-use Rattle.lock_records.proofs.Queues.{queue-room}
 use Rattle.lock_records.proofs.records.RecordsPartTable.join.Goals as goal
 use Rattle.lock_records.proofs.records.RecordsPartTable.join.Goals.{After-capacity-most}
 use Rattle.modes_core.specs.Sessions.{most_sessions}
@@ -29,11 +28,15 @@ find_or_make_lock-at-requires-clause-absent c absent =
     let begun = ap (λ (part : RecordView). part.begun) c.self.view_is ∙ c.requires.begun in
     c.self.invariant.absent absent _ begun
 
-pub queue_up-queue-requires-clause-few : goal.queue_up-queue-requires-clause-few
-queue_up-queue-requires-clause-few c =
-    let at = (goal.at.queue_up-queue-requires-clause-few c).After-capacity-most in
-    let waiting = (c.self.invariant.objects c.args.tag.now).waiting in
-    queue-room (queue_on c.self.inside.queues.slots c.args.tag.now) (its at) waiting.one_each waiting.below (small at) (absent at)
+pub queue_up-queue-requires-clause-room : goal.queue_up-queue-requires-clause-room
+queue_up-queue-requires-clause-room c =
+    let begun = ap (λ (part : RecordView). part.begun) c.self.view_is ∙ c.requires.begun in
+    (c.self.invariant.begun_room _ begun).queue
+
+pub queue_up-queue-requires-clause-in_queue : goal.queue_up-queue-requires-clause-in_queue
+queue_up-queue-requires-clause-in_queue c =
+    let begun = ap (λ (part : RecordView). part.begun) c.self.view_is ∙ c.requires.begun in
+    c.self.invariant.begun_queue _ begun
 
 pub raise_awaited-requires-clause-few : goal.raise_awaited-requires-clause-few
 raise_awaited-requires-clause-few c =
@@ -58,6 +61,7 @@ invariant_of-self c =
       begun_new = nothing-said (λ (request : Request). holds_in c.self.inside.holders.slots request.session request.tag request.mode ≡ false) _ c.nothing-self-inside.ensures;
       begun_not_awaited = nothing-said (λ (request : Request). awaits_mode (queue_on c.queue_up-queue.new.queues.slots request.tag) request.session request.mode ≡ false) _ c.nothing-self-inside.ensures;
       begun_room = nothing-said (λ (request : Request). HasRoom c.raise_awaited.new.locks c.self.inside.holders c.queue_up-queue.new.queues c.find_or_make_lock-at.new.index) _ c.nothing-self-inside.ensures;
+      begun_queue = nothing-said (λ (request : Request). HasRoomInQueue c.queue_up-queue.new.queues.slots request.tag) _ c.nothing-self-inside.ensures;
       begun_woken = nothing-said (λ (request : Request). waiting_in c.queue_up-queue.new.queues.slots < vec_capacity c.self.inside.woken) _ c.nothing-self-inside.ensures;
       absent = λ there. let no_way : ⊥ = cc in absurd no_way;
       known = λ there. let no_way : ⊥ = cc in absurd no_way;

@@ -66,6 +66,7 @@ invariant_of-self c =
             holder = omega (arith, room.holder, c.leave.ensures.one_less);
             queue = c.leave.ensures.room room.queue;
           };
+      begun_queue = λ request is. c.leave.ensures.in_queue request.tag (c.self.invariant.begun_queue request is);
       begun_woken = λ request is. omega (arith, c.self.invariant.begun_woken request is, c.leave.ensures.one_less);
       absent = λ there. let no_way : ⊥ = cc in absurd no_way;
       known = λ there. let no_way : ⊥ = cc in absurd no_way;

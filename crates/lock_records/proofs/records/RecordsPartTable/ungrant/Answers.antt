@@ -50,6 +50,7 @@ invariant_of-self c =
             holder = omega (arith, room.holder, c.remove_hold.ensures.len, c.remove_hold.ensures.capacity);
             queue = room.queue;
           };
+      begun_queue = c.self.invariant.begun_queue;
       begun_woken = c.self.invariant.begun_woken;
       absent = λ there. let no_way : ⊥ = cc in absurd no_way;
       known = λ there. let no_way : ⊥ = cc in absurd no_way;

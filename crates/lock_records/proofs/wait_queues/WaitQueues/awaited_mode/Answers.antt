@@ -8,4 +8,4 @@ use Rattle.lock_records.proofs.wait_queues.WaitQueues.awaited_mode.Goals as goal
 pub returns : goal.returns
 returns c =
     c.mode_of.ensures ∙ shown-mode c.waiters.result.now c.args.session
-    ∙ ap (λ (queue : List Wait). option_map (λ (wait : Wait). wait.mode) (wait_in queue c.args.session)) c.waiters.ensures.waits
+    ∙ ap (λ (queue : List Wait). option_map (λ (wait : Wait). wait.mode) (wait_in queue c.args.session)) c.waiters.ensures

@@ -1,25 +1,24 @@
-use Rattle.std.proofs.Common.{◌≡◌, ◌≢◌, ℕ, ◌+◌, ◌<◌, ◌≤◌, Bool, true, false, ◌==◌, Option, None, List, [], ◌∷◌, length, map, Some, refl, sym, ap, ◌∙◌, subst, arith}
+use Rattle.std.proofs.Common.{◌≡◌, ◌≢◌, ℕ, ◌+◌, ◌<◌, ◌≤◌, vec_len, Bool, true, false, ◌==◌, Option, None, List, [], ◌∷◌, length, map, Some, refl, sym, ap, ◌∙◌, subst, arith}
 use Rattle.std.proofs.Math.ListN.{set}
 use Rattle.std.proofs.lemmas.Bool.{eqb-true, eqb-false}
 use Rattle.std.specs.List.{HoldsAt}
-use Rattle.std.specs.Prelude.{count_by}
+use Rattle.std.specs.Prelude.{count_by, is_some}
 use Rattle.modes_core.specs.declared.tags.Tag.{Tag}
 use Rattle.modes_core.specs.Tag.{tag_eq}
-use Rattle.slab.specs.Slab.{Slab}
 use Rattle.lock_table.specs.Put.{put}
 use Rattle.lock_table.specs.Content.{Wait}
 use Rattle.lock_table.specs.Queue.{waits_there, queue_without}
 use Rattle.lock_table.specs.Waiter.{shown_wait}
 use Rattle.lock_table.specs.declared.waits.Waiter.{Waiter}
 use Rattle.lock_records.specs.declared.wait_queues.QueueRecord.{QueueRecord}
-use Rattle.lock_records.specs.Queues.{queue_at, queue_on, waiting_in, IsQueueAt, AreQueues}
-use Rattle.lock_records.proofs.QueueRecords.{queue-record, queue-is, requeued-are, requeued-queue, total-written, counted-at, dropped-are, dropped-queue, dropped-total, left-shown, set-here, set-else, shown-any}
+use Rattle.lock_records.specs.Queues.{QueuesView, queue_at, queue_on, waiting_in, IsQueueAt, AreQueues}
+use Rattle.lock_records.proofs.QueueRecords.{queue-record, queue-is, requeued-are, requeued-queue, total-written, counted-at, count-set, requeued-room, dropped-room, dropped-are, dropped-queue, dropped-total, left-shown, set-here, set-else, shown-any}
 use Rattle.lock_records.proofs.wait_queues.WaitQueues.leave.Goals as goal
 use Rattle.lock_records.proofs.wait_queues.WaitQueues.leave.Goals.{After-index, After-remove}
 
 on : (c : After-index) → c.index.result.now.tag ≡ c.args.tag.now
 on c =
-    let i = subst (λ (slab : Slab QueueRecord). IsQueueAt slab.slots c.args.tag.now c.args.at) (sym c.self.view_is) c.requires.there in
+    let i = subst (λ (view : QueuesView). IsQueueAt view.slots c.args.tag.now c.args.at) (sym c.self.view_is) c.requires.there in
     ap (λ (q : QueueRecord). q.tag) (queue-record c.self.inside.slots.slots c.args.at _ _ c.index.ensures i.there) ∙ i.on
 
 shown : (c : After-index) → queue_on c.self.inside.slots.slots c.args.tag.now ≡ map shown_wait c.index.result.now.waiters.items
@@ -30,7 +29,7 @@ place_of-place-requires c =
     let at = (goal.at.place_of-place-requires c).After-index in
     rw c.as_slice.ensures.value
     (sym (shown-any c.index.result.now.waiters.items c.args.session) ∙ ap (λ (queue : List Wait). waits_there queue c.args.session) (sym (shown at))
-    ∙ ap (λ (slab : Slab QueueRecord). waits_there (queue_on slab.slots c.args.tag.now) c.args.session) c.self.view_is ∙ c.requires.waits)
+    ∙ ap (λ (view : QueuesView). waits_there (queue_on view.slots c.args.tag.now) c.args.session) c.self.view_is ∙ c.requires.waits)
 
 -- the record that is written is the one that was looked at
 same : (c : After-remove) → c.index_mut.result.now ≡ c.index.result.now
@@ -54,7 +53,15 @@ without c is =
     left-shown c.self.inside.slots.slots c.args.tag.now c.args.at c.index_mut.result.now c.remove.new.self.items c.args.session c.place_of-place.result c.self.invariant.0 c.index_mut.ensures.value is
     c.remove.ensures.items (subst (λ (ws : List Waiter). c.place_of-place.result < length ws) items c.place_of-place.ensures.within)
     (subst (λ (ws : List Waiter). HoldsAt (λ w. (w.session == c.args.session) ≡ true) ws c.place_of-place.result) items c.place_of-place.ensures.its)
-    (subst (λ (slab : Slab QueueRecord). count_by (λ wait. wait.session == c.args.session) (queue_on slab.slots c.args.tag.now) ≤ 1) (sym c.self.view_is) c.requires.once)
+    (subst (λ (view : QueuesView). count_by (λ wait. wait.session == c.args.session) (queue_on view.slots c.args.tag.now) ≤ 1) (sym c.self.view_is) c.requires.once)
+
+-- one less waits
+shorter : (c : After-remove) → length c.remove.new.self.items + 1 ≡ length c.index_mut.result.now.waiters.items
+shorter c = omega (arith, c.remove.ensures.len, c.remove.new.self.ok.0, c.index_mut.result.now.waiters.ok.0)
+
+-- as many records are there
+same-count : (c : After-remove) → count_by is_some (mid c) ≡ count_by is_some c.self.inside.slots.slots
+same-count c = count-set c.self.inside.slots.slots c.args.at c.index_mut.result.now (left c) c.index_mut.ensures.value
 
 mid-total : (c : After-remove) → waiting_in (mid c) + 1 ≡ waiting_in c.self.inside.slots.slots
 mid-total c =
@@ -62,7 +69,7 @@ mid-total c =
     let sum = total-written old (mid c) c.args.at (set-else old c.args.at (left c)) in
     let was = counted-at old c.args.at c.index_mut.result.now c.index_mut.ensures.value in
     let now = counted-at (mid c) c.args.at (left c) (here c) in
-    omega (arith, c.remove.ensures.len)
+    omega (arith, shorter c)
 
 pub overflow_sub-self : goal.overflow_sub-self
 overflow_sub-self c = omega (arith, mid-total (goal.at.overflow_sub-self c).After-remove, c.self.invariant.1)
@@ -95,9 +102,10 @@ invariant_of-self c =
     let first = (goal.at.invariant_of-self c).After-index in
     let at = (goal.at.invariant_of-self c).After-remove in
     let is = tagged at first (on first) in
-    let none = nobody (mid at) c.args.at c.index-2.result.now (left at) c.is_empty.result c.index-2.ensures (here at) c.is_empty.ensures c.if-is_empty.true in (
-      dropped-are c.self.inside.slots.slots c.remove-then-is_empty.new.self.slots c.args.tag.now c.args.at c.index_mut.result.now (left at) c.self.invariant.0 c.index_mut.ensures.value is (λ j apart. c.remove-then-is_empty.ensures.updates.others j apart ∙ set-else c.self.inside.slots.slots c.args.at (left at) j apart) c.remove-then-is_empty.ensures.updates.changed,
-      omega (arith, gone-total c.self.inside.slots.slots c.remove-then-is_empty.new.self.slots c.args.tag.now c.args.at c.index_mut.result.now (left at) c.self.invariant.0 c.index_mut.ensures.value is (λ j apart. c.remove-then-is_empty.ensures.updates.others j apart ∙ set-else c.self.inside.slots.slots c.args.at (left at) j apart) c.remove-then-is_empty.ensures.updates.changed none c.remove.ensures.len, c.self.invariant.1),
+    let none = nobody (mid at) c.args.at c.index-2.result.now (left at) c.is_empty.result c.index-2.ensures (here at) (c.is_empty.ensures ∙ ap (λ n. n == 0) c.index-2.result.now.waiters.ok.0) c.if-is_empty.true in (
+      dropped-are c.self.inside.slots.slots c.remove-gone.new.self.slots c.args.tag.now c.args.at c.index_mut.result.now (left at) c.self.invariant.0 c.index_mut.ensures.value is (λ j apart. c.remove-gone.ensures.updates.others j apart ∙ set-else c.self.inside.slots.slots c.args.at (left at) j apart) c.remove-gone.ensures.updates.changed,
+      omega (arith, gone-total c.self.inside.slots.slots c.remove-gone.new.self.slots c.args.tag.now c.args.at c.index_mut.result.now (left at) c.self.invariant.0 c.index_mut.ensures.value is (λ j apart. c.remove-gone.ensures.updates.others j apart ∙ set-else c.self.inside.slots.slots c.args.at (left at) j apart) c.remove-gone.ensures.updates.changed none (shorter at), c.self.invariant.1),
+      c.keep_larger.ensures.empty,
     )
 
 pub returns-then-is_empty-clause-waits : goal.returns-then-is_empty-clause-waits
@@ -105,29 +113,30 @@ returns-then-is_empty-clause-waits c =
     let first = (goal.at.returns-then-is_empty-clause-waits c).After-index in
     let at = (goal.at.returns-then-is_empty-clause-waits c).After-remove in
     let is = tagged at first (on first) in
-    let none = nobody (mid at) c.args.at c.index-2.result.now (left at) c.is_empty.result c.index-2.ensures (here at) c.is_empty.ensures c.if-is_empty.true in
+    let none = nobody (mid at) c.args.at c.index-2.result.now (left at) c.is_empty.result c.index-2.ensures (here at) (c.is_empty.ensures ∙ ap (λ n. n == 0) c.index-2.result.now.waiters.ok.0) c.if-is_empty.true in
     let old = c.self.inside.slots.slots in
     rw (← c.self.view_is)
-    (dropped-queue old c.remove-then-is_empty.new.self.slots c.args.tag.now c.args.at c.index_mut.result.now (left at) c.self.invariant.0 c.index_mut.ensures.value is (λ j apart. c.remove-then-is_empty.ensures.updates.others j apart ∙ set-else c.self.inside.slots.slots c.args.at (left at) j apart) c.remove-then-is_empty.ensures.updates.changed
+    (dropped-queue old c.remove-gone.new.self.slots c.args.tag.now c.args.at c.index_mut.result.now (left at) c.self.invariant.0 c.index_mut.ensures.value is (λ j apart. c.remove-gone.ensures.updates.others j apart ∙ set-else c.self.inside.slots.slots c.args.at (left at) j apart) c.remove-gone.ensures.updates.changed
     ∙ ap (put tag_eq (queue_on old) c.args.tag.now) (sym (ap (map shown_wait) none) ∙ without at is))
 
 pub returns-then-is_empty-clause-one_less : goal.returns-then-is_empty-clause-one_less
 returns-then-is_empty-clause-one_less c =
     let first = (goal.at.returns-then-is_empty-clause-one_less c).After-index in
     let at = (goal.at.returns-then-is_empty-clause-one_less c).After-remove in
-    let none = nobody (mid at) c.args.at c.index-2.result.now (left at) c.is_empty.result c.index-2.ensures (here at) c.is_empty.ensures c.if-is_empty.true in
+    let none = nobody (mid at) c.args.at c.index-2.result.now (left at) c.is_empty.result c.index-2.ensures (here at) (c.is_empty.ensures ∙ ap (λ n. n == 0) c.index-2.result.now.waiters.ok.0) c.if-is_empty.true in
     rw (← c.self.view_is)
-    (gone-total c.self.inside.slots.slots c.remove-then-is_empty.new.self.slots c.args.tag.now c.args.at c.index_mut.result.now (left at) c.self.invariant.0 c.index_mut.ensures.value (tagged at first (on first)) (λ j apart. c.remove-then-is_empty.ensures.updates.others j apart ∙ set-else c.self.inside.slots.slots c.args.at (left at) j apart) c.remove-then-is_empty.ensures.updates.changed none c.remove.ensures.len)
+    (gone-total c.self.inside.slots.slots c.remove-gone.new.self.slots c.args.tag.now c.args.at c.index_mut.result.now (left at) c.self.invariant.0 c.index_mut.ensures.value (tagged at first (on first)) (λ j apart. c.remove-gone.ensures.updates.others j apart ∙ set-else c.self.inside.slots.slots c.args.at (left at) j apart) c.remove-gone.ensures.updates.changed none (shorter at))
 
 pub invariant_of-self-else-is_empty : goal.invariant_of-self-else-is_empty
 invariant_of-self-else-is_empty c =
     let first = (goal.at.invariant_of-self-else-is_empty c).After-index in
     let at = (goal.at.invariant_of-self-else-is_empty c).After-remove in
     let is = tagged at first (on first) in
-    let some = somebody (mid at) c.args.at c.index-2.result.now (left at) c.is_empty.result c.index-2.ensures (here at) c.is_empty.ensures c.if-is_empty.false in
+    let some = somebody (mid at) c.args.at c.index-2.result.now (left at) c.is_empty.result c.index-2.ensures (here at) (c.is_empty.ensures ∙ ap (λ n. n == 0) c.index-2.result.now.waiters.ok.0) c.if-is_empty.false in
     let old = c.self.inside.slots.slots in (
       requeued-are old (mid at) c.args.tag.now c.args.at c.index_mut.result.now (left at) c.self.invariant.0 c.index_mut.ensures.value is (set-else old c.args.at (left at)) (here at) is some,
       omega (arith, mid-total at, c.self.invariant.1),
+      c.self.invariant.2,
     )
 
 pub returns-else-is_empty-clause-waits : goal.returns-else-is_empty-clause-waits
@@ -135,7 +144,7 @@ returns-else-is_empty-clause-waits c =
     let first = (goal.at.returns-else-is_empty-clause-waits c).After-index in
     let at = (goal.at.returns-else-is_empty-clause-waits c).After-remove in
     let is = tagged at first (on first) in
-    let some = somebody (mid at) c.args.at c.index-2.result.now (left at) c.is_empty.result c.index-2.ensures (here at) c.is_empty.ensures c.if-is_empty.false in
+    let some = somebody (mid at) c.args.at c.index-2.result.now (left at) c.is_empty.result c.index-2.ensures (here at) (c.is_empty.ensures ∙ ap (λ n. n == 0) c.index-2.result.now.waiters.ok.0) c.if-is_empty.false in
     let old = c.self.inside.slots.slots in
     rw (← c.self.view_is)
     (requeued-queue old (mid at) c.args.tag.now c.args.at c.index_mut.result.now (left at) c.self.invariant.0 c.index_mut.ensures.value is (set-else old c.args.at (left at)) (here at) is some
@@ -143,3 +152,45 @@ returns-else-is_empty-clause-waits c =
 
 pub returns-else-is_empty-clause-one_less : goal.returns-else-is_empty-clause-one_less
 returns-else-is_empty-clause-one_less c = rw (← c.self.view_is) (mid-total (goal.at.returns-else-is_empty-clause-one_less c).After-remove)
+
+pub keep_larger-requires-clause-gone : goal.keep_larger-requires-clause-gone
+keep_larger-requires-clause-gone c =
+    let at = (goal.at.keep_larger-requires-clause-gone c).After-remove in
+    let is = queue-record (mid at) c.args.at _ _ c.remove-gone.ensures.value (here at) in
+    ap (λ (q : QueueRecord). q.waiters.items) is
+    ∙ nobody (mid at) c.args.at c.index-2.result.now (left at) c.is_empty.result c.index-2.ensures (here at) (c.is_empty.ensures ∙ ap (λ n. n == 0) c.index-2.result.now.waiters.ok.0) c.if-is_empty.true
+
+pub returns-then-is_empty-clause-room : goal.returns-then-is_empty-clause-room
+returns-then-is_empty-clause-room c =
+    let at = (goal.at.returns-then-is_empty-clause-room c).After-remove in
+    rw (← c.self.view_is)
+    (λ room. record {
+      slot = let fits : count_by is_some c.remove-gone.new.self.slots < c.remove-gone.new.self.capacity = omega (arith, room.slot, same-count at, c.remove-gone.ensures.len, c.remove-gone.ensures.capacity) in fits;
+      wait = omega (arith, room.wait, c.keep_larger.ensures.capacity);
+    })
+
+pub returns-else-is_empty-clause-room : goal.returns-else-is_empty-clause-room
+returns-else-is_empty-clause-room c =
+    let at = (goal.at.returns-else-is_empty-clause-room c).After-remove in
+    rw (← c.self.view_is)
+    (λ room. record { slot = let fits : count_by is_some (mid at) < c.self.inside.slots.capacity = omega (arith, room.slot, same-count at) in fits; wait = room.wait })
+
+pub returns-then-is_empty-clause-in_queue : goal.returns-then-is_empty-clause-in_queue
+returns-then-is_empty-clause-in_queue c =
+    let first = (goal.at.returns-then-is_empty-clause-in_queue c).After-index in
+    let at = (goal.at.returns-then-is_empty-clause-in_queue c).After-remove in
+    let old = c.self.inside.slots.slots in
+    rw (← c.self.view_is)
+    (dropped-room old c.remove-gone.new.self.slots c.args.tag.now c.args.at c.index_mut.result.now (left at) c.self.invariant.0 c.index_mut.ensures.value (tagged at first (on first))
+    (λ j apart. c.remove-gone.ensures.updates.others j apart ∙ set-else old c.args.at (left at) j apart) c.remove-gone.ensures.updates.changed)
+
+pub returns-else-is_empty-clause-in_queue : goal.returns-else-is_empty-clause-in_queue
+returns-else-is_empty-clause-in_queue c =
+    let first = (goal.at.returns-else-is_empty-clause-in_queue c).After-index in
+    let at = (goal.at.returns-else-is_empty-clause-in_queue c).After-remove in
+    let is = tagged at first (on first) in
+    let some = somebody (mid at) c.args.at c.index-2.result.now (left at) c.is_empty.result c.index-2.ensures (here at) (c.is_empty.ensures ∙ ap (λ n. n == 0) c.index-2.result.now.waiters.ok.0) c.if-is_empty.false in
+    let old = c.self.inside.slots.slots in
+    rw (← c.self.view_is)
+    (requeued-room old (mid at) c.args.tag.now c.args.at c.index_mut.result.now (left at) c.self.invariant.0 c.index_mut.ensures.value is (set-else old c.args.at (left at)) (here at) is some
+    c.remove.ensures.capacity (let fewer : vec_len c.remove.new.self ≤ vec_len c.index_mut.result.now.waiters = omega (arith, c.remove.ensures.len) in fewer))

@@ -5,5 +5,8 @@ use Rattle.lock_records.proofs.QueueRecords.{queues-none, total-none}
 use Rattle.lock_records.proofs.wait_queues.WaitQueues.new.Goals as goal
 
 pub invariant_of-result : goal.invariant_of-result
-invariant_of-result c =
-    subst (λ (slots : List (Option QueueRecord)). AreQueues slots × (0 ≡ waiting_in slots)) (sym c.new.ensures.empty) (queues-none, sym total-none)
+invariant_of-result c = (
+  subst (λ (slots : List (Option QueueRecord)). AreQueues slots) (sym c.new.ensures.empty) queues-none,
+  subst (λ (slots : List (Option QueueRecord)). 0 ≡ waiting_in slots) (sym c.new.ensures.empty) (sym total-none),
+  c.new-2.ensures.items,
+)

@@ -1,8 +1,7 @@
 use Rattle.std.proofs.Common.{◌+◌, not, length, Vec, Global, sym, ap, ◌∙◌, arith, refl}
-use Rattle.slab.specs.Slab.{Slab}
 use Rattle.lock_table.specs.declared.rows.TableRow.{TableRow}
 use Rattle.lock_records.specs.declared.wait_queues.QueueRecord.{QueueRecord}
-use Rattle.lock_records.specs.Queues.{queue_at}
+use Rattle.lock_records.specs.Queues.{QueuesView, queue_at}
 use Rattle.lock_records.specs.Rows.{awaited_in, awaited_at, awaited_below}
 use Rattle.lock_records.proofs.Listings.{waits-start, waits-next, waits-none, waits-all, appends-none, appends-like, appends-more, on-ok}
 use Rattle.lock_records.proofs.wait_queues.WaitQueues.push_rows.Goals as goal
@@ -13,14 +12,14 @@ loop-place-init c = appends-none c.args.rows.now.items (awaited_below c.args.sel
 
 pub returns-clause-ok : goal.returns-clause-ok
 returns-clause-ok c =
-    let all = ap (λ (slab : Slab QueueRecord). length slab.slots) c.self.view_is in
+    let all = ap (λ (view : QueuesView). length view.slots) c.self.view_is in
     appends-like c.args.rows.now.items c.loop-place.rows.items c.loop-place.rows.items (awaited_below c.args.self.now.slots c.loop-place.place) _ refl
     (λ row. waits-all c.args.self.now.slots c.loop-place.place row (omega (arith, c.capacity-place-end.ensures.slots, all))) c.loop-place.invariant
 
 pub loop-place-preserved : goal.loop-place-preserved
 loop-place-preserved c =
     let slots = c.args.self.now.slots in
-    let viewed = ap (λ (slab : Slab QueueRecord). queue_at slab.slots c.loop-place.place) c.self.view_is in
+    let viewed = ap (λ (view : QueuesView). queue_at view.slots c.loop-place.place) c.self.view_is in
     elim c.match-get.branch [
       | in-Some+else-is_err w ↦
           appends-like c.args.rows.now.items w.push_waits.new.rows.items c.match-get.rows.items (awaited_below slots (c.loop-place.place + 1)) (awaited_below slots (c.loop-place.place + 1))
