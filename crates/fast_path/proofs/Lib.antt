@@ -2,6 +2,7 @@ mod Loading
 pub mod GroupCounts
 mod Looking
 mod LookingFromTop
+mod GrantSlots
 mod Granting
 mod Releasing
 pub mod Counting

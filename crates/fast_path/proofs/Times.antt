@@ -174,46 +174,10 @@ times-slot session tag mode database slot word =
           + ((if has RowShare && (its && mode_eq RowShare m) then 1 else 0)
           + (if has RowExclusive && (its && mode_eq RowExclusive m) then 1 else 0))
           ≡ (if nat_le (number_of m) 3 && (has m && its) then 1 else 0)
-      by_mode AccessShare has its =
-          let a = its_own (has AccessShare) its in
-          let b = none_of (has RowShare) its in
-          let c = none_of (has RowExclusive) its in
-          omega (arith, a, b, c)
-      by_mode RowShare has its =
-          let a = none_of (has AccessShare) its in
-          let b = its_own (has RowShare) its in
-          let c = none_of (has RowExclusive) its in
-          omega (arith, a, b, c)
-      by_mode RowExclusive has its =
-          let a = none_of (has AccessShare) its in
-          let b = none_of (has RowShare) its in
-          let c = its_own (has RowExclusive) its in
-          omega (arith, a, b, c)
-      by_mode ShareUpdateExclusive has its =
-          let a = none_of (has AccessShare) its in
-          let b = none_of (has RowShare) its in
-          let c = none_of (has RowExclusive) its in
-          omega (arith, a, b, c)
-      by_mode Share has its =
-          let a = none_of (has AccessShare) its in
-          let b = none_of (has RowShare) its in
-          let c = none_of (has RowExclusive) its in
-          omega (arith, a, b, c)
-      by_mode ShareRowExclusive has its =
-          let a = none_of (has AccessShare) its in
-          let b = none_of (has RowShare) its in
-          let c = none_of (has RowExclusive) its in
-          omega (arith, a, b, c)
-      by_mode Exclusive has its =
-          let a = none_of (has AccessShare) its in
-          let b = none_of (has RowShare) its in
-          let c = none_of (has RowExclusive) its in
-          omega (arith, a, b, c)
-      by_mode AccessExclusive has its =
-          let a = none_of (has AccessShare) its in
-          let b = none_of (has RowShare) its in
-          let c = none_of (has RowExclusive) its in
-          omega (arith, a, b, c)
+      by_mode AccessShare has its = omega (arith, its_own (has AccessShare) its, none_of (has RowShare) its, none_of (has RowExclusive) its)
+      by_mode RowShare has its = omega (arith, none_of (has AccessShare) its, its_own (has RowShare) its, none_of (has RowExclusive) its)
+      by_mode RowExclusive has its = omega (arith, none_of (has AccessShare) its, none_of (has RowShare) its, its_own (has RowExclusive) its)
+      by_mode m has its = omega (arith, none_of (has AccessShare) its, none_of (has RowShare) its, none_of (has RowExclusive) its)
 
 -- A session's rows show each hold once that its slots show, and no other.
 times-session :
