@@ -116,47 +116,9 @@ module _ {S W : Type 0} where
   -- and names a counter that there is
   pub command-NamesCounter : (sessions : OpenSessions S W) (objects : List NamedObject) (verb : List ℕ) (words : List (List ℕ)) (its : Command) → IsCommandOf sessions objects verb words its → NamesCounter its
   command-NamesCounter sessions objects verb words (Count caller index) h = (count-below sessions words caller index h.1).1
-  command-NamesCounter sessions objects verb words (Session name database) h = tt
-  command-NamesCounter sessions objects verb words (command.Name name tag) h = tt
-  command-NamesCounter sessions objects verb words (Try target owner) h = tt
-  command-NamesCounter sessions objects verb words (Fast target owner) h = tt
-  command-NamesCounter sessions objects verb words (Lock target owner) h = tt
-  command-NamesCounter sessions objects verb words (Unlock target owner) h = tt
-  command-NamesCounter sessions objects verb words (UnlockAll caller) h = tt
-  command-NamesCounter sessions objects verb words (Commit caller) h = tt
-  command-NamesCounter sessions objects verb words (Abort caller) h = tt
-  command-NamesCounter sessions objects verb words (Begin caller) h = tt
-  command-NamesCounter sessions objects verb words (SubCommit caller) h = tt
-  command-NamesCounter sessions objects verb words (SubAbort caller) h = tt
-  command-NamesCounter sessions objects verb words (Owned target) h = tt
-  command-NamesCounter sessions objects verb words (Waiters target) h = tt
-  command-NamesCounter sessions objects verb words (Queue caller tag) h = tt
-  command-NamesCounter sessions objects verb words (Blockers by other tag) h = tt
-  command-NamesCounter sessions objects verb words (Cancel by other) h = tt
-  command-NamesCounter sessions objects verb words (command.List caller) h = tt
-  command-NamesCounter sessions objects verb words (Hash tag) h = tt
-  command-NamesCounter sessions objects verb words (Close caller) h = tt
+  command-NamesCounter sessions objects verb words its h = tt
 
   -- and gives no name that is given, and to no object that has one
   pub command-NamesFree : (sessions : OpenSessions S W) (objects : List NamedObject) (verb : List ℕ) (words : List (List ℕ)) (its : Command) → IsCommandOf sessions objects verb words its → NamesFree objects its
   command-NamesFree sessions objects verb words (command.Name name tag) h = object-free objects words name tag h.1
-  command-NamesFree sessions objects verb words (Session name database) h = tt
-  command-NamesFree sessions objects verb words (Try target owner) h = tt
-  command-NamesFree sessions objects verb words (Fast target owner) h = tt
-  command-NamesFree sessions objects verb words (Lock target owner) h = tt
-  command-NamesFree sessions objects verb words (Unlock target owner) h = tt
-  command-NamesFree sessions objects verb words (UnlockAll caller) h = tt
-  command-NamesFree sessions objects verb words (Commit caller) h = tt
-  command-NamesFree sessions objects verb words (Abort caller) h = tt
-  command-NamesFree sessions objects verb words (Begin caller) h = tt
-  command-NamesFree sessions objects verb words (SubCommit caller) h = tt
-  command-NamesFree sessions objects verb words (SubAbort caller) h = tt
-  command-NamesFree sessions objects verb words (Owned target) h = tt
-  command-NamesFree sessions objects verb words (Waiters target) h = tt
-  command-NamesFree sessions objects verb words (Queue caller tag) h = tt
-  command-NamesFree sessions objects verb words (Blockers by other tag) h = tt
-  command-NamesFree sessions objects verb words (Cancel by other) h = tt
-  command-NamesFree sessions objects verb words (command.List caller) h = tt
-  command-NamesFree sessions objects verb words (Count caller index) h = tt
-  command-NamesFree sessions objects verb words (Hash tag) h = tt
-  command-NamesFree sessions objects verb words (Close caller) h = tt
+  command-NamesFree sessions objects verb words its h = tt

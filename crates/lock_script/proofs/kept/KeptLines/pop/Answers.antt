@@ -2,18 +2,14 @@ use Rattle.std.proofs.Common.{◌≡◌, get_or, rules}
 use Rattle.lock_script.proofs.KeptLemmas.{taken-if, none-if}
 use Rattle.lock_script.proofs.kept.KeptLines.pop.Goals as goal
 
-pub returns-in-Some-clause-order : goal.returns-in-Some-clause-order
-returns-in-Some-clause-order c =
+pub returns-in-Some : goal.returns-in-Some
+returns-in-Some c =
     let list : c.as_slice.result.now ≡ c.self.inside.queues.items = search rules in
     let view : c.args.self.now ≡ c.self.inside.queues.items = search rules in
     let at : c.index_mut.result.now ≡ get_or c.self.inside.queues.items c.in-Some.place c.index_mut.result.now = search rules in
-    rw view (taken-if c.self.inside.queues.items c.in-Some.place c.pop.new.self c.index_mut.result.now c.args.session.now.bytes (rw list at c.in-Some.ensures.within)
-    (rw list at c.in-Some.ensures.called) (rw list at c.in-Some.ensures.first) at c.pop.ensures.session c.pop.result c.pop.ensures.first)
-
-pub returns-in-Some-clause-none : goal.returns-in-Some-clause-none
-returns-in-Some-clause-none c =
-    let list : c.as_slice.result.now ≡ c.self.inside.queues.items = search rules in
-    let view : c.args.self.now ≡ c.self.inside.queues.items = search rules in
-    let at : c.index_mut.result.now ≡ get_or c.self.inside.queues.items c.in-Some.place c.index_mut.result.now = search rules in
-    rw view (none-if c.self.inside.queues.items c.in-Some.place c.pop.new.self c.index_mut.result.now c.args.session.now.bytes (rw list at c.in-Some.ensures.within)
-    (rw list at c.in-Some.ensures.called) (rw list at c.in-Some.ensures.first) at c.pop.ensures.session c.pop.result c.pop.ensures.first)
+    record {
+      order = rw view (taken-if c.self.inside.queues.items c.in-Some.place c.pop.new.self c.index_mut.result.now c.args.session.now.bytes (rw list at c.in-Some.ensures.within)
+          (rw list at c.in-Some.ensures.called) (rw list at c.in-Some.ensures.first) at c.pop.ensures.session c.pop.result c.pop.ensures.first);
+      none = rw view (none-if c.self.inside.queues.items c.in-Some.place c.pop.new.self c.index_mut.result.now c.args.session.now.bytes (rw list at c.in-Some.ensures.within)
+          (rw list at c.in-Some.ensures.called) (rw list at c.in-Some.ensures.first) at c.pop.ensures.session c.pop.result c.pop.ensures.first);
+    }
