@@ -10,6 +10,8 @@ pub mod Managers
 pub mod Desks
 pub mod Quiet
 pub mod ShutDown
+pub mod Unlocked
 pub mod Advisory
 pub mod Blocked
 pub mod Pools
+pub mod Crews

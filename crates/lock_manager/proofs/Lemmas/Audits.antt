@@ -1,2 +1,4 @@
 -- What an audit counts.
+pub mod Lists
 pub mod Counts
+pub mod Results

@@ -1,25 +1,16 @@
-use Rattle.std.proofs.Common.{◌≡◌, ℕ, zero, suc, ◌+◌, true, false, List, [], ◌∷◌, ◌++◌, map, reverse, length, None, refl, sym, ap, ◌∙◌, subst, inl, inr, arith, append_assoc}
-use Rattle.std.specs.Prelude.{filter, sum, sum_by, count_by, if◌then◌else◌, Result, Ok, Err, IfOk, All}
-use Rattle.std.specs.List.{AllZip, AllByRecursion, IsDistinct}
-use Rattle.std.proofs.lemmas.Bool.{cases_Bool, both_ways, and_parts, and_from, cond-true, cond-false, false_from_ne_true}
-use Rattle.std.proofs.lemmas.List.{reverse-append, map-append}
+use Rattle.std.proofs.Common.{◌≡◌, ℕ, ◌+◌, List, [], ◌∷◌, ◌++◌, map, reverse, length, None, refl, sym, ap, ◌∙◌, subst, arith, append_assoc}
+use Rattle.std.specs.Prelude.{filter, sum, sum_by, Result, Ok, Err, IfOk, All}
+use Rattle.std.specs.List.{AllZip}
+use Rattle.std.proofs.lemmas.List.{map-append}
 use Rattle.std.proofs.lemmas.List.Sums.{sum_by-cons}
 use Rattle.std.proofs.lemmas.List.Elements.{AllZip-push}
-use Rattle.modes_core.specs.declared.modes.Mode.{Mode}
-use Rattle.modes_core.specs.declared.refusals.Refusal.{Refusal}
-use Rattle.modes_core.specs.declared.tags.Tag.{Tag}
-use Rattle.modes_core.specs.Mode.{mode_eq}
-use Rattle.modes_core.specs.Tag.{tag_eq, is_strong_on}
-use Rattle.modes_core.proofs.Laws.{mode_eq-refl, mode_eq-same, tag_eq-refl, tag_eq-same}
-use Rattle.atomic_table.specs.Seated.{TableId}
+use Rattle.modes_core.specs.Tag.{is_strong_on}
 use Rattle.local_locks.specs.declared.records.Entry.{Entry}
-use Rattle.local_locks.specs.Owned.{Owned, is_of, has_entry, are_of_same, IsWellOwned}
+use Rattle.local_locks.specs.Owned.{Owned, IsWellOwned}
 use Rattle.lock_table.specs.declared.no_memory.NoMemory.{NoMemory}
-use Rattle.fast_path.specs.declared.use_counts.UseCounts.{UseCounts}
 use Rattle.lock_manager.specs.Keeper.{PartView, content_of}
-use Rattle.lock_table.proofs.HoldLists.{count_by-cons}
 use Rattle.lock_world.specs.Account.{Account}
-use Rattle.lock_world.specs.Tallies.{Held, AreSoMany, is_this}
+use Rattle.lock_world.specs.Tallies.{AreSoMany}
 use Rattle.lock_world.specs.World.{TraceEntry}
 use Rattle.shared_rule.specs.declared.audits.Audit.{Audit}
 use Rattle.shared_rule.specs.declared.history.History.{History}
@@ -30,131 +21,9 @@ use Rattle.shared_rule.specs.History.{told, first_account, first_number}
 use Rattle.shared_rule.specs.Openers.{OpenerState, HasGathered, HasLastOf}
 use Rattle.shared_rule.specs.Seats.{MayBeKeptApartBy, behind_of}
 use Rattle.shared_rule.specs.Quiet.{Quiet, quiet_told, first_quiet}
-use Rattle.lock_manager.specs.Rest.{IsAtRest, counted_for}
-use Rattle.lock_manager.proofs.Lemmas.Rest.Reads.{rest-read}
 use Rattle.lock_manager.specs.Sessions.{SessionView, IsResting, IsUnchanged}
 use Rattle.lock_manager.specs.Audits.{MayCount, HasTraced, Audits, gathered_of, AreOwners, CountsWith, entries_owned, strong_owned}
-
--- An audit of all open sessions.
-
--- ---- entries
-
-abbrev pub held_as : Entry → Held
-held_as entry = record { tag = entry.tag; mode = entry.mode }
-
-none-later : (entry : Entry) (entries : List Entry) (tag : Tag) (mode : Mode) → AllByRecursion (λ later. are_of_same entry later ≡ false) entries → is_of tag mode entry ≡ true
-    → count_by (is_this tag mode) (map held_as entries) ≡ 0
-none-later entry [] tag mode others its = refl
-none-later entry (later ∷ entries) tag mode others its =
-    let whole = count_by-cons (is_this tag mode) (held_as later) (map held_as entries) in
-    let rest = none-later entry entries tag mode others.1 its in
-    let here : ◌≡◌ {A = ℕ} (if is_of tag mode later then 1 else 0) 0 = cond-false (is_of tag mode later) 1 0 (false_from_ne_true (is_of tag mode later) (λ also.
-    let one = and_parts (tag_eq entry.tag tag) (mode_eq entry.mode mode) its in
-    let two = and_parts (tag_eq later.tag tag) (mode_eq later.mode mode) also in
-    let same_tag : entry.tag ≡ later.tag = tag_eq-same entry.tag tag one.0 ∙ sym (tag_eq-same later.tag tag two.0) in
-    let same_mode : entry.mode ≡ later.mode = mode_eq-same entry.mode mode one.1 ∙ sym (mode_eq-same later.mode mode two.1) in
-    both_ways (are_of_same entry later) others.0
-    (and_from (tag_eq entry.tag later.tag) (mode_eq entry.mode later.mode)
-    (ap (λ t. tag_eq entry.tag t) (sym same_tag) ∙ tag_eq-refl entry.tag) (ap (λ m. mode_eq entry.mode m) (sym same_mode) ∙ mode_eq-refl entry.mode)))) in
-    omega (arith, whole, rest, here)
-
-entries-once : (entries : List Entry) → IsDistinct are_of_same entries → (tag : Tag) (mode : Mode)
-    → count_by (is_this tag mode) (map held_as entries) ≡ (if has_entry entries tag mode then 1 else 0)
-unfolding IsDistinct
-entries-once [] once tag mode = refl
-entries-once (entry ∷ entries) once tag mode =
-    let whole = count_by-cons (is_this tag mode) (held_as entry) (map held_as entries) in
-    let rest = entries-once entries once.1 tag mode in
-    elim (cases_Bool (is_of tag mode entry)) [
-      | inl its ↦
-          let none = none-later entry entries tag mode once.0 its in
-          let one : ◌≡◌ {A = ℕ} (if is_of tag mode entry then 1 else 0) 1 = cond-true (is_of tag mode entry) 1 0 its in
-          let has : has_entry (entry ∷ entries) tag mode ≡ true = rw its refl in
-          let is : ◌≡◌ {A = ℕ} (if has_entry (entry ∷ entries) tag mode then 1 else 0) 1 = cond-true (has_entry (entry ∷ entries) tag mode) 1 0 has in
-          omega (arith, whole, none, one, is)
-      | inr other ↦
-          let zeroth : ◌≡◌ {A = ℕ} (if is_of tag mode entry then 1 else 0) 0 = cond-false (is_of tag mode entry) 1 0 other in
-          let same : has_entry (entry ∷ entries) tag mode ≡ has_entry entries tag mode = rw other refl in
-          let is : ◌≡◌ {A = ℕ} (if has_entry (entry ∷ entries) tag mode then 1 else 0) (if has_entry entries tag mode then 1 else 0) = ap (λ b. if b then 1 else 0) same in
-          omega (arith, whole, rest, zeroth, is)
-    ]
-
-length-held : (entries : List Entry) → length (map held_as entries) ≡ length entries
-length-held [] = refl
-length-held (entry ∷ entries) = ap suc (length-held entries)
-
-pub entries-so_many : (entries : List Entry) → IsDistinct are_of_same entries → AreSoMany (has_entry entries) (length entries)
-entries-so_many entries once = record { listed = map held_as entries; each_once = entries-once entries once; as_many = length-held entries }
-
-length-counted : (limit : ℕ) (entries : List Entry) → length (counted_for limit entries) ≡ length (filter (λ entry. is_strong_on entry.tag entry.mode) entries)
-length-counted limit [] = refl
-length-counted limit (entry ∷ entries) =
-    elim (cases_Bool (is_strong_on entry.tag entry.mode)) [
-      | inl strong ↦ rw strong (ap suc (length-counted limit entries))
-      | inr weak ↦ rw weak (length-counted limit entries)
-    ]
-
--- ---- lists
-
-module _ {X : Type 0} where
-  reverse-cons : (x : X) (xs : List X) → reverse (x ∷ xs) ≡ reverse xs ++ x ∷ []
-  reverse-cons x xs = reverse-append (x ∷ []) xs
-
-  pub reverse-last : (xs : List X) (x : X) → reverse (xs ++ x ∷ []) ≡ x ∷ reverse xs
-  reverse-last xs x = reverse-append xs (x ∷ [])
-
-  all-push : (P : X → Type 0) (xs : List X) (x : X) → AllByRecursion P xs → P x → AllByRecursion P (xs ++ x ∷ [])
-  all-push P [] x all p = (p, all)
-  all-push P (y ∷ xs) x all p = (all.0, all-push P xs x all.1 p)
-
-  pub all-reverse : (P : X → Type 0) (xs : List X) → AllByRecursion P xs → AllByRecursion P (reverse xs)
-  all-reverse P [] all = all
-  all-reverse P (x ∷ xs) all = subst (AllByRecursion P) (sym (reverse-cons x xs)) (all-push P (reverse xs) x (all-reverse P xs all.1) all.0)
-
-  pub all-before : (P : X → Type 0) (xs : List X) (x : X) → AllByRecursion P (xs ++ x ∷ []) → AllByRecursion P xs × P x
-  all-before P [] x all = (tt, all.0)
-  all-before P (y ∷ xs) x all = let rest = all-before P xs x all.1 in ((all.0, rest.0), rest.1)
-
-  pub zip-reverse : (R : X → X → Type 0) (xs ys : List X) → AllZip R xs ys → AllZip R (reverse xs) (reverse ys)
-  zip-reverse R [] [] all = all
-  zip-reverse R [] (y ∷ ys) all = absurd all
-  zip-reverse R (x ∷ xs) [] all = absurd all
-  zip-reverse R (x ∷ xs) (y ∷ ys) all =
-      subst (λ zs. AllZip R zs (reverse (y ∷ ys))) (sym (reverse-cons x xs))
-      (subst (AllZip R (reverse xs ++ x ∷ [])) (sym (reverse-cons y ys)) (AllZip-push R (reverse xs) (reverse ys) x y (zip-reverse R xs ys all.1) all.0))
-
--- Of each by its place, and one after another.
-pub all-from : {X : Type 0} (P : X → Type 0) (xs : List X) → All P xs → AllByRecursion P xs
-all-from P [] all = tt
-all-from P (x ∷ xs) all = (all 0 x (omega arith), all-from P xs (λ k d below. all (suc k) d (omega (arith, below))))
-
-pub all-to : {X : Type 0} (P : X → Type 0) (xs : List X) → AllByRecursion P xs → All P xs
-all-to P [] all k d below = absurd (omega (arith, below))
-all-to P (x ∷ xs) all zero d below = all.0
-all-to P (x ∷ xs) all (suc k) d below = all-to P xs all.1 k d (omega (arith, below))
-
--- Who rests may be kept apart, and rests after steps that only joined the trace.
-pub kept_apart-rest : (groups limit database : ℕ) (uses : UseCounts) (a : Account) (stack : Stack) (entries : List Entry) → IsAtRest groups limit database uses a stack entries → MayBeKeptApartBy a
-kept_apart-rest groups limit database uses a stack entries rest =
-    subst MayBeKeptApartBy (sym rest.account) (record {
-      no_partition = λ partition. refl;
-      no_fast_word = λ owner. refl;
-      no_shared_partition = λ partition. refl;
-      no_shared_fast_word = λ owner. refl;
-    })
-
-pub no_wait-rest : (groups limit database : ℕ) (uses : UseCounts) (a : Account) (stack : Stack) (entries : List Entry) → IsAtRest groups limit database uses a stack entries → a.awaited ≡ None
-no_wait-rest groups limit database uses a stack entries rest = ap (λ (x : Account). x.awaited) rest.account
-
-pub rest-traced : (database : ℕ) (uses : UseCounts) (s t : Seated) (a b : Account) (x y : Stack) (entries : List Entry) → t ≡ s → b ≡ record a { trace = b.trace } → y ≡ x
-    → IsAtRest s.groups s.limit database uses a x entries → IsAtRest t.groups t.limit database uses b y entries
-rest-traced database uses s t a b x y entries same is stack rest =
-    subst (λ (z : Seated). IsAtRest z.groups z.limit database uses b y entries) (sym same) (rest-read s.groups s.limit database uses a b x y entries stack rest is)
-
-pub rest-unchanged : (database : ℕ) (uses : UseCounts) (s t : Seated) (a b : Account) (x y : Stack) (entries : List Entry) → t ≡ s → b ≡ a → y ≡ x → IsAtRest s.groups s.limit database uses a x entries
-    → IsAtRest t.groups t.limit database uses b y entries
-rest-unchanged database uses s t a b x y entries same is stack rest =
-    rest-traced database uses s t a b x y entries same (is ∙ (λ i. record a { trace = sym (ap (λ (z : Account). z.trace) is) i })) stack rest
+use Rattle.lock_manager.proofs.Lemmas.Audits.Lists.{all-push, all-reverse, entries-so_many, length-counted, reverse-last, zip-reverse}
 
 -- ---- the opener
 
@@ -229,7 +98,7 @@ last-only old old1 new1 number a q none gathers first is =
 
 -- ---- sessions
 
-abbrev owned-entries : {B : Type 0} → SessionView B → List Entry
+abbrev pub owned-entries : {B : Type 0} → SessionView B → List Entry
 owned-entries session = session.owned.entries
 
 module _ {B : Type 0} (seat : B → Seated) (view : B → Account) (stack : B → Stack) (quiet : B → List Quiet) where
@@ -413,100 +282,3 @@ module _ {B : Type 0} (seat : B → Seated) (view : B → Account) (stack : B �
     pub opener-back : new2 ≡ old
     opener-back =
         back_first.0 ∙ (λ i. record (counts.opener i) { gathered = [] }) ∙ (λ i. record (gathers.opener i) { gathered = [] }) ∙ (λ i. record old { gathered = sym none i })
-
-  -- Of lists and a limit that are the same it says the same.
-  pub audits-as : {E : Type 0} (limit limit' groups groups' : ℕ) (xs old ys new : List (SessionView B)) (result : Result Audit E)
-      → limit ≡ limit' → groups ≡ groups' → xs ≡ old → ys ≡ new
-      → Audits seat view stack quiet limit groups xs ys result → Audits seat view stack quiet limit' groups' old new result
-  audits-as limit limit' groups groups' xs old ys new result same same_groups one two audits =
-      subst (λ n. Audits seat view stack quiet n groups' old new result) same
-      (subst (λ n. Audits seat view stack quiet limit n old new result) same_groups
-      (subst (λ zs. Audits seat view stack quiet limit groups zs new result) one
-      (subst (λ zs. Audits seat view stack quiet limit groups xs zs result) two audits)))
-
-  -- The answer to the caller says the same.
-  pub audits-ok : (limit groups : ℕ) (old new : List (SessionView B)) (audit : Audit) → Audits seat view stack quiet {E = NoMemory} limit groups old new (Ok audit) → Audits seat view stack quiet {E = Refusal} limit groups old new (Ok audit)
-  audits-ok limit groups [] new audit audits =
-      let same : ◌≡◌ {A = Result Audit NoMemory} (Ok audit) (Ok (record { fast = 0; table = 0; strong = 0 })) = audits.1 in
-      let is : audit ≡ record { fast = 0; table = 0; strong = 0 } = cc (same) in
-      (audits.0, ap (λ (a : Audit). Ok a) is)
-  audits-ok limit groups (s ∷ others) new audit audits = record {
-    first_after = audits.first_after;
-    others_after = audits.others_after;
-    sessions = audits.sessions;
-    traced = audits.traced;
-    unchanged = audits.unchanged;
-    counts = record {
-      counters = audits.counts.counters;
-      word = audits.counts.word;
-      contents = audits.counts.contents;
-      sixteen = audits.counts.sixteen;
-      trace = audits.counts.trace;
-      counted = audits.counts.counted;
-    };
-    holds = audits.holds;
-    strong = audits.strong;
-  }
-
-  pub audits-err : (limit groups : ℕ) (old new : List (SessionView B)) (e : NoMemory) (refusal : Refusal) → Audits seat view stack quiet {E = NoMemory} limit groups old new (Err e)
-      → Audits seat view stack quiet {E = Refusal} limit groups old new (Err refusal)
-  audits-err limit groups [] new e refusal audits =
-      let never : ◌≡◌ {A = Result Audit NoMemory} (Err e) (Ok (record { fast = 0; table = 0; strong = 0 })) = audits.1 in absurd (cc (never))
-  audits-err limit groups (s ∷ others) new e refusal audits = record {
-    first_after = audits.first_after;
-    others_after = audits.others_after;
-    sessions = audits.sessions;
-    traced = audits.traced;
-    unchanged = audits.unchanged;
-    counts = record {
-      counters = audits.counts.counters;
-      word = audits.counts.word;
-      contents = audits.counts.contents;
-      sixteen = audits.counts.sixteen;
-      trace = audits.counts.trace;
-      counted = tt;
-    };
-    holds = tt;
-    strong = tt;
-  }
-
-  -- They are at the same table, and as many.
-  zip-tables : (table : TableId) (old new : List (SessionView B)) → AllZip (IsUnchanged seat view stack quiet) old new → AllByRecursion (λ s. (seat s.board).table ≡ table) old
-      → AllByRecursion (λ s. (seat s.board).table ≡ table) new × (length new ≡ length old)
-  zip-tables table [] [] same at = (tt, refl)
-  zip-tables table [] (t ∷ new) same at = absurd same
-  zip-tables table (s ∷ old) [] same at = absurd same
-  zip-tables table (s ∷ old) (t ∷ new) same at =
-      let rest = zip-tables table old new same.1 at.1 in
-      ((ap (λ (x : Seated). x.table) same.0.seat_ ∙ at.0, rest.0), ap suc rest.1)
-
-  pub audits-tables : {E : Type 0} (table : TableId) (limit groups : ℕ) (old new : List (SessionView B)) (result : Result Audit E) → Audits seat view stack quiet limit groups old new result
-      → AllByRecursion (λ s. (seat s.board).table ≡ table) old → AllByRecursion (λ s. (seat s.board).table ≡ table) new × (length new ≡ length old)
-  audits-tables table limit groups [] new result audits at = subst (λ xs. AllByRecursion (λ (s : SessionView B). (seat s.board).table ≡ table) xs × (length xs ≡ 0)) (sym audits.0) (tt, refl)
-  audits-tables table limit groups (s ∷ others) new result audits at =
-      let rest = zip-tables table others audits.others_after audits.unchanged at.1 in
-      subst (λ xs. AllByRecursion (λ (s : SessionView B). (seat s.board).table ≡ table) xs × (length xs ≡ length (s ∷ others))) (sym audits.sessions)
-      ((ap (λ (x : Seated). x.table) audits.traced.seat_ ∙ at.0, rest.0), ap suc rest.1)
-
-  -- Each of them owns after it what it owned.
-  zip-entries : (old new : List (SessionView B)) → AllZip (IsUnchanged seat view stack quiet) old new → map owned-entries new ≡ map owned-entries old
-  zip-entries [] [] same = refl
-  zip-entries [] (t ∷ new) same = absurd same
-  zip-entries (s ∷ old) [] same = absurd same
-  zip-entries (s ∷ old) (t ∷ new) same =
-      let rest = zip-entries old new same.1 in
-      let one = ap (λ (o : Owned). o.entries) same.0.owned in
-      λ i. one i ∷ rest i
-
-  pub audits-entries : {E : Type 0} (limit groups : ℕ) (old new : List (SessionView B)) (result : Result Audit E) → Audits seat view stack quiet limit groups old new result
-      → map owned-entries new ≡ map owned-entries old
-  audits-entries limit groups [] new result audits = ap (map owned-entries) audits.0
-  audits-entries limit groups (s ∷ others) new result audits =
-      let one = ap (λ (o : Owned). o.entries) audits.traced.owned in
-      let rest = zip-entries others audits.others_after audits.unchanged in
-      ap (map owned-entries) audits.sessions ∙ (λ i. one i ∷ rest i)
-
--- Sessions at one table are at another that is the same.
-pub all-tables : {B : Type 0} (seat : B → Seated) (old new : TableId) (sessions : List (SessionView B)) → old ≡ new → AllByRecursion (λ s. (seat s.board).table ≡ old) sessions
-    → AllByRecursion (λ s. (seat s.board).table ≡ new) sessions
-all-tables seat old new sessions same at = subst (λ t. AllByRecursion (λ s. (seat s.board).table ≡ t) sessions) same at

@@ -5,7 +5,8 @@ use Rattle.shared_rule.specs.Boards.{Seated}
 use Rattle.shared_rule.specs.Openers.{OpenerState}
 use Rattle.lock_manager.specs.Audits.{MayCount}
 use Rattle.std.proofs.Common.{◌≤◌}
-use Rattle.lock_manager.proofs.Lemmas.Audits.Counts.{no_wait-rest, kept_apart-rest, rest-unchanged, all-before, has-last, unchanged-last, counts-one}
+use Rattle.lock_manager.proofs.Lemmas.Audits.Lists.{no_wait-rest, kept_apart-rest, rest-unchanged, all-before}
+use Rattle.lock_manager.proofs.Lemmas.Audits.Counts.{has-last, unchanged-last, counts-one}
 use Rattle.lock_manager.proofs.audit.+audit_others.Goals as goal
 use Rattle.modes_core.specs.Sessions.{most_sessions}
 

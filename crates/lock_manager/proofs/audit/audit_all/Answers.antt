@@ -4,7 +4,8 @@ use Rattle.lock_manager.specs.Keeper.{PartView}
 use Rattle.shared_rule.specs.Boards.{Seated}
 use Rattle.shared_rule.specs.Openers.{OpenerState}
 use Rattle.std.proofs.Common.{◌≤◌}
-use Rattle.lock_manager.proofs.Lemmas.Audits.Counts.{may_count-first, no_wait-rest, kept_apart-rest, rest-traced, all-before, traced-first, audits-first, opener-back}
+use Rattle.lock_manager.proofs.Lemmas.Audits.Lists.{no_wait-rest, kept_apart-rest, rest-traced, all-before}
+use Rattle.lock_manager.proofs.Lemmas.Audits.Counts.{may_count-first, traced-first, audits-first, opener-back}
 use Rattle.lock_manager.proofs.audit.audit_all.Goals as goal
 use Rattle.modes_core.specs.Sessions.{most_sessions}
 

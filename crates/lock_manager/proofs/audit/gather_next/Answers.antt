@@ -2,7 +2,8 @@ use Rattle.std.proofs.Common.{sym, ap, ◌∙◌}
 use Rattle.lock_manager.specs.Keeper.{KeptPart, PartView}
 use Rattle.shared_rule.specs.declared.seat_board.SeatBoard.{SeatBoard}
 use Rattle.shared_rule.specs.Openers.{OpenerState}
-use Rattle.lock_manager.proofs.Lemmas.Audits.Counts.{may_count-more, all-tables}
+use Rattle.lock_manager.proofs.Lemmas.Audits.Counts.{may_count-more}
+use Rattle.lock_manager.proofs.Lemmas.Audits.Results.{all-tables}
 use Rattle.lock_manager.proofs.audit.gather_next.Goals as goal
 
 pub returns-clause-table : goal.returns-clause-table

@@ -1,5 +1,5 @@
 use Rattle.std.proofs.Common.{refl}
-use Rattle.lock_manager.proofs.Lemmas.Audits.Counts.{audits-as, audits-entries}
+use Rattle.lock_manager.proofs.Lemmas.Audits.Results.{audits-as, audits-entries}
 use Rattle.lock_manager.proofs.Lemmas.Desks.{audits-shown}
 use Rattle.lock_manager.proofs.desk.ManagerDeskDeskSession.audit.Goals as goal
 

@@ -2,7 +2,8 @@ use Rattle.std.proofs.Common.{reverse, sym, ap, ◌∙◌}
 use Rattle.std.specs.Prelude.{Ok, Err}
 use Rattle.std.proofs.lemmas.List.{reverse-reverse}
 use Rattle.lock_manager.specs.Managers.{OpenerView}
-use Rattle.lock_manager.proofs.Lemmas.Audits.Counts.{audits-as, audits-ok, audits-err, audits-tables, all-from, all-to}
+use Rattle.lock_manager.proofs.Lemmas.Audits.Lists.{all-from, all-to}
+use Rattle.lock_manager.proofs.Lemmas.Audits.Results.{audits-as, audits-ok, audits-err, audits-tables}
 use Rattle.lock_manager.proofs.manager.Manager.audit.Goals as goal
 
 pub returns-in-Ok-clause-counted : goal.returns-in-Ok-clause-counted
