@@ -24,6 +24,7 @@ use Rattle.lock_model.proofs.Shows.SlotLooks.{no_slot_hold}
 use Rattle.lock_model.specs.Shows.{Shows, is_number, is_holder, has_a_mark, has_no_list, owes_a_telling, makes_steps, awaits}
 use Rattle.lock_model.proofs.Shows.Locks.{no_mark, some_mark}
 use Rattle.lock_model.proofs.Shows.Lists.{off-emptied}
+use Rattle.lock_table.specs.Put.{set_at}
 use Rattle.lock_table.proofs.PutLemmas.{written-at}
 use Rattle.lock_table.proofs.ListLemmas.{any_found, any_weaker, found_within}
 use Rattle.lock_table.proofs.Same.{same_triple-refl}
@@ -91,28 +92,33 @@ module _ (m : Machine) (w : World) (safe : SafeWorld w) (shows : Shows m w) wher
         },
       )
 
+  -- By whom a session is kept apart is written.
+  kept_by_shown : (s : ℕ) (its : Option ℕ) → s < length m.numbers.kept_by
+      → Shows (record m { numbers = record (m.numbers) { kept_by = set m.numbers.kept_by s its } }) (record w { numbers = record (w.numbers) { kept_by = set_at w.numbers.kept_by s its } })
+  kept_by_shown s its in_kept_by = record {
+    numbers = record {
+      limit = shows.numbers.limit;
+      groups = shows.numbers.groups;
+      some_groups = shows.numbers.some_groups;
+      issued = shows.numbers.issued;
+      live = shows.numbers.live;
+      kept_by = λ j. written-at (λ own other. own ≡ other) m.numbers.kept_by s its None w.numbers.kept_by its in_kept_by refl j (shows.numbers.kept_by j);
+    };
+    words = shows.words;
+    fast_path = shows.fast_path;
+    counted = shows.counted;
+    lists = shows.lists;
+    locks = shows.locks;
+    contents = shows.contents;
+    waits = shows.waits;
+  }
+
   pub went_on : (s joiner : ℕ) → get_or m.numbers.kept_by s None ≡ Some joiner → s < length m.numbers.kept_by
       → (v : World) × Next w (record { session = s; step = SplitSeat }) v × Shows (record m { numbers = record (m.numbers) { kept_by = set m.numbers.kept_by s None } }) v
   went_on s joiner kept in_kept_by = (
     after_going_on w s,
     inl (inr ((joiner, sym (shows.numbers.kept_by s) ∙ kept), refl)),
-    record {
-      numbers = record {
-        limit = shows.numbers.limit;
-        groups = shows.numbers.groups;
-        some_groups = shows.numbers.some_groups;
-        issued = shows.numbers.issued;
-        live = shows.numbers.live;
-        kept_by = λ j. written-at (λ own its. own ≡ its) m.numbers.kept_by s None None w.numbers.kept_by None in_kept_by refl j (shows.numbers.kept_by j);
-      };
-      words = shows.words;
-      fast_path = shows.fast_path;
-      counted = shows.counted;
-      lists = shows.lists;
-      locks = shows.locks;
-      contents = shows.contents;
-      waits = shows.waits;
-    },
+    kept_by_shown s None in_kept_by,
   )
 
   pub no_word : (s : ℕ) → list_any (is_holder s) m.contents.hands ≡ false → (p : ℕ) → w.sessions.holds_partition s p ≡ false
@@ -188,23 +194,7 @@ module _ (m : Machine) (w : World) (safe : SafeWorld w) (shows : Shows m w) wher
       } in (
         after_keeping_apart w s joiner,
         inl (may, refl),
-        record {
-          numbers = record {
-            limit = shows.numbers.limit;
-            groups = shows.numbers.groups;
-            some_groups = shows.numbers.some_groups;
-            issued = shows.numbers.issued;
-            live = shows.numbers.live;
-            kept_by = λ j. written-at (λ own its. own ≡ its) m.numbers.kept_by s (Some joiner) None w.numbers.kept_by (Some joiner) in_kept_by refl j (shows.numbers.kept_by j);
-          };
-          words = shows.words;
-          fast_path = shows.fast_path;
-          counted = shows.counted;
-          lists = shows.lists;
-          locks = shows.locks;
-          contents = shows.contents;
-          waits = shows.waits;
-        },
+        kept_by_shown s (Some joiner) in_kept_by,
       )
 
   -- Whom the session took off and hasn't woken, by the machine's marks and in the World.

@@ -12,7 +12,6 @@ use Rattle.lock_world.specs.Happens.Sharing.{with_shared_partition, with_shared_
 use Rattle.lock_world.specs.Happens.Slots.{remembered_after_taking}
 use Rattle.lock_world.specs.Safe.{ShowsHolders}
 use Rattle.lock_world.specs.SafeWorld.{SafeWorld}
-use Rattle.lock_table.specs.Put.{set_at}
 use Rattle.lock_model.specs.Shows.{Shows, ShowsLock, ShowsMarks, makes_steps}
 use Rattle.lock_model.proofs.Follows.Skipped.{skipped}
 use Rattle.lock_model.proofs.Shows.Changes.{partition_word-set, fast_word-set}

@@ -1,4 +1,4 @@
-use Rattle.std.proofs.Common.{◌≡◌, ◌<◌, sym, ◌∙◌, arith}
+use Rattle.std.proofs.Common.{◌≡◌, sym, ◌∙◌, arith}
 use Rattle.lock_model.proofs.Follows.Waits.Asks.{was_asked, ask_refused}
 use Rattle.lock_model.proofs.machine.state.Machine.ask_cancel.Goals as goal
 

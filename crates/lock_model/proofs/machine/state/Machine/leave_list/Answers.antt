@@ -1,4 +1,4 @@
-use Rattle.std.proofs.Common.{◌≡◌, ◌<◌, sym, ◌∙◌, arith}
+use Rattle.std.proofs.Common.{◌≡◌, sym, ◌∙◌, arith}
 use Rattle.lock_model.specs.declared.machine.state.Lists.{Lists}
 use Rattle.lock_model.proofs.Follows.Lists.{has_left, not_left, left_not_waiting}
 use Rattle.lock_model.proofs.machine.state.Machine.leave_list.Goals as goal

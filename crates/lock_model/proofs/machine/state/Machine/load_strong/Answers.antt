@@ -1,4 +1,4 @@
-use Rattle.std.proofs.Common.{◌≡◌, ◌<◌, sym, ◌∙◌, arith}
+use Rattle.std.proofs.Common.{◌≡◌, sym, ◌∙◌, arith}
 use Rattle.lock_model.proofs.Follows.Counters.{has_read_zero, has_read_else}
 use Rattle.lock_model.proofs.machine.state.Machine.load_strong.Goals as goal
 

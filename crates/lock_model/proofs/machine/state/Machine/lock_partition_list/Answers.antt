@@ -1,4 +1,4 @@
-use Rattle.std.proofs.Common.{◌≡◌, ◌<◌, length, sym, ◌∙◌, arith}
+use Rattle.std.proofs.Common.{◌≡◌, sym, ◌∙◌, arith}
 use Rattle.lock_model.proofs.Follows.ListWords.{locked_partition_list}
 use Rattle.lock_model.proofs.Shows.Looks.{partition_word_from}
 use Rattle.lock_model.proofs.machine.state.Machine.lock_partition_list.Goals as goal

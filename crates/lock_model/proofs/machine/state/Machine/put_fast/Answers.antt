@@ -1,4 +1,4 @@
-use Rattle.std.proofs.Common.{◌≡◌, ◌≢◌, ◌<◌, false, [], get_or, sym, ap, ◌∙◌, arith}
+use Rattle.std.proofs.Common.{◌≡◌, ◌≢◌, false, sym, ◌∙◌, arith}
 use Rattle.lock_table.specs.declared.moves.Move.TheVariants.{Keep}
 use Rattle.lock_table.proofs.MoveTests.{move_eq-same}
 use Rattle.lock_model.proofs.Follows.Slots.{was_put_fast, was_put_own}

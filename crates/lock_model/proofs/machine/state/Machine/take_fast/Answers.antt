@@ -1,4 +1,4 @@
-use Rattle.std.proofs.Common.{◌≡◌, ◌<◌, sym, ◌∙◌, arith}
+use Rattle.std.proofs.Common.{◌≡◌, sym, ◌∙◌, arith}
 use Rattle.lock_model.proofs.Follows.Slots.{taken_fast}
 use Rattle.lock_model.proofs.Shows.Looks.{fast_word_from}
 use Rattle.lock_model.proofs.machine.state.Machine.take_fast.Goals as goal

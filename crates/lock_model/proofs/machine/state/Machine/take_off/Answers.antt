@@ -1,4 +1,4 @@
-use Rattle.std.proofs.Common.{◌≡◌, ◌≢◌, ◌<◌, sym, ◌∙◌, arith}
+use Rattle.std.proofs.Common.{◌≡◌, ◌≢◌, sym, ◌∙◌, arith}
 use Rattle.std.proofs.lemmas.Bool.{eqb-true, eqb-false}
 use Rattle.lock_model.specs.declared.machine.state.Lists.{Lists}
 use Rattle.lock_model.proofs.Follows.Lists.{was_taken_off, not_another, not_taken_off, taken_off_not_waiting}

@@ -1,4 +1,4 @@
-use Rattle.std.proofs.Common.{false, ◌<◌, length, sym, arith}
+use Rattle.std.proofs.Common.{false, sym, arith}
 use Rattle.lock_model.proofs.Follows.Partitions.{taken}
 use Rattle.lock_model.proofs.Shows.Looks.{partition_word_from}
 use Rattle.lock_model.proofs.Shows.Places.{get_or-one_value}

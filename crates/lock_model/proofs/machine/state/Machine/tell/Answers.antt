@@ -1,4 +1,4 @@
-use Rattle.std.proofs.Common.{◌≡◌, ◌<◌, sym, ◌∙◌, arith}
+use Rattle.std.proofs.Common.{◌≡◌, sym, ◌∙◌, arith}
 use Rattle.lock_model.proofs.Follows.Lists.{was_told, not_told}
 use Rattle.lock_model.proofs.machine.state.Machine.tell.Goals as goal
 

@@ -1,4 +1,4 @@
-use Rattle.std.proofs.Common.{◌≡◌, ◌+◌, ◌*◌, ◌<◌, sym, ap, ◌∙◌, arith}
+use Rattle.std.proofs.Common.{◌≡◌, ◌+◌, ◌*◌, sym, ap, ◌∙◌, arith}
 use Rattle.lock_model.specs.ListWords.{has_list}
 use Rattle.lock_model.proofs.Follows.ListWords.{unlocked_fast_list}
 use Rattle.lock_model.proofs.Shows.Looks.{fast_word_from}

@@ -1,4 +1,4 @@
-use Rattle.std.proofs.Common.{◌≡◌, ◌<◌, false, [], get_or, sym, ap, ◌∙◌, arith}
+use Rattle.std.proofs.Common.{◌≡◌, sym, ◌∙◌, arith}
 use Rattle.lock_model.proofs.Follows.Sharing.{unshared_fast}
 use Rattle.lock_model.proofs.Shows.Looks.{fast_word_from}
 use Rattle.lock_model.proofs.Shows.Places.{mark_read}

@@ -1,4 +1,4 @@
-use Rattle.std.proofs.Common.{◌≡◌, ◌<◌, false, [], length, get_or, sym, ap, ◌∙◌, arith}
+use Rattle.std.proofs.Common.{◌≡◌, sym, ◌∙◌, arith}
 use Rattle.lock_model.proofs.Follows.Sharing.{unshared_partition}
 use Rattle.lock_model.proofs.Shows.Looks.{partition_word_from}
 use Rattle.lock_model.proofs.Shows.Places.{mark_read}
