@@ -30,7 +30,8 @@ use Rattle.shared_rule.specs.History.{first_account, first_number}
 use Rattle.shared_rule.specs.Openers.{OpenerState}
 use Rattle.shared_rule.specs.Quiet.{first_quiet}
 use Rattle.shared_rule.specs.Plays.{HasSession}
-use Rattle.shared_rule.proofs.Auditing.{after-both, further-then, further-all, sessions-split, finds-traced}
+use Rattle.shared_rule.proofs.Auditing.{after-both, finds-traced}
+use Rattle.shared_rule.proofs.FurtherViews.{further-then, further-all, sessions-split}
 use Rattle.shared_rule.specs.Gatherings.{Gathered, account_among, IsNone, AreDistinct, NoneWaits, AreAll, counted_at, gathered_in}
 use Rattle.shared_rule.specs.Audits.{OwnSoMany, account_after, counter_loads, all_slot_loads, holding_steps, audit_steps, IsFurther, CountersSeen, CountsFrom, CountsTo, Finds, AddsUp, CountsAll}
 

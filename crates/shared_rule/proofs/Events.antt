@@ -5,6 +5,8 @@ pub mod Locks
 pub mod Counters
 pub mod Waits
 pub mod Slots
+pub mod ListShelves
+pub mod ListSteps
 pub mod Lists
 pub mod Seats
 pub mod Gatherings

@@ -7,10 +7,14 @@ pub mod Told
 pub mod Turns
 pub mod Looks
 pub mod Calls
+pub mod StepsOwed
 pub mod Owings
 pub mod Orders
+pub mod NotedViews
 pub mod Frame
+pub mod OpenedViews
 pub mod Views
+pub mod MetViews
 pub mod Meetings
 pub mod SeatSteps
 pub mod WakeSeats
@@ -33,6 +37,7 @@ pub mod Woken
 pub mod SlotWords
 pub mod FirstSlot
 pub mod Episodes
+pub mod FurtherViews
 pub mod Auditing
 pub mod AuditSums
 pub mod Stacks

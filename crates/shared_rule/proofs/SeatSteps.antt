@@ -16,8 +16,8 @@ use Rattle.shared_rule.specs.Tells.{AreTold, steps_of}
 use Rattle.shared_rule.specs.Ruled.{StandsAtSeat, StandsClosed, HasSeat, HasOpener, StepsAreTold}
 use Rattle.shared_rule.proofs.Standing.{there-within}
 use Rattle.shared_rule.proofs.Told.{set-back, set-among, set-seat, seat-here, set-opener, opener-here, more-back, more-seat, more-opener}
-use Rattle.shared_rule.proofs.Views.{one-get}
-use Rattle.shared_rule.proofs.Meetings.{last-get, before-get, more-get}
+use Rattle.shared_rule.proofs.OpenedViews.{one-get}
+use Rattle.shared_rule.proofs.MetViews.{last-get, before-get, more-get}
 
 -- As views are cut in two and joined, each history stands somewhere still, and tells the same steps.
 

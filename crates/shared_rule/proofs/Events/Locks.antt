@@ -39,7 +39,7 @@ use Rattle.lock_world.specs.WaitLists.{fast_lock}
 use Rattle.lw_word.specs.declared.words.LwMode.TheVariants.{Exclusive, Shared}
 use Rattle.lw_word.specs.LockState.{state_of, put_in}
 use Rattle.shared_rule.proofs.Orders.{MayAttempt, earlier-by}
-use Rattle.shared_rule.proofs.Owings.{keeps-taking, keeps-sharing, keeps-putting, keeps-unsharing, keeps-passing, put-exclusive, put-shared}
+use Rattle.shared_rule.proofs.StepsOwed.{keeps-taking, keeps-sharing, keeps-putting, keeps-unsharing, keeps-passing, put-exclusive, put-shared}
 use Rattle.shared_rule.specs.Marks as mark
 use Rattle.shared_rule.specs.declared.history.History.{History}
 use Rattle.shared_rule.specs.declared.rule.TableSizes.{TableSizes}

@@ -38,7 +38,7 @@ use Rattle.lock_world.specs.WaitLists.{partition_lock}
 use Rattle.lw_word.specs.declared.words.LwMode.TheVariants.{Exclusive}
 use Rattle.lw_word.specs.LockState.{state_of, put_in}
 use Rattle.shared_rule.proofs.Orders.{MayAttempt, earlier-by}
-use Rattle.shared_rule.proofs.Owings.{KeepsOwed, keeps-taking, keeps-putting, put-exclusive}
+use Rattle.shared_rule.proofs.StepsOwed.{KeepsOwed, keeps-taking, keeps-putting, put-exclusive}
 use Rattle.shared_rule.specs.Marks.{TookPart, PutPart}
 use Rattle.shared_rule.specs.declared.history.Mark.{Mark}
 use Rattle.shared_rule.specs.declared.history.History.{History}

@@ -40,8 +40,10 @@ use Rattle.shared_rule.specs.Ruled.{StandsAtSeat, HistoryIsShown, ClosedAreCount
 use Rattle.shared_rule.proofs.ClosedCounts.{opener-set, counted-opened, counted-closed, counted-told}
 use Rattle.shared_rule.specs.Seats.{MayCloseBy, MayBeKeptApartBy, DoNotConflict, HasNumber, HasNext, HasLast, all_but_last, last_of, ToldClosed, IsForOne, IsForTwo, number_in, number_after, behind_of, opened, newcomer, with_closed, met, parted, handed_back, ToldApart}
 use Rattle.shared_rule.proofs.Standing.{there-snoc}
-use Rattle.shared_rule.proofs.Views.{with_numbers, ruled-numbered, ruled-closed, seats-opened, seats-closed, history-alone, keeps-nobody}
-use Rattle.shared_rule.proofs.Meetings.{second-shown, another-there, seats-met, last-shown, seats-parted, all_but_last-of, last_of-of}
+use Rattle.shared_rule.proofs.Views.{ruled-numbered, ruled-closed, seats-closed, history-alone, keeps-nobody}
+use Rattle.shared_rule.proofs.OpenedViews.{with_numbers, seats-opened}
+use Rattle.shared_rule.proofs.Meetings.{last-shown, seats-parted}
+use Rattle.shared_rule.proofs.MetViews.{second-shown, another-there, seats-met, all_but_last-of, last_of-of}
 use Rattle.shared_rule.proofs.SeatSteps.{each-opened, each-closing, each-met, each-parted, told-kept, told-opened, closed-opened, told-closing, closed-closing, told-met, closed-met, told-parted, closed-parted}
 use Rattle.shared_rule.proofs.Events.Words.{nothing-changes}
 

@@ -6,7 +6,7 @@ use Rattle.lock_world.specs.Happens.{RunsThrough, last_of}
 use Rattle.lock_world.specs.World.{World, opening}
 use Rattle.lock_world.proofs.SafeWorld.Opening.{opening-safe}
 use Rattle.lock_world.proofs.Telling.{each-told}
-use Rattle.shared_rule.proofs.Meetings.{before-get}
+use Rattle.shared_rule.proofs.MetViews.{before-get}
 use Rattle.shared_rule.proofs.Told.{leads-runs, through-both, last-both}
 use Rattle.shared_rule.proofs.laws.what_an_account_tells_was_so.Goals as goal
 use Rattle.modes_core.specs.Sessions.{most_sessions}

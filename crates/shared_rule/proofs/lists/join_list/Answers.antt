@@ -12,7 +12,7 @@ use Rattle.lock_world.specs.Wakes.Waking.{NoneOr}
 use Rattle.shared_rule.specs.Todos.{first_todo}
 use Rattle.shared_rule.proofs.Taken.{flagged-known, owes-known, joins-known}
 use Rattle.shared_rule.proofs.Events.Words.{stores_at}
-use Rattle.shared_rule.proofs.Events.Lists.{joining-lawful}
+use Rattle.shared_rule.proofs.Events.ListSteps.{joining-lawful}
 use Rattle.shared_rule.proofs.Led.{led-noted, led_to-as}
 use Rattle.shared_rule.proofs.lists.join_list.Goals as goal
 

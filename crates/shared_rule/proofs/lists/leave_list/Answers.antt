@@ -9,7 +9,7 @@ use Rattle.shared_rule.specs.Layout.{index_of_word}
 use Rattle.shared_rule.specs.History.{first_account, first_number, list_here}
 use Rattle.shared_rule.specs.Plays.{Side, account_at}
 use Rattle.shared_rule.proofs.Events.Words.{stores_at}
-use Rattle.shared_rule.proofs.Events.Lists.{leaving-lawful}
+use Rattle.shared_rule.proofs.Events.ListSteps.{leaving-lawful}
 use Rattle.shared_rule.proofs.Led.{led-noted, led_to-as}
 use Rattle.shared_rule.proofs.lists.leave_list.Goals as goal
 

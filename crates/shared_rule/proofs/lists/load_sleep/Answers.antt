@@ -6,7 +6,7 @@ use Rattle.shared_rule.specs.Layout.{index_of_word}
 use Rattle.shared_rule.specs.History.{first_number}
 use Rattle.shared_rule.specs.Plays.{Side}
 use Rattle.shared_rule.proofs.Events.Words.{marks_at}
-use Rattle.shared_rule.proofs.Events.Lists.{loading_sleep-lawful}
+use Rattle.shared_rule.proofs.Events.ListSteps.{loading_sleep-lawful}
 use Rattle.shared_rule.proofs.Led.{led-noted}
 use Rattle.shared_rule.proofs.lists.load_sleep.Goals as goal
 

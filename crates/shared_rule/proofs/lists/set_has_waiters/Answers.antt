@@ -6,7 +6,8 @@ use Rattle.shared_rule.specs.History.{first_account, noting}
 use Rattle.shared_rule.specs.LwLocks.{word_of_lock, lock_number}
 use Rattle.shared_rule.specs.Plays.{Side}
 use Rattle.shared_rule.proofs.Events.Words.{IsAlwaysLawful, names-none, looks_at}
-use Rattle.shared_rule.proofs.Events.Lists.{lock-word_there, setting_has_waiters-lawful}
+use Rattle.shared_rule.proofs.Events.ListSteps.{setting_has_waiters-lawful}
+use Rattle.shared_rule.proofs.Events.ListShelves.{lock-word_there}
 use Rattle.shared_rule.specs.Todos.{first_flagged}
 use Rattle.shared_rule.proofs.Taken.{flagged-noted}
 use Rattle.shared_rule.proofs.Led.{led-noted}

@@ -8,7 +8,8 @@ use Rattle.shared_rule.specs.History.{noting}
 use Rattle.shared_rule.specs.LwLocks.{word_of_lock, lock_number}
 use Rattle.shared_rule.specs.Plays.{Side}
 use Rattle.shared_rule.proofs.Events.Words.{IsAlwaysLawful, names-none, looks_at}
-use Rattle.shared_rule.proofs.Events.Lists.{lock-word_there, setting_release_ok-lawful}
+use Rattle.shared_rule.proofs.Events.ListSteps.{setting_release_ok-lawful}
+use Rattle.shared_rule.proofs.Events.ListShelves.{lock-word_there}
 use Rattle.shared_rule.proofs.Led.{led-noted}
 use Rattle.shared_rule.proofs.lists.set_release_ok.Goals as goal
 

@@ -7,7 +7,7 @@ use Rattle.shared_rule.specs.Marks.{TookOff}
 use Rattle.shared_rule.specs.History.{first_account, first_number, noting}
 use Rattle.shared_rule.specs.Plays.{Side}
 use Rattle.shared_rule.proofs.Events.Words.{stores_at}
-use Rattle.shared_rule.proofs.Events.Lists.{taking_off-lawful}
+use Rattle.shared_rule.proofs.Events.ListSteps.{taking_off-lawful}
 use Rattle.shared_rule.proofs.Led.{led-noted}
 use Rattle.shared_rule.proofs.lists.take_off.Goals as goal
 

@@ -6,7 +6,7 @@ use Rattle.shared_rule.specs.Marks.{Told}
 use Rattle.shared_rule.specs.History.{first_account, noting}
 use Rattle.shared_rule.specs.Plays.{Side}
 use Rattle.shared_rule.proofs.Events.Words.{stores_at}
-use Rattle.shared_rule.proofs.Events.Lists.{telling-lawful}
+use Rattle.shared_rule.proofs.Events.ListSteps.{telling-lawful}
 use Rattle.shared_rule.proofs.Led.{led-noted}
 use Rattle.shared_rule.proofs.lists.tell.Goals as goal
 

@@ -10,7 +10,8 @@ use Rattle.shared_rule.specs.LwLocks.{lock_number, LockExists}
 use Rattle.shared_rule.specs.History.{noting, first_account}
 use Rattle.shared_rule.specs.Todos.{TellsNobodyBy}
 use Rattle.shared_rule.proofs.Taken.{look-known}
-use Rattle.shared_rule.proofs.Events.Lists.{locks_list_at, list-same}
+use Rattle.shared_rule.proofs.Events.Lists.{locks_list_at}
+use Rattle.shared_rule.proofs.Events.ListShelves.{list-same}
 use Rattle.std.specs.Global.{Box}
 use Rattle.lw_word.specs.WaitList.{Waiting, stands_in}
 use Rattle.shared_rule.specs.Plays.{Side, account_at, number_at}
