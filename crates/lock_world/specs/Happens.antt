@@ -15,7 +15,7 @@ use Rattle.lock_world.specs.Happens.Seats.{HappensSplitting, HappensJoining}
 use Rattle.lock_table.specs.declared.moves.Move.{Move}
 use Rattle.lock_table.specs.declared.moves.Move.TheVariants.{Keep}
 use Rattle.lock_world.specs.declared.events.Word.{Word}
-use Rattle.lock_world.specs.declared.events.Word.TheVariants.{Partition, Fast, Database, Slot, Wait, Strong, Sleep}
+use Rattle.lock_world.specs.declared.events.Word.TheVariants.{Partition, Fast, Database, Slot, Wait, Strong}
 use Rattle.lock_world.specs.Happens.Partitions.{HappensTakingPartition, HappensPuttingPartition}
 use Rattle.lock_world.specs.Happens.Sharing.{HappensSharingPartition, HappensUnsharingPartition, HappensSharingFast, HappensUnsharingFast}
 use Rattle.lock_world.specs.Happens.Slots.{HappensTakingFast, HappensPuttingFast, MayLoad, after_loading, after_reading_counter, MaySetSlot, after_setting_slot, MayClearSlot, after_clearing_slot, MayStoreDatabase, after_storing_database}

@@ -13,7 +13,7 @@ use Rattle.lock_table.proofs.PutLemmas.{set_at-same}
 use Rattle.lock_world.specs.declared.events.Step.{Step}
 use Rattle.lock_world.specs.declared.events.Step.TheVariants.{TakeExclusive, PutExclusive, TakeShared, PutShared, SplitSeat, JoinSeat, AskCancel, LoadWait, SetWaiting, MarkGranted, ClearWait, PutPassing, LoadStrong, LoadWord, SetSlot, ClearSlot, StoreDatabase, Count, Uncount, TransferSlot, LockList, UnlockList, JoinList, LeaveList, TakeOff, Tell, LoadSleep, SetReleaseOk, SetHasWaiters}
 use Rattle.lock_world.specs.declared.events.Word.{Word}
-use Rattle.lock_world.specs.declared.events.Word.TheVariants.{Partition, Fast, Database, Slot, Wait, Strong, Sleep}
+use Rattle.lock_world.specs.declared.events.Word.TheVariants.{Partition, Fast, Database, Slot}
 use Rattle.lock_world.specs.World.{World}
 use Rattle.lock_world.specs.WaitLists.{partition_lock, fast_lock, lock_word, after_seeing_none}
 use Rattle.lock_world.specs.SafeWorld.{SafeWorld, tabled}
@@ -78,11 +78,7 @@ module _ (w : World) (x : Duties) (s : ℕ) (nobody : Nobody w x) where
       (taken_word (w.words.fast o)) (with_lock (held_in w) s (fast_lock o) true) (shared_in w)
       (record { word_is = lock_word-set_fast w.words.partition w.words.fast o (taken_word (w.words.fast o)); holds_is = row-set_fast w.sessions.holds_partition w.sessions.holds_fast s o true; shares_is = refl; sleepers_is = refl; list_is = refl })
       (taken_word-flags (w.words.fast o) h.0.free) k (λ j l has. first _ _ _ (row-more (held_in w) s (fast_lock o) j l) has) (inl (row-here (held_in w) s (fast_lock o) true))) h.1
-  taking-keeps (Database q) v h k = absurd h
-  taking-keeps (Slot q i) v h k = absurd h
-  taking-keeps (Wait q) v h k = absurd h
-  taking-keeps (Strong i) v h k = absurd h
-  taking-keeps (Sleep q) v h k = absurd h
+  taking-keeps word v h k = absurd h
 
   sharing-keeps : (word : Word) (v : World) → SafeWorld w → HappensSharing w s word v → AsksTaking x s (lock_of word) → Nobody v (after_attempt x s)
   sharing-keeps (Partition p) v safe h k =
@@ -99,11 +95,7 @@ module _ (w : World) (x : Duties) (s : ℕ) (nobody : Nobody w x) where
       (shared_word-flags (w.words.fast o) (shared-room w.numbers.limit (w.words.fast o) (λ k. w.sessions.holds_fast k o) (λ k. w.sessions.shares_fast k o) s
       safe.but_slots.table.carriers.numbers.few (live-within (tabled w) s safe.but_slots h.1.steps.live) (safe.but_slots.locks.fast_words o) h.1.new))
       k (λ j l has. second _ _ _ (row-more (shared_in w) s (fast_lock o) j l) has) (inr (row-here (shared_in w) s (fast_lock o) true))) h.2
-  sharing-keeps (Database q) v safe h k = absurd h
-  sharing-keeps (Slot q i) v safe h k = absurd h
-  sharing-keeps (Wait q) v safe h k = absurd h
-  sharing-keeps (Strong i) v safe h k = absurd h
-  sharing-keeps (Sleep q) v safe h k = absurd h
+  sharing-keeps word v safe h k = absurd h
 
   put-partition :
       (p : ℕ) (done : Move) (content : Content) (v : World) → SafeWorld w → SafeWorld v → w.sessions.holds_partition s p ≡ true
@@ -126,11 +118,7 @@ module _ (w : World) (x : Duties) (s : ℕ) (nobody : Nobody w x) where
       (record { word_is = lock_word-set_fast w.words.partition w.words.fast o (put_word (w.words.fast o)); holds_is = row-set_fast w.sessions.holds_partition w.sessions.holds_fast s o false; shares_is = refl; sleepers_is = refl; list_is = refl })
       (put_word-flags (w.words.fast o) ((safe.but_slots.locks.fast_words o).held_is_shown s h.1.0.holding)) none (subst SafeWorld h.1.1 after)
       (λ j l away has. first _ _ _ (λ it. row-away (held_in w) s (fast_lock o) false j l away ∙ it) has)) h.1.1
-  putting-keeps (Database q) done v safe after h none = absurd h
-  putting-keeps (Slot q i) done v safe after h none = absurd h
-  putting-keeps (Wait q) done v safe after h none = absurd h
-  putting-keeps (Strong i) done v safe after h none = absurd h
-  putting-keeps (Sleep q) done v safe after h none = absurd h
+  putting-keeps word done v safe after h none = absurd h
 
   unsharing-keeps : (word : Word) (v : World) → SafeWorld w → SafeWorld v → HappensUnsharing w s word v → x.due s ≡ None → Nobody v (duties_after w x s (PutShared word))
   unsharing-keeps (Partition p) v safe after h none =
@@ -149,11 +137,7 @@ module _ (w : World) (x : Duties) (s : ℕ) (nobody : Nobody w x) where
       (unshared_word-flags (w.words.fast o) (shared-some w.numbers.limit (w.words.fast o) (λ k. w.sessions.holds_fast k o) (λ k. w.sessions.shares_fast k o) s
       (safe.but_slots.locks.fast_words o) h.0.sharing)) none (subst SafeWorld h.1 after)
       (λ j l away has. second _ _ _ (λ it. row-away (shared_in w) s (fast_lock o) false j l away ∙ it) has)) h.1
-  unsharing-keeps (Database q) v safe after h none = absurd h
-  unsharing-keeps (Slot q i) v safe after h none = absurd h
-  unsharing-keeps (Wait q) v safe after h none = absurd h
-  unsharing-keeps (Strong i) v safe after h none = absurd h
-  unsharing-keeps (Sleep q) v safe after h none = absurd h
+  unsharing-keeps word v safe after h none = absurd h
 
   passing-keeps : (o : ℕ) (v : World) (t : _) (m : _) → SafeWorld w → SafeWorld v → HappensStep w s (PutPassing o t m) v → x.due s ≡ None → Nobody v (duties_after w x s (PutPassing o t m))
   passing-keeps o v t m safe after h none =
@@ -191,43 +175,28 @@ module _ (w : World) (x : Duties) (s : ℕ) (nobody : Nobody w x) where
   loading-keeps (Fast o) n v h = to v _ x nobody h.2
   loading-keeps (Database q) n v h = to v _ x nobody h.1
   loading-keeps (Slot q i) n v h = to v _ x nobody h.1
-  loading-keeps (Partition p) n v h = absurd h
-  loading-keeps (Wait q) n v h = absurd h
-  loading-keeps (Strong i) n v h = absurd h
-  loading-keeps (Sleep q) n v h = absurd h
+  loading-keeps word n v h = absurd h
 
   locking-keeps : (word : Word) (v : World) → HappensLockingList w s word v → AsksLocking w x s (lock_of word) → Nobody v (after_locking x s)
   locking-keeps (Partition p) v h k = to v _ (after_locking x s) (locked w x s (partition_lock p) (w.words.partition p) nobody (lock_word-partition w.words.partition w.words.fast p) _
       (lists-partition w p (list_locked_word (w.words.partition p)) (set_at w.sessions.has_list s (Some (partition_lock p)))) k h.1.no_list) h.2
   locking-keeps (Fast o) v h k = to v _ (after_locking x s) (locked w x s (fast_lock o) (w.words.fast o) nobody (lock_word-fast w.words.partition w.words.fast o) _
       (lists-fast w o (list_locked_word (w.words.fast o)) (set_at w.sessions.has_list s (Some (fast_lock o)))) k h.1.no_list) h.2
-  locking-keeps (Database q) v h k = absurd h
-  locking-keeps (Slot q i) v h k = absurd h
-  locking-keeps (Wait q) v h k = absurd h
-  locking-keeps (Strong i) v h k = absurd h
-  locking-keeps (Sleep q) v h k = absurd h
+  locking-keeps word v h k = absurd h
 
   unlocking-keeps : (word : Word) (waiters release : Bool) (v : World) → SafeWorld w → HappensUnlockingList w s word waiters release v → AsksUnlocking w x s (lock_of word) waiters release → Nobody v x
   unlocking-keeps (Partition p) waiters release v safe h k = to v _ x (unlocked w x s (partition_lock p) (w.words.partition p) nobody (lock_word-partition w.words.partition w.words.fast p) _ waiters release safe
       (lists-partition w p (list_unlocked_word (w.words.partition p) waiters release) (set_at w.sessions.has_list s None)) h.0.in_hand k) h.1
   unlocking-keeps (Fast o) waiters release v safe h k = to v _ x (unlocked w x s (fast_lock o) (w.words.fast o) nobody (lock_word-fast w.words.partition w.words.fast o) _ waiters release safe
       (lists-fast w o (list_unlocked_word (w.words.fast o) waiters release) (set_at w.sessions.has_list s None)) h.0.in_hand k) h.1
-  unlocking-keeps (Database q) waiters release v safe h k = absurd h
-  unlocking-keeps (Slot q i) waiters release v safe h k = absurd h
-  unlocking-keeps (Wait q) waiters release v safe h k = absurd h
-  unlocking-keeps (Strong i) waiters release v safe h k = absurd h
-  unlocking-keeps (Sleep q) waiters release v safe h k = absurd h
+  unlocking-keeps word waiters release v safe h k = absurd h
 
   showing-keeps : (word : Word) (n : ℕ) (v : World) → HappensSettingHasWaiters w s word n v → Nobody v (record x { flagged = set_at x.flagged s true })
   showing-keeps (Partition p) n v h = to v _ (record x { flagged = set_at x.flagged s true }) (showed_waiters w x s (partition_lock p) (w.words.partition p) nobody (lock_word-partition w.words.partition w.words.fast p) _
       (lists-partition w p (has_waiters_word (w.words.partition p)) w.sessions.has_list) h.0.has.in_hand) h.1
   showing-keeps (Fast o) n v h = to v _ (record x { flagged = set_at x.flagged s true }) (showed_waiters w x s (fast_lock o) (w.words.fast o) nobody (lock_word-fast w.words.partition w.words.fast o) _
       (lists-fast w o (has_waiters_word (w.words.fast o)) w.sessions.has_list) h.0.has.in_hand) h.1
-  showing-keeps (Database q) n v h = absurd h
-  showing-keeps (Slot q i) n v h = absurd h
-  showing-keeps (Wait q) n v h = absurd h
-  showing-keeps (Strong i) n v h = absurd h
-  showing-keeps (Sleep q) n v h = absurd h
+  showing-keeps word n v h = absurd h
 
   -- Release-ok, by what the session owes of it, where it stands, and whether it has the list in hand.
   is_lock-some : (its : Option ℕ) (lock : ℕ) → is_lock its lock ≡ true → its ≡ Some lock
@@ -274,11 +243,7 @@ module _ (w : World) (x : Duties) (s : ℕ) (nobody : Nobody w x) where
       (lists-partition w p (release_ok_word (w.words.partition p)) w.sessions.has_list) k) h.2
   setting_ok-keeps (Fast o) n v safe h k = to v _ (after_setting_ok w x s (fast_lock o)) (set_ok (fast_lock o) (w.words.fast o) _ (lock_word-fast w.words.partition w.words.fast o) safe
       (lists-fast w o (release_ok_word (w.words.fast o)) w.sessions.has_list) k) h.2
-  setting_ok-keeps (Database q) n v safe h k = absurd h
-  setting_ok-keeps (Slot q i) n v safe h k = absurd h
-  setting_ok-keeps (Wait q) n v safe h k = absurd h
-  setting_ok-keeps (Strong i) n v safe h k = absurd h
-  setting_ok-keeps (Sleep q) n v safe h k = absurd h
+  setting_ok-keeps word n v safe h k = absurd h
 
   sleeping-keeps : (n : ℕ) (v : World) → HappensStep w s (LoadSleep n) v → Nobody v x
   sleeping-keeps n v h = elim (cases_eq n 0) [
