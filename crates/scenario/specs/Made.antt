@@ -29,7 +29,7 @@ use Rattle.lock_manager.specs.Listings.{Lists}
 use Rattle.lock_manager.specs.Queues.{LooksAt, IsQueue, AreBlockers}
 use Rattle.lock_manager.specs.Releases.{Releases, ReleasesAll}
 use Rattle.lock_manager.specs.Sessions.{SessionView, IsSame}
-use Rattle.lock_manager.specs.Waiting.{Asks, LooksForWaiters}
+use Rattle.lock_manager.specs.Waiting.{AsksOneOf, LooksForWaiters}
 use Rattle.scenario.specs.declared.answers.Said.TheVariants as said
 use Rattle.scenario.specs.declared.answers.Row.TheVariants as row
 use Rattle.scenario.specs.declared.answers.Answer.{Answer}
@@ -174,5 +174,6 @@ module _ {B : Type 0} (seat : B → Seated) (view : B → Account) (stack : B �
   IsMade name (Blockers other number tag) it =
       (result : Result (Vec Blocker) Refusal) × (it ≡ blockers_told name other result) × Looks (SeesBlockers tag number result)
   IsMade name (Cancel other number) it =
-      (asked : Asked) × (it ≡ cancel_told name other asked) × Looks (Asks (view old.board) number asked (view new.board))
+      (asked : Asked) × (it ≡ cancel_told name other asked)
+      × Looks (AsksOneOf (seat old.board).limit (view old.board) number asked (view new.board))
   IsMade name List it = (result : Result Listing Refusal) × (it ≡ list_told name result) × Looks (SeesAll result)

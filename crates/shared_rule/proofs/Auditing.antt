@@ -1,11 +1,6 @@
-use Rattle.std.proofs.Common.{◌≡◌, ℕ, suc, ◌+◌, ◌*◌, ◌<◌, ◌≤◌, Bool, true, false, ◌&&◌, List, [], ◌∷◌, ◌++◌, length, Some, None, refl, sym, ap, ◌∙◌, subst, inl, inr, arith, append_assoc, append-nil}
+use Rattle.std.proofs.Common.{◌≡◌, ℕ, suc, ◌+◌, ◌*◌, ◌<◌, ◌≤◌, false, ◌&&◌, List, [], ◌∷◌, ◌++◌, Some, None, refl, sym, ap, ◌∙◌, subst, inl, inr, arith, append_assoc, append-nil}
 use Rattle.std.specs.Prelude.{◌==◌, is_some, count_by, if◌then◌else◌, Result, Ok, OnOk}
-use Rattle.std.proofs.lemmas.Bool.{cases_Bool, cases_eq, cond-true, cond-false, and_right}
-use Rattle.std.proofs.lemmas.List.Sums.{sum_by-cons}
-use Rattle.modes_core.specs.declared.modes.Mode.{Mode}
-use Rattle.modes_core.specs.declared.tags.Tag.{Tag}
-use Rattle.modes_core.specs.declared.tags.Tag.TheVariants.{Relation}
-use Rattle.lw_word.specs.SlotWord.{shows}
+use Rattle.std.proofs.lemmas.Bool.{cases_eq, cond-false, and_right}
 use Rattle.lock_table.specs.Put.{set_at}
 use Rattle.lock_table.specs.Content.{Content}
 use Rattle.lock_table.specs.Total.{total}
@@ -17,34 +12,24 @@ use Rattle.lock_table.specs.WholeContent.{times_had}
 use Rattle.lock_table.proofs.PutLemmas.{set_at-here, set_at-else}
 use Rattle.lock_table.proofs.Totals.{total-same}
 use Rattle.lock_world.specs.declared.events.Word.TheVariants.{Slot, Strong}
-use Rattle.lock_world.specs.Account.{Account, FastAccount}
+use Rattle.lock_world.specs.Account.{Account}
 use Rattle.lock_world.specs.AccountSteps.{account_taking, account_putting, account_tracing, account_reading}
 use Rattle.lock_world.specs.AccountFacts.{KnowsContent}
-use Rattle.lock_world.specs.Counted.{count_at}
-use Rattle.lock_world.specs.SlotHolds.{group_size, slot_holds, OneSlotEach, AreInGroups}
-use Rattle.lock_world.specs.Tallies.{joined, modes_shown, shown_in_slots, left_in_slots, OwnStand, ShowsLeft}
+use Rattle.lock_world.specs.SlotHolds.{group_size}
+use Rattle.lock_world.specs.Tallies.{joined, modes_shown, shown_in_slots, ShowsLeft}
 use Rattle.lock_world.specs.World.{TraceEntry, Loaded}
 use Rattle.lock_world.proofs.Tallies.Lists.{joined-more, joined-same}
 use Rattle.lock_world.proofs.Tallies.Sums.{total-more}
 use Rattle.shared_rule.specs.declared.history.Mark.{Mark}
 use Rattle.shared_rule.specs.declared.history.View.{View}
-use Rattle.shared_rule.specs.declared.kept.Kept.{Kept}
-use Rattle.shared_rule.specs.History.{noted, noting, noting_first, taken_of, first_account, first_number}
-use Rattle.atomic_table.specs.declared.shared.Seat.{Seat}
+use Rattle.shared_rule.specs.History.{noting, taken_of, first_account, first_number}
 use Rattle.shared_rule.specs.Marks.{LoadedSlot, LoadedStrong, TookPart}
-use Rattle.shared_rule.specs.Plays.{HasSession, IsSameSeat}
+use Rattle.shared_rule.specs.Plays.{HasSession}
 use Rattle.shared_rule.specs.Lawful.{IsAboveHand}
-use Rattle.shared_rule.specs.Seats.{behind_of}
-use Rattle.shared_rule.specs.Quiet.{Quiet, first_quiet, quiet_told, quiet_noted}
-use Rattle.shared_rule.specs.Gatherings.{Gathered, account_among, AreDistinct, NoneWaits, counted_at, HasAllInHand, AreAll, gathered_in, KnowsOfAll, KnowsAll}
+use Rattle.shared_rule.specs.Gatherings.{account_among, counted_at, HasAllInHand, AreAll, gathered_in, KnowsOfAll, KnowsAll}
 use Rattle.shared_rule.specs.Audits.{account_after, counter_loads, CountersSeen, slot_loads_of, all_slot_loads, IsFurther, HasPartInHand, holding_steps, SeesSlots, SeesAllSlots, Finds, CountsFrom}
-use Rattle.lock_world.specs.Account.{ListAccount}
-use Rattle.shared_rule.specs.Boards.{lists_told}
-use Rattle.shared_rule.specs.Todos.{nothing_to_do, todo_noted}
-use Rattle.shared_rule.specs.Owed.{first_owed, owed_noted}
-use Rattle.shared_rule.proofs.Taken.{todo-noted, owed-noted}
 use Rattle.shared_rule.proofs.Episodes.{fresh_hand, taken-in_hand, kept-since}
-use Rattle.shared_rule.proofs.FurtherViews.{noting-some, noting-further, further-itself, further-then, further-all, account-noting, its, number, distinct-before, none_waits-after, stand-before, left-before, counted-before}
+use Rattle.shared_rule.proofs.FurtherViews.{noting-some, noting-further, further-itself, further-then, further-all, account-noting, number, distinct-before, none_waits-after, stand-before, left-before, counted-before}
 
 -- ---- slots
 

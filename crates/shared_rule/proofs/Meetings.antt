@@ -1,4 +1,4 @@
-use Rattle.std.proofs.Common.{◌≡◌, ◌≢◌, ◌⊎◌, ℕ, zero, suc, ◌<◌, List, [], ◌∷◌, ◌++◌, length, Option, Some, None, refl, sym, ap, ◌∙◌, subst, inl, inr, arith, length-set, length-append}
+use Rattle.std.proofs.Common.{◌≡◌, ◌≢◌, ℕ, ◌<◌, List, [], ◌∷◌, ◌++◌, length, Option, Some, None, refl, sym, ap, ◌∙◌, subst, inl, inr, arith, length-set, length-append}
 use Rattle.std.specs.Prelude.{slice_get, slice_set}
 use Rattle.std.proofs.lemmas.Bool.{cases_eq}
 use mathlib.Core.Option.{some}
@@ -8,17 +8,13 @@ use Rattle.lock_table.specs.Put.{set_at}
 use Rattle.lock_table.specs.Content.{Content}
 use Rattle.lock_table.proofs.PutLemmas.{set_at-here, set_at-else}
 use Rattle.lock_world.specs.World.{World, Numbers}
-use Rattle.shared_rule.specs.declared.history.Mark.{Mark}
 use Rattle.shared_rule.specs.declared.history.History.{History}
 use Rattle.shared_rule.specs.declared.history.View.{View}
-use Rattle.shared_rule.specs.History.{keeper, lone, spent_view}
+use Rattle.shared_rule.specs.History.{keeper}
 use Rattle.shared_rule.specs.Ruled.{IsClosed, HistoryIsShown, IsBehind, SeatsAreShown}
-use Rattle.shared_rule.specs.Boards.{first_marks}
-use Rattle.shared_rule.specs.Seats.{all_but_last, last_of, handed_back}
 use Rattle.shared_rule.proofs.Standing.{there-within, there-one, there-snoc}
-use Rattle.shared_rule.proofs.Views.{history-alone, nobody-behind}
 use Rattle.shared_rule.proofs.OpenedViews.{one-get, still-shown, with_numbers}
-use Rattle.shared_rule.proofs.MetViews.{last-get, before-get, get-within, more-get, keeper-before, seat_of, place_in, still}
+use Rattle.shared_rule.proofs.MetViews.{last-get, before-get, get-within, more-get, keeper-before}
 
 -- The last session at a seat goes on by itself.
 module _ {T : Type 0} (content : T → Content) (w : World) (views : List (View T)) (id : ℕ) (view : View T) (before : List (History T)) (y : History T)

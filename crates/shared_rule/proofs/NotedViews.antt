@@ -1,55 +1,29 @@
-use Rattle.std.proofs.Common.{◌≡◌, ◌≢◌, ◌⊎◌, ℕ, zero, suc, Bool, true, false, ◌<◌, ◌≤◌, List, [], ◌∷◌, ◌++◌, length, Option, Some, None, refl, sym, ap, ◌∙◌, subst, inl, inr, arith}
+use Rattle.std.proofs.Common.{◌≡◌, ◌≢◌, ◌⊎◌, ℕ, zero, suc, Bool, true, false, ◌<◌, ◌≤◌, List, [], ◌∷◌, ◌++◌, Option, Some, refl, sym, ap, ◌∙◌, subst, inl, inr, arith}
 use Rattle.std.specs.Prelude.{slice_get, slice_set}
-use Rattle.std.specs.Prelude.{◌&&◌, not}
-use Rattle.std.proofs.lemmas.Bool.{cases_eq, both_ways, eq-eqb, ne_eqb}
+use Rattle.std.proofs.lemmas.Bool.{cases_eq, both_ways}
 use mathlib.Core.Option.{some}
-use mathlib.Core.Option as maybe
 use lib.ListN.{get_elem?}
-use Rattle.atomic_table.specs.Table.{State}
 use Rattle.atomic_table.proofs.Lists.{at_set, set_here, set_else}
-use Rattle.lock_table.specs.declared.request.Request.{Request}
 use Rattle.lock_table.specs.Content.{Content}
 use Rattle.lock_world.specs.declared.events.Event.{Event}
 use Rattle.lock_world.specs.declared.events.Step.{Step}
-use Rattle.lock_world.specs.World.{World, Words, Numbers, MakesSteps, opening}
-use Rattle.lock_world.specs.SafeWorld.{SafeWorld}
-use Rattle.lock_world.specs.SlotHolds.{most_groups}
-use Rattle.lock_world.specs.Account.{Account, account}
-use Rattle.lock_world.specs.Happens.{Happens, HappensStep}
-use Rattle.lock_world.specs.Happens.Counters.{most_counted}
-use Rattle.lock_world.proofs.SafeWorld.Runs.{event-safe}
-use Rattle.lock_world.proofs.Others.Events.{event-others}
+use Rattle.lock_world.specs.World.{World, Numbers, opening}
+use Rattle.lock_world.specs.Account.{account}
+use Rattle.lock_world.specs.Happens.{Happens}
 use Rattle.shared_rule.specs.declared.history.Mark.{Mark}
 use Rattle.shared_rule.specs.declared.history.History.{History}
 use Rattle.shared_rule.specs.declared.rule.TableSizes.{TableSizes}
 use Rattle.shared_rule.specs.declared.history.View.{View}
-use Rattle.shared_rule.specs.declared.kept.Kept.{Kept}
-use Rattle.shared_rule.specs.Shown.{WordsAreShown}
 use Rattle.shared_rule.specs.History.{noted, told, noting_first, noting, keeper}
 use Rattle.shared_rule.proofs.Standing.{there-within, there-one}
-use Rattle.shared_rule.proofs.ClosedCounts.{opener-set}
-use Rattle.shared_rule.specs.Tells.{Tells, AreTold, LooksOnly, at_list, at_lock, calls_waiter, calls_sleeper, TellsTurn, AreTurnsTold, events_of, is_turn_of, turns_of, steps_of}
-use Rattle.lw_word.specs.LightweightWord.{IsHeldByNobody, IsListLocked}
-use Rattle.lock_world.specs.WaitLists.{lock_word}
-use Rattle.lock_world.specs.declared.events.Step.TheVariants.{AskCancel}
-use Rattle.lock_world.specs.Wakes.{Beside, nothing_beside, Turn, happened, saw_list_locked, saw_held, called_waiter, called_sleeper, Keeps, IsInOrder, KeepsInOrder, beside_after}
-use Rattle.lock_world.specs.Wakes.Waking.{NoneOr}
-use Rattle.lock_world.specs.Wakes.Owing.{Asks}
-use Rattle.lock_world.proofs.Wakes.Live.{step-alone}
+use Rattle.shared_rule.specs.Tells.{Tells, AreTold, LooksOnly, TellsTurn, AreTurnsTold, events_of, is_turn_of, turns_of, steps_of}
+use Rattle.lock_world.specs.Wakes.{Beside, nothing_beside, Turn, KeepsInOrder, beside_after}
 use Rattle.lock_world.proofs.Wakes.Runs.{run-push}
-use Rattle.lock_table.specs.Put.{set_at}
-use Rattle.lock_table.proofs.PutLemmas.{set_at-else}
-use Rattle.shared_rule.specs.Marks.{Asked, SawListLocked, SawHeld, CalledWaiter, CalledSleeper}
-use Rattle.shared_rule.specs.History as history
-use Rattle.shared_rule.specs.Owed.{owed_noted, owed_told}
-use Rattle.shared_rule.specs.Todos.{Todo, no_content, todo_noted, flagged_noted, todo_told_by, flagged_told_by}
-use Rattle.shared_rule.proofs.Idle.{told-lists}
-use Rattle.shared_rule.proofs.Calls.{step-owed, call-owed, asked-word}
-use Rattle.shared_rule.proofs.Turns.{events-push, events-look, turns-beside, turns-push}
-use Rattle.shared_rule.proofs.StepsOwed.{KeepsOwed, todo-others, flagged-others, due-others, tries-others, due-here, tries-here, calls-here}
-use Rattle.shared_rule.specs.Ruled.{todo_of, todo_with, OwesAsTold, TurnsAreTold, StandsAtSeat, WakesAreKept, OpenerHasClosed, NoneBeyondSlots, ContentsAreHome, ListsAreHome, IsClosed, HistoryIsShown, IsBehind, SeatsAreShown, StandsClosed, HasSeat, HasOpener, StepsAreTold, HasClosedSo, Ruled}
-use Rattle.shared_rule.proofs.Told.{leads-push, another's, tells-no_seats, told-push, steps-beside, set-back, set-among, set-seat, seat-here, set-opener, opener-here, closed_so-push}
-use Rattle.modes_core.specs.Sessions.{most_sessions}
+use Rattle.shared_rule.specs.Owed.{owed_told}
+use Rattle.shared_rule.specs.Todos.{todo_told_by, flagged_told_by}
+use Rattle.shared_rule.proofs.Turns.{turns-beside, turns-push}
+use Rattle.shared_rule.specs.Ruled.{todo_of, OwesAsTold, TurnsAreTold, StandsAtSeat, WakesAreKept, IsClosed, HistoryIsShown, IsBehind, SeatsAreShown, StandsClosed, HasSeat, HasOpener, StepsAreTold, HasClosedSo}
+use Rattle.shared_rule.proofs.Told.{another's, told-push, steps-beside, set-back, set-among, set-seat, seat-here, set-opener, opener-here, closed_so-push}
 
 -- A step of the session that goes on by itself at a seat, noted there, keeps the rule.
 

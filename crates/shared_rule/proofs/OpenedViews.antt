@@ -1,33 +1,19 @@
-use Rattle.std.proofs.Common.{◌≡◌, ◌≢◌, ◌⊎◌, ℕ, zero, suc, true, false, ◌+◌, ◌<◌, ◌≤◌, List, [], ◌∷◌, ◌++◌, length, Option, Some, None, refl, sym, ap, ◌∙◌, subst, inl, inr, arith, length-set}
+use Rattle.std.proofs.Common.{◌≡◌, ◌≢◌, ℕ, zero, suc, true, ◌+◌, ◌<◌, ◌≤◌, List, [], ◌∷◌, ◌++◌, length, Option, Some, None, refl, sym, ap, ◌∙◌, subst, inl, inr, arith, length-set}
 use Rattle.std.specs.Prelude.{slice_get, slice_set}
 use Rattle.std.proofs.lemmas.Bool.{cases_eq}
-use Rattle.std.proofs.lemmas.List.{set_comm}
 use mathlib.Core.Option.{some}
 use lib.ListN.{get_elem?}
-use Rattle.atomic_table.specs.Table.{State}
 use Rattle.atomic_table.proofs.Lists.{at_set, set_here, set_else, at_longer}
 use Rattle.lock_table.specs.Put.{set_at}
-use Rattle.lock_table.specs.declared.request.Request.{Request}
 use Rattle.lock_table.specs.Content.{Content}
 use Rattle.lock_table.proofs.PutLemmas.{set_at-here, set_at-else}
-use Rattle.lock_world.specs.declared.events.Event.{Event}
-use Rattle.lock_world.specs.declared.events.Step.TheVariants.{JoinSeat}
-use Rattle.lock_world.specs.World.{World, Numbers, opening}
+use Rattle.lock_world.specs.World.{World, Numbers}
 use Rattle.lock_world.specs.Safe.{NumbersAreInOrder}
-use Rattle.lock_world.specs.SafeWorld.{SafeWorld}
-use Rattle.lock_world.specs.Account.{Account, fast_account, list_account, account}
-use Rattle.lock_world.specs.Happens.{Happens}
-use Rattle.lock_world.specs.Happens.Seats.{MayClose, after_issuing, after_closing}
-use Rattle.lock_world.proofs.Remembered.{groups-stay}
-use Rattle.shared_rule.specs.declared.history.Mark.{Mark}
+use Rattle.lock_world.specs.Happens.Seats.{after_issuing}
 use Rattle.shared_rule.specs.declared.history.History.{History}
-use Rattle.shared_rule.specs.declared.rule.TableSizes.{TableSizes}
 use Rattle.shared_rule.specs.declared.history.View.{View}
-use Rattle.shared_rule.specs.declared.kept.Kept.{Kept}
-use Rattle.shared_rule.specs.History.{blank_account, told, keeper, lone, spent_view}
-use Rattle.shared_rule.specs.Tells.{is_of_seats}
-use Rattle.shared_rule.specs.Ruled.{WakesAreKept, IsClosed, OpenerHasClosed, HistoryIsShown, IsBehind, SeatsAreShown, StandsClosed, StepsAreTold, HasClosedSo, Ruled}
-use Rattle.shared_rule.proofs.Told.{leads-push, told-seats, closed_so-push}
+use Rattle.shared_rule.specs.History.{keeper, lone}
+use Rattle.shared_rule.specs.Ruled.{IsClosed, HistoryIsShown, IsBehind, SeatsAreShown}
 use Rattle.shared_rule.proofs.Standing.{there-within, there-one, there-snoc}
 
 -- Views that are cut in two and joined show what the World after it has.

@@ -1,9 +1,8 @@
-use Rattle.std.proofs.Common.{◌≡◌, ◌≢◌, ℕ, ◌+◌, ◌*◌, ◌/◌, ◌%◌, ◌^◌, ◌<◌, arith, Bool, true, false, not, List, [], Option, Some, None, refl, sym, ap, ◌∙◌, subst, inl, inr}
-use Rattle.std.specs.Prelude.{◌==◌, ◌&&◌, is_some, if◌then◌else◌}
-use Rattle.std.proofs.lemmas.Bool.{cases_Bool, both_ways, cond-true, cond-false, eq-eqb, eqb-true, false≢true}
+use Rattle.std.proofs.Common.{◌≡◌, ◌≢◌, ℕ, ◌/◌, ◌%◌, ◌^◌, ◌<◌, Bool, true, false, not, Option, Some, None, refl, sym, ap, ◌∙◌, subst, inl, inr}
+use Rattle.std.specs.Prelude.{◌&&◌, is_some}
+use Rattle.std.proofs.lemmas.Bool.{cases_Bool, cond-true, cond-false, eq-eqb}
 use Rattle.lw_word.specs.declared.words.LwMode.{LwMode}
 use Rattle.lw_word.specs.declared.words.LwMode.TheVariants.{Exclusive, Shared}
-use Rattle.lw_word.specs.declared.wait_lists.LwWaiter.{LwWaiter}
 use Rattle.lw_word.specs.LightweightWord.{IsHeldExclusively, shared_count, put_word, unshared_word}
 use Rattle.lw_word.specs.LockState.{LockState, state_of, put_in}
 use Rattle.lw_word.specs.WaitList.{stands_in}
@@ -11,28 +10,19 @@ use Rattle.lw_word.proofs.StateLemmas.{state_of-put}
 use Rattle.modes_core.specs.declared.modes.Mode.{Mode}
 use Rattle.modes_core.specs.declared.tags.Tag.{Tag}
 use Rattle.lock_table.specs.declared.moves.Move.{Move}
-use Rattle.lock_table.specs.Content.{Content}
 use Rattle.lock_table.specs.Put.{set_at}
 use Rattle.lock_table.proofs.PutLemmas.{set_at-here, set_at-else}
 use Rattle.lock_world.specs.declared.events.Step.{Step}
 use Rattle.lock_world.specs.declared.events.Step.TheVariants.{TakeExclusive, PutExclusive, TakeShared, PutShared, SplitSeat, JoinSeat, AskCancel, LoadWait, SetWaiting, MarkGranted, ClearWait, PutPassing, LoadStrong, LoadWord, SetSlot, ClearSlot, StoreDatabase, Count, Uncount, TransferSlot, LockList, UnlockList, JoinList, LeaveList, TakeOff, Tell, LoadSleep, SetReleaseOk, SetHasWaiters}
 use Rattle.lock_world.specs.declared.events.Word.{Word}
-use Rattle.lock_world.specs.Safe.{is_hand_of}
-use Rattle.lock_world.specs.World.{World, Hand, word_in}
-use Rattle.lock_world.specs.WaitLists.{partition_lock, fast_lock}
-use Rattle.lock_world.specs.SafeWorld.{SafeWorld}
-use Rattle.lock_world.specs.Account.{Account, ListAccount, ListInHand, account, own_hand, list_in_hand, known_slots}
-use Rattle.lock_world.specs.Wakes.Waking.{NobodyIsForgotten, TellsNobody, NoneOr, IsLeftWell, HasLock}
-use Rattle.lock_world.specs.Wakes.Waking as waking_of
-use Rattle.lock_world.specs.Wakes.Owing.{Duties, waking, lock_bit, lock_row, lock_of, is_lock, look_due, after_putting, after_setting_ok, ok_set_as_owed, ok_set_before_told, ok_set_by_told, ok_set_by_winner, duties_after, AsksUnlocking, HasNothingToDo, Asks, IsEarlier, IsLatest, AsksInOrder}
+use Rattle.lock_world.specs.World.{World, word_in}
+use Rattle.lock_world.specs.WaitLists.{fast_lock}
+use Rattle.lock_world.specs.Wakes.Waking.{TellsNobody, NoneOr}
+use Rattle.lock_world.specs.Wakes.Owing.{Duties, lock_of, is_lock, look_due, after_putting, after_setting_ok, ok_set_as_owed, ok_set_before_told, ok_set_by_told, ok_set_by_winner, duties_after, Asks, IsEarlier, IsLatest, AsksInOrder}
 use Rattle.lock_world.specs.Wakes.{Beside, happened, beside_after}
 use Rattle.lock_world.proofs.Wakes.Live.{step-alone}
-use Rattle.lock_world.proofs.Wakes.Rows.{even-bit, odd-bit}
-use Rattle.shared_rule.specs.declared.lw_locks.LwLock.{LwLock}
-use Rattle.shared_rule.specs.declared.lw_locks.LwLock.TheVariants.{OfPart, OfSlots}
-use Rattle.shared_rule.specs.LwLocks.{word_of_lock, lock_number}
-use Rattle.shared_rule.specs.Ruled.{todo_of, todo_with, OwesAsTold}
-use Rattle.shared_rule.specs.Todos.{Todo, nothing_to_do, todo_attempted, todo_looked, todo_putting, todo_queueing, todo_leaving, todo_told, todo_setting_ok, is_off_list_in_hand, lock_of_list, HasBy, IsLeftWellBy, nobody_waits, took_off, still_has, tries_next, TellsNobodyBy}
+use Rattle.shared_rule.specs.Ruled.{todo_of, todo_with}
+use Rattle.shared_rule.specs.Todos.{Todo, todo_attempted, todo_looked, todo_putting, todo_queueing, todo_leaving}
 
 -- What a session's step asks, from what the session has to do and knows; and what its step makes of that.
 

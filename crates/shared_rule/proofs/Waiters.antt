@@ -1,16 +1,15 @@
-use Rattle.std.proofs.Common.{◌≡◌, ℕ, ◌<◌, Bool, true, false, List, [], ◌∷◌, length, filter, Option, Some, None, refl, sym, ap, ◌∙◌, subst, inl, inr, arith}
-use Rattle.std.proofs.lemmas.Bool.{cases_Bool, eq-eqb, or_cases, or_left, or_right, cond-true, cond-false, false≢true}
+use Rattle.std.proofs.Common.{◌≡◌, ℕ, ◌<◌, true, List, length, Option, Some, None, refl, sym, ap, ◌∙◌, inl, inr, arith}
+use Rattle.std.proofs.lemmas.Bool.{cases_Bool, eq-eqb}
 use Rattle.std.proofs.lemmas.List.Folds.{list_any_at}
 use Rattle.std.specs.Prelude.{get_or}
 use Rattle.lw_word.specs.declared.wait_lists.LwWaiter.{LwWaiter}
-use Rattle.lw_word.specs.WaitList.{is_of, stands_in, taken_off, wants_to_share}
+use Rattle.lw_word.specs.WaitList.{is_of, stands_in, taken_off}
 use Rattle.modes_core.specs.declared.tags.Tag.{Tag}
 use Rattle.lock_table.specs.OwnWait.{OwnWait}
 use Rattle.lock_table.specs.Queue.{waits_there}
 use Rattle.lock_world.specs.World.{World}
 use Rattle.lock_world.specs.SafeWorld.{SafeWorld, tabled}
 use Rattle.lock_world.proofs.FromSafe.{session-stands}
-use Rattle.lock_world.proofs.Counters.Lists.{any-filter}
 use Rattle.shared_rule.specs.Waiters.{WaitersExist}
 use Rattle.shared_rule.proofs.TakenOff.{taken-stood}
 

@@ -1,38 +1,24 @@
-use Rattle.std.proofs.Common.{◌≡◌, ◌≢◌, ℕ, ◌/◌, ◌%◌, ◌^◌, ◌<◌, ◌==◌, Bool, true, false, List, [], ◌∷◌, ◌++◌, length}
-use Rattle.std.proofs.Common.{Option, Some, None, refl, sym, ap, ◌∙◌, subst, inl, inr, arith, bit_and, bit_or}
-use Rattle.std.specs.Prelude.{slice_set, slice_index, if◌then◌else◌}
-use Rattle.std.specs.Global.{Box}
-use Rattle.std.specs.Int.Bits.{or_zero_r}
-use Rattle.std.proofs.lemmas.Bool.{cases_eq}
-use Rattle.std.proofs.lemmas.Nat.{or_mod, or_shr}
-use mathlib.Core.Option.{some, none}
-use mathlib.Core.Option as maybe
-use lib.ListN.{get_elem?}
-use Rattle.atomic_table.specs.Table.{Step, step, takes, gives, keeps, Allows, rest, put_back}
-use Rattle.atomic_table.proofs.Lists.{set_here, set_else}
+use Rattle.std.proofs.Common.{◌≡◌, ◌≢◌, ℕ, ◌/◌, ◌%◌, ◌^◌, ◌<◌, ◌==◌, Bool, true, false, List, [], ◌∷◌, ◌++◌}
+use Rattle.std.proofs.Common.{Option, Some, None, refl, sym, ap, ◌∙◌, subst, bit_or}
+use Rattle.std.specs.Prelude.{if◌then◌else◌}
 use Rattle.lw_word.specs.declared.wait_lists.LwWaiter.{LwWaiter}
 use Rattle.lw_word.specs.declared.words.LwMode.{LwMode}
-use Rattle.lw_word.specs.LightweightWord.{list_locked_word, list_unlocked_word, kept_bits, release_ok_word, has_waiters_word}
-use Rattle.lw_word.specs.WaitList.{Waiting, stands_in, without}
-use Rattle.lw_word.proofs.FlagLemmas.{list_locked_word-locked}
-use Rattle.lock_table.specs.declared.request.Request.{Request}
+use Rattle.lw_word.specs.LightweightWord.{list_locked_word, list_unlocked_word, release_ok_word, has_waiters_word}
+use Rattle.lw_word.specs.WaitList.{without}
 use Rattle.lock_table.specs.Content.{Content}
 use Rattle.lock_table.specs.Put.{set_at}
-use Rattle.lock_table.proofs.PutLemmas.{set_at-here, set_at-else, set_at-same}
+use Rattle.lock_table.proofs.PutLemmas.{set_at-else, set_at-same}
 use Rattle.lock_world.specs.declared.events.Word.TheVariants.{Partition, Fast, Sleep}
 use Rattle.lock_world.specs.declared.events.Step.TheVariants as step_of
-use Rattle.lock_world.specs.SlotHolds.{most_groups}
-use Rattle.lock_world.specs.World.{World, Words, Contents, word_in}
-use Rattle.lock_world.specs.WaitLists.{partition_lock, fast_lock, lock_word, after_seeing_none}
+use Rattle.lock_world.specs.World.{World, Words, word_in}
+use Rattle.lock_world.specs.WaitLists.{partition_lock, fast_lock, after_seeing_none}
 use Rattle.lock_world.specs.Happens.Lists.{sleepers, with_sleepers, after_locking_partition_list, after_locking_fast_list, HasList}
 use Rattle.lock_world.specs.Happens.Lists.{after_unlocking_partition_list, after_unlocking_fast_list, after_joining_list, after_leaving_the_list}
 use Rattle.lock_world.specs.Happens.Lists.{after_taking_off_the_list, after_telling_one, after_loading_sleep, after_flagging_partition, after_flagging_fast}
-use Rattle.lock_world.specs.SafeWorld.{SafeWorld}
 use Rattle.lock_world.specs.Account.{Account, ListInHand, list_in_hand, account}
 use Rattle.lock_world.specs.AccountSteps.{account_locking_list, account_unlocking_list, account_joining_list, account_leaving_list}
 use Rattle.lock_world.specs.AccountSteps.{account_taking_off, account_telling, account_loading_sleep}
 use Rattle.lock_world.specs.AccountLaw.{MayLockListBy, MayJoinListBy, MayLeaveListBy, MayTakeOffBy, MayTellBy}
-use Rattle.lock_world.proofs.ListWords.{lock_word-partition, lock_word-fast}
 use Rattle.lock_world.proofs.Accounts.Lists.{list_now, account-locking_partition_list, account-locking_fast_list}
 use Rattle.lock_world.proofs.Accounts.Lists.{account-unlocking_partition_list, account-unlocking_fast_list, account-joining_list, account-leaving_list}
 use Rattle.lock_world.proofs.Accounts.Lists.{account-taking_off, account-telling, account-loading_sleep}
@@ -41,7 +27,6 @@ use Rattle.shared_rule.specs.declared.history.Mark.{Mark}
 use Rattle.lock_world.specs.Wakes.Waking.{NoneOr}
 use Rattle.shared_rule.specs.Todos.{Todo, todo_told_by, flagged_told_by, JoinsLatest}
 use Rattle.shared_rule.specs.Todos.{TellsNobodyBy, IsLeftWellBy, lock_of_list}
-use Rattle.lw_word.specs.LightweightWord.{IsHeldByNobody, IsListLocked}
 use Rattle.lock_world.specs.Wakes.Owing.{IsLatest}
 use Rattle.lock_world.proofs.Wakes.Readings.{some-same}
 use Rattle.shared_rule.proofs.Orders.{latest-by, none-shared}
@@ -50,22 +35,15 @@ use Rattle.shared_rule.proofs.StepsOwed.{keeps-locking, keeps-joining, keeps-lea
 use Rattle.shared_rule.specs.Marks as mark
 use Rattle.shared_rule.specs.declared.history.History.{History}
 use Rattle.shared_rule.specs.declared.rule.TableSizes.{TableSizes}
-use Rattle.shared_rule.specs.declared.kept.Kept.{Kept}
-use Rattle.shared_rule.specs.declared.kept.Kept.TheVariants as kept
 use Rattle.shared_rule.specs.declared.lw_locks.LwLock.{LwLock}
 use Rattle.shared_rule.specs.declared.lw_locks.LwLock.TheVariants.{OfPart, OfSlots}
-use Rattle.shared_rule.specs.Layout.{index_of_word, content_shelf_of, list_shelf_of, lock_count, shelves_of, IsInTable}
 use Rattle.shared_rule.specs.LwLocks.{word_of_lock, lock_number, LockExists}
-use Rattle.shared_rule.specs.Waiters.{WaitersExist}
-use Rattle.shared_rule.proofs.Waiters.{listed-below}
-use Rattle.shared_rule.specs.Shown.{WordsAreShown, set_word}
-use Rattle.shared_rule.specs.History.{told, noting, first_account, first_number, list_here}
-use Rattle.shared_rule.specs.Ruled.{IsHomeUnlessInHand, ContentsAreHome, IsInNoHand, ListIsAtHome, ListsAreHome, Ruled}
-use Rattle.shared_rule.specs.Plays.{Side, WentHome, TookList, LockedListOr, SawHeldOr}
-use Rattle.shared_rule.proofs.Shown.{words-set}
-use Rattle.shared_rule.proofs.Frame.{Stepper, IsNoted, sees_list_locked, sees_held, ruled-steps, ruled-noted}
-use Rattle.shared_rule.proofs.Events.Words.{IsAlwaysLawful, nothing-changes, looks-only}
-use Rattle.shared_rule.proofs.Events.ListShelves.{or-locked, lock-below, lock-word_there, same-lock, shown-locked, shown-held, unlocked-in_no_hand, known-list, no_list-known, contents-beside, list-taken, list-put}
+use Rattle.shared_rule.specs.Shown.{set_word}
+use Rattle.shared_rule.specs.History.{told, list_here}
+use Rattle.shared_rule.specs.Ruled.{IsInNoHand}
+use Rattle.shared_rule.proofs.Frame.{Stepper, IsNoted}
+use Rattle.shared_rule.proofs.Events.Words.{IsAlwaysLawful}
+use Rattle.shared_rule.proofs.Events.ListShelves.{known-list}
 
 -- A step by which a list comes in the session's hand or goes, as it is noted; contents stay, and who stands where.
 pub record ChangesHand {T : Type 0} (content : T → Content) (groups : ℕ) (w : World) (number : ℕ) (a : Account) (todo : Todo) (flagged : Bool) (mark : Mark T) (next : Words) (has : Option ℕ) : Type 0 where

@@ -1,4 +1,4 @@
-use Rattle.std.proofs.Common.{rules, List, ap, ◌∙◌, subst}
+use Rattle.std.proofs.Common.{List, ap, ◌∙◌, subst}
 use Rattle.lock_world.specs.declared.events.Word.TheVariants.{Sleep}
 use Rattle.lock_world.specs.Account.{ListInHand}
 use Rattle.lock_world.specs.AccountLaw.{MayTakeOffBy}

@@ -1,4 +1,4 @@
-use Rattle.std.proofs.Common.{rules, List, ◌+◌, ◌-◌, ◌%◌, ◌^◌, sym, ap, ◌∙◌, subst}
+use Rattle.std.proofs.Common.{List, ◌+◌, ◌-◌, ◌%◌, ◌^◌, sym, ap, ◌∙◌, subst}
 use Rattle.lock_world.specs.declared.events.Word.TheVariants.{Fast}
 use Rattle.lock_world.specs.Account.{SlotsInHand}
 use Rattle.lock_world.specs.AccountLaw.{MayPutFastBy}

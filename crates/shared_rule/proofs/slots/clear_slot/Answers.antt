@@ -1,4 +1,4 @@
-use Rattle.std.proofs.Common.{rules, ◌≡◌, ◌<◌, List, sym, ap, ◌∙◌, subst}
+use Rattle.std.proofs.Common.{◌≡◌, ◌<◌, List, sym, ap, ◌∙◌, subst}
 use Rattle.lw_word.specs.SlotWord.{word_without}
 use Rattle.lock_world.specs.declared.events.Word.TheVariants.{Slot}
 use Rattle.lock_world.specs.Account.{SlotsInHand}
