@@ -9,6 +9,7 @@ pub mod Lowest
 pub mod IndexLaws
 pub mod Relocked
 pub mod Queues
+pub mod QueueWrites
 pub mod QueueRecords
 pub mod ObjectLaws
 pub mod Changes

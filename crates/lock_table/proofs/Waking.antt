@@ -1,10 +1,9 @@
-use Rattle.std.proofs.Common.{◌≡◌, ℕ, ◌+◌, ◌<◌, ◌≤◌, Bool, true, false, not, ◌&&◌, ◌||◌, ◌==◌, List, [], ◌∷◌, ◌++◌, length, take, drop, get_or, suc, add-one, arith, refl, sym, ap, ◌∙◌, subst, inl, inr, append_assoc, eqb}
+use Rattle.std.proofs.Common.{◌≡◌, ℕ, ◌+◌, ◌<◌, ◌≤◌, Bool, true, false, not, ◌&&◌, List, [], ◌∷◌, ◌++◌, length, take, drop, get_or, suc, add-one, arith, refl, sym, ap, ◌∙◌, subst, inl, inr, append_assoc}
 use Rattle.std.specs.Prelude.{map, count_by, if◌then◌else◌}
-use Rattle.std.specs.List.{list_any, remove, IsDistinct, AllByRecursion}
-use Rattle.std.proofs.lemmas.Bool.{cases_Bool, false≢true, false_from_ne_true, both_ways, eqb-true, eq-eqb}
-use Rattle.std.proofs.lemmas.List.{append-nil, map-append, length-map, take_at, drop_at, take_all, drop_all, drop_more, length-take-le}
-use Rattle.std.proofs.lemmas.List.Folds.{list_any-append, list_any_at}
-use Rattle.std.proofs.lemmas.Map.Steps.{length-le_from_distinct_below}
+use Rattle.std.specs.List.{list_any, remove}
+use Rattle.std.proofs.lemmas.Bool.{cases_Bool, false≢true, false_from_ne_true, both_ways}
+use Rattle.std.proofs.lemmas.List.{append-nil, map-append, take_at, drop_at, take_all, drop_all, drop_more, length-take-le}
+use Rattle.std.proofs.lemmas.List.Folds.{list_any_at}
 use Rattle.modes_core.specs.declared.modes.Mode.{Mode}
 use Rattle.modes_core.specs.declared.tags.Tag.{Tag}
 use Rattle.modes_core.specs.Tag.{tag_eq}
@@ -22,9 +21,8 @@ use Rattle.lock_table.specs.PartWaits.{request_of, queues_in, times_in, OneWaitE
 use Rattle.lock_table.specs.Queue.{IsFree, SplitsBehind, hold_all, Wakes}
 use Rattle.lock_table.proofs.PutLemmas.{put_here, put_else}
 use Rattle.lock_table.proofs.Same.{SameTriple-from, same_triple-refl}
-use Rattle.lock_table.proofs.ListLemmas.{any_found, any_weaker, any-counted}
-use Rattle.lock_table.proofs.HoldLists.{add_hold-push, count_by-cons, count_by-append, take_one_more}
-use Rattle.lock_table.proofs.ListingLemmas.{count_by-map}
+use Rattle.lock_table.proofs.ListLemmas.{any_found, any_weaker}
+use Rattle.lock_table.proofs.HoldLists.{add_hold-push, take_one_more}
 use Rattle.lock_table.proofs.Holders.{in_the_way-from, InTheWay-from}
 use Rattle.lock_table.proofs.WaitLists.{any-kept, waits_in-on, waits_in-off, waits_in-push_on, waits_in-without, count_by-insert, times_in-hold, times_in-wait}
 

@@ -13,14 +13,3 @@ pub struct Waiter {
     /// The modes of the object that the session held when it joined.
     pub held: ModeSet,
 }
-
-/// What a list has at a place without a wait.
-impl Default for Waiter {
-    fn default() -> Self {
-        Waiter {
-            session: SessionId::default(),
-            mode: Mode::default(),
-            held: ModeSet::empty(),
-        }
-    }
-}

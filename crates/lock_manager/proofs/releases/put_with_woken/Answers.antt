@@ -110,17 +110,17 @@ pub mark_granted-requires-clause-exists : goal.mark_granted-requires-clause-exis
 mark_granted-requires-clause-exists g c =
     let telling = c.loop-other.invariant.telling in
     subst (λ (s : Seated). c.loop-other-item.result.0 < s.limit) (sym c.loop-other.invariant.seat)
-    (told-exists (g.B.Board.seat c.args.board.now) telling.from c.args.part c.args.done.now c.args.woken.now
-    (g.T.PartTable.content c.args.content) telling.wakens c.as_slice-other-items.result.now c.loop-other.other-index c.loop-other-item.result
-    c.as_slice-other-items.ensures.value c.loop-other-test.true c.loop-other-item.is)
+    (told-exists (g.B.Board.seat c.args.board.now) telling.from c.args.part c.args.done.now (g.T.PartTable.woken c.args.content)
+    (g.T.PartTable.content c.args.content) telling.wakens c.woken-woken.result.now c.loop-other.other-index c.loop-other-item.result
+    c.woken-woken.ensures c.loop-other-test.true c.loop-other-item.is)
 
 pub wake-requires : goal.wake-requires
 wake-requires g c =
     let telling = c.loop-other.invariant.telling in
     record {
       exists = subst (λ (s : Seated). c.loop-session-item.result.0 < s.limit)
-          (sym (c.loop-session.invariant.seat ∙ c.put_part.ensures.seat ∙ c.loop-other.invariant.seat))
-          (told-exists (g.B.Board.seat c.args.board.now) telling.from c.args.part c.args.done.now c.args.woken.now
-          (g.T.PartTable.content c.args.content) telling.wakens c.as_slice-session-items.result.now c.loop-session.session-index
-          c.loop-session-item.result c.as_slice-session-items.ensures.value c.loop-session-test.true c.loop-session-item.is);
+          (sym (c.loop-session.invariant.seat ∙ c.loop-other.invariant.seat))
+          (told-exists (g.B.Board.seat c.args.board.now) telling.from c.args.part c.args.done.now (g.T.PartTable.woken c.args.content)
+          (g.T.PartTable.content c.args.content) telling.wakens c.woken-woken.result.now c.loop-session.session-index
+          c.loop-session-item.result c.woken-woken.ensures c.loop-session-test.true c.loop-session-item.is);
     }

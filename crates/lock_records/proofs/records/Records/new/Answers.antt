@@ -3,7 +3,7 @@ use Rattle.std.specs.Prelude.{count_by, is_some}
 use Rattle.lock_table.specs.declared.request.Request.{Request}
 use Rattle.lock_table.specs.Queue.{awaits_mode}
 use Rattle.lock_records.specs.Queues.{HasRoomInQueue, queue_on, waiting_in}
-use Rattle.lock_records.proofs.QueueRecords.{total-none}
+use Rattle.lock_records.proofs.QueueWrites.{total-none}
 use Rattle.lock_records.specs.declared.locks.LockRecord.{LockRecord}
 use Rattle.lock_records.specs.declared.holders.HolderRecord.{HolderRecord}
 use Rattle.lock_records.specs.Holders.{holds_in}

@@ -1,6 +1,5 @@
 use Rattle.std.proofs.Common.{◌+◌, not, length, Vec, Global, sym, ap, ◌∙◌, arith, refl}
 use Rattle.lock_table.specs.declared.rows.TableRow.{TableRow}
-use Rattle.lock_records.specs.declared.wait_queues.QueueRecord.{QueueRecord}
 use Rattle.lock_records.specs.Queues.{QueuesView, queue_at}
 use Rattle.lock_records.specs.Rows.{awaited_in, awaited_at, awaited_below}
 use Rattle.lock_records.proofs.Listings.{waits-start, waits-next, waits-none, waits-all, appends-none, appends-like, appends-more, on-ok}

@@ -1,9 +1,9 @@
-use Rattle.std.proofs.Common.{refl, ◌≡◌, ◌≢◌, ◌+◌, ◌<◌, ◌≤◌, [], List, Option, length, vec_len, vec_capacity, map, Some, sym, ap, ◌∙◌, subst, arith}
+use Rattle.std.proofs.Common.{refl, ◌≡◌, ◌≢◌, ◌<◌, [], List, Option, length, vec_len, vec_capacity, Some, sym, ap, ◌∙◌, subst, arith}
 use Rattle.std.proofs.Math.ListN.{set}
-use Rattle.lock_table.specs.Waiter.{shown_wait}
 use Rattle.lock_records.specs.declared.wait_queues.QueueRecord.{QueueRecord}
-use Rattle.lock_records.specs.Queues.{QueuesView, HasSameQueues, queue_at, queue_on, waiting_in, IsQueueAt}
-use Rattle.lock_records.proofs.QueueRecords.{queue-record, waits-same, requeued-are, requeued-has-room, requeued-total, count-set, set-here, set-else}
+use Rattle.lock_records.specs.Queues.{QueuesView, HasSameQueues, queue_at, waiting_in, IsQueueAt}
+use Rattle.lock_records.proofs.QueueRecords.{requeued-are, requeued-has-room, requeued-total}
+use Rattle.lock_records.proofs.QueueWrites.{queue-record, waits-same, count-set, set-here, set-else}
 use Rattle.lock_records.proofs.wait_queues.WaitQueues.reserve_in.Goals as goal
 use Rattle.lock_records.proofs.wait_queues.WaitQueues.reserve_in.Goals.{After-reserve}
 

@@ -2,7 +2,6 @@ use Rattle.std.specs.Prelude.{count_by, is_some}
 use Rattle.std.proofs.Common.{◌≡◌, ◌≢◌, ◌<◌, vec_len, vec_capacity, sym, subst, ◌+◌, ◌∷◌, ◌++◌, List, [], length, map, refl, ap, ◌∙◌, arith}
 use Rattle.lock_table.specs.Waiter.{shown_wait}
 use Rattle.lock_table.specs.declared.waits.Waiter.{Waiter}
-use Rattle.lock_records.specs.declared.wait_queues.QueueRecord.{QueueRecord}
 use Rattle.lock_records.specs.Queues.{QueuesView, queue_on, waiting_in}
 use Rattle.lock_records.proofs.QueueRecords.{started-are, started-queue, started-total}
 use Rattle.lock_records.proofs.wait_queues.WaitQueues.start.Goals as goal
