@@ -1,12 +1,12 @@
 use Rattle.std.proofs.Common.{◌≡◌, ℕ, ◌+◌, List, [], ◌∷◌, ◌++◌, map, reverse, length, None, refl, sym, ap, ◌∙◌, subst, arith, append_assoc}
-use Rattle.std.specs.Prelude.{filter, sum, sum_by, Result, Ok, Err, IfOk, All}
+use Rattle.std.specs.Prelude.{filter, sum, sum_by, Result, Ok, Err, IfOk}
 use Rattle.std.specs.List.{AllZip}
 use Rattle.std.proofs.lemmas.List.{map-append}
 use Rattle.std.proofs.lemmas.List.Sums.{sum_by-cons}
 use Rattle.std.proofs.lemmas.List.Elements.{AllZip-push}
 use Rattle.modes_core.specs.Tag.{is_strong_on}
 use Rattle.local_locks.specs.declared.records.Entry.{Entry}
-use Rattle.local_locks.specs.Owned.{Owned, IsWellOwned}
+use Rattle.local_locks.specs.Owned.{IsWellOwned}
 use Rattle.lock_table.specs.declared.no_memory.NoMemory.{NoMemory}
 use Rattle.lock_manager.specs.Keeper.{PartView, content_of}
 use Rattle.lock_world.specs.Account.{Account}

@@ -1,4 +1,4 @@
-use Rattle.std.proofs.Common.{◌≡◌, ℕ, zero, suc, ◌+◌, true, false, List, [], ◌∷◌, ◌++◌, map, reverse, length, None, refl, sym, ap, ◌∙◌, subst, inl, inr, arith}
+use Rattle.std.proofs.Common.{◌≡◌, ℕ, zero, suc, true, false, List, [], ◌∷◌, ◌++◌, map, reverse, length, None, refl, sym, ap, ◌∙◌, subst, inl, inr, arith}
 use Rattle.std.specs.Prelude.{filter, count_by, if◌then◌else◌, All}
 use Rattle.std.specs.List.{AllZip, AllByRecursion, IsDistinct}
 use Rattle.std.proofs.lemmas.Bool.{cases_Bool, both_ways, and_parts, and_from, cond-true, cond-false, false_from_ne_true}
@@ -15,7 +15,6 @@ use Rattle.fast_path.specs.declared.use_counts.UseCounts.{UseCounts}
 use Rattle.lock_table.proofs.HoldLists.{count_by-cons}
 use Rattle.lock_world.specs.Account.{Account}
 use Rattle.lock_world.specs.Tallies.{Held, AreSoMany, is_this}
-use Rattle.shared_rule.specs.Audits.{Counts}
 use Rattle.shared_rule.specs.Boards.{Seated, Stack}
 use Rattle.shared_rule.specs.Seats.{MayBeKeptApartBy}
 use Rattle.lock_manager.specs.Rest.{IsAtRest, counted_for}

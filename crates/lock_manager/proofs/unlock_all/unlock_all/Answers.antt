@@ -1,6 +1,6 @@
 use Rattle.lock_manager.specs.Releases.{ReleasesAll}
 use Rattle.lock_manager.specs.Quiet.{QuietOfReleases}
-use Rattle.std.proofs.Common.{◌≡◌, ◌≤◌, ◌+◌, [], length, refl, sym, ap, ◌∙◌, subst, arith}
+use Rattle.std.proofs.Common.{◌+◌, [], length, refl, sym, ap, ◌∙◌, subst, arith}
 use Rattle.local_locks.specs.Owned.{with_one_less}
 use Rattle.modes_core.specs.declared.sessions.Owner.TheVariants.{Session}
 use Rattle.local_locks.proofs.EntryLaws.{gone-released}
