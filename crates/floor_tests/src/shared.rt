@@ -21,7 +21,7 @@ mod latecomers;
 mod slots;
 
 // The indexes in these tests are worked by hand: 16 times 16 words for partitions, 1,024 for counters, 16 unused,
-// and 36 for each session, and again for each group of slots after the first. Most are of a table for 64 sessions.
+// and 37 for each session, and again for each group of slots after the first. Most are of a table for 64 sessions.
 
 /// The number of words of a table for `sessions` sessions with `groups` groups of slots each.
 fn words_of(sessions: u8, groups: u8) -> usize {
@@ -47,38 +47,38 @@ fn partitions_come_first_and_counters_after_them(rt: HostRuntime) -> Result<(), 
 #[test]
 fn a_session_has_twenty_words_in_a_row(rt: HostRuntime) -> Result<(), Fail> {
     let third = session(2)?;
-    assert_eq!(rt; fast_word(third), 1368);
-    assert_eq!(rt; database_word(third), 1369);
-    assert_eq!(rt; slot_word(64, third, 0), 1370);
-    assert_eq!(rt; slot_word(64, third, 15), 1385);
-    assert_eq!(rt; wait_word(third), 1386);
-    assert_eq!(rt; sleep_word(third), 1387);
+    assert_eq!(rt; fast_word(third), 1370);
+    assert_eq!(rt; database_word(third), 1371);
+    assert_eq!(rt; slot_word(64, third, 0), 1372);
+    assert_eq!(rt; slot_word(64, third, 15), 1387);
+    assert_eq!(rt; wait_word(third), 1388);
+    assert_eq!(rt; sleep_word(third), 1389);
     Ok(())
 }
 
 #[test]
 fn the_table_ends_with_the_gap_after_the_last_session(rt: HostRuntime) -> Result<(), Fail> {
-    assert_eq!(rt; sleep_word(session(63)?), 3583);
-    assert_eq!(rt; words_of(64, 1), 3600);
-    assert_eq!(rt; sleep_word(session(7)?), 1567);
-    assert_eq!(rt; words_of(8, 1), 1584);
-    assert_eq!(rt; words_of(1, 1), 1332);
+    assert_eq!(rt; sleep_word(session(63)?), 3646);
+    assert_eq!(rt; words_of(64, 1), 3664);
+    assert_eq!(rt; sleep_word(session(7)?), 1574);
+    assert_eq!(rt; words_of(8, 1), 1592);
+    assert_eq!(rt; words_of(1, 1), 1333);
     Ok(())
 }
 
 #[test]
 fn each_further_group_of_slots_has_a_block_for_each_session(rt: HostRuntime) -> Result<(), Fail> {
     let third = session(2)?;
-    assert_eq!(rt; slot_word(64, third, 16), 3674);
-    assert_eq!(rt; slot_word(64, third, 31), 3689);
-    assert_eq!(rt; slot_word(64, third, 32), 5978);
-    assert_eq!(rt; slot_word(64, session(63)?, 127), 19709);
-    assert_eq!(rt; words_of(64, 2), 5904);
-    assert_eq!(rt; words_of(64, 8), 19728);
-    assert_eq!(rt; slot_word(8, third, 15), 1385);
-    assert_eq!(rt; slot_word(8, third, 16), 1658);
-    assert_eq!(rt; slot_word(8, session(7)?, 127), 3581);
-    assert_eq!(rt; words_of(8, 8), 3600);
+    assert_eq!(rt; slot_word(64, third, 16), 3740);
+    assert_eq!(rt; slot_word(64, third, 31), 3755);
+    assert_eq!(rt; slot_word(64, third, 32), 6108);
+    assert_eq!(rt; slot_word(64, session(63)?, 127), 20220);
+    assert_eq!(rt; words_of(64, 2), 6032);
+    assert_eq!(rt; words_of(64, 8), 20240);
+    assert_eq!(rt; slot_word(8, third, 15), 1387);
+    assert_eq!(rt; slot_word(8, third, 16), 1668);
+    assert_eq!(rt; slot_word(8, session(7)?, 127), 3644);
+    assert_eq!(rt; words_of(8, 8), 3664);
     Ok(())
 }
 

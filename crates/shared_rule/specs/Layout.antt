@@ -12,7 +12,7 @@ use Rattle.shared_rule.specs.declared.rule.TableSizes.{TableSizes}
 
 -- where the block of this number begins
 abbrev pub block_start : ℕ → ℕ
-block_start block = 1296 + 36 * block
+block_start block = 1296 + 37 * block
 
 -- the number of the block that has a session's slots of this group, by how many sessions there can be
 abbrev pub block_of : ℕ → ℕ → ℕ → ℕ
