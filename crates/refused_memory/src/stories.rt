@@ -30,12 +30,12 @@ pub enum Story<'a> {
 }
 
 /// Each but those of sessions, with its name and how many growths it takes. A manager takes three for each of 16
-/// partitions, one for each of 128 places of wait lists, and five for the lists of partitions, of slots and of
+/// partitions, two for each of 32 wait lists (those of a manager of 8 sessions), and five for the lists of partitions, of slots and of
 /// words, and for the table of both. A local table takes one for its slots, two for their index, and three for the
 /// counts of outer levels, a list that grows to 16. A session has that and a box. The list of an audit's rows grows
 /// to four and to eight.
 pub static STORIES: [(&'static str, Story<'static>, u16); 15] = [
-    ("Manager::new", Story::MakesManager, 181),
+    ("Manager::new", Story::MakesManager, 117),
     ("Opener::session", Story::OpensSession, 7),
     ("LocalTable::new", Story::MakesLocalTable, 6),
     (
