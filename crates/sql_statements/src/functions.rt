@@ -104,8 +104,8 @@ fn read_advisory(reader: &mut StatementReader) -> Result<(), AllocError> {
 }
 
 impl StatementReader {
-    /// Keeps that a column of `table` has its default from a sequence, where a `nextval` comes next, and adds that the statement names that
-    /// sequence.
+    /// Keeps that a column of `table` has its default from a sequence, where a `nextval` comes next. The statement itself locks no
+    /// sequence: the server looks its name up without a lock, and locks it once a row takes a number.
     pub fn note_default(&mut self, table: usize) -> Result<(), SqlFault> {
         if !self.cursor.is_at("nextval") {
             return Ok(());
@@ -115,9 +115,6 @@ impl StatementReader {
                 Some(plain) => String::from_str(self.alloc, plain)?,
                 None => name,
             };
-            if let Some(sequence) = self.catalog.find(name.as_str()) {
-                self.act(Form::ReadDefinition, sequence)?;
-            }
             self.belongings.attach(AttachedKind::Default, name, table)?;
         }
         Ok(())

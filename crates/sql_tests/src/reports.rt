@@ -118,11 +118,8 @@ line 3: COMMIT;
   numbers: AccessExclusiveLock, made here and known to nobody else
   works for a moment, and holds its locks until its own end
 line 2: CREATE TABLE counted (id int DEFAULT nextval('numbers'));
-  numbers: AccessShareLock
   counted: AccessExclusiveLock, made here and known to nobody else
   works for a moment, and holds its locks until its own end
-  keeps waiting: only DDL that shuts all out, as DROP TABLE
-  waits behind: only DDL that shuts all out
 ",
     ),
     (
