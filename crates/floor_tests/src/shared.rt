@@ -82,16 +82,30 @@ fn each_further_group_of_slots_has_a_block_for_each_session(rt: HostRuntime) -> 
     Ok(())
 }
 
-// 16 words of 8 bytes are 128 bytes.
+/// Whether the word at `later` stands 128 bytes after the word at `earlier` at least: 16 words of 8 bytes.
+fn is_apart(earlier: usize, later: usize) -> bool {
+    later.saturating_sub(earlier) >= 16
+}
+
 #[test]
 fn neighbours_are_128_bytes_apart(rt: HostRuntime) -> Result<(), Fail> {
-    assert!(rt; sleep_word(session(0)?) + 16 <= fast_word(session(1)?));
-    assert!(rt; sleep_word(session(62)?) + 16 <= fast_word(session(63)?));
-    assert!(rt; sleep_word(session(63)?) + 16 <= slot_word(64, session(0)?, 16));
-    assert!(rt; slot_word(64, session(0)?, 31) + 16 <= slot_word(64, session(1)?, 16));
-    assert!(rt; slot_word(64, session(63)?, 31) + 16 <= slot_word(64, session(0)?, 32));
-    assert!(rt; strong_word(1023) + 16 <= fast_word(session(0)?));
-    assert!(rt; partition_word(15) + 16 <= strong_word(0));
+    assert!(rt; is_apart(sleep_word(session(0)?), fast_word(session(1)?)));
+    assert!(rt; is_apart(sleep_word(session(62)?), fast_word(session(63)?)));
+    assert!(rt; is_apart(sleep_word(session(63)?), slot_word(64, session(0)?, 16)));
+    assert!(rt;
+        is_apart(
+            slot_word(64, session(0)?, 31),
+            slot_word(64, session(1)?, 16)
+        )
+    );
+    assert!(rt;
+        is_apart(
+            slot_word(64, session(63)?, 31),
+            slot_word(64, session(0)?, 32)
+        )
+    );
+    assert!(rt; is_apart(strong_word(1023), fast_word(session(0)?)));
+    assert!(rt; is_apart(partition_word(15), strong_word(0)));
     Ok(())
 }
 
