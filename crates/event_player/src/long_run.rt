@@ -11,7 +11,7 @@ use std::alloc::Global;
 /// Whether 2,000 rounds of 64 sessions, played with room from `alloc`, lead to what they are to lead to.
 pub fn is_right(alloc: Global) -> Result<bool> {
     let mut events = Vec::new(alloc);
-    for number in 0..64u8 {
+    for number in 0..64u16 {
         let Some(session) = SessionId::new(number) else {
             return Ok(false);
         };
@@ -28,7 +28,7 @@ pub fn is_right(alloc: Global) -> Result<bool> {
 
 /// Adds the events of round `round` to `events`, and answers whether there are such sessions.
 fn add_round(events: &mut Vec<Event>, round: u32) -> Result<bool> {
-    let number = (round % 64) as u8;
+    let number = (round % 64) as u16;
     let Some(session) = SessionId::new(number) else {
         return Ok(false);
     };
@@ -103,7 +103,7 @@ fn words_are_right(plain: &Plain) -> bool {
             return false;
         }
     }
-    for number in 0..64u8 {
+    for number in 0..64u16 {
         let Some(session) = SessionId::new(number) else {
             return false;
         };

@@ -35,8 +35,8 @@ pub fn look(plain: &Plain, words: &mut Words) -> Option<bool> {
 /// Whether in `plain` the words of one kind, from a first number to a last one, all show what `words` say.
 fn words_show(plain: &Plain, words: &mut Words) -> Option<bool> {
     let kind = words.next()?;
-    let first = small_number(words)?;
-    let last = small_number(words)?;
+    let first = index(words)?;
+    let last = index(words)?;
     let shown = shown(words)?;
     for number in first..=last {
         if plain.word(numbered_word(kind, number)?) != shown {
@@ -47,9 +47,9 @@ fn words_show(plain: &Plain, words: &mut Words) -> Option<bool> {
 }
 
 /// The word of the shared table of this `kind` with the number `number`.
-fn numbered_word(kind: &str, number: u8) -> Option<Word> {
+fn numbered_word(kind: &str, number: u16) -> Option<Word> {
     match kind {
-        "partition" => Some(Word::Partition(number)),
+        "partition" => Some(Word::Partition(u8::try_from(number).ok()?)),
         "fast" => Some(Word::Fast(SessionId::new(number)?)),
         "wait" => Some(Word::Wait(SessionId::new(number)?)),
         "sleep" => Some(Word::Sleep(SessionId::new(number)?)),
@@ -125,7 +125,7 @@ fn wait_held_is(plain: &Plain, words: &mut Words) -> Option<bool> {
 /// Whether the sleeper of `plain` at a place is the one that `words` say.
 fn sleeper_is(plain: &Plain, words: &mut Words) -> Option<bool> {
     let place = usize::from(small_number(words)?);
-    let lock = small_number(words)?;
+    let lock = index(words)?;
     let session = session(words)?;
     let mode = list_mode(words)?;
     match plain.sleepers().get(place) {

@@ -7,7 +7,7 @@
 
 use crate::looks::look;
 use crate::steps::parse_step;
-use crate::words::{Words, mode, session, small_number, tag};
+use crate::words::{Words, index, mode, session, small_number, tag};
 use anyhow::Result;
 use lock_model::run_events;
 use lock_world::{Event, Step, Word};
@@ -151,9 +151,9 @@ fn add_walk(events: &mut Vec<Event>, whose: SessionId, words: &mut Words) -> Res
 }
 
 /// The first and the last session that a walk goes past, and the strong lock that it is for, by `words`.
-fn parse_walk(words: &mut Words) -> Option<(u8, u8, Tag, Mode)> {
-    let first = small_number(words)?;
-    let last = small_number(words)?;
+fn parse_walk(words: &mut Words) -> Option<(u16, u16, Tag, Mode)> {
+    let first = index(words)?;
+    let last = index(words)?;
     let tag = tag(words)?;
     let mode = mode(words)?;
     Some((first, last, tag, mode))

@@ -26,7 +26,7 @@ pub fn number(words: &mut Words) -> Option<u64> {
 
 /// A session, by its number in the next of `words`.
 pub fn session(words: &mut Words) -> Option<SessionId> {
-    SessionId::new(small_number(words)?)
+    SessionId::new(index(words)?)
 }
 
 /// A database, by the next of `words`.
@@ -138,7 +138,7 @@ pub fn done(words: &mut Words) -> Option<Move> {
         }
         "leave" => Some(Move::Leave { tag: tag(words)? }),
         "adopt" => {
-            let owner = small_number(words)?;
+            let owner = index(words)?;
             let slot = small_number(words)?;
             Some(Move::Adopt { owner, slot })
         }

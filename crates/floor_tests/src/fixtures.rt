@@ -21,7 +21,7 @@ pub const ANOTHER_OBJECT: Tag = Tag::Object {
 };
 
 /// The session with the number `number`.
-pub fn session(rt: &impl Abort, number: u8) -> SessionId {
+pub fn session(rt: &impl Abort, number: u16) -> SessionId {
     SessionId::new(number).expect(rt, "a session number")
 }
 
@@ -72,7 +72,7 @@ pub fn may_release<P: PartTable>(
 }
 
 /// Whether `woken` has those who are `expected`, in this order.
-pub fn are_woken(woken: &[(SessionId, Mode)], expected: &[(u8, Mode)]) -> bool {
+pub fn are_woken(woken: &[(SessionId, Mode)], expected: &[(u16, Mode)]) -> bool {
     if woken.len() != expected.len() {
         return false;
     }

@@ -17,11 +17,11 @@ use wait_queue::{Decision, Kind, awaited_in_conflict, decide, remove_waiter, tak
 #[derive(Clone, Copy)]
 enum Step {
     /// The session asks, and is answered this.
-    Asks(u8, Mode, Kind, Told),
+    Asks(u16, Mode, Kind, Told),
     /// The session releases a hold, which wakes these, in this order.
-    Releases(u8, Mode, &'static [(u8, Mode)]),
+    Releases(u16, Mode, &'static [(u16, Mode)]),
     /// The session's wait is taken out; whether it had been granted, and whom that wakes.
-    Leaves(u8, bool, &'static [(u8, Mode)]),
+    Leaves(u16, bool, &'static [(u16, Mode)]),
     /// Whether somebody waits for a mode in conflict with this one.
     Awaited(Mode, bool),
 }
@@ -32,11 +32,11 @@ enum Told {
     Granted,
     Queued,
     /// Refused, for the session with this number holds this mode.
-    Held(u8, Mode),
+    Held(u16, Mode),
     /// Refused, for the session with this number waits for this mode.
-    Ahead(u8, Mode),
+    Ahead(u16, Mode),
     /// Refused, for the session that asks and the one with this number would wait for one another.
-    Deadlock(u8),
+    Deadlock(u16),
 }
 
 use Told::{Ahead, Deadlock, Granted, Held, Queued};
@@ -164,7 +164,7 @@ fn wakes<P: PartTable>(
     part: &mut P,
     session: SessionId,
     mode: Mode,
-    expected: &[(u8, Mode)],
+    expected: &[(u16, Mode)],
 ) -> bool
     ensures { P.begun part.new ≡ P.begun part.old }
 {

@@ -29,7 +29,7 @@ fn words_of(sessions: u8, groups: u8) -> usize {
 }
 
 /// The session with the number `number`.
-fn session(number: u8) -> Result<SessionId, Fail> {
+fn session(number: u16) -> Result<SessionId, Fail> {
     Ok(SessionId::new(number).ok_or("no session")?)
 }
 

@@ -126,7 +126,7 @@ fn a_request_is_told_where_it_stands(rt: HostRuntime) -> Result<(), Fail> {
 
 /// Has `many` sessions wait in `part` for what nobody holds, each after those with lower numbers, and wakes the
 /// queue.
-fn wake_many<P: PartTable>(rt: &impl Abort, part: &mut P, many: u8) -> Result<(), NoMemory>
+fn wake_many<P: PartTable>(rt: &impl Abort, part: &mut P, many: u16) -> Result<(), NoMemory>
     requires none_begun { P.begun part.old ≡ None }
 {
     'waits: for number in 0..many {
@@ -180,7 +180,7 @@ fn rows_of<P: PartTable>(
 
 /// Whether `rows` are those of the `expected` sessions, in this order, on the one object, in these modes, granted or
 /// awaited.
-fn are_rows(rows: &[TableRow], expected: &[(u8, Mode, bool)]) -> bool {
+fn are_rows(rows: &[TableRow], expected: &[(u16, Mode, bool)]) -> bool {
     if rows.len() != expected.len() {
         return false;
     }
@@ -194,7 +194,7 @@ fn are_rows(rows: &[TableRow], expected: &[(u8, Mode, bool)]) -> bool {
     true
 }
 
-const ROWS_OF_HOLDERS_WHO_WAIT: [(u8, Mode, bool); 4] = [
+const ROWS_OF_HOLDERS_WHO_WAIT: [(u16, Mode, bool); 4] = [
     (0, RowShare, true),
     (0, AccessShare, false),
     (1, Share, true),

@@ -228,7 +228,7 @@ fn a_flag_is_set_alone(rt: HostRuntime) {
 }
 
 /// Sessions by their numbers, and how they wait.
-type Waiters = &'static [(u8, LwMode)];
+type Waiters = &'static [(u16, LwMode)];
 
 /// Who waits in a wait list, whom a wakeup takes off, whom it leaves, and whether release-ok is to be set.
 type WaitsAndWakeup = (Waiters, Waiters, Waiters, bool);
@@ -253,7 +253,7 @@ const WAKEUPS: [WaitsAndWakeup; 3] = [
 ];
 
 /// Has the session numbered `number`, for which there is room, join `list`, in which it isn't yet, for `mode`.
-fn join(rt: &impl Abort, list: &mut WaitList, number: u8, mode: LwMode) {
+fn join(rt: &impl Abort, list: &mut WaitList, number: u16, mode: LwMode) {
     let session = session(rt, number);
     assert!(rt; session.number() < list.room());
     assert!(rt; !list.has(session));
@@ -261,7 +261,7 @@ fn join(rt: &impl Abort, list: &mut WaitList, number: u8, mode: LwMode) {
 }
 
 /// Whether `waiters` are the `expected` ones, in this order and in these modes.
-fn are_waiting(waiters: &[LwWaiter], expected: &[(u8, LwMode)]) -> bool {
+fn are_waiting(waiters: &[LwWaiter], expected: &[(u16, LwMode)]) -> bool {
     if waiters.len() != expected.len() {
         return false;
     }

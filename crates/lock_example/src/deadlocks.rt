@@ -43,7 +43,7 @@ fn victim_of(waits: &Vec<Blocked>) -> Option<SessionId> {
     let mut victim = None;
     'numbers: for number in 0..NUMBERS {
         if behind[number][number] {
-            victim = SessionId::new(number as u8);
+            victim = SessionId::new(number as u16);
         }
     }
     victim

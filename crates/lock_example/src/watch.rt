@@ -125,14 +125,14 @@ fn look<B: Board<Part>>(watch: &Watch, session: &mut OwnSession<Part, B>, seen: 
 {
     'places: for place in 0..NUMBERS {
         if watch.waits_too_long(place, seen) {
-            ask(session, place as u8);
+            ask(session, place as u16);
         }
     }
 }
 
 /// Asks the session numbered `number` to cancel its wait. `Asked::Waiting` says that it waited as it was asked, and
 /// no more: where it is granted before it has cancelled, it has the lock.
-fn ask<B: Board<Part>>(session: &mut OwnSession<Part, B>, number: u8)
+fn ask<B: Board<Part>>(session: &mut OwnSession<Part, B>, number: u16)
     ensures seat { KeepsSeat B.seat session.old session.new }
 {
     if let Some(other) = SessionId::new(number) {

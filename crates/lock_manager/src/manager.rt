@@ -61,9 +61,9 @@ impl Model for Manager {
 #[derive(Drop)]
 pub struct Opener {
     pub(crate) numbers: NumberOpener<Part>,
-    issued: u8,
-    sessions: u8,
-    live: u8,
+    issued: u16,
+    sessions: u16,
+    live: u16,
 }
 
 impl Model for Opener {
@@ -102,7 +102,7 @@ impl Manager {
             return Err(Refusal::NoMemory);
         };
         let sizes = TableSizes {
-            sessions: config.sessions as u8,
+            sessions: config.sessions as u16,
             groups: config.slot_groups as u8,
         };
         let Ok(shelves) = in_shelves(alloc, parts, sizes.sessions) else {

@@ -23,7 +23,7 @@ use Rattle.lock_table.proofs.PutLemmas.{put_here, put_else}
 use Rattle.lock_records.proofs.Changes.{queues-put, queues-else}
 use Rattle.std.specs.Option.{ForSome}
 use Rattle.lock_table.proofs.Options.{ForSome-some}
-use Rattle.lock_records.specs.Tally.{counts_in}
+use Rattle.lock_records.specs.Tally.{counts_in, most_tallied}
 use Rattle.modes_core.specs.Tag.{tag_eq}
 use Rattle.modes_core.specs.Mode.{mode_eq}
 use Rattle.modes_core.proofs.Laws.{tag_eq-same}
@@ -114,7 +114,7 @@ nothing-held locks holders waits s t m are no_lock = holds-none holders s t (no-
 
 -- The record of an object that is awaited by few counts few.
 pub counts-few : (locks mid : List (Option LockRecord)) (holders : List (Option HolderRecord)) (waits : List (Option QueueRecord)) (t : Tag) (m : Mode) (place : ℕ) → AreObjects locks holders waits → HasMadeLock locks mid t place →
-    (i : IsLockAt mid t place) → counts_in i.lock.awaited m < 255
+    (i : IsLockAt mid t place) → counts_in i.lock.awaited m < most_tallied
 counts-few locks mid holders waits t m place are made i =
     let is = (made-held locks mid holders waits t place are made i).awaited m in
     let few = awaited-few (queue_on waits t) m (are t).waiting.one_each (are t).waiting.below in

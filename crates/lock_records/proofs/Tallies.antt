@@ -10,7 +10,7 @@ use Rattle.modes_core.specs.Mode.{number_of, mode_eq}
 use Rattle.modes_core.specs.ModeSet.{set_has}
 use Rattle.lock_table.specs.Put.{put}
 use Rattle.lock_records.specs.Counting.{total_of}
-use Rattle.lock_records.specs.Tally.{counts_in, IsTally}
+use Rattle.lock_records.specs.Tally.{counts_in, most_tallied, IsTally}
 
 -- A mode's number is 1 to 8.
 pub number-within : (mode : Mode) → (0 < number_of mode) × (number_of mode < 9)
@@ -39,7 +39,7 @@ counts-set xs mode v nine = λ i m. counts-set_at xs mode v nine m i
 
 -- A count written, with the total and the mask that go with it.
 pub IsTally-set :
-    (xs : List ℕ) (total mask : ℕ) (mode : Mode) (v total' mask' : ℕ) → IsTally xs total mask → v ≤ 255 → total' + counts_in xs mode ≡ total + v →
+    (xs : List ℕ) (total mask : ℕ) (mode : Mode) (v total' mask' : ℕ) → IsTally xs total mask → v ≤ most_tallied → total' + counts_in xs mode ≡ total + v →
     ((m : Mode) → set_has mask' m ≡ (if mode_eq m mode then not (v == 0) else set_has mask m)) → IsTally (set xs (number_of mode) v) total' mask'
 IsTally-set xs total mask mode v total' mask' is small sum_is mask_is =
     let in_range = number-within mode in
@@ -52,7 +52,7 @@ IsTally-set xs total mask mode v total' mask' is small sum_is mask_is =
       summed = omega (arith, sum_by-set (λ x. x) xs (number_of mode) v 0 within, is.summed);
       modes = modes;
     } where
-      each : number_of mode < length xs → (k : ℕ) → slice_index (set xs (number_of mode) v) k ≤ 255
+      each : number_of mode < length xs → (k : ℕ) → slice_index (set xs (number_of mode) v) k ≤ most_tallied
       each within k =
           elim (cases_eq k (number_of mode)) [
             | inl same ↦ rw (same, get_or-set_same xs (number_of mode) v 0 within) small
@@ -67,9 +67,9 @@ IsTally-set xs total mask mode v total' mask' is small sum_is mask_is =
           ]
 
 -- Nine small numbers have a small sum, which is at least each of them.
-pub sum-small : (xs : List ℕ) → length xs ≡ 9 → ((k : ℕ) → slice_index xs k ≤ 255) → sum xs ≤ 2295
+pub sum-small : (xs : List ℕ) → length xs ≡ 9 → ((k : ℕ) → slice_index xs k ≤ most_tallied) → sum xs ≤ 9 * most_tallied
 sum-small xs nine each =
-    let all : sum xs ≤ length xs * 255 = sum_by-le (λ x. x) 255 xs (λ k d within. rw (get_or_default xs k d 0 within) (each k)) in
+    let all : sum xs ≤ length xs * most_tallied = sum_by-le (λ x. x) most_tallied xs (λ k d within. rw (get_or_default xs k d 0 within) (each k)) in
     omega arith
 
 pub sum-least : (xs : List ℕ) (mode : Mode) → length xs ≡ 9 → counts_in xs mode ≤ sum xs

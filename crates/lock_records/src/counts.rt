@@ -32,13 +32,11 @@ pub(crate) fn counts_of(lock: &LockRecord) -> Counts
     ensures grant_mask { (mode : Mode) → set_has result.grant_mask mode ≡ not (counts_in lock.now.granted mode == 0) }
     ensures wait_mask { (mode : Mode) → set_has result.wait_mask mode ≡ not (counts_in lock.now.awaited mode == 0) }
 {
-    let held = lock.granted.by_mode();
+    let granted = lock.granted.by_mode();
     let awaited = lock.awaited.by_mode();
-    let mut granted = [0u16; 9];
     let mut requested = [0u16; 9];
     for number in 0..9 {
-        granted[number] = u16::from(held[number]);
-        requested[number] = u16::from(held[number]) + u16::from(awaited[number]);
+        requested[number] = granted[number] + awaited[number];
     }
     Counts {
         requested,

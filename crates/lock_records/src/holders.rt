@@ -24,7 +24,7 @@ pub struct HolderRecord {
 #[derive(Clone, Copy, Debug)]
 pub struct Holders {
     pub first: usize,
-    pub count: u8,
+    pub count: u16,
 }
 
 /// Where the record of `session` on `tag` stands in `slots`, in the chain `holders`.

@@ -6,7 +6,7 @@ ghost use Rattle.modes_core.specs.declared.modes.Mode.{Mode};
 ghost use Rattle.slab.specs.Slab.{slab_len, HasRoomFor};
 ghost use Rattle.place_index.specs.Notes.{HasSameNotes};
 ghost use Rattle.lock_table.specs.Clash.{HolderInTheWay};
-ghost use Rattle.lock_records.specs.Tally.{counts_in, one_more, one_less};
+ghost use Rattle.lock_records.specs.Tally.{counts_in, most_tallied, one_more, one_less};
 ghost use Rattle.lock_records.specs.Counting.{awaited_of};
 ghost use Rattle.lock_records.specs.Holders.{holds_in, AreHolders, SetsHold};
 ghost use Rattle.lock_records.specs.Queues.{queue_on, waiting_in, IsQueueAt, HasRoomInQueue, HasSameQueues};
@@ -230,7 +230,7 @@ pub(crate) fn raise_awaited(
     queue: usize,
 )
     requires there { IsLockAt locks.old.slots tag.now place }
-    requires few { (i : IsLockAt locks.old.slots tag.now place) → counts_in i.lock.awaited mode < 255 }
+    requires few { (i : IsLockAt locks.old.slots tag.now place) → counts_in i.lock.awaited mode < most_tallied }
     ensures lock { (r : IsRelocked locks.old.slots locks.new.slots tag.now place)
         × (r.is.lock.holders ≡ r.was.lock.holders) × (r.is.lock.granted ≡ r.was.lock.granted)
         × (counts_in r.is.lock.awaited ≡ one_more (counts_in r.was.lock.awaited) mode) }

@@ -1,6 +1,6 @@
-ghost use Rattle.std.specs.Prelude.{◌≡◌, ◌<◌, ◌≤◌, ◌+◌, ◌==◌, not, length, false, true};
+ghost use Rattle.std.specs.Prelude.{◌≡◌, ℕ, ◌<◌, ◌≤◌, ◌+◌, ◌*◌, ◌==◌, not, length, slice_index, false, true};
 ghost use Rattle.modes_core.specs.ModeSet.{set_has};
-ghost use Rattle.lock_records.specs.Tally.{counts_in, one_more, one_less};
+ghost use Rattle.lock_records.specs.Tally.{counts_in, most_tallied, one_more, one_less};
 ghost use Rattle.lock_records.specs.Counting.{total_of};
 
 use crate::sets::has_some;
@@ -12,13 +12,13 @@ use std::marker::Model;
 /// Contracts see the numbers by mode, of which the first stands for no mode.
 #[derive(Debug, Drop)]
 pub struct Tally {
-    by_mode: [u8; 9],
+    by_mode: [u16; 9],
     total: u16,
     mask: ModeSet,
 }
 
 impl Model for Tally {
-    ghost use Rattle.std.specs.Prelude.{List, ℕ};
+    ghost use Rattle.std.specs.Prelude.{List};
     ghost use Rattle.lock_records.specs.Tally.{IsTally};
 
     ghost Value = { List ℕ };
@@ -41,16 +41,17 @@ impl Tally {
     }
 
     /// How many there are of `mode`.
-    pub fn count(&self, mode: Mode) -> u8
+    pub fn count(&self, mode: Mode) -> u16
         ensures { result ≡ counts_in self.now mode }
     {
         self.by_mode[usize::from(mode.number())]
     }
 
     /// How many there are of each mode, at the number of the mode.
-    pub fn by_mode(&self) -> [u8; 9]
+    pub fn by_mode(&self) -> [u16; 9]
         ensures value { result ≡ self.now }
         ensures nine { length result ≡ 9 }
+        ensures few { (number : ℕ) → slice_index result number ≤ most_tallied }
     {
         self.by_mode
     }
@@ -58,7 +59,7 @@ impl Tally {
     /// How many there are of all modes together.
     pub fn total(&self) -> u16
         ensures value { result ≡ total_of (counts_in self.now) }
-        ensures few { result ≤ 2295 }
+        ensures few { result ≤ 9 * most_tallied }
     {
         self.total
     }
@@ -92,7 +93,7 @@ impl Tally {
     /// Counts one more of `mode`.
     #[inline(always)]
     pub fn raise(&mut self, mode: Mode)
-        requires { counts_in self.old mode < 255 }
+        requires { counts_in self.old mode < most_tallied }
         ensures { counts_in self.new ≡ one_more (counts_in self.old) mode }
     {
         let number = usize::from(mode.number());

@@ -17,7 +17,7 @@ pub enum Move {
     /// The session adds holds of the session numbered `owner`, which may be itself, that stood in the fast-path slot
     /// `slot` of that session. No single step does so: each step that moves a mode out of the slot adds one
     /// (`FastPathTransferRelationLocks` in lock.c).
-    Adopt { owner: u8, slot: u8 },
+    Adopt { owner: u16, slot: u8 },
 }
 
 impl Move {

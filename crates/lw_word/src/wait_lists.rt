@@ -41,7 +41,7 @@ pub struct Wakeup {
 #[derive(Debug, Drop)]
 pub struct WaitList {
     waiters: Vec<LwWaiter>,
-    room: u8,
+    room: u16,
 }
 
 impl Model for WaitList {
@@ -63,7 +63,7 @@ impl WaitList {
 
     /// A wait list in which nobody waits, with room for `sessions` of them: there can be those with numbers below. An
     /// error where `alloc` has no memory for it.
-    pub fn new(alloc: Global, sessions: u8) -> Result<Self, AllocError>
+    pub fn new(alloc: Global, sessions: u16) -> Result<Self, AllocError>
         ensures { IfOk result (λ list. list ≡ record { waiters = []; room = sessions }) }
     {
         Ok(WaitList {
@@ -81,7 +81,7 @@ impl WaitList {
     }
 
     /// For how many sessions there is room: as many as there can be.
-    pub fn room(&self) -> u8
+    pub fn room(&self) -> u16
         ensures { result ≡ self.now.room }
     {
         self.room

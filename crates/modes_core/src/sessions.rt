@@ -7,13 +7,13 @@ use std::marker::Model;
 
 /// How many sessions there are at most at a time, whose numbers are those below (`MaxBackends` in globals.c, of a server
 /// as large as can be).
-pub const MOST_SESSIONS: u8 = 64;
+pub const MOST_SESSIONS: u16 = 64;
 
 /// The number of a session, 0 to 63, given in the order of opening. Contracts see the number. The
 /// default, 0, is what unused places of bounded lists have.
 #[derive(Clone, Copy, Debug, Default, PartialEq, Eq, PartialOrd, Ord, Hash)]
 pub struct SessionId {
-    number: u8,
+    number: u16,
 }
 
 impl Model for SessionId {
@@ -28,7 +28,7 @@ impl Model for SessionId {
 
 impl SessionId {
     /// The session numbered `number`, or `None` where that is not below 64.
-    pub fn new(number: u8) -> Option<Self>
+    pub fn new(number: u16) -> Option<Self>
         ensures valid { IsSome result ↔ (number < most_sessions) }
         ensures value { IfSome result (λ id. id ≡ number) }
     {
@@ -40,7 +40,7 @@ impl SessionId {
     }
 
     /// The session's number, as a number below `MOST_SESSIONS`.
-    pub fn number(self) -> u8
+    pub fn number(self) -> u16
         ensures value { result ≡ self }
         ensures within { result < most_sessions }
     {

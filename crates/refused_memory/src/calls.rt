@@ -27,7 +27,7 @@ pub enum Answer {
     AlreadyHeld,
     Queued,
     /// The session of this number holds this mode.
-    Conflict(u8, Mode),
+    Conflict(u16, Mode),
     /// The refusal of this number.
     Refused(u8),
     Rows { fast: usize, table: usize },

@@ -26,8 +26,8 @@ struct Seen {
 }
 
 /// How many sessions come in `rows` before the first one that has the table in a slot.
-fn before_slots(rows: &[SlotRow]) -> u8 {
-    let mut before = 64u8;
+fn before_slots(rows: &[SlotRow]) -> u16 {
+    let mut before = 64u16;
     for row in rows {
         if row.tag == TABLE {
             before = before.min(row.session.number());
@@ -37,8 +37,8 @@ fn before_slots(rows: &[SlotRow]) -> u8 {
 }
 
 /// How many sessions there are in `rows` up to the last one that has the table in the lock table.
-fn up_to_table(rows: &[TableRow]) -> u8 {
-    let mut up_to = 0u8;
+fn up_to_table(rows: &[TableRow]) -> u16 {
+    let mut up_to = 0u16;
     for row in rows {
         if row.tag == TABLE {
             up_to = up_to.max(row.session.number().saturating_add(1));

@@ -192,7 +192,7 @@ impl Picture {
     fn write_mermaid_node(
         &self,
         names: &Names,
-        number: u8,
+        number: u16,
         text: &mut String,
     ) -> Result<(), AllocError>
         requires { number < most_sessions }
@@ -207,7 +207,7 @@ impl Picture {
     fn write_label(
         &self,
         names: &Names,
-        number: u8,
+        number: u16,
         line_break: &str,
         text: &mut String,
     ) -> Result<(), AllocError>
@@ -285,7 +285,7 @@ impl Picture {
     fn write_dot_node(
         &self,
         names: &Names,
-        number: u8,
+        number: u16,
         color: &str,
         text: &mut String,
     ) -> Result<(), AllocError>
@@ -297,7 +297,7 @@ impl Picture {
     }
 
     /// What the session `number` awaits, if it waits.
-    fn wait_of(&self, number: u8) -> Option<Wait> {
+    fn wait_of(&self, number: u16) -> Option<Wait> {
         for wait in &self.waits {
             if wait.session.number() == number {
                 return Some(*wait);
@@ -307,7 +307,7 @@ impl Picture {
     }
 
     /// Whether the session `number` is on the picture.
-    fn shows(&self, number: u8) -> bool {
+    fn shows(&self, number: u16) -> bool {
         if self.wait_of(number).is_some() {
             return true;
         }

@@ -74,7 +74,7 @@ fn look_over_as<T: PartTable, M: Marking<T>>(
 fn look_over_slot<T: PartTable, M: Marking<T>>(
     words: &SharedWords<T>,
     seat: &mut Seat<T>,
-    sessions: u8,
+    sessions: u16,
     owner: SessionId,
     slot: u8,
 ) -> SlotWord

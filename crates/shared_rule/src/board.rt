@@ -66,7 +66,7 @@ pub trait Board<T: PartTable> {
         ensures exists { result < (seat self.now).limit };
 
     /// How many sessions there can be.
-    fn sessions(&self) -> u8
+    fn sessions(&self) -> u16
         ensures { result ≡ (seat self.now).limit };
 
     /// How many groups of fast-path slots each session has, 1 to 8 (`FastPathLockGroupsPerBackend` in proc.h of version

@@ -13,7 +13,7 @@ pub enum WordMark {
     /// The session took the lock of a session's fast-path slots, which show these numbers with this database.
     TookFast {
         /// The session whose slots they are.
-        owner: u8,
+        owner: u16,
         /// The number that the database word of `owner` shows.
         database: u64,
         /// The words of the fast-path slots of `owner`.
@@ -22,14 +22,14 @@ pub enum WordMark {
     /// The session put the lock of a session's fast-path slots, whose word showed this before.
     PutFast {
         /// The session whose slots they are.
-        owner: u8,
+        owner: u16,
         /// What the lock's word showed.
         found: u64,
     },
     /// The session shares the lock of a session's fast-path slots, which show these numbers with this database.
     SharedFast {
         /// The session whose slots they are.
-        owner: u8,
+        owner: u16,
         /// The number that the database word of `owner` shows.
         database: u64,
         /// The words of the fast-path slots of `owner`.
@@ -38,7 +38,7 @@ pub enum WordMark {
     /// The session gave back what it shared of the lock of a session's slots, whose word showed this before.
     UnsharedFast {
         /// The session whose slots they are.
-        owner: u8,
+        owner: u16,
         /// What the lock's word showed.
         found: u64,
     },
@@ -46,7 +46,7 @@ pub enum WordMark {
     /// word showed this before.
     Passed {
         /// The session whose slots the lock guards.
-        owner: u8,
+        owner: u16,
         /// The object of the strong lock.
         tag: Tag,
         /// The mode of the strong lock.
@@ -76,7 +76,7 @@ pub enum WordMark {
     /// The session asked a session to cancel, whose wait word showed this before.
     Asked {
         /// The session that was asked.
-        other: u8,
+        other: u16,
         /// What the wait word of `other` showed.
         before: u64,
     },
@@ -85,14 +85,14 @@ pub enum WordMark {
     /// The session loaded a session's database, which was this.
     LoadedDatabase {
         /// The session whose slots they are.
-        owner: u8,
+        owner: u16,
         /// What the database word of `owner` showed.
         shown: u64,
     },
     /// The session loaded a slot of a session, which showed this.
     LoadedSlot {
         /// The session whose slots they are.
-        owner: u8,
+        owner: u16,
         /// The number of the slot.
         slot: u8,
         /// What the fast-path slot showed.
@@ -131,7 +131,7 @@ pub enum WordMark {
     /// The session moved a mode from a session's slot to the content in hand of the object's partition.
     TransferredSlot {
         /// The session whose slots they are.
-        owner: u8,
+        owner: u16,
         /// The number of the slot.
         slot: u8,
         /// The relation of the slot.
@@ -147,7 +147,7 @@ pub enum WordMark {
     /// The session locked the wait list of the lightweight lock with this number, in which these waiters are.
     LockedList {
         /// The number of the lock.
-        lock: u8,
+        lock: u16,
         /// The waiters in the list.
         waiters: [LwWaiter; 0],
     },
@@ -163,12 +163,12 @@ pub enum WordMark {
     /// The session took a session off the list in hand, and is to tell it.
     TookOff {
         /// The session that was taken off.
-        other: u8,
+        other: u16,
     },
     /// The session told a session that it took off the list: it stored in that session's sleep word.
     Told {
         /// The session that was told.
-        other: u8,
+        other: u16,
     },
     /// The session loaded its own sleep word, which showed this.
     LoadedSleep {
@@ -178,32 +178,32 @@ pub enum WordMark {
     /// The session set release-ok in the word of the lock with this number.
     SetReleaseOk {
         /// The number of the lock.
-        lock: u8,
+        lock: u16,
     },
     /// The session set has-waiters in the word of the lock with this number.
     SetHasWaiters {
         /// The number of the lock.
-        lock: u8,
+        lock: u16,
     },
     /// The session saw that another session has the wait list of this lock locked: no step, but a look at the lock's word.
     SawListLocked {
         /// The number of the lock.
-        lock: u8,
+        lock: u16,
     },
     /// The session saw that another session holds this lock, in the way of its own attempt: no step, but a look at the lock's word.
     SawHeld {
         /// The number of the lock.
-        lock: u8,
+        lock: u16,
     },
     /// The session calls a session that may be parked on its wait word: no step, but a look at that word, right before the call.
     CalledWaiter {
         /// The session that is called.
-        other: u8,
+        other: u16,
     },
     /// The session calls a session that may be parked on its sleep word: no step, but a look at that word, right before the call.
     CalledSleeper {
         /// The session that is called.
-        other: u8,
+        other: u16,
     },
 }
 
@@ -243,11 +243,11 @@ pub enum Mark<T> {
         /// The number of the partition.
         part: u8,
         /// The session whose wait was granted.
-        other: u8,
+        other: u16,
         /// The move that granted the waits.
         done: Move,
         /// The sessions whose waits were granted.
-        woken: [u8; 0],
+        woken: [u16; 0],
         /// The content in hand after the move.
         now: T,
     },
@@ -255,7 +255,7 @@ pub enum Mark<T> {
     /// sessions are granted.
     LeftQueue {
         /// The sessions whose waits were granted.
-        woken: [u8; 0],
+        woken: [u16; 0],
         /// The content in hand after the session left the queue.
         now: T,
     },
@@ -266,7 +266,7 @@ pub enum Mark<T> {
 /// A session's number and its steps, the last one first. A clause reads the array as a list, of any length.
 pub struct History<T> {
     /// The number of the session.
-    pub number: u8,
+    pub number: u16,
     /// The steps of the session, the last one first.
     pub marks: [Mark<T>; 0],
 }
@@ -277,7 +277,7 @@ pub struct History<T> {
 /// for that time.
 pub struct View<T> {
     /// The number that the next session gets, at the seat of the opener.
-    pub next: Option<u8>,
+    pub next: Option<u16>,
     /// The histories of the sessions that closed, the last one first.
     pub closed: LinkedList<History<T>>,
     /// The histories of the sessions that the seat is for, the first of which makes its steps.

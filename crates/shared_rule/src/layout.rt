@@ -54,7 +54,7 @@ pub const CONTENT_SHELVES: usize = PARTITIONS as usize * CONTENT_GAP;
 /// How many shelves the table has, where there can be `sessions` sessions: those for contents, and one for the wait list of
 /// each lightweight lock, the partitions' and those of all sessions' slots. Partitions have the even numbers and sessions'
 /// slots the odd ones, so that a list's shelf follows from its lock's number alone. Two lists lie on different lines too.
-pub fn table_shelves(sessions: u8) -> usize
+pub fn table_shelves(sessions: u16) -> usize
     ensures { result ≡ shelves_of sessions }
 {
     let locks = 2 * PARTITIONS.max(u32::from(sessions)) as usize;
@@ -105,7 +105,7 @@ pub fn database_word(session: SessionId) -> usize
 /// slots of the first group come after the database: a session that has the lightweight lock reads those of one group. Those
 /// of each further group stand the same way in a block of that group's, so no two sessions' slots share a line. Where a slot
 /// of the first group stands doesn't depend on `sessions`, which isn't read for it.
-pub fn slot_word(sessions: u8, session: SessionId, slot: u8) -> usize
+pub fn slot_word(sessions: u16, session: SessionId, slot: u8) -> usize
     requires exists { slot < slot_count }
     ensures index { result ≡ index_of_word sessions (Slot session slot) }
     ensures within { (sizes : TableSizes) (table : TableId) → IsSized sizes table → sessions ≡ sizes.sessions →
@@ -149,7 +149,7 @@ pub fn content_shelf(partition: u8) -> usize
 
 /// The shelf of the table on which the wait list of the lightweight lock numbered `lock` lies while nobody has it in
 /// hand (`waiters` of an `LWLock` in lwlock.h). Partitions have the even numbers and sessions' slots the odd ones.
-pub(crate) fn list_shelf(lock: u8) -> usize
+pub(crate) fn list_shelf(lock: u16) -> usize
     ensures shelf { result ≡ list_shelf_of lock }
     ensures within { (sessions : ℕ) → lock < lock_count sessions → result < shelves_of sessions }
 {

@@ -38,7 +38,7 @@ impl LwLock {
         ensures shelf { result ≡ list_shelf_of (lock_number self.now) }
     {
         match self {
-            LwLock::OfPart(part) => list_shelf(2 * *part),
+            LwLock::OfPart(part) => list_shelf(2 * *part as u16),
             LwLock::OfSlots(owner) => list_shelf(2 * owner.number() + 1),
         }
     }

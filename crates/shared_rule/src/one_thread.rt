@@ -95,7 +95,7 @@ impl<T: PartTable> Board<T> for OneThread<T> {
         self.number
     }
 
-    fn sessions(&self) -> u8 {
+    fn sessions(&self) -> u16 {
         self.sizes.sessions
     }
 

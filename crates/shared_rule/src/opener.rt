@@ -25,7 +25,7 @@ use std::marker::Model;
 #[derive(Drop)]
 pub struct Opener<T: PartTable> {
     pub(crate) seat: Seat<T>,
-    issued: u8,
+    issued: u16,
     pub(crate) sizes: TableSizes,
 }
 

@@ -10,7 +10,7 @@ use lock_table::PartTable;
 #[derive(Clone, Copy, Debug, PartialEq, Eq)]
 pub struct TableSizes {
     /// How many sessions there can be.
-    pub sessions: u8,
+    pub sessions: u16,
     /// How many groups of fast-path slots each has.
     pub groups: u8,
 }

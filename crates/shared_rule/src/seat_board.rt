@@ -145,7 +145,7 @@ impl<'a, T: PartTable> Board<T> for SeatBoard<'a, T> {
         self.number
     }
 
-    fn sessions(&self) -> u8 {
+    fn sessions(&self) -> u16 {
         self.sizes.sessions
     }
 

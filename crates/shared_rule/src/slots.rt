@@ -46,7 +46,7 @@ pub(crate) fn load_database<T: PartTable, M: Marking<T>>(
 pub(crate) fn load_slot<T: PartTable, M: Marking<T>>(
     words: &SharedWords<T>,
     seat: &mut Seat<T>,
-    sessions: u8,
+    sessions: u16,
     owner: SessionId,
     slot: u8,
 ) -> SlotWord
@@ -71,7 +71,7 @@ pub(crate) fn load_slot<T: PartTable, M: Marking<T>>(
 pub(crate) fn set_slot<T: PartTable, M: Marking<T>>(
     words: &SharedWords<T>,
     seat: &mut Seat<T>,
-    sessions: u8,
+    sessions: u16,
     number: SessionId,
     slot: u8,
     shown: SlotWord,
@@ -105,7 +105,7 @@ pub(crate) fn set_slot<T: PartTable, M: Marking<T>>(
 pub(crate) fn clear_slot<T: PartTable, M: Marking<T>>(
     words: &SharedWords<T>,
     seat: &mut Seat<T>,
-    sessions: u8,
+    sessions: u16,
     number: SessionId,
     slot: u8,
     shown: SlotWord,
@@ -138,7 +138,7 @@ pub(crate) fn clear_slot<T: PartTable, M: Marking<T>>(
 pub(crate) fn transfer_slot<T: PartTable, M: Marking<T>>(
     words: &SharedWords<T>,
     seat: &mut Seat<T>,
-    sessions: u8,
+    sessions: u16,
     owner: SessionId,
     slot: u8,
     shown: SlotWord,

@@ -59,7 +59,7 @@ fn next_part<T: PartTable>(parts: &mut Vec<T>, index: usize) -> Kept<T>
 }
 
 // What a shelf for wait lists has, by its index: an empty one where it is a lock's, with room for `sessions`.
-fn next_list<T: PartTable>(alloc: Global, index: usize, sessions: u8) -> Result<Kept<T>, NoMemory>
+fn next_list<T: PartTable>(alloc: Global, index: usize, sessions: u16) -> Result<Kept<T>, NoMemory>
     ensures { IfOk result (λ kept. index % 8 ≡ 0 → IsEmptyList sessions (Some kept)) }
 {
     if index % CONTENT_GAP == 0 {
@@ -76,7 +76,7 @@ fn next_list<T: PartTable>(alloc: Global, index: usize, sessions: u8) -> Result<
 pub fn in_shelves<T: PartTable + Drop>(
     alloc: Global,
     mut parts: Vec<T>,
-    sessions: u8,
+    sessions: u16,
 ) -> Result<Vec<Kept<T>>, NoMemory>
     requires sixteen { length parts.items ≡ 16 }
     requires new { AreEmptyParts T.content T.begun parts.items }

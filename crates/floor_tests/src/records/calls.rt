@@ -14,7 +14,7 @@ pub const OBJECT: Tag = Tag::Relation {
 };
 
 /// The session with the number `number`.
-pub fn session(rt: &impl Abort, number: u8) -> SessionId {
+pub fn session(rt: &impl Abort, number: u16) -> SessionId {
     SessionId::new(number).expect(rt, "a session number")
 }
 

@@ -38,7 +38,7 @@ fn mode_of(rt: &impl Abort, number: u32) -> Mode {
 
 /// A session chosen by `number`, one of sixteen: equal numbers choose equal sessions.
 fn session_of(rt: &impl Abort, number: u32) -> SessionId {
-    SessionId::new((number % 16) as u8).expect(rt, "a session")
+    SessionId::new((number % 16) as u16).expect(rt, "a session")
 }
 
 /// Makes a call of both keepers, `plain` and `records`, by `seed`, whose answers are alike.

@@ -53,7 +53,7 @@ fn crowd(rt: &impl Abort, part: &mut RecordPart) -> Result<(), NoMemory>
     requires none_begun { part.old.begun ≡ None }
     ensures none_begun { part.new.begun ≡ None }
 {
-    'sessions: for number in 0..64u8 {
+    'sessions: for number in 0..64u16 {
         let its = session(rt, number);
         hold(part, its, &OBJECT, AccessShare)?;
         if number > 0 {
@@ -70,7 +70,7 @@ fn all_sessions_hold_and_all_but_one_wait(rt: HostRuntime) -> Result<(), Fail> {
     let counts = counted(&rt, &part);
     assert_eq!(&rt; counts.granted_total, 64);
     assert_eq!(&rt; counts.requested_total, 127);
-    for number in 0..64u8 {
+    for number in 0..64u16 {
         release(&mut part, session(&rt, number), &OBJECT, AccessShare);
     }
     part.wake(&OBJECT);

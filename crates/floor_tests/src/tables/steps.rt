@@ -14,25 +14,25 @@ use std::process::Abort;
 #[derive(Clone, Copy)]
 pub enum Step {
     /// The session comes to hold the object.
-    Holds(u8, Tag, Mode),
+    Holds(u16, Tag, Mode),
     /// The session comes to wait, at this place of the object's queue.
-    Waits(u8, Tag, Mode, usize),
+    Waits(u16, Tag, Mode, usize),
     /// A hold of it is taken out.
-    Releases(u8, Tag, Mode),
+    Releases(u16, Tag, Mode),
     /// The session leaves the object's queue, in which it waited for this mode, or for none.
-    Leaves(u8, Tag, Option<Mode>),
+    Leaves(u16, Tag, Option<Mode>),
     /// A wakeup of the object grants these, in this order.
-    Wakes(Tag, &'static [(u8, Mode)]),
+    Wakes(Tag, &'static [(u16, Mode)]),
     /// The object's queue has the waits of these, from the front.
-    Queue(Tag, &'static [u8]),
+    Queue(Tag, &'static [u16]),
     /// The first in the object's queue waits for this mode, and held it in the modes of this mask as it joined.
     First(Tag, Mode, u16),
     /// The session holds the object in the modes of this mask.
-    Has(u8, Tag, u16),
+    Has(u16, Tag, u16),
     /// The session would meet this one with this mode, which is the first that holds one in conflict.
-    Meets(u8, Tag, Mode, u8, Mode),
+    Meets(u16, Tag, Mode, u16, Mode),
     /// The answer to the session if it asked for the mode.
-    Asks(u8, Tag, Mode, Told),
+    Asks(u16, Tag, Mode, Told),
 }
 
 /// What a session is answered that may wait.
@@ -42,7 +42,7 @@ pub enum Told {
     /// The session is to wait at this place of the wait queue.
     Queued(usize),
     /// Refused, for the session that asks and the one with this number would wait for one another.
-    Deadlock(u8),
+    Deadlock(u16),
 }
 
 /// Begins the request of `session` in `part` for `tag` in `mode`, which may be made.
@@ -130,7 +130,7 @@ fn releases<P: PartTable>(rt: &impl Abort, part: &mut P, session: SessionId, tag
 }
 
 /// Whether the queue of `tag` in `part` has the waits of the sessions `numbers`, from the front.
-pub fn queue_is<P: PartTable>(part: &P, tag: &Tag, numbers: &[u8]) -> bool {
+pub fn queue_is<P: PartTable>(part: &P, tag: &Tag, numbers: &[u16]) -> bool {
     for place in 0..numbers.len() {
         let Some(waiter) = part.waiter(tag, place) else {
             return false;

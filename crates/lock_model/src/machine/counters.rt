@@ -13,7 +13,7 @@ use modes_core::{Mode, SessionId, Tag, is_strong};
 const MOST_COUNTED: usize = 65_536;
 
 /// The position past every session.
-const ALL_PASSED: u8 = 64;
+const ALL_PASSED: u16 = 64;
 
 impl CountedBy {
     /// Whether this is the strong lock that `session` has counted, of `mode` on `tag`.
@@ -25,7 +25,7 @@ impl CountedBy {
 
     /// Whether this is the strong lock that `session` has counted, of `mode` on `tag`, and past just the sessions
     /// below `position`.
-    fn is_by_at(&self, session: SessionId, position: u8, tag: Tag, mode: Mode) -> bool
+    fn is_by_at(&self, session: SessionId, position: u16, tag: Tag, mode: Mode) -> bool
         ensures { result ≡ is_by_at session position tag mode self.now }
     {
         self.is_by(session, tag, mode) && self.position == position
@@ -282,7 +282,7 @@ impl Machine {
     }
 
     /// Whether `session` has counted `mode` on `tag`, and is past just the sessions below `position`.
-    pub fn is_counted_at(&self, session: SessionId, position: u8, tag: Tag, mode: Mode) -> bool
+    pub fn is_counted_at(&self, session: SessionId, position: u16, tag: Tag, mode: Mode) -> bool
         ensures { result ≡ list_any (is_by_at session position tag mode) self.now.counted.items }
     {
         self.counted

@@ -48,7 +48,7 @@ impl InHand {
 
     /// Whether a mode may be moved from the slot `slot` of `owner` to the content: no move is recorded, or the adopt
     /// of this slot.
-    pub fn may_adopt(&self, owner: u8, slot: u8) -> bool
+    pub fn may_adopt(&self, owner: u16, slot: u8) -> bool
         ensures { result ≡ may_adopt self.now.recorded owner slot }
     {
         match self.recorded {

@@ -79,7 +79,7 @@ impl Machine {
     }
 
     /// Whether `session` makes steps, and has the wait list of `lock` in hand.
-    fn has_list(&self, session: SessionId, lock: u8) -> bool
+    fn has_list(&self, session: SessionId, lock: u16) -> bool
         ensures { result ≡ has_list self.now session lock }
     {
         self.makes_steps(session)
@@ -94,7 +94,7 @@ impl Machine {
         if index < 16 && self.may_lock_list(session) {
             if let Some(word) = self.words.partitions[index].lock_list() {
                 self.words.partitions[index] = word;
-                self.lists.has_list[usize::from(session.number())] = Some(2 * partition);
+                self.lists.has_list[usize::from(session.number())] = Some(2 * partition as u16);
             }
         }
     }
@@ -125,7 +125,7 @@ impl Machine {
             self.new }
     {
         let index = usize::from(partition);
-        if index < 16 && self.has_list(session, 2 * partition) {
+        if index < 16 && self.has_list(session, 2 * partition as u16) {
             let word = self.words.partitions[index];
             self.words.partitions[index] = unlocked(word, has_waiters, release_ok);
             self.lists.has_list[usize::from(session.number())] = None;
@@ -182,7 +182,7 @@ impl Machine {
     {
         let index = usize::from(partition);
         if index < 16
-            && self.has_list(session, 2 * partition)
+            && self.has_list(session, 2 * partition as u16)
             && shown == self.words.partitions[index].number()
         {
             self.words.partitions[index] = self.words.partitions[index].set_has_waiters();

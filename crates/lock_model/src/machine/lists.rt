@@ -10,7 +10,7 @@ use modes_core::SessionId;
 
 impl Sleeper {
     /// Whether `session` waits for `lock`.
-    fn is_at(&self, lock: u8, session: SessionId) -> bool
+    fn is_at(&self, lock: u16, session: SessionId) -> bool
         ensures { result ≡ is_at lock session self.now }
     {
         self.lock == lock && session == self.waiter.session
@@ -18,7 +18,7 @@ impl Sleeper {
 }
 
 /// Takes `session` out of the list of `lock` in `sleepers`.
-fn take_out(sleepers: &mut Vec<Sleeper>, lock: u8, session: SessionId)
+fn take_out(sleepers: &mut Vec<Sleeper>, lock: u16, session: SessionId)
     ensures { sleepers.new.items ≡ filter (λ sleeper. not (is_at lock session sleeper)) sleepers.old.items }
 {
     sleepers.retain(|sleeper| !sleeper.is_at(lock, session));
@@ -119,7 +119,7 @@ impl Machine {
     }
 
     /// The lock whose wait list `session` has in hand, where it makes steps.
-    fn list_to_change(&self, session: SessionId) -> Option<u8>
+    fn list_to_change(&self, session: SessionId) -> Option<u16>
         ensures { result ≡ list_to_change self.now session }
     {
         if self.makes_steps(session) {
@@ -130,14 +130,14 @@ impl Machine {
     }
 
     /// Whether `session` is in the list of `lock`, and its sleep word shows waiting.
-    fn waits_at(&self, lock: u8, session: SessionId) -> bool
+    fn waits_at(&self, lock: u16, session: SessionId) -> bool
         ensures { result ≡ waits_at self.now lock session }
     {
         self.stands_at(lock, session) && self.lists.sleep[usize::from(session.number())] == 1
     }
 
     /// Whether `session` is in the list of `lock`.
-    fn stands_at(&self, lock: u8, session: SessionId) -> bool
+    fn stands_at(&self, lock: u16, session: SessionId) -> bool
         ensures { result ≡ list_any (is_at lock session) self.now.lists.sleepers.items }
     {
         self.lists

@@ -15,7 +15,7 @@ pub fn append_slot_holds(fast_path: &FastPath, list: &mut Vec<Hold>) -> Result<(
     ensures { OnOk result (list.new.items
         ≡ list.old.items ++ fast_path_rows fast_path.now.databases fast_path.now.slots) }
 {
-    for number in 0..64u8 {
+    for number in 0..64u16 {
         let session = SessionId::new(number).unwrap();
         append_session(session, fast_path, list)?;
     }

@@ -17,7 +17,7 @@ use std::alloc::Global;
 #[derive(Clone, Copy)]
 pub struct Numbers {
     /// The session numbers below this one have been given out.
-    pub issued: u8,
+    pub issued: u16,
     /// How many groups of fast-path slots each session has.
     pub groups: u8,
     /// Whether the session of this number is open.
@@ -114,7 +114,7 @@ pub struct CountedBy {
     /// The mode of the strong lock.
     pub mode: Mode,
     /// The session is past each one below this number.
-    pub position: u8,
+    pub position: u16,
 }
 
 /// A session that waits for a lightweight lock, by the number of the lock: twice the partition, or twice the session
@@ -122,7 +122,7 @@ pub struct CountedBy {
 #[derive(Clone, Copy, Debug)]
 pub struct Sleeper {
     /// The number of the lock.
-    pub lock: u8,
+    pub lock: u16,
     /// The session that waits, and how it wants to take the lock.
     pub waiter: LwWaiter,
 }
@@ -135,9 +135,9 @@ pub struct Lists {
     /// Which session waits for which lightweight lock, in the order of joining.
     pub sleepers: Vec<Sleeper>,
     /// The lock whose list each session has in hand.
-    pub has_list: [Option<u8>; 64],
+    pub has_list: [Option<u16>; 64],
     /// The lock in whose list each session is, by its own account.
-    pub stands: [Option<u8>; 64],
+    pub stands: [Option<u16>; 64],
     /// Whom each session has taken off a list and not woken yet.
     pub off: [[bool; 64]; 64],
 }

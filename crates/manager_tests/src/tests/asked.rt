@@ -90,7 +90,7 @@ fn ask<T: PartTable, B: Board<T>, R: Wait>(
 fn prepare<T: PartTable, B: Board<T>, R: Abort + Wait>(
     rt: &R,
     session: &mut OwnSession<T, B>,
-    number: u8,
+    number: u16,
 )
     ensures seat { B.seat session.new.board ≡ B.seat session.old.board }
 {
@@ -104,7 +104,7 @@ fn act<T: PartTable, B: Board<T>, R: Abort + Wait>(
     rt: &R,
     ring: &Ring,
     session: &mut OwnSession<T, B>,
-    number: u8,
+    number: u16,
     round: u32,
 )
     ensures seat { B.seat session.new.board ≡ B.seat session.old.board }
@@ -121,7 +121,7 @@ fn play_round<T: PartTable, B: Board<T>, R: Abort + Wait>(
     rt: &R,
     ring: &Ring,
     session: &mut OwnSession<T, B>,
-    number: u8,
+    number: u16,
     round: u32,
 )
     ensures seat { B.seat session.new.board ≡ B.seat session.old.board }

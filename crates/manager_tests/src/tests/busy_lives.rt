@@ -28,7 +28,7 @@ use std::time::Clock;
 pub const SESSIONS: u32 = 4;
 
 /// The session number that connections are lent, one after another.
-const LENT: u8 = 3;
+const LENT: u16 = 3;
 
 /// Of how many connections one waits, and is asked to cancel.
 const WAITS: u32 = 16;

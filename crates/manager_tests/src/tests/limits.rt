@@ -50,7 +50,7 @@ fn fill<T: PartTable, B: Board<T>, R: Abort + Wait>(
 )
     ensures seat { B.seat session.new.board ≡ B.seat session.old.board }
 {
-    let number = u16::from(session.id().number());
+    let number = session.id().number();
     'entries: for at in 0..entries {
         let (tag, mode) = entry(number, at);
         let answer = session.try_lock(rt, tag, mode, Owner::Transaction);

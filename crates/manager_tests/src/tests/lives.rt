@@ -13,7 +13,7 @@ use std::sync::Wait;
 
 /// Ends the test unless a connection to `database`, whose session says `its_database` and `number`, has the first
 /// number.
-fn expect_first<R: Abort>(rt: &R, database: u32, its_database: u32, number: u8) {
+fn expect_first<R: Abort>(rt: &R, database: u32, its_database: u32, number: u16) {
     assert_eq!(rt; its_database, database);
     assert_eq!(rt; number, 0);
 }

@@ -104,7 +104,7 @@ fn release_once_asleep<T: PartTable, B: Board<T>, R: Abort + Wait>(
 {
     take(rt, session, Mode::AccessExclusive);
     tally.held.store(true, Ordering::SeqCst);
-    if let Some(last) = SessionId::new(MANY as u8) {
+    if let Some(last) = SessionId::new(MANY as u16) {
         see_wait(rt, session, last);
     }
     pause();

@@ -39,7 +39,7 @@ pub enum Answer {
     Granted,
     AlreadyHeld,
     /// The session of this number holds this mode.
-    Conflict(u8, Mode),
+    Conflict(u16, Mode),
     Released,
     StillHeld,
     /// The refusal of this number.

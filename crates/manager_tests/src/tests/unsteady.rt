@@ -95,7 +95,7 @@ pub enum Crew {
 
 impl Crew {
     /// How many sessions the crew has.
-    fn sessions(self) -> u8
+    fn sessions(self) -> u16
         ensures few { result ≤ 64 }
     {
         match self {
@@ -110,14 +110,14 @@ impl Crew {
 type Unsteady<'a> = OwnSession<Part, WatchedBoard<SeatBoard<'a, Part>, Pauses>>;
 
 /// Sixteen empty partitions, each on its shelf of a table for `sessions` sessions.
-fn empty_shelves(alloc: Global, sessions: u8) -> Result<Vec<Kept<Part>>, Fail>
+fn empty_shelves(alloc: Global, sessions: u16) -> Result<Vec<Kept<Part>>, Fail>
     ensures new { let T = ⟦<Part as PartTable>⟧ in IfOk result (λ shelves. AreNew T.content T.begun sessions shelves.items) }
 {
     Ok(in_shelves(alloc, empty_parts(alloc, Part::new)?, sessions)?)
 }
 
 /// A table for `sessions` sessions, and the opener that gives their numbers out.
-fn open_table(alloc: Global, sessions: u8) -> Result<(SharedTable<Part>, Opener<Part>), Fail>
+fn open_table(alloc: Global, sessions: u16) -> Result<(SharedTable<Part>, Opener<Part>), Fail>
     requires few { sessions ≤ 64 }
     ensures table { IfOk result (λ opened. opened.1.table ≡ opened.0.shared.table_id) }
     ensures key { IfOk result (λ opened. (opened.1.limit ≡ opened.0.shared.key.sessions)
@@ -168,7 +168,7 @@ fn open_all<'a, R: Abort>(
     alloc: Global,
     table: &'a SharedWords<Part>,
     opener: &mut Opener<Part>,
-    number: u8,
+    number: u16,
 ) -> Vec<Unsteady<'a>>
     requires table { (opener.old.table ≡ table.now.table_id) × (opener.old.limit ≡ table.now.key.sessions)
         × (opener.old.groups ≡ table.now.key.groups) }

@@ -55,7 +55,7 @@ impl<T: PartTable, B: Board<T>, W: Watch> Board<T> for WatchedBoard<B, W> {
         self.board.number()
     }
 
-    fn sessions(&self) -> u8 {
+    fn sessions(&self) -> u16 {
         self.board.sessions()
     }
 

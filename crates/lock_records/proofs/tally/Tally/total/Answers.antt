@@ -1,5 +1,5 @@
-use Rattle.std.proofs.Common.{◌≤◌, sum, ap, ◌∙◌, arith, List, ℕ}
-use Rattle.lock_records.specs.Tally.{counts_in}
+use Rattle.std.proofs.Common.{◌≤◌, ◌*◌, sum, ap, ◌∙◌, arith, List, ℕ}
+use Rattle.lock_records.specs.Tally.{counts_in, most_tallied}
 use Rattle.lock_records.specs.Counting.{total_of}
 use Rattle.lock_records.proofs.Tallies.{sum-small, sum-modes}
 use Rattle.lock_records.proofs.tally.Tally.total.Goals as goal
@@ -10,5 +10,5 @@ returns-clause-value c =
 
 pub returns-clause-few : goal.returns-clause-few
 returns-clause-few c =
-    let small : sum c.self.inside.by_mode ≤ 2295 = sum-small c.self.inside.by_mode c.self.invariant.nine c.self.invariant.each in
+    let small : sum c.self.inside.by_mode ≤ 9 * most_tallied = sum-small c.self.inside.by_mode c.self.invariant.nine c.self.invariant.each in
     omega (arith, c.self.invariant.summed)
