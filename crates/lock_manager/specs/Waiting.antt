@@ -77,7 +77,7 @@ pub record Asks (a : Account) (other : ℕ) (answer : Asked) (b : Account) : Typ
   pub answered : (answer ≡ asked.Waiting) ↔ (wait_state shown ≡ 1)
   pub account : b ≡ account_tracing a (AskedToCancel other shown)
 
--- The session asks another so that is one of so many sessions. Of a number that none of them has it says that it doesn't wait, and
+-- The session asks another so that has a number below this one. Of a number that none of them has it says that it doesn't wait, and
 -- makes no step.
 pub record AsksOneOf (limit : ℕ) (a : Account) (other : ℕ) (answer : Asked) (b : Account) : Type 0 where
   pub one : other < limit → Asks a other answer b

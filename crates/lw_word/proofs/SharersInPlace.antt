@@ -6,7 +6,7 @@ use Rattle.lw_word.specs.WaitList.{wants_to_share, without_sharers}
 
 -- A loop over a list of waiters that takes off those who want to share, some at most, and moves all others forward.
 
--- It has taken off these, and may take off so many more; those whom it leaves stand in the first places, and from its own place on
+-- It has taken off these, and may take off `more` of them; those whom it leaves stand in the first places, and from its own place on
 -- the list is as it was.
 pub record TakesInPlace (many : ℕ) (waiters now taken : List LwWaiter) (kept place : ℕ) : Type 0 where
   pub more : ℕ

@@ -23,7 +23,7 @@ stands_in session waiters = list_any (is_of session) waiters
 abbrev pub times_in : ℕ → List LwWaiter → ℕ
 times_in session waiters = count_by (is_of session) waiters
 
--- each session stands in the list once at most, and is one of the sessions that there can be, so many
+-- each session stands in the list once at most, and has a number below `room`
 pub record EachStandsOnce (room : ℕ) (waiters : List LwWaiter) : Type 0 where
   pub once : (session : ℕ) → times_in session waiters ≤ 1
   pub below : (session : ℕ) → 0 < times_in session waiters → session < room
@@ -38,7 +38,7 @@ without session waiters = filter (λ waiter. not (is_of session waiter)) waiters
 abbrev pub wants_to_share : LwWaiter → Bool
 wants_to_share waiter = is_shared waiter.mode
 
--- the list without the first of those who want to share the lock, so many of them
+-- the list without this number of those who want to share the lock, the first ones
 abbrev pub without_sharers : ℕ → List LwWaiter → List LwWaiter
 without_sharers zero waiters = waiters
 without_sharers (suc many) [] = []

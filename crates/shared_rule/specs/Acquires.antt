@@ -59,7 +59,7 @@ module _ {T : Type 0} (content : T → Content) where
     pub shelves : after.me.1 ≡ before.me.1
 
 module _ {T : Type 0} (content : T → Content) (begun : T → Option Request) where
-  -- The session got a partition, with this content, in which none but some of so many sessions wait.
+  -- The session got a partition, with this content, in which only sessions with numbers below this one wait.
   pub record TakesPartition (sessions part : ℕ) (before after : Seat (Kept T) (View T)) (taken : T) : Type 0 where
     pub led :
         LedTo content before after (account_taking (account_at content before) part (content taken))

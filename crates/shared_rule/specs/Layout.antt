@@ -18,11 +18,11 @@ block_start block = 1296 + 37 * block
 abbrev pub block_of : ℕ → ℕ → ℕ → ℕ
 block_of sessions session group = session + sessions * group
 
--- how many words the table has for so many sessions, each with so many groups of slots
+-- how many words the table has for this number of sessions, each with this number of groups of slots
 abbrev pub words_of : ℕ → ℕ → ℕ
 words_of sessions groups = block_start (sessions * groups)
 
--- the index of a word in a table for so many sessions
+-- the index of a word in a table for this number of sessions
 abbrev pub index_of_word : ℕ → Word → ℕ
 index_of_word sessions (Partition p) = 16 * p
 index_of_word sessions (Strong index) = 256 + index
@@ -33,7 +33,7 @@ index_of_word sessions (Slot session slot) =
 index_of_word sessions (Wait session) = block_start session + 18
 index_of_word sessions (Sleep session) = block_start session + 19
 
--- The word is no session's, or is that of one of so many sessions.
+-- The word is no session's, or is that of a session with a number below this one.
 abbrev pub SessionHasWords : ℕ → Word → Type 0
 SessionHasWords sessions (Partition p) = Unit {0}
 SessionHasWords sessions (Strong index) = Unit {0}
@@ -70,7 +70,7 @@ IsApart index other = (index + 16 ≤ other) ⊎ (other + 16 ≤ index)
 abbrev pub content_shelf_of : ℕ → ℕ
 content_shelf_of partition = 8 * partition
 
--- how many numbers of lightweight locks there are shelves for, where there can be so many sessions: partitions have the
+-- how many numbers of lightweight locks there are shelves for, where there can be this number of sessions: partitions have the
 -- even numbers below 32, and sessions' slots the first odd ones
 abbrev pub lock_count : ℕ → ℕ
 lock_count sessions = max 32 (2 * sessions)
@@ -79,7 +79,7 @@ lock_count sessions = max 32 (2 * sessions)
 abbrev pub list_shelf_of : ℕ → ℕ
 list_shelf_of lock = 128 + 8 * lock
 
--- how many shelves the table has for so many sessions
+-- how many shelves the table has for this number of sessions
 abbrev pub shelves_of : ℕ → ℕ
 shelves_of sessions = list_shelf_of (lock_count sessions)
 

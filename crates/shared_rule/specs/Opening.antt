@@ -11,7 +11,7 @@ use Rattle.shared_rule.specs.Layout.{content_shelf_of, list_shelf_of, lock_count
 -- The table before the first step.
 
 module _ {T : Type 0} where
-  -- There is a wait list in which nobody stands, with room for so many sessions.
+  -- There is a wait list in which nobody stands, with room for this number of sessions.
   pub record IsEmptyList (sessions : ℕ) (there : Option (Kept T)) : Type 0 where
     pub list : Box Waiting
     pub is_there : there ≡ Some (kept.List list)
@@ -24,7 +24,7 @@ module _ {T : Type 0} (content : T → Content) (begun : T → Option Request) w
     pub is_there : there ≡ Some (kept.Part part)
     pub blank : IsBlank content begun part
 
-  -- Where there can be so many sessions, each partition's part is on its shelf, with nothing in it, and each lock's wait list on its
+  -- Where there can be this number of sessions, each partition's part is on its shelf, with nothing in it, and each lock's wait list on its
   -- own, with nobody in it and with room for all of them.
   pub record AreNew (sessions : ℕ) (shelves : List (Kept T)) : Type 0 where
     pub many : length shelves ≡ shelves_of sessions

@@ -129,7 +129,7 @@ module _ {T : Type 0} (content : T → Content) where
 
 module _ {T : Type 0} (content : T → Content) where
   -- The wait list of a lightweight lock came in hand, and those who stand there were noted. The session is among them
-  -- only if its account has that it stands in the list of this lock, there is room for so many sessions, and all who stand there are among these.
+  -- only if its account has that it stands in the list of this lock, there is room for this number of sessions, and all who stand there have numbers below it.
   pub record TookList (sessions : ℕ) (lock : LwLock) (before after : Side T) : Type 0 where
     pub list : Box Waiting
     pub side :
@@ -172,7 +172,7 @@ module _ {T : Type 0} where
 
 module _ {T : Type 0} (content : T → Content) (begun : T → Option Request) where
   -- A partition came into hand with its content, of which the session knows what its account tells, in which no request is
-  -- begun, and in which none but some of so many sessions wait.
+  -- begun, and in which only sessions with numbers below this one wait.
   pub record TookContent (sessions p : ℕ) (before after : Side T) : Type 0 where
     pub part : T
     pub side : after ≡ (noting before.0 (TookPart p part), (content_shelf_of p, Part part) ∷ before.1)

@@ -62,14 +62,14 @@ abbrev pub IsInNoHand : ℕ → (ℕ → Option ℕ) → Type 0
 IsInNoHand lock has_list = (session : ℕ) → has_list session ≢ Some lock
 
 module _ {T : Type 0} where
-  -- Where nobody has it in hand, the list of a lock is at home, with those who wait for it and with room for so many sessions.
+  -- Where nobody has it in hand, the list of a lock is at home, with those who wait for it and with room for this number of sessions.
   pub record ListIsAtHome (sessions : ℕ) (waiters : List LwWaiter) (there : maybe.Option (maybe.Option (Kept T))) : Type 0 where
     pub list : Box Waiting
     pub at_home : there ≡ some (some (kept.List list))
     pub is_list : list.value.waiters ≡ waiters
     pub has_room : list.value.room ≡ sessions
 
-  -- Where nobody has it in hand, the list of each lock is at home, with those who wait for it and with room for so many sessions.
+  -- Where nobody has it in hand, the list of each lock is at home, with those who wait for it and with room for this number of sessions.
   abbrev pub ListsAreHome : ℕ → List (maybe.Option (Kept T)) → (ℕ → Option ℕ) → (ℕ → List LwWaiter) → Type 0
   ListsAreHome sessions homes has_list list =
       (lock : ℕ) → lock < lock_count sessions → IsInNoHand lock has_list
