@@ -10,7 +10,7 @@ use crate::rush::{come_and_go, rush};
 use crate::shifts::{Shift, work};
 use crate::watch::Watch;
 use lock_manager::{
-    Board, Config, Desk, MOST_SESSIONS, Manager, ManagerDesk, OwnSession, Part, Refusal,
+    Board, Config, Desk, USUAL_SESSIONS, Manager, ManagerDesk, OwnSession, Part, Refusal,
     SessionPool,
 };
 use std::alloc::Global;
@@ -41,7 +41,7 @@ pub fn live_through<R: Threads + Wait + Clock + Sync>(
     alloc: Global,
 ) -> Result<Report, Refusal> {
     let config = Config {
-        sessions: MOST_SESSIONS,
+        sessions: USUAL_SESSIONS,
         max_local: 16,
         slot_groups: 1,
     };

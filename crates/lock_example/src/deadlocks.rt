@@ -2,11 +2,11 @@
 
 ghost use Rattle.lock_manager.specs.Crews.{KeepsSeat};
 
-use lock_manager::{Blocked, Board, MOST_SESSIONS, OwnSession, Part, SessionId};
+use lock_manager::{Blocked, Board, USUAL_SESSIONS, OwnSession, Part, SessionId};
 use std::sync::Wait;
 
 /// The length of a list that has a place for each session number.
-const NUMBERS: usize = MOST_SESSIONS as usize;
+const NUMBERS: usize = USUAL_SESSIONS as usize;
 
 /// Asks, in the name of `session`, one session of a circle of waits to cancel, if there is such a circle. Without memory for the
 /// waits nobody is asked.
@@ -26,8 +26,11 @@ fn victim_of(waits: &Vec<Blocked>) -> Option<SessionId> {
     let mut behind = [[false; NUMBERS]; NUMBERS];
     'waits: for wait in waits {
         'blockers: for blocker in &wait.blockers {
-            behind[usize::from(wait.session.number())][usize::from(blocker.session.number())] =
-                true;
+            let waiter = usize::from(wait.session.number());
+            let other = usize::from(blocker.session.number());
+            if waiter < NUMBERS && other < NUMBERS {
+                behind[waiter][other] = true;
+            }
         }
     }
     'through: for through in 0..NUMBERS {

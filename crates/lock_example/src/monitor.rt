@@ -5,7 +5,7 @@ ghost use Rattle.lock_manager.specs.Crews.{KeepsSeat, SeatsAre};
 
 use crate::bank::{ACCOUNTS, DATABASE};
 use lock_manager::{
-    Blocker, Board, Config, Desk, MOST_SESSIONS, Manager, ManagerDesk, Mode, OwnSession,
+    Blocker, Board, Config, Desk, USUAL_SESSIONS, Manager, ManagerDesk, Mode, OwnSession,
     OwnWaiting, Owner, Part, QueueRow, Started, TableRow,
 };
 use std::alloc::Global;
@@ -19,7 +19,7 @@ use std::time::{Clock, Duration};
 const PAUSE: u64 = 5;
 
 /// The length of a list that has a place for each session number.
-const NUMBERS: usize = MOST_SESSIONS as usize;
+const NUMBERS: usize = USUAL_SESSIONS as usize;
 
 /// Looks again and again at who waits, and logs each wait once, until `is_over`. `monitor` is a session of the
 /// monitor's own.
@@ -53,10 +53,13 @@ fn log_waits<B: Board<Part>, R: Wait + Print>(
     let mut waits = [false; NUMBERS];
     'rows: for row in &listing.table {
         let number = usize::from(row.session.number());
-        if !row.granted && !logged[number] {
+        if row.granted || number >= NUMBERS {
+            continue 'rows;
+        }
+        if !logged[number] {
             log_wait(rt, monitor, row)?;
         }
-        waits[number] |= !row.granted;
+        waits[number] = true;
     }
     *logged = waits;
     Ok(())

@@ -7,7 +7,7 @@ use crate::bank::DATABASE;
 use crate::connections::Connection;
 use crate::shifts::{dismiss, hire};
 use lock_manager::{
-    Board, Desk, MOST_SESSIONS, OwnSession, Part, Refusal, SessionId, SessionLife, SessionPool,
+    Board, Desk, USUAL_SESSIONS, OwnSession, Part, Refusal, SessionId, SessionLife, SessionPool,
 };
 use std::alloc::Global;
 use std::sync::Wait;
@@ -50,7 +50,7 @@ pub fn rush<B: Board<Part>, D: Desk<OwnSession<Part, B>>, R: Wait>(
     ensures all_back { D.live desk.new + length pool.old.free ≡ D.live desk.old + length pool.new.free }
 {
     let mut connections = Vec::new(alloc);
-    let hired = hire(rt, desk, pool, &mut connections, MOST_SESSIONS);
+    let hired = hire(rt, desk, pool, &mut connections, USUAL_SESSIONS);
     let refused = connect(rt, desk, pool).err();
     if let Some(session) = connections.pop() {
         pool.close(rt, desk, session);

@@ -5,7 +5,7 @@ ghost use Rattle.lock_manager.specs.Crews.{KeepsSeat};
 
 use crate::deadlocks::break_circle;
 use crate::shut_down::shut_down;
-use lock_manager::{Board, MOST_SESSIONS, OwnSession, Part, SessionId};
+use lock_manager::{Board, USUAL_SESSIONS, OwnSession, Part, SessionId};
 use std::sync::Wait;
 use std::sync::atomic::{AtomicBool, AtomicU64, Ordering};
 use std::thread;
@@ -16,7 +16,7 @@ use std::time::{Clock, Duration};
 const PAUSE: u64 = 2;
 
 /// The length of a list that has a place for each session number.
-const NUMBERS: usize = MOST_SESSIONS as usize;
+const NUMBERS: usize = USUAL_SESSIONS as usize;
 
 /// What the threads of a day show the watchdog.
 #[derive(Drop)]
@@ -49,7 +49,9 @@ impl Watch {
 
     /// Notes that `session` begins a wait, or ends it.
     pub fn turn(&self, session: SessionId) {
-        self.waits[usize::from(session.number())].fetch_add(1, Ordering::SeqCst);
+        if let Some(waits) = self.waits.get(usize::from(session.number())) {
+            waits.fetch_add(1, Ordering::SeqCst);
+        }
     }
 
     /// A thread has done its work, or the bank shuts down.

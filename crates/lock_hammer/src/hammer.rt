@@ -3,7 +3,7 @@
 ghost use Rattle.std.specs.Prelude.{◌≡◌, ◌≤◌, length};
 ghost use Rattle.lock_manager.specs.Crews.{AreOf, SeatsAre};
 ghost use Rattle.lock_hammer.specs.Sizes.{IsPlayable};
-ghost use Rattle.modes_core.specs.Sessions.{most_sessions};
+ghost use Rattle.modes_core.specs.Sessions.{usual_sessions};
 
 use crate::progress::{Progress, Unwatched};
 use crate::size::Hammer;
@@ -35,7 +35,7 @@ pub fn run_hammer<H: AllocGlobal + Threads + Wait + Sync, G: Gate + Sync, W: Wri
     sessions: u32,
     rounds: u32,
 ) -> Result<(), Fault>
-    requires sessions { (1 ≤ sessions) × (sessions ≤ most_sessions) }
+    requires sessions { (1 ≤ sessions) × (sessions ≤ usual_sessions) }
     requires rounds { (1 ≤ rounds) × (rounds ≤ 1000000) }
 {
     run_watched_hammer(rt, gate, &Unwatched, writer, Hammer { sessions, rounds })

@@ -14,7 +14,7 @@ use Rattle.lock_manager.specs.declared.config.Config.{Config}
 use Rattle.lock_manager.specs.Keeper.{PartView, content_of}
 use Rattle.lock_manager.specs.Releases.{ReleasesAll}
 use Rattle.lock_manager.specs.Sessions.{SessionView, IsResting}
-use Rattle.modes_core.specs.Sessions.{most_sessions}
+use Rattle.modes_core.specs.Sessions.{most_sessions, usual_sessions}
 
 -- What contracts see of a manager and of its opener.
 
@@ -35,16 +35,25 @@ pub record OpenerView : Type 0 where
   pub live : ℕ
   pub closed : List (History PartView)
 
--- whether a manager can have this many sessions, local entries and groups of slots
-abbrev pub is_in_range : Config → Bool
-is_in_range config =
-    nat_le 1 config.sessions && (nat_le config.sessions most_sessions &&
+-- whether a manager with this many sessions at most can have as many sessions, local entries and groups of slots as the
+-- configuration says
+abbrev pub is_within : ℕ → Config → Bool
+is_within most config =
+    nat_le 1 config.sessions && (nat_le config.sessions most &&
     (nat_le 1 config.max_local && (nat_le config.max_local 65536 &&
     (nat_le 1 config.slot_groups && nat_le config.slot_groups most_groups))))
 
+-- whether a manager can be as the configuration says that is not made for a server
+abbrev pub is_in_range : Config → Bool
+is_in_range = is_within usual_sessions
+
+-- whether a server's manager can be as the configuration says
+abbrev pub is_in_server_range : Config → Bool
+is_in_server_range = is_within most_sessions
+
 -- The manager's size where nothing else is said.
 abbrev pub IsUsual : Config → Type 0
-IsUsual config = config ≡ record { sessions = most_sessions; max_local = 1024; slot_groups = 1 }
+IsUsual config = config ≡ record { sessions = usual_sessions; max_local = 1024; slot_groups = 1 }
 
 -- The opener is the manager's.
 pub record IsOpenerOf (opener : OpenerView) (manager : ManagerView) : Type 0 where

@@ -1,4 +1,4 @@
-use Rattle.std.specs.Prelude.{◌≡◌, ℕ, ◌<◌, ◌≤◌, ◌+◌, ◌%◌, ◌^◌, List, [], ◌∷◌, ◌++◌, length, slice_get, slice_index_or, slice_set, Some}
+use Rattle.std.specs.Prelude.{◌≡◌, ℕ, ◌<◌, ◌≤◌, ◌+◌, ◌%◌, ◌^◌, ◌⊎◌, List, [], ◌∷◌, ◌++◌, length, replicate, slice_get, slice_index_or, slice_set, Some}
 use Rattle.std.specs.List.{remove}
 use Rattle.lock_world.specs.Account.{Account}
 use Rattle.shared_rule.specs.Boards.{Seated, Stack}
@@ -6,10 +6,23 @@ use Rattle.shared_rule.specs.Quiet.{Quiet}
 use Rattle.lock_manager.specs.Sessions.{SessionView}
 use Rattle.lock_manager.specs.Reuse.{ServesNext}
 
--- What contracts see of a pool of sessions: those that nobody has, and of each number how often its session was given back.
+-- What contracts see of a pool of sessions: those that nobody has, and of each number that it has room for how often its session was
+-- given back.
 pub record PoolView (B : Type 0) : Type 0 where
   pub free : List (SessionView B)
   pub lives : List ℕ
+
+-- A pool with no session yet, which has room for those of this many numbers.
+abbrev pub IsNewPool : {B : Type 0} → ℕ → PoolView B → Type 0
+IsNewPool sessions pool = pool ≡ record { free = []; lives = replicate sessions 0 }
+
+-- The pool has room for the session of this number.
+abbrev pub HasRoomFor : {B : Type 0} → ℕ → PoolView B → Type 0
+HasRoomFor number pool = (length pool.free < length pool.lives) × (number < length pool.lives)
+
+-- The pool has no room for the session of this number.
+abbrev pub HasNoRoomFor : {B : Type 0} → ℕ → PoolView B → Type 0
+HasNoRoomFor number pool = (length pool.lives ≤ length pool.free) ⊎ (length pool.lives ≤ number)
 
 -- the life that the session of this number has now
 abbrev pub life_of : List ℕ → ℕ → ℕ

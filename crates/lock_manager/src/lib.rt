@@ -27,7 +27,7 @@ mod waiting_sessions;
 
 // What an embedder calls, and what it is answered.
 pub use blocked::Blocked;
-pub use config::{Config, MOST_GROUPS, MOST_SESSIONS};
+pub use config::{Config, MOST_GROUPS, MOST_SESSIONS, USUAL_SESSIONS};
 pub use listing::Listing;
 pub use local_locks::{Acquired, MOST_LEVELS, MOST_LOCAL, Unlocked};
 pub use lock_table::{SlotRow, TableRow};

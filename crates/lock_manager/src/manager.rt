@@ -6,7 +6,7 @@ ghost use Rattle.shared_rule.specs.Boards.{nothing_due};
 ghost use Rattle.shared_rule.specs.declared.history.History.{History};
 ghost use Rattle.shared_rule.specs.Quiet.{quiet_told};
 ghost use Rattle.lock_manager.specs.Keeper.{PartView};
-ghost use Rattle.lock_manager.specs.Managers.{IsNew, IsOpenerOf, IsOpened, TakesBack, is_in_range};
+ghost use Rattle.lock_manager.specs.Managers.{IsNew, IsOpenerOf, IsOpened, TakesBack, is_in_range, is_in_server_range};
 
 use crate::config::Config;
 use crate::keeper::Part;
@@ -88,7 +88,7 @@ impl Model for Opener {
 
 impl Manager {
     /// A manager as `config` says, with no session yet, and its opener (`InitLocks` in lock.c with `InitProcGlobal`
-    /// in proc.c). Refused where a number of the configuration is out of its range, and then where memory, by
+    /// in proc.c). Refused where a number of the configuration is out of its range, of which sessions is 1 to 64, and then where memory, by
     /// `alloc`, runs out.
     pub fn new(alloc: Global, config: Config) -> Result<(Manager, Opener), Refusal>
         ensures ok { IfOk result (λ made. IsNew made.0 made.1 config) }
@@ -98,6 +98,30 @@ impl Manager {
         if !config.is_in_range() {
             return Err(Refusal::BadConfig);
         }
+        Manager::of_size(alloc, config)
+    }
+
+    /// A server's manager as `config` says, which may have up to 1,024 sessions, with none yet, and its opener. What it takes grows with the
+    /// sessions asked for: memory, a strong lock of a relation, and a listing. Refused where a number of the configuration is out of its
+    /// range, and then where memory, by `alloc`, runs out.
+    pub fn for_server(alloc: Global, config: Config) -> Result<(Manager, Opener), Refusal>
+        ensures ok { IfOk result (λ made. IsNew made.0 made.1 config) }
+        ensures bad_config { IsErrOf result Refusal.BadConfig ↔ (is_in_server_range config ≡ false) }
+        ensures no_other { is_in_server_range config ≡ true → IsOkUnless result Refusal.NoMemory }
+    {
+        if !config.is_in_server_range() {
+            return Err(Refusal::BadConfig);
+        }
+        Manager::of_size(alloc, config)
+    }
+
+    /// A manager as `config` says, whose numbers are in their ranges, with no session yet, and its opener. Refused where memory, by `alloc`,
+    /// runs out.
+    fn of_size(alloc: Global, config: Config) -> Result<(Manager, Opener), Refusal>
+        requires within { is_in_server_range config ≡ true }
+        ensures ok { IfOk result (λ made. IsNew made.0 made.1 config) }
+        ensures no_memory { IsOkUnless result Refusal.NoMemory }
+    {
         let Ok(parts) = empty_parts(alloc, Part::new) else {
             return Err(Refusal::NoMemory);
         };

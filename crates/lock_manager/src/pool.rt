@@ -1,22 +1,22 @@
 //! Pools: sessions for connections that come and go.
 
-ghost use Rattle.std.specs.Prelude.{◌≡◌, ◌≢◌, ◌⊎◌, ◌↔◌, ◌<◌, ◌≤◌, ◌+◌, ◌-◌, [], length, IsNone, IfSome, IfNone, IfOk, IfErr, IsErrOf, IsOkUnless, OnOk, OnErr, MatchResult};
+ghost use Rattle.std.specs.Prelude.{◌≡◌, ◌≢◌, ◌⊎◌, ◌↔◌, ◌<◌, ◌≤◌, ◌+◌, ◌-◌, [], length, min, replicate, IsNone, IfSome, IfNone, IfOk, IfErr, IsErrOf, IsOkUnless, OnOk, OnErr, MatchResult};
 ghost use Rattle.lock_manager.specs.Crews.{AreOf, IsOf, SeatsAre};
 ghost use Rattle.lock_manager.specs.Desks.{opener_at, session_at};
 ghost use Rattle.lock_manager.specs.Managers.{IsOpened};
-ghost use Rattle.lock_manager.specs.Pools.{IsLowestBelow, LendsLowest, TakesIn, life_of};
+ghost use Rattle.lock_manager.specs.Pools.{HasNoRoomFor, HasRoomFor, IsLowestBelow, IsNewPool, LendsLowest, TakesIn, life_of};
 ghost use Rattle.lock_manager.specs.Reuse.{ServesNext};
 ghost use Rattle.lock_manager.specs.Waiting.{AsksOneOf};
-ghost use Rattle.modes_core.specs.Sessions.{most_sessions};
+ghost use Rattle.modes_core.specs.Sessions.{most_sessions, usual_sessions};
 
 use crate::crews::close_sessions;
 use crate::desk::Desk;
 use crate::sessions::OwnSession;
 use crate::waiting::Asked;
 use lock_table::PartTable;
-use modes_core::{MOST_SESSIONS, Refusal, SessionId};
+use modes_core::{MOST_SESSIONS, Refusal, SessionId, USUAL_SESSIONS};
 use shared_rule::Board;
-use std::alloc::Global;
+use std::alloc::{AllocError, Global};
 use std::marker::Model;
 use std::sync::Wait;
 
@@ -28,28 +28,25 @@ pub struct SessionLife {
     pub life: u64,
 }
 
-/// How many sessions a pool can have: all that a manager can.
-const MOST_LENT: usize = MOST_SESSIONS as usize;
-
 /// Lends the sessions of one manager to connections that come and go, any number of them in turn, and as many at a time as the
 /// manager has (`freeProcs` of `ProcGlobal` in proc.c, of which `InitProcess` takes one and to which `ProcKill` gives it back). A
-/// session is taken back with nothing held. Contracts see those that nobody has, and each number's life.
+/// session is taken back with nothing held. Contracts see those that nobody has, and each number's life: the pool has room for the
+/// sessions of these numbers.
 pub struct SessionPool<T: PartTable, B: Board<T>> {
     free: Vec<OwnSession<T, B>>,
-    lives: [u64; MOST_LENT],
+    lives: Vec<u64>,
 }
 
 impl<T: PartTable, B: Board<T>> Model for SessionPool<T, B> {
     ghost use Rattle.std.specs.Prelude.{◌≡◌, ◌≤◌, length};
     ghost use Rattle.std.specs.Vec.{vec_capacity};
     ghost use Rattle.lock_manager.specs.Pools.{PoolView};
-    ghost use Rattle.modes_core.specs.Sessions.{most_sessions};
 
     ghost Value = { PoolView B };
 
-    ghost view = { λ pool. record { free = pool.free.items; lives = pool.lives } };
+    ghost view = { λ pool. record { free = pool.free.items; lives = pool.lives.items } };
 
-    ghost invariant = { λ pool. (most_sessions ≤ vec_capacity pool.free) };
+    ghost invariant = { λ pool. (length pool.lives.items ≤ vec_capacity pool.free) };
 }
 
 /// The place of the session with the lowest number among those of `free`, of which there is one at least.
@@ -69,17 +66,44 @@ fn lowest_place<T: PartTable, B: Board<T>>(free: &Vec<OwnSession<T, B>>) -> usiz
     lowest
 }
 
+/// The lives of the sessions of `sessions` numbers, none of which was given back yet, in a list from `alloc`.
+fn no_lives(alloc: Global, sessions: u16) -> Result<Vec<u64>, AllocError>
+    ensures { IfOk result (λ lives. lives.items ≡ replicate sessions 0) }
+{
+    let mut lives = Vec::with_capacity(alloc, usize::from(sessions))?;
+    lives.resize(usize::from(sessions), 0)?;
+    Ok(lives)
+}
+
 impl<T: PartTable, B: Board<T>> SessionPool<T, B> {
-    /// A pool with no session yet, which has room for all that a manager can have. Refused where memory, by `alloc`, runs out.
+    /// A pool with no session yet, for those of a manager of `Manager::new`: it has room for `USUAL_SESSIONS`. Refused where memory, by
+    /// `alloc`, runs out.
     pub fn new(alloc: Global) -> Result<Self, Refusal>
-        ensures ok { IfOk result (λ pool. pool.free ≡ []) }
+        ensures ok { IfOk result (λ pool. IsNewPool usual_sessions pool) }
         ensures no_memory { IsOkUnless result Refusal.NoMemory }
     {
-        match Vec::with_capacity(alloc, MOST_LENT) {
-            Ok(free) => Ok(SessionPool {
-                free,
-                lives: [0; MOST_LENT],
-            }),
+        Self::with_room(alloc, USUAL_SESSIONS)
+    }
+
+    /// A pool with no session yet, for those of a manager of `Manager::for_server`: it has room for `sessions`, or for `MOST_SESSIONS` where
+    /// these are fewer, some hundred and seventy bytes each. Refused where memory, by `alloc`, runs out.
+    pub fn for_server(alloc: Global, sessions: u32) -> Result<Self, Refusal>
+        ensures ok { IfOk result (λ pool. IsNewPool (min sessions most_sessions) pool) }
+        ensures no_memory { IsOkUnless result Refusal.NoMemory }
+    {
+        Self::with_room(alloc, sessions.min(u32::from(MOST_SESSIONS)) as u16)
+    }
+
+    /// A pool with no session yet, which has room for `sessions`.
+    fn with_room(alloc: Global, sessions: u16) -> Result<Self, Refusal>
+        ensures ok { IfOk result (λ pool. IsNewPool sessions pool) }
+        ensures no_memory { IsOkUnless result Refusal.NoMemory }
+    {
+        let Ok(free) = Vec::with_capacity(alloc, usize::from(sessions)) else {
+            return Err(Refusal::NoMemory);
+        };
+        match no_lives(alloc, sessions) {
+            Ok(lives) => Ok(SessionPool { free, lives }),
             Err(_) => Err(Refusal::NoMemory),
         }
     }
@@ -107,7 +131,8 @@ impl<T: PartTable, B: Board<T>> SessionPool<T, B> {
     }
 
     /// Takes `session` in, all of whose holds are released, in the order of making (`ProcKill` in proc.c). Nobody has its life any more.
-    /// The session comes back, with nothing held, where `MOST_LENT` are there already, which can't be of one manager's sessions.
+    /// The session comes back, with nothing held, where the pool has no room for it: it has as many as it has room for, or its number is
+    /// none of those that the pool has room for. That can't be of a pool as large as the manager.
     pub fn take_in<R: Wait>(
         &mut self,
         rt: &R,
@@ -115,17 +140,27 @@ impl<T: PartTable, B: Board<T>> SessionPool<T, B> {
     ) -> Result<(), OwnSession<T, B>>
         ensures taken { MatchResult result
             (λ _. TakesIn B.seat B.view B.stack B.quiet session self.old self.new)
-            (λ back. ServesNext B.seat B.view B.stack B.quiet 0 session back × (most_sessions ≤ length self.old.free)
-            × (self.new ≡ self.old)) }
+            (λ back. ServesNext B.seat B.view B.stack B.quiet 0 session back × (self.new ≡ self.old)
+            × HasNoRoomFor (B.seat session.board).number self.old) }
     {
         session.serve_next(rt, 0);
-        if self.free.len() >= MOST_LENT {
+        let number = usize::from(session.id().number());
+        if self.free.len() >= self.lives.len() || number >= self.lives.len() {
             return Err(session);
         }
-        let number = usize::from(session.id().number());
         self.lives[number] = self.lives[number].wrapping_add(1);
         self.free.push_reserved(session);
         Ok(())
+    }
+
+    /// How often the session of `number` was given back, or 0 where the pool has no room for it.
+    fn life(&self, number: SessionId) -> u64
+        ensures { result ≡ life_of self.now.lives number }
+    {
+        self.lives
+            .get(usize::from(number.number()))
+            .copied()
+            .unwrap_or(0)
     }
 
     /// The number of `session`, with the life that it has now.
@@ -136,7 +171,7 @@ impl<T: PartTable, B: Board<T>> SessionPool<T, B> {
         let number = session.id();
         SessionLife {
             number,
-            life: self.lives[usize::from(number.number())],
+            life: self.life(number),
         }
     }
 
@@ -154,7 +189,7 @@ impl<T: PartTable, B: Board<T>> SessionPool<T, B> {
         ensures uses { session.new.uses ≡ session.old.uses }
         ensures seat { B.seat session.new.board ≡ B.seat session.old.board }
     {
-        if self.lives[usize::from(other.number.number())] != other.life {
+        if self.life(other.number) != other.life {
             return Asked::NotWaiting;
         }
         session.ask_cancel(other.number)
@@ -203,9 +238,10 @@ impl<T: PartTable, B: Board<T>> SessionPool<T, B> {
         requires seats { SeatsAre B.seat D.seat }
         requires own { IsOf B.seat (D.manager desk.old) session }
         requires free { AreOf B.seat (D.manager desk.old) self.old.free }
-        ensures taken { length self.old.free < most_sessions →
+        ensures taken { HasRoomFor (B.seat session.board).number self.old →
             TakesIn B.seat B.view B.stack B.quiet session self.old self.new × (desk.new ≡ desk.old) }
-        ensures one_more { length self.old.free < most_sessions → length self.new.free ≡ length self.old.free + 1 }
+        ensures one_more { HasRoomFor (B.seat session.board).number self.old →
+            length self.new.free ≡ length self.old.free + 1 }
         ensures live { length self.old.free < D.live desk.old →
             D.live desk.new + length self.old.free + 1 ≡ D.live desk.old + length self.new.free }
         ensures free { AreOf B.seat (D.manager desk.old) self.new.free }

@@ -7,7 +7,7 @@ ghost use Rattle.lock_script.specs.Names.{IsFree};
 use crate::command::parse;
 use crate::commands::{WordKind, command_row};
 use crate::faults::Defect;
-use crate::names::{MOST_SESSIONS, Name};
+use crate::names::{USUAL_SESSIONS, Name};
 use crate::objects::ObjectNames;
 use crate::sessions::{ByName, OpenSessions};
 use crate::words::{parse_name, split_words};
@@ -249,7 +249,7 @@ fn put_all<S>(open: &mut OpenSessions<(), ()>, sessions: &ByName<S>) {
 
 /// Puts `name` into `open`, where there is room.
 fn put(open: &mut OpenSessions<(), ()>, name: Name) {
-    if open.resting.len() < MOST_SESSIONS {
+    if open.resting.len() < USUAL_SESSIONS {
         open.resting.put(name, ());
     }
 }

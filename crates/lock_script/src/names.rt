@@ -1,6 +1,6 @@
 //! The names of a script: those under which sessions were opened, and those of objects.
 ghost use Rattle.std.specs.Prelude.{◌≡◌, ◌<◌, ◌≤◌, [], ◌∷◌, ◌++◌, length, set, slice_get};
-ghost use Rattle.modes_core.specs.Sessions.{most_sessions};
+ghost use Rattle.modes_core.specs.Sessions.{usual_sessions};
 
 use crate::objects::ObjectNames;
 use arrayvec::{ArrayString, ArrayVec};
@@ -9,7 +9,7 @@ use std::alloc::Global;
 use std::marker::Model;
 
 /// How many sessions a script has open at a time at most.
-pub(crate) const MOST_SESSIONS: usize = modes_core::MOST_SESSIONS as usize;
+pub(crate) const USUAL_SESSIONS: usize = modes_core::USUAL_SESSIONS as usize;
 
 /// The name of a session, of up to 16 bytes.
 pub type Name = ArrayString<16>;
@@ -17,7 +17,7 @@ pub type Name = ArrayString<16>;
 /// The names of the sessions that were opened, by their numbers. Of a number that was given out again it is the last one.
 #[derive(Drop)]
 pub struct SessionNames {
-    issued: ArrayVec<Name, MOST_SESSIONS>,
+    issued: ArrayVec<Name, USUAL_SESSIONS>,
 }
 
 impl Model for SessionNames {
@@ -51,7 +51,7 @@ impl SessionNames {
 
     /// Keeps `name` as that of the session that was opened last. The name of a closed session stays.
     pub fn push(&mut self, name: Name)
-        requires { length self.old < most_sessions }
+        requires { length self.old < usual_sessions }
         ensures { self.new ≡ self.old ++ name ∷ [] }
     {
         self.issued.push(name);
@@ -60,7 +60,8 @@ impl SessionNames {
     /// Keeps `name` as that of `session`, which was opened just now: its number is the next one, or was given out again, and then the session that
     /// had it before has no name any more.
     pub fn put(&mut self, session: SessionId, name: Name)
-        requires { session ≤ length self.old }
+        requires next_or_again { session ≤ length self.old }
+        requires few { session < usual_sessions }
         ensures next { session ≡ length self.old → self.new ≡ self.old ++ name ∷ [] }
         ensures again { session < length self.old → self.new ≡ set self.old session name }
     {

@@ -3,9 +3,9 @@ ghost use Rattle.std.specs.Prelude.{◌≡◌, ℕ, ◌<◌, ◌≤◌, [], ◌�
 ghost use Rattle.std.specs.Borrow.{sem};
 ghost use Rattle.std.specs.List.{HoldsAt};
 ghost use Rattle.lock_script.specs.Names.{IsByName, IsCalled, IsFree, NotAfter, PutsIn};
-ghost use Rattle.modes_core.specs.Sessions.{most_sessions};
+ghost use Rattle.modes_core.specs.Sessions.{usual_sessions};
 
-use crate::names::{MOST_SESSIONS, Name};
+use crate::names::{USUAL_SESSIONS, Name};
 use std::alloc::{AllocError, Global};
 use std::marker::Model;
 
@@ -27,13 +27,13 @@ impl<S> Model for ByName<S> {
     ghost use Rattle.std.specs.Prelude.{◌≤◌, List, vec_capacity};
     ghost use Rattle.lock_script.specs.declared.sessions.Named.{Named};
     ghost use Rattle.lock_script.specs.Names.{IsByName};
-    ghost use Rattle.modes_core.specs.Sessions.{most_sessions};
+    ghost use Rattle.modes_core.specs.Sessions.{usual_sessions};
 
     ghost Value = { List (Named S) };
 
     ghost view = { λ those. those.sessions.items };
 
-    ghost invariant = { λ those. IsByName those.sessions.items × (most_sessions ≤ vec_capacity those.sessions) };
+    ghost invariant = { λ those. IsByName those.sessions.items × (usual_sessions ≤ vec_capacity those.sessions) };
 }
 
 impl<S> ByName<S> {
@@ -44,7 +44,7 @@ impl<S> ByName<S> {
     pub fn new(alloc: Global) -> Result<Self, AllocError>
         ensures { IfOk result (λ made. made ≡ []) }
     {
-        let sessions = Vec::with_capacity(alloc, MOST_SESSIONS)?;
+        let sessions = Vec::with_capacity(alloc, USUAL_SESSIONS)?;
         Ok(ByName { sessions })
     }
 
@@ -87,7 +87,7 @@ impl<S> ByName<S> {
 
     /// Puts `session` in at the place of `name` in the order of the names.
     pub fn put(&mut self, name: Name, session: S)
-        requires { length self.old < most_sessions }
+        requires { length self.old < usual_sessions }
         ensures { PutsIn self.old (record { name = name; session = session }) self.new }
     {
         let place = self.place_of(&name);
@@ -96,7 +96,7 @@ impl<S> ByName<S> {
 
     /// Puts `session` in at `place`, where `name` keeps the order, as at the place that it was taken from.
     pub fn put_at(&mut self, place: usize, name: Name, session: S)
-        requires room { length self.old < most_sessions }
+        requires room { length self.old < usual_sessions }
         requires within { place ≤ length self.old }
         requires in_order { IsByName (insert self.old place (record { name = name; session = session })) }
         ensures { self.new ≡ insert self.old place (record { name = name; session = session }) }

@@ -13,5 +13,5 @@ pub use mode_sets::{
 };
 pub use modes::Mode;
 pub use refusals::{How, Refusal};
-pub use sessions::{MOST_SESSIONS, Owner, SessionId};
+pub use sessions::{MOST_SESSIONS, Owner, SessionId, USUAL_SESSIONS};
 pub use tags::{LockMethod, PARTITIONS, STRONG_COUNTERS, Tag, is_eligible, is_strong};

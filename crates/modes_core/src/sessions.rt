@@ -5,11 +5,14 @@ ghost use Rattle.modes_core.specs.Sessions.{most_sessions};
 use std::fmt;
 use std::marker::Model;
 
-/// How many sessions there are at most at a time, whose numbers are those below (`MaxBackends` in globals.c, of a server
-/// as large as can be).
-pub const MOST_SESSIONS: u16 = 64;
+/// How many sessions a manager has at most, whose numbers are those below (`MaxBackends` in globals.c, of a server as large as
+/// can be).
+pub const MOST_SESSIONS: u16 = 1024;
 
-/// The number of a session, 0 to 63, given in the order of opening. Contracts see the number. The
+/// How many sessions a manager has at most that is not made for a server, and how many a script has.
+pub const USUAL_SESSIONS: u16 = 64;
+
+/// The number of a session, 0 to 1,023, given in the order of opening. Contracts see the number. The
 /// default, 0, is what unused places of bounded lists have.
 #[derive(Clone, Copy, Debug, Default, PartialEq, Eq, PartialOrd, Ord, Hash)]
 pub struct SessionId {
@@ -27,7 +30,7 @@ impl Model for SessionId {
 }
 
 impl SessionId {
-    /// The session numbered `number`, or `None` where that is not below 64.
+    /// The session numbered `number`, or `None` where that is not below `MOST_SESSIONS`.
     pub fn new(number: u16) -> Option<Self>
         ensures valid { IsSome result ↔ (number < most_sessions) }
         ensures value { IfSome result (λ id. id ≡ number) }

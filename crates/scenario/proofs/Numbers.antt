@@ -2,7 +2,7 @@
 use Rattle.std.proofs.Common.{◌≡◌, ℕ, ◌+◌, ◌<◌, ◌≤◌, inl, inr, ◌∙◌, ap, arith, subst, sym, List, [], ◌∷◌, ◌++◌, length, length-append, length-set, set}
 use Rattle.std.specs.Prelude.{Bool}
 use Rattle.arrayvec.specs.declared.array_string.ArrayString.{ArrayString}
-use Rattle.modes_core.specs.Sessions.{most_sessions}
+use Rattle.modes_core.specs.Sessions.{usual_sessions}
 use Rattle.lock_manager.specs.Managers.{ManagerView}
 use Rattle.shared_rule.specs.Boards.{Seated}
 use Rattle.scenario.specs.Numbers.{IsKnown, IsNamed, IsNumbered}
@@ -28,7 +28,7 @@ pub number-within : (again : Bool) (number before after : ℕ) → IsNumbered ag
 number-within again number before after (inl (first, few, e)) = omega (arith, first, e)
 number-within again number before after (inr (is, within, e)) = omega (arith, within, e)
 
-pub few-issued : (again : Bool) (number before after : ℕ) → IsNumbered again number before after → before ≤ most_sessions → after ≤ most_sessions
+pub few-issued : (again : Bool) (number before after : ℕ) → IsNumbered again number before after → before ≤ usual_sessions → after ≤ usual_sessions
 few-issued again number before after (inl (first, few, e)) within = omega (arith, few, e)
 few-issued again number before after (inr (is, below, e)) within = omega (arith, e, within)
 

@@ -1,7 +1,7 @@
 use Rattle.std.specs.Prelude.{◌≡◌, ◌⊎◌, ℕ, ◌+◌, ◌<◌, Bool, true, false, List, [], ◌∷◌, ◌++◌, length, set}
 use Rattle.arrayvec.specs.declared.array_string.ArrayString.{ArrayString}
 use Rattle.local_locks.specs.declared.records.Entry.{Entry}
-use Rattle.modes_core.specs.Sessions.{most_sessions}
+use Rattle.modes_core.specs.Sessions.{usual_sessions}
 use Rattle.shared_rule.specs.Boards.{Seated}
 use Rattle.lock_manager.specs.Managers.{ManagerView}
 use Rattle.lock_manager.specs.Sessions.{SessionView}
@@ -12,7 +12,7 @@ use Rattle.lock_manager.specs.Sessions.{SessionView}
 -- sessions are given out again, one of these.
 abbrev pub IsNumbered : Bool → ℕ → ℕ → ℕ → Type 0
 IsNumbered again number before after =
-    ((number ≡ before) × (before < most_sessions) × (after ≡ before + 1))
+    ((number ≡ before) × (before < usual_sessions) × (after ≡ before + 1))
     ⊎ ((again ≡ true) × (number < before) × (after ≡ before))
 
 -- There is no number to give out: all were given out, or, where they are given out again, those of this many open sessions are all.

@@ -1,7 +1,7 @@
 //! Desks of scripts: they open and close its sessions, and give them their numbers.
 ghost use Rattle.std.specs.Prelude.{◌≡◌, ◌⊎◌, ◌↔◌, ◌≤◌, ◌<◌, ◌+◌, ◌-◌, [], All, true, false, length, IfOk, IfErr, OnOk, OnErr, IsErrOf};
 ghost use Rattle.lock_manager.specs.Crews.{AreOf, SeatsAre};
-ghost use Rattle.modes_core.specs.Sessions.{most_sessions};
+ghost use Rattle.modes_core.specs.Sessions.{usual_sessions};
 ghost use Rattle.scenario.specs.Numbers.{IsFull, IsNumbered, SeesSessions};
 
 use lock_manager::{Desk, OwnSession, Refusal, SessionPool};
@@ -102,7 +102,7 @@ pub struct ReusingDesk<T: PartTable, B: Board<T>, D: Desk<OwnSession<T, B>>> {
     ghost none_closed: { D.live desk ≡ D.issued desk },
     ghost free: { length pool.free ≤ D.issued desk },
     ghost issued: { D.issued desk ≤ (D.manager desk).limit },
-    ghost few: { D.issued desk ≤ most_sessions },
+    ghost few: { D.issued desk ≤ usual_sessions },
 }
 
 impl<T: PartTable, B: Board<T>, D: Desk<OwnSession<T, B>>> ScriptDesk<OwnSession<T, B>>

@@ -1,13 +1,13 @@
 //! Pictures of who waits for whom.
 
 ghost use Rattle.std.specs.Prelude.{◌≡◌, ◌<◌, length};
-ghost use Rattle.modes_core.specs.Sessions.{most_sessions};
+ghost use Rattle.modes_core.specs.Sessions.{usual_sessions};
 
 use crate::style::{Drawing, Pen};
 use crate::text::{ObjectText, name_of};
 use lock_manager::{Blocked, Blocker, How, Mode, ModeSet, QueueRow, SessionId, TableRow, Tag};
 use lock_script::Names;
-use modes_core::MOST_SESSIONS;
+use modes_core::USUAL_SESSIONS;
 use std::alloc::AllocError;
 use std::fmt::Write;
 
@@ -167,7 +167,7 @@ impl Picture {
 
     fn write_mermaid(&self, names: &Names, text: &mut String) -> Result<(), AllocError> {
         writeln!(text, "graph LR")?;
-        for number in 0..MOST_SESSIONS {
+        for number in 0..USUAL_SESSIONS {
             if self.shows(number) {
                 self.write_mermaid_node(names, number, text)?;
             }
@@ -181,7 +181,7 @@ impl Picture {
             writeln!(text, "  s{from} {line}|{mode}| s{to}")?;
         }
         let circles = self.circles();
-        for number in 0..MOST_SESSIONS {
+        for number in 0..USUAL_SESSIONS {
             if circles >> number & 1 == 1 {
                 writeln!(text, "  style s{number} stroke:red,stroke-width:3px")?;
             }
@@ -195,7 +195,7 @@ impl Picture {
         number: u16,
         text: &mut String,
     ) -> Result<(), AllocError>
-        requires { number < most_sessions }
+        requires { number < usual_sessions }
     {
         write!(text, "  s{number}[\"")?;
         self.write_label(names, number, "<br/>", text)?;
@@ -211,7 +211,7 @@ impl Picture {
         line_break: &str,
         text: &mut String,
     ) -> Result<(), AllocError>
-        requires { number < most_sessions }
+        requires { number < usual_sessions }
     {
         write!(text, "{}", name_of(names, SessionId::new(number).unwrap()))?;
         for hold in &self.holds {
@@ -258,7 +258,7 @@ impl Picture {
         writeln!(text, "  rankdir=LR;")?;
         writeln!(text, "  node [shape=box];")?;
         let circles = self.circles();
-        for number in 0..MOST_SESSIONS {
+        for number in 0..USUAL_SESSIONS {
             if self.shows(number) {
                 let color = if circles >> number & 1 == 1 {
                     "red"
@@ -289,7 +289,7 @@ impl Picture {
         color: &str,
         text: &mut String,
     ) -> Result<(), AllocError>
-        requires { number < most_sessions }
+        requires { number < usual_sessions }
     {
         write!(text, "  s{number} [label=\"")?;
         self.write_label(names, number, "\\n", text)?;
@@ -324,7 +324,10 @@ impl Picture {
     fn circles(&self) -> u64 {
         let mut reached = [0_u64; 64];
         for arrow in &self.arrows {
-            reached[usize::from(arrow.from.number())] |= 1 << arrow.to.number();
+            let (from, to) = (arrow.from.number(), arrow.to.number());
+            if from < USUAL_SESSIONS && to < USUAL_SESSIONS {
+                reached[usize::from(from)] |= 1 << to;
+            }
         }
         for middle in 0..64_usize {
             for start in 0..64_usize {

@@ -9,7 +9,7 @@ ghost use Rattle.scenario.specs.Answers.{Answers, IsNumberAt, IsOtherOf, NamesOb
 ghost use Rattle.lock_manager.specs.Sessions.{SessionView};
 ghost use Rattle.lock_script.specs.Lending.{with_session};
 ghost use Rattle.scenario.specs.Calls.{IsDeedOf, ShowsCounter};
-ghost use Rattle.modes_core.specs.Sessions.{most_sessions};
+ghost use Rattle.modes_core.specs.Sessions.{usual_sessions};
 ghost use Rattle.scenario.specs.Numbers.{IsKnown};
 
 use crate::answers::{Answer, Row, Said};
@@ -90,7 +90,7 @@ pub struct Stage<T: PartTable, B: Board<T>, D: ScriptDesk<OwnSession<T, B>>> {
     pub names: Names,
     pub sessions: OpenSessions<OwnSession<T, B>, OwnWaiting<T, B>>,
     ghost named: { length names.sessions ≡ D.issued desk },
-    ghost few: { D.issued desk ≤ most_sessions },
+    ghost few: { D.issued desk ≤ usual_sessions },
     ghost within: { D.live desk ≤ D.issued desk },
     ghost counted: { D.live desk ≡ length sessions.resting + length sessions.waiting },
     ghost resting: { All (λ one. IsKnown (B.seat one.session.board) (D.manager desk) (D.issued desk)) sessions.resting },

@@ -10,7 +10,7 @@ use crate::run_words::{REUSE, reuse_argument, run_options_of, with_manners, with
 use clap::error::ErrorKind;
 use clap::{Arg, ArgAction, ArgMatches, Command, Error, value_parser};
 use lock_hammer::Hammer;
-use lock_manager::{Config, MOST_GROUPS, MOST_LOCAL, MOST_SESSIONS};
+use lock_manager::{Config, MOST_GROUPS, MOST_LOCAL, USUAL_SESSIONS};
 use script_orders::OrdersOptions;
 use sql_report::{SQL, sql_command};
 use std::alloc::{AllocError, Global};
@@ -88,7 +88,7 @@ fn hammer_command<'a>(alloc: Global) -> Result<Command<'a>, AllocError> {
         .long("sessions")
         .value_name("N")
         .help("Sessions, each in a thread of its own, 1 to 64")
-        .value_parser(value_parser!(u32).range(1..=i64::from(MOST_SESSIONS)))
+        .value_parser(value_parser!(u32).range(1..=i64::from(USUAL_SESSIONS)))
         .required(true);
     let rounds = Arg::new(alloc, "rounds")
         .long("rounds")
@@ -113,7 +113,7 @@ fn with_config<'a>(
         .long("sessions")
         .value_name("N")
         .help("Sessions that may be opened, 1 to 64")
-        .value_parser(value_parser!(u32).range(1..=i64::from(MOST_SESSIONS)))
+        .value_parser(value_parser!(u32).range(1..=i64::from(USUAL_SESSIONS)))
         .default_value(usual_sessions);
     let max_local = Arg::new(alloc, "max-local")
         .long("max-local")
@@ -315,7 +315,7 @@ fn config_of(words: &ArgMatches) -> Config
     let max_local = words.get_one::<u32>("max-local").unwrap_or(USUAL_LOCAL);
     let slot_groups = words.get_one::<u32>("slot-groups").unwrap_or(USUAL_GROUPS);
     Config {
-        sessions: sessions.clamp(1, MOST_SESSIONS),
+        sessions: sessions.clamp(1, USUAL_SESSIONS),
         max_local: max_local.clamp(1, MOST_LOCAL),
         slot_groups: slot_groups.clamp(1, MOST_GROUPS),
     }
@@ -337,7 +337,7 @@ fn hammer_of(words: &ArgMatches) -> Hammer
     let sessions = words.get_one::<u32>("sessions").unwrap_or(1);
     let rounds = words.get_one::<u32>("rounds").unwrap_or(1);
     Hammer {
-        sessions: sessions.clamp(1, MOST_SESSIONS),
+        sessions: sessions.clamp(1, USUAL_SESSIONS),
         rounds: rounds.clamp(1, MOST_ROUNDS),
     }
 }

@@ -6,7 +6,7 @@ ghost use Rattle.scenario.specs.Sizes.{IsForManager};
 
 use crate::hints::{Reader, push_correction};
 use lock_manager::{
-    Blocked, Config, Desk, MOST_SESSIONS, Manager, ManagerDesk, OwnSession, Refusal,
+    Blocked, Config, Desk, USUAL_SESSIONS, Manager, ManagerDesk, OwnSession, Refusal,
 };
 use lock_script::{Caller, Command, Fault, Name, Names, parse};
 use lock_table::PartTable;
@@ -204,13 +204,13 @@ pub fn refused_session_text(
 ) -> Result<String, AllocError> {
     let RefusedSession { number, wanted } = refused;
     let most = config.sessions;
-    if wanted <= MOST_SESSIONS {
+    if wanted <= USUAL_SESSIONS {
         format!(in alloc;
             "line {number}: no more than {most} sessions may be opened; --sessions {wanted} allows all of them\n"
         )
     } else {
         format!(in alloc;
-            "line {number}: no more than {most} sessions may be opened; --sessions allows {MOST_SESSIONS} at most\n"
+            "line {number}: no more than {most} sessions may be opened; --sessions allows {USUAL_SESSIONS} at most\n"
         )
     }
 }

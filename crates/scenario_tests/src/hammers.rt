@@ -2,7 +2,7 @@
 //! are.
 use crate::pipes::Pipe;
 use lock_hammer::{Gate, Hammer, OpenGate, Progress, ProgressLine, run_hammer, run_watched_hammer};
-use lock_manager::MOST_SESSIONS;
+use lock_manager::USUAL_SESSIONS;
 use lock_script::Fault;
 use std::alloc::Global;
 use std::io::{self, ErrorKind};
@@ -87,7 +87,7 @@ fn expect_hammer<G: Gate + Sync>(
     fault: &str,
 ) -> Result<(), Fail> {
     let alloc: Global = rt.alloc();
-    let (sessions, rounds) = (sessions.clamp(1, MOST_SESSIONS), rounds.clamp(1, 1_000_000));
+    let (sessions, rounds) = (sessions.clamp(1, USUAL_SESSIONS), rounds.clamp(1, 1_000_000));
     let mut output = Vec::new(alloc);
     let ended = match run_hammer(rt, gate, &mut output, sessions, rounds) {
         Ok(()) => String::new(alloc),

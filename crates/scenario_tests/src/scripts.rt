@@ -5,7 +5,7 @@ use crate::rows::{self, BadRow, Copies, Row};
 use crate::scenarios::{deadlocks, migrations_on_a_busy_table, owners, the_fast_path, the_queue};
 use crate::slot_groups::{AFTER_MOVES, AFTER_MOVES_PRINTED, fill_all_groups, move_all_slots};
 use crate::{advisory, groups, named, nested, queues, waiting};
-use lock_manager::{Config, MOST_GROUPS, MOST_LOCAL, MOST_SESSIONS};
+use lock_manager::{Config, MOST_GROUPS, MOST_LOCAL, USUAL_SESSIONS};
 use lock_script::{Defect, Fault};
 use scenario::run_script;
 use std::alloc::Global;
@@ -87,7 +87,7 @@ fn expect_read(
         interrupted: false,
     };
     let within = Config {
-        sessions: config.sessions.clamp(1, MOST_SESSIONS),
+        sessions: config.sessions.clamp(1, USUAL_SESSIONS),
         max_local: config.max_local.clamp(1, MOST_LOCAL),
         slot_groups: config.slot_groups.clamp(1, MOST_GROUPS),
     };

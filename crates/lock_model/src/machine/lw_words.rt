@@ -7,14 +7,14 @@ ghost use Rattle.lw_word.specs.LockState.{IsFreeFor, IsHeldIn, taken_in, put_in}
 ghost use Rattle.lock_model.specs.ListWords.{unlocked_in};
 
 use lw_word::{LwMode, LwWord};
-use modes_core::MOST_SESSIONS;
+use modes_core::USUAL_SESSIONS;
 
 /// `word` with one more sharer, or `None` where somebody holds the lock exclusively. No word shows more sharers than
 /// there are sessions, so that the count has room.
 pub fn share(word: LwWord) -> Option<LwWord>
     ensures { SomeIff result (IsFreeFor Shared word × (word.shared ≤ 64)) (taken_in Shared word) }
 {
-    if word.shared() <= u64::from(MOST_SESSIONS) {
+    if word.shared() <= u64::from(USUAL_SESSIONS) {
         word.attempt(LwMode::Shared)
     } else {
         None

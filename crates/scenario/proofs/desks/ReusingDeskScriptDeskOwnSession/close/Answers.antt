@@ -1,7 +1,7 @@
 use Rattle.std.proofs.Common.{◌≡◌, ◌≤◌, ◌<◌, ◌∙◌, ap, arith, length, subst, sym}
 use Rattle.std.specs.Prelude.{All}
 use Rattle.std.proofs.lemmas.List.Elements.{All-push}
-use Rattle.modes_core.specs.Sessions.{most_sessions}
+use Rattle.modes_core.specs.Sessions.{usual_sessions}
 use Rattle.shared_rule.specs.Boards.{Seated}
 use Rattle.scenario.proofs.desks.ReusingDeskScriptDeskOwnSession.close.Goals as goal
 
@@ -13,7 +13,7 @@ invariant_of-self-clause-own g c = rw c.close.ensures.manager c.close.ensures.fr
 
 pub invariant_of-self-clause-known : goal.invariant_of-self-clause-known
 invariant_of-self-clause-known g c =
-    let room : length c.args.self.now.pool.free < most_sessions = omega (arith, c.requires.some, c.args.self.now.none_closed, c.args.self.now.few) in
+    let room : length c.args.self.now.pool.free < usual_sessions = omega (arith, c.requires.some, c.args.self.now.none_closed, c.args.self.now.few) in
     let taken = c.close.ensures.taken room in
     let seat = ap (λ (seat : Seated). seat.number) (taken.0.next.seat_ ∙ sym (c.args.self.now.seats c.args.session)) in
     subst (λ desk. All (λ session. (g.B.Board.seat session.board).number < g.D.Desk.issued desk) c.close.new.self.free) (sym taken.1)
@@ -23,34 +23,34 @@ invariant_of-self-clause-known g c =
 
 pub invariant_of-self-clause-none_closed : goal.invariant_of-self-clause-none_closed
 invariant_of-self-clause-none_closed g c =
-    let room : length c.args.self.now.pool.free < most_sessions = omega (arith, c.requires.some, c.args.self.now.none_closed, c.args.self.now.few) in
+    let room : length c.args.self.now.pool.free < usual_sessions = omega (arith, c.requires.some, c.args.self.now.none_closed, c.args.self.now.few) in
     subst (λ desk. g.D.Desk.live desk ≡ g.D.Desk.issued desk) (sym (c.close.ensures.taken room).1) c.args.self.now.none_closed
 
 pub invariant_of-self-clause-free : goal.invariant_of-self-clause-free
 invariant_of-self-clause-free g c =
-    let room : length c.args.self.now.pool.free < most_sessions = omega (arith, c.requires.some, c.args.self.now.none_closed, c.args.self.now.few) in
+    let room : length c.args.self.now.pool.free < usual_sessions = omega (arith, c.requires.some, c.args.self.now.none_closed, c.args.self.now.few) in
     let same = ap g.D.Desk.issued (c.close.ensures.taken room).1 in
     let more = c.close.ensures.one_more room in
     omega (arith, same, more, c.requires.some, c.args.self.now.none_closed)
 
 pub invariant_of-self-clause-issued : goal.invariant_of-self-clause-issued
 invariant_of-self-clause-issued g c =
-    let room : length c.args.self.now.pool.free < most_sessions = omega (arith, c.requires.some, c.args.self.now.none_closed, c.args.self.now.few) in
+    let room : length c.args.self.now.pool.free < usual_sessions = omega (arith, c.requires.some, c.args.self.now.none_closed, c.args.self.now.few) in
     subst (λ desk. g.D.Desk.issued desk ≤ (g.D.Desk.manager desk).limit) (sym (c.close.ensures.taken room).1) c.args.self.now.issued
 
 pub invariant_of-self-clause-few : goal.invariant_of-self-clause-few
 invariant_of-self-clause-few g c =
-    let room : length c.args.self.now.pool.free < most_sessions = omega (arith, c.requires.some, c.args.self.now.none_closed, c.args.self.now.few) in
-    subst (λ desk. g.D.Desk.issued desk ≤ most_sessions) (sym (c.close.ensures.taken room).1) c.args.self.now.few
+    let room : length c.args.self.now.pool.free < usual_sessions = omega (arith, c.requires.some, c.args.self.now.none_closed, c.args.self.now.few) in
+    subst (λ desk. g.D.Desk.issued desk ≤ usual_sessions) (sym (c.close.ensures.taken room).1) c.args.self.now.few
 
 pub returns-clause-live : goal.returns-clause-live
 returns-clause-live g c =
-    let room : length c.args.self.now.pool.free < most_sessions = omega (arith, c.requires.some, c.args.self.now.none_closed, c.args.self.now.few) in
+    let room : length c.args.self.now.pool.free < usual_sessions = omega (arith, c.requires.some, c.args.self.now.none_closed, c.args.self.now.few) in
     let same = ap g.D.Desk.live (c.close.ensures.taken room).1 in
     let more = c.close.ensures.one_more room in
     omega (arith, same, more, c.requires.some)
 
 pub returns-clause-issued : goal.returns-clause-issued
 returns-clause-issued g c =
-    let room : length c.args.self.now.pool.free < most_sessions = omega (arith, c.requires.some, c.args.self.now.none_closed, c.args.self.now.few) in
+    let room : length c.args.self.now.pool.free < usual_sessions = omega (arith, c.requires.some, c.args.self.now.none_closed, c.args.self.now.few) in
     ap g.D.Desk.issued (c.close.ensures.taken room).1
