@@ -99,11 +99,11 @@ impl<T: PartTable, B: Board<T>> SessionPool<T, B> {
         ensures ok { IfOk result (λ pool. IsNewPool sessions pool) }
         ensures no_memory { IsOkUnless result Refusal.NoMemory }
     {
-        let Ok(free) = Vec::with_capacity(alloc, usize::from(sessions)) else {
+        let Ok(lives) = no_lives(alloc, sessions) else {
             return Err(Refusal::NoMemory);
         };
-        match no_lives(alloc, sessions) {
-            Ok(lives) => Ok(SessionPool { free, lives }),
+        match Vec::with_capacity(alloc, usize::from(sessions)) {
+            Ok(free) => Ok(SessionPool { free, lives }),
             Err(_) => Err(Refusal::NoMemory),
         }
     }

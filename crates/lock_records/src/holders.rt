@@ -1,9 +1,11 @@
-ghost use Rattle.std.specs.Prelude.{◌≡◌, ◌<◌, ◌+◌, ◌≤◌, ◌⊎◌, length, false, true, IfSome, IfNone, Some};
+ghost use Rattle.std.specs.Prelude.{◌≡◌, ℕ, ◌<◌, ◌+◌, ◌≤◌, ◌⊎◌, length, false, true, IfSome, IfNone, Some};
 ghost use Rattle.modes_core.specs.ModeSet.{set_has};
 ghost use Rattle.slab.specs.Slab.{slab_len, HasRoomFor};
 ghost use Rattle.lock_records.specs.Holders.{holder_at, holds_in, IsHolderAt, HasNoHolder, AreHolders, IsHolderChain, SetsHold, IsTaken};
 ghost use Rattle.lock_records.specs.Lowest.{IsLowestHolder, considered_of};
 ghost use Rattle.modes_core.specs.Mode.{number_of};
+ghost use Rattle.modes_core.specs.Sessions.{most_sessions};
+ghost use Rattle.modes_core.specs.declared.modes.Mode.{Mode};
 
 use crate::sets::has_some;
 use modes_core::{Mode, ModeSet, SessionId, Tag};
@@ -48,6 +50,24 @@ pub(crate) fn find_holder(
         at = holder.next;
     }
     None
+}
+
+/// The lowest number above those of all sessions that have a record of `tag` in `slots`, in the chain `holders`.
+pub(crate) fn above_holders(slots: &Slab<HolderRecord>, holders: Holders, tag: &Tag) -> u16
+    requires chain { IsHolderChain slots.now.slots tag.now holders.first holders.count }
+    requires are { AreHolders slots.now.slots tag.now }
+    ensures within { result ≤ most_sessions }
+    ensures above { (session : ℕ) (mode : Mode) → result ≤ session →
+        holds_in slots.now.slots session tag.now mode ≡ false }
+{
+    let mut above = 0;
+    let mut at = holders.first;
+    for _step in 0..holders.count {
+        let holder = &slots[at];
+        above = above.max(holder.session.number() + 1);
+        at = holder.next;
+    }
+    above
 }
 
 /// Adds `mode`, which `session` doesn't hold, to its record of `tag`, which is made where there is none.

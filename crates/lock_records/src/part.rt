@@ -98,6 +98,10 @@ impl PartTable for RecordPart {
         self.records.held(session, tag)
     }
 
+    fn above_holders(&self, tag: &Tag) -> u16 {
+        self.records.above_holders(tag)
+    }
+
     #[inline(always)]
     fn may_conflict(&self, tag: &Tag, mode: Mode) -> bool {
         self.records.may_conflict(tag, mode)

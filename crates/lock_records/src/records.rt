@@ -3,7 +3,7 @@ ghost use Rattle.std.specs.Prelude.{◌≡◌, ◌<◌, ◌≤◌, false, true, 
 mod steps;
 
 use crate::counts::{Counts, counts_of};
-use crate::holders::{HolderRecord, find_holder};
+use crate::holders::{HolderRecord, above_holders, find_holder};
 use crate::locks::{LockRecord, drop_empty, find_lock, find_or_make_lock, hinted_lock};
 use crate::objects::{
     add_hold, holder_in_the_way, lower_awaited, make_room, make_room_to_wait, queue_place,
@@ -192,6 +192,13 @@ impl PartTable for Records {
         match find_holder(&self.holders, self.locks[place].holders, tag, session) {
             Some(holder) => self.holders[holder].modes,
             None => ModeSet::empty(),
+        }
+    }
+
+    fn above_holders(&self, tag: &Tag) -> u16 {
+        match find_lock(&self.locks, &self.index, self.hint, tag) {
+            Some(place) => above_holders(&self.holders, self.locks[place].holders, tag),
+            None => 0,
         }
     }
 

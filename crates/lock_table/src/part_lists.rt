@@ -14,7 +14,7 @@ use crate::part_waits::{
 use crate::request::Request;
 use crate::rows::{TableRow, sort_rows};
 use crate::waits::Waiter;
-use modes_core::{Mode, ModeSet, SessionId, Tag, conflicts};
+use modes_core::{MOST_SESSIONS, Mode, ModeSet, SessionId, Tag, conflicts};
 use std::alloc::{AllocError, Global};
 use std::marker::Model;
 
@@ -132,6 +132,10 @@ impl PartTable for PartLists {
         let index = index_of_hold(self.holds.as_slice(), session, tag, mode);
         self.holds.swap_remove(index);
         is_awaited(self.waits.as_slice(), tag, conflicts(mode))
+    }
+
+    fn above_holders(&self, _tag: &Tag) -> u16 {
+        MOST_SESSIONS
     }
 
     fn held(&self, session: SessionId, tag: &Tag) -> ModeSet {

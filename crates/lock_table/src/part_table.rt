@@ -1,6 +1,7 @@
-ghost use Rattle.std.specs.Prelude.{◌≡◌, ◌≤◌, ℕ, false, true, List, length, map, slice_get, Option, Some, None, option_map, OnOk, OnErr};
+ghost use Rattle.std.specs.Prelude.{◌≡◌, ◌<◌, ◌≤◌, ℕ, false, true, List, length, map, slice_get, Option, Some, None, option_map, OnOk, OnErr};
 ghost use Rattle.modes_core.specs.declared.modes.Mode.{Mode};
 ghost use Rattle.modes_core.specs.ModeSet.{set_has};
+ghost use Rattle.modes_core.specs.Sessions.{most_sessions};
 ghost use Rattle.lock_table.specs.Content.{Wait, Content, add_hold, remove_hold};
 ghost use Rattle.lock_table.specs.Clash.{NoConflictingHolder, HolderInTheWay};
 ghost use Rattle.lock_table.specs.Listing.{AppendsListing};
@@ -66,6 +67,13 @@ pub trait PartTable {
     /// The modes in which `session` holds `tag` (`holdMask` of `PROCLOCK` in lock.h).
     fn held(&self, session: SessionId, tag: &Tag) -> ModeSet
         ensures { set_has result ≡ (content self.now).holds session tag.now };
+
+    /// A number above those of all sessions that hold `tag`, or `MOST_SESSIONS`, which says nothing: a keeper answers that which would have
+    /// to search. Who asks of each session what it holds of `tag` need ask no further.
+    fn above_holders(&self, tag: &Tag) -> u16
+        ensures within { result ≤ most_sessions }
+        ensures above { result < most_sessions → (session : ℕ) (mode : Mode) → result ≤ session →
+            (content self.now).holds session tag.now mode ≡ false };
 
     /// Whether a hold or a wait on `tag` may be in conflict with `mode` (the looks at `grantMask` and `waitMask` in
     /// lock.c). `false` says that none is, not even one of the session that asks; `true` says nothing, and a keeper

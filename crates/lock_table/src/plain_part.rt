@@ -120,6 +120,10 @@ impl PartTable for PlainPart {
         self.lists.held(session, tag)
     }
 
+    fn above_holders(&self, tag: &Tag) -> u16 {
+        self.lists.above_holders(tag)
+    }
+
     fn may_conflict(&self, tag: &Tag, mode: Mode) -> bool {
         self.lists.may_conflict(tag, mode)
     }

@@ -16,22 +16,22 @@ use sql_report::{SQL, sql_command};
 use std::alloc::{AllocError, Global};
 
 /// How many sessions a script may open, where the command line doesn't say, and as `--help` shows it.
-const USUAL_SESSIONS: u32 = 8;
+const DEFAULT_SESSIONS: u32 = 8;
 
-const USUAL_SESSIONS_SHOWN: &str = "8";
+const DEFAULT_SESSIONS_SHOWN: &str = "8";
 
 /// How many sessions a shell may open in its whole life, where the command line doesn't say.
 const SHELL_SESSIONS_SHOWN: &str = "64";
 
 /// How many local entries a session may have, where the command line doesn't say, and as `--help` shows it.
-const USUAL_LOCAL: u32 = 1024;
+const DEFAULT_LOCAL: u32 = 1024;
 
-const USUAL_LOCAL_SHOWN: &str = "1024";
+const DEFAULT_LOCAL_SHOWN: &str = "1024";
 
 /// How many groups of fast-path slots a session has, where the command line doesn't say, and as `--help` shows it.
-const USUAL_GROUPS: u32 = 1;
+const DEFAULT_GROUPS: u32 = 1;
 
-const USUAL_GROUPS_SHOWN: &str = "1";
+const DEFAULT_GROUPS_SHOWN: &str = "1";
 
 /// The name of the program.
 pub const PROGRAM: &str = "lock_scenario";
@@ -120,13 +120,13 @@ fn with_config<'a>(
         .value_name("M")
         .help("Different locks of a session, 1 to 65536")
         .value_parser(value_parser!(u32).range(1..=i64::from(MOST_LOCAL)))
-        .default_value(USUAL_LOCAL_SHOWN);
+        .default_value(DEFAULT_LOCAL_SHOWN);
     let slot_groups = Arg::new(alloc, "slot-groups")
         .long("slot-groups")
         .value_name("G")
         .help("Groups of 16 fast-path slots, 1 to 8")
         .value_parser(value_parser!(u32).range(1..=i64::from(MOST_GROUPS)))
-        .default_value(USUAL_GROUPS_SHOWN);
+        .default_value(DEFAULT_GROUPS_SHOWN);
     command.arg(sessions)?.arg(max_local)?.arg(slot_groups)
 }
 
@@ -152,7 +152,7 @@ fn orders_command<'a>(alloc: Global) -> Result<Command<'a>, AllocError> {
         .about("Run the script's lines in every order, and count how it ends")
         .override_usage("lock_scenario orders [OPTIONS] < SCRIPT")
         .after_help(ORDERS_HELP);
-    with_config(alloc, orders, USUAL_SESSIONS_SHOWN)?
+    with_config(alloc, orders, DEFAULT_SESSIONS_SHOWN)?
         .arg(limit)?
         .arg(seed)?
         .arg(ends)
@@ -168,7 +168,7 @@ fn command<'a>(alloc: Global, helps: &'a Helps) -> Result<Command<'a>, AllocErro
         .about("Run the script on standard input")
         .override_usage("lock_scenario run [OPTIONS] < SCRIPT")
         .after_help(helps.run.as_str());
-    let run = with_config(alloc, run, USUAL_SESSIONS_SHOWN)?;
+    let run = with_config(alloc, run, DEFAULT_SESSIONS_SHOWN)?;
     let run = with_styles(alloc, run)?;
     let run = with_manners(alloc, run)?;
     let shell = Command::new(alloc, SHELL)
@@ -311,9 +311,9 @@ fn config_of(words: &ArgMatches) -> Config
     ensures for_manager { IsForManager result }
     ensures slot_groups { HasSlotGroups result }
 {
-    let sessions = words.get_one::<u32>("sessions").unwrap_or(USUAL_SESSIONS);
-    let max_local = words.get_one::<u32>("max-local").unwrap_or(USUAL_LOCAL);
-    let slot_groups = words.get_one::<u32>("slot-groups").unwrap_or(USUAL_GROUPS);
+    let sessions = words.get_one::<u32>("sessions").unwrap_or(DEFAULT_SESSIONS);
+    let max_local = words.get_one::<u32>("max-local").unwrap_or(DEFAULT_LOCAL);
+    let slot_groups = words.get_one::<u32>("slot-groups").unwrap_or(DEFAULT_GROUPS);
     Config {
         sessions: sessions.clamp(1, USUAL_SESSIONS),
         max_local: max_local.clamp(1, MOST_LOCAL),

@@ -206,7 +206,7 @@ module _ {T : Type 0} (content : T → Content) where
             let sum_before = so_far.sum_ in
             omega (arith, added, total_more, here, sum_before);
         few =
-            let most : shown ≤ 4194304 = known.1 in
+            let most : shown ≤ 67108864 = known.1 in
             let few_before = so_far.few in
             omega (arith, added, most, few_before);
       }

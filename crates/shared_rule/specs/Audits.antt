@@ -79,7 +79,7 @@ module _ {T : Type 0} (content : T → Content) where
         ≡ account_after (first_account content before.sessions)
         (counter_loads count (λ index. counted_at index (gathered_in content before.sessions)))
     pub sum_ : sum ≡ total count (λ index. counted_at index (gathered_in content before.sessions))
-    pub few : sum ≤ 4194304 * count
+    pub few : sum ≤ 67108864 * count
 
   -- The words of the first `count` slots of a session were loaded, and show, with all partitions in hand, what is left to them.
   pub record SeesSlots (owner count : ℕ) (before after : View T) (sum : ℕ) : Type 0 where

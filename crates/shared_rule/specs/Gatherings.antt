@@ -75,7 +75,7 @@ module _ {T : Type 0} (content : T → Content) where
       (contents : ℕ → Content) → HasAllInHand (first_account content view.sessions) contents
       → ShowsLeft owner (account_among (gathered_in view.sessions) owner) contents slot found
   KnowsOfAll view (Wait owner) found = Unit {0}
-  KnowsOfAll view (Strong index) found = (found ≡ counted_at index (gathered_in view.sessions)) × (found ≤ 4194304)
+  KnowsOfAll view (Strong index) found = (found ≡ counted_at index (gathered_in view.sessions)) × (found ≤ 67108864)
   KnowsOfAll view (Sleep owner) found = Unit {0}
 
   -- A load was noted, and the seat learns that of the number found, of the word that the mark names.

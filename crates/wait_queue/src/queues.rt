@@ -8,7 +8,7 @@ ghost use Rattle.lock_table.specs.Waiter.{shown_wait};
 ghost use Rattle.wait_queue.specs.Queues.{ahead_of, by_modes, holding, holding_of, standing, standing_of, blockers_in};
 
 use lock_table::{NoMemory, PartTable, Waiter};
-use modes_core::{How, MOST_SESSIONS, Mode, ModeSet, SessionId, Tag, conflicts};
+use modes_core::{How, Mode, ModeSet, SessionId, Tag, conflicts};
 use std::alloc::Global;
 
 /// A session in the way of another one that waits, with the mode by which it is.
@@ -85,7 +85,7 @@ fn append_holding<P: PartTable>(
 ) -> Result<(), NoMemory>
     ensures { OnOk result (found.new.items ≡ found.old.items ++ holding (P.content part.now) tag.now session mode) }
 {
-    for number in 0..MOST_SESSIONS {
+    for number in 0..part.above_holders(tag) {
         let other = SessionId::new(number).unwrap();
         append_holding_of(part, tag, session, mode, other, found)?;
     }

@@ -40,7 +40,7 @@ total-most (suc limit) f most each =
     omega (arith, before, last, product)
 
 -- No counter shows more than all sessions can count.
-pub counter-most : (limit : ℕ) (counted : ℕ → Rattle.std.proofs.Common.List Counted) (index : ℕ) → limit ≤ most_sessions → ((k : ℕ) → length (counted k) ≤ most_counted) → counter limit counted index ≤ 4194304
+pub counter-most : (limit : ℕ) (counted : ℕ → Rattle.std.proofs.Common.List Counted) (index : ℕ) → limit ≤ most_sessions → ((k : ℕ) → length (counted k) ≤ most_counted) → counter limit counted index ≤ 67108864
 counter-most limit counted index few each =
     let most = total-most limit (λ k. count_at index (counted k)) 65536 (λ k.
     let most_here : count_at index (counted k) ≤ length (counted k) = count_by-le-length (λ (c : Counted). index_of c.tag == index) (counted k) in
@@ -53,7 +53,7 @@ module _ {T : Type 0} (content : T → Content) (sizes : TableSizes) (x : Histor
   index = index_of tag
 
   -- the counter shows no more than that
-  shown-most : (w : World) → Stepper sizes w x.number (told content x.number x.marks) → w.words.strong index ≤ 4194304
+  shown-most : (w : World) → Stepper sizes w x.number (told content x.number x.marks) → w.words.strong index ≤ 67108864
   shown-most w steps =
       let few : w.numbers.limit ≤ most_sessions = subst (λ n. n ≤ most_sessions) (sym steps.is_limit) steps.few in
       let shown : w.words.strong index ≡ counter w.numbers.limit w.sessions.counted index = steps.safe.counters.shown index in
