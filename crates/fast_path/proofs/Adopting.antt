@@ -48,7 +48,7 @@ module _ (b c : Account) (owner slot word p below : ℕ) (tag : Tag) (taken now 
       (λ i. (moves.account i).hand (part i)) ∙ set_at-here b.hand (partition_of tag)
       (Some (hand_moving taken now moves.recorded)) (partition_of tag) refl
 
-  -- It may be put with the adopt recorded, or as it was where nothing was moved.
+  -- A partition may be put with the adopt recorded, or as it was where nothing was moved.
   may_put-below : (limit number : ℕ) → (mine : InHand) × MayPutPart limit number c p mine Keep now
   may_put-below limit number = (hand_moving taken now moves.recorded, at moves.recorded moved_hand moves.adopt) where
     at : (recorded : Option Move) → c.hand p ≡ Some (hand_moving taken now recorded) → MayAdopt recorded owner slot

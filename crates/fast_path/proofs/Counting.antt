@@ -61,7 +61,7 @@ uncounting-last (x ∷ list) tag mode position none =
       at false is = refl
       at true is = absurd (Rattle.std.proofs.lemmas.Bool.false≢true (sym is))
 
--- It is counted.
+-- The strong lock that is last in the list is counted.
 pub is_counted-last : (list : List Counted) (tag : Tag) (mode : Mode) (position : ℕ)
     → is_counted (list ++ counted_at tag mode position ∷ []) tag mode ≡ true
 is_counted-last [] tag mode position = or_left (is_of tag mode (counted_at tag mode position)) false

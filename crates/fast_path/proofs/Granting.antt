@@ -25,7 +25,7 @@ use Rattle.fast_path.specs.Slots.{count_in, one_more_in, AreCounted, AreUseCount
 use Rattle.fast_path.specs.Grants.{GrantsInSlot, HasOwnSlots, HasRoom, without_slots}
 use Rattle.fast_path.proofs.GrantSlots.{counted-granted, exists, in_groups-granted, is, its-takes, its_group, its_relation, more, of_group, unused-takes, within-granted}
 
--- The counter read as 0, and so many slots of the group loaded, from the highest-numbered one down.
+-- The counter read as 0, and `loads` slots of the group loaded, from the highest-numbered one down.
 
 module _ (groups number : ℕ) (a : Account) (tag : Tag) (mine : SlotsInHand)
     (in_hand : a.fast.slots ≡ set_at (λ _. None) number (Some mine)) (loads : ℕ) where
@@ -173,7 +173,7 @@ module _ (groups number : ℕ) (a : Account) (tag : Tag) (mine : SlotsInHand)
                 (within-granted groups mine.word (relation_of tag) slot mode uses fits weak takes few some room within);
           }
 
--- The same by what each step ensures.
+-- A grant by a slot, by what each of its steps ensures.
 module _ (groups number : ℕ) (a : Account) (uses : UseCounts) (tag : Tag) (mode : Mode)
     (has : HasOwnSlots groups number a uses)
     (own index group shown by loads : ℕ) (slot : SeenSlot) (b c d : Account) (same : own ≡ number) (same_by : by ≡ number)

@@ -15,7 +15,7 @@ use Rattle.fast_path.specs.Slots.{IsOfGroup, NoneInGroup, IsSeenOf, Sights}
 abbrev pub in_group : ℕ → (ℕ → ℕ) → ℕ → ℕ
 in_group group word k = word (place_in_group group k)
 
--- The slot is one of the group's first so many, and in use for the relation.
+-- The slot is one of the group's first `limit`, and in use for the relation.
 pub record IsOfRelation (group : ℕ) (word : ℕ → ℕ) (relation limit : ℕ) (slot : SeenSlot) : Type 0 where
   pub index : ℕ
   pub within : index < limit
@@ -23,7 +23,7 @@ pub record IsOfRelation (group : ℕ) (word : ℕ → ℕ) (relation limit : ℕ
   pub shown : slot.word ≡ in_group group word index
   pub its : is_slot_of slot.word relation ≡ true
 
--- What is found among the group's first so many slots with these words.
+-- What is found among the group's first `limit` slots with these words.
 pub record SightsBelow (group : ℕ) (word : ℕ → ℕ) (relation limit : ℕ) (its : Option SeenSlot) (count : ℕ) :
     Type 0 where
   pub found : IfSome its (IsOfRelation group word relation limit)
@@ -70,7 +70,7 @@ counted-same test limit count so_far fails =
     let next : how_many (suc limit) test ≡ how_many (limit + 1) test = ap (λ (n : ℕ). how_many n test) more in
     omega (arith, so_far, none, next)
 
--- The same found under other names.
+-- What was found with equal words and numbers is found with these.
 pub sights-same :
     (group : ℕ) (word : ℕ → ℕ) (relation limit : ℕ) (its its_now : Option SeenSlot) (count count_now : ℕ)
     → its_now ≡ its → count_now ≡ count → SightsBelow group word relation limit its count
@@ -101,7 +101,7 @@ module _ (group : ℕ) (word : ℕ → ℕ) (relation limit : ℕ) (its : Option
   none-more not_its (Some slot) none = tt
   none-more not_its None none = below-more (λ k. is_slot_of (in_group group word k) relation) false limit none not_its
 
-  -- It is in use for the relation,
+  -- A slot that was found is in use for the relation,
   pub sights-its :
       in_use shown ≡ true → relation_in shown ≡ relation
       → SightsBelow group word relation (limit + 1) (Some (record { number = slot; word = shown })) (count + 1)
@@ -146,7 +146,7 @@ module _ (group : ℕ) (word : ℕ → ℕ) (relation limit : ℕ) (its : Option
         counted = counted-same (λ k. in_use (in_group group word k)) limit count so_far.counted unused_there;
       }
 
--- A slot of one of so many groups is below the number of their slots.
+-- A slot of one of `groups` groups is below the number of their slots.
 pub slot-below : (group groups slot : ℕ) → IsOfGroup group slot → group < groups → slot < group_size * groups
 slot-below group groups slot its below = omega (arith, its, below)
 

@@ -208,7 +208,7 @@ moving-same a owner slot word tag taken below left left_too now now_too b b_too 
 
 module _ (a : Account) (owner slot word : ℕ) (tag : Tag) (taken : Content)
     (has : HasSlotsAndPart a owner slot word tag taken) where
-  -- It begins with nothing moved,
+  -- A move of a slot begins with nothing moved,
   pub moving-begun : IsMoving a owner slot word tag taken 1 word taken a
   moving-begun = record {
     moves = record {

@@ -34,7 +34,7 @@ use Rattle.fast_path.proofs.Showing.{elsewhere-none, no_slot-none, not_weak-none
 abbrev pub remembered_then : ℕ → Account → ℕ → SlotsInHand → ℕ → ℕ
 remembered_then number a owner slots = if owner == number then slots.word else a.fast.remembered
 
--- It is no more than before.
+-- What the session remembers of its own slots then is no more than before.
 pub remembered-no_more :
     (groups number : ℕ) (a : Account) (owner : ℕ) (slots : SlotsInHand) → KnowsSlots groups number a owner slots
     → ShowsNoMore (remembered_then number a owner slots) a.fast.remembered
@@ -82,7 +82,7 @@ looked-loads groups a b c owner shown group looked loaded =
           (group_loads owner group looked.slots.word) i;
     })
 
--- It is in the tag's database, and its slots of the relation's group were looked through.
+-- The owner is in the tag's database, and its slots of the relation's group were looked through.
 pub record Finds (groups : ℕ) (a : Account) (owner : ℕ) (tag : Tag) (seen : Sighting) (b : Account) : Type 0 where
   pub slots : SlotsInHand
   pub remembered : ℕ → ℕ
@@ -294,7 +294,7 @@ after-pass number a b c owner slots remembered steps tag mode unlocked no_more i
       trace = a.trace ++ steps;
     }))
 
--- The same where its lock is put.
+-- Past an owner whose lock is put the session has none in hand either.
 pub after-put :
     (number : ℕ) (a b c : Account) (owner : ℕ) (slots : SlotsInHand) (remembered : ℕ → ℕ) (steps : List TraceEntry)
     → IsUnlocked a

@@ -54,7 +54,7 @@ listed-next limit rows old before after (Ok a) (Ok b) there so_far more = rows_b
 listed-next limit rows old before after (Ok a) (Err e) there so_far more = tt
 listed-next limit rows old before after (Err e) now there so_far more = absurd (false≢true there)
 
--- The same of equal answers and lists.
+-- Rows that are listed by an answer and a list are listed by equal ones.
 pub listed-same : (all : List SlotRow) (a b : Result (Unit {0}) NoMemory) (x y : List SlotRow) → a ≡ b → x ≡ y → OnOk b (y ≡ all) → OnOk a (x ≡ all)
 listed-same all a b x y same_answer same_list is =
     subst (λ r. OnOk r (x ≡ all)) (sym same_answer) (subst (λ l. OnOk b (l ≡ all)) (sym same_list) is)
@@ -158,7 +158,7 @@ rows_below-past limit (suc more) rows none =
     ∙ append-nil (rows_below (limit + more) rows)
     ∙ rows_below-past limit more rows (λ k from below. none k from (omega (arith, below)))
 
--- The rows of slots of so many groups are those of all slots, where each in use is of its relation's group.
+-- The rows of the slots of `groups` groups are those of all slots, where each in use is of its relation's group.
 pub rows-of_groups :
     (groups session database : ℕ) (words : ℕ → ℕ) → 0 < groups → groups ≤ most_groups → AreInGroups groups words
     → rows_below (group_size * groups) (λ slot. rows_of_slot session database slot (words slot))

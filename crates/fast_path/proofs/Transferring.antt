@@ -14,7 +14,7 @@ use Rattle.fast_path.proofs.Passing.{after-from}
 
 -- One turn of a transfer after another.
 
--- It goes on past one more session,
+-- A transfer goes on past one more session,
 pub transfer-next :
     (groups position : ℕ) (a b c : Account) (tag : Tag) (mode : Mode) → is_counted a.fast.counted tag mode ≡ false
     → Transfers groups position a tag mode b → Passes groups b position tag mode c

@@ -20,7 +20,7 @@ const CLASS: u32 = 16_384;
 /// How many accounts the bank has.
 pub const MANY: usize = 8;
 
-/// What each of them has at first.
+/// What each account has at first.
 const OPENED_WITH: u64 = 1_000;
 
 /// The balances. A transfer loads two and stores two, with a pause between, so it goes wrong wherever two are at one

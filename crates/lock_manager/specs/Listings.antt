@@ -141,7 +141,7 @@ pub record StopsAtSlots (groups limit : ℕ) (a : Account) (result : Result List
 abbrev pub Lists : ℕ → ℕ → ℕ → Account → Result Listing Refusal → Account → Type 0
 Lists groups limit number a result b = ListsAll groups limit number a result b ⊎ StopsAtSlots groups limit a result b
 
--- The same, of the partitions from one on.
+-- The partitions from one on are listed, one after another.
 
 pub record ListsFrom (number partition : ℕ) (a : Account) (old : List TableRow) (result : Result (Unit {0}) no_memory.NoMemory)
     (b : Account) (new : List TableRow) : Type 0 where

@@ -32,7 +32,7 @@ goes-on slots tag at (k ∷ ks) chain some = record {
   apart = λ is_in. chain.1 (subst (λ x. IsIn x ks) chain.0 is_in);
 }
 
--- The same with a record that is known to stand there.
+-- A chain goes on at a place where a record is known to stand.
 abbrev pub goes-as : (slots : List (Option HolderRecord)) (tag : Tag) (at : ℕ) (left : List ℕ) (h : HolderRecord) → holder_at slots at ≡ Some h → GoesOn slots tag at left → GoesOn slots tag at left
 goes-as slots tag at left h there on =
     let same = same-holder slots at on.holder h on.there there in

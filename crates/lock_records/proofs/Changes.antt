@@ -58,7 +58,7 @@ queue-less holders holders' queue s t m is waiting = record {
         | elsewhere not_it e ↦ e ∙ waiting.apart k n awaits
       ]
 
--- It stays right without a wait, and with one of a session that doesn't wait there, for a mode that it doesn't hold.
+-- A queue stays right without a wait, and with one of a session that doesn't wait there, for a mode that it doesn't hold.
 pub queue-without : (holders : List (Option HolderRecord)) (queue : List Wait) (s : ℕ) (t : Tag) → IsQueue holders queue t → IsQueue holders (queue_without queue s) t
 queue-without holders queue s t waiting = record {
   one_each = one-each-without queue s waiting.one_each;
@@ -133,7 +133,7 @@ held-awaited holders t l l' held same_holders same_granted = record {
   granted = λ n. ap (λ counts. counts_in counts n) same_granted ∙ held.granted n;
 }
 
--- The same with the counts of its waits.
+-- The record of an object that waits more or less for it, with the counts of its waits.
 pub is-awaited :
     (holders : List (Option HolderRecord)) (queue queue' : List Wait) (t : Tag) (l l' : LockRecord) → IsLock holders queue t l → l'.holders ≡ l.holders → l'.granted ≡ l.granted →
     ((n : Mode) → counts_in l'.awaited n ≡ awaited_of queue' n) → IsLock holders queue' t l'

@@ -106,6 +106,6 @@ granted-some holds s t m small has = below-some most_sessions (λ k. holds k t m
 pub granted-le : (holds : Holds) (t : Tag) (m : Mode) → granted_of holds t m ≤ most_sessions
 granted-le holds t m = below-le most_sessions (λ k. holds k t m)
 
--- The same holds of the object are as many.
+-- Holds that are equal on the object are as many.
 pub granted-same : (old new : Holds) (t : Tag) (m : Mode) → ((s : ℕ) → new s t m ≡ old s t m) → granted_of new t m ≡ granted_of old t m
 granted-same old new t m same = below-same most_sessions (λ s. new s t m) (λ s. old s t m) (λ s h. same s)

@@ -40,7 +40,7 @@ relocked-set old tag place l m there on still = record {
   others = λ k other. get_or-set_other old place k (Some m) None other;
 }
 
--- It is one record for one.
+-- A record that is written in place is one for one.
 len-set : (old : List (Option LockRecord)) (place : ℕ) (l m : LockRecord) → lock_at old place ≡ Some l → count_by is_some (set old place (Some m)) ≡ count_by is_some old
 len-set old place l m there =
     let sum = sum_by-set (λ o. cond (is_some o) 1 0) old place (Some m) None (place-within old place l there) in

@@ -14,7 +14,7 @@ use Rattle.lock_records.specs.Counts.{AreCountsOf, CountSessions}
 use Rattle.lock_records.proofs.GrantedCounts.{below-same, below-more, below-none}
 use Rattle.modes_core.specs.Sessions.{most_sessions}
 
--- As many waits as there are for a mode, so many sessions await it, where each stands in the queue once at most.
+-- As many sessions await a mode as there are waits for it, where each stands in the queue once at most.
 
 neither : (b x : Bool) → ((b && false) || x) ≡ x
 neither true x = refl

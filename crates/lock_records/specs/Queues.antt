@@ -64,7 +64,7 @@ abbrev pub HasRoomInQueue : List (Option QueueRecord) → Tag → Type 0
 HasRoomInQueue slots tag =
     queue_on slots tag ≢ [] → (place : ℕ) (i : IsQueueAt slots tag place) → vec_len i.queue.waiters < vec_capacity i.queue.waiters
 
--- The same waits, with as many records, and room for as many as before.
+-- Two views of queues have the same waits, as many records, and room for as many.
 pub record HasSameQueues (old new : QueuesView) : Type 0 where
   pub waits : queue_on new.slots ≡ queue_on old.slots
   pub total : waiting_in new.slots ≡ waiting_in old.slots

@@ -9,7 +9,7 @@ use Rattle.lock_table.specs.Put.{put}
 use Rattle.lock_table.specs.Content.{Holds, set_hold}
 use Rattle.lock_table.proofs.PutLemmas.{put_here, put_else, set_at-here, set_at-else}
 
--- It is the very hold.
+-- A session, an object and a mode are those of the very hold.
 pub record IsTheHold (s : ℕ) (t : Tag) (m : Mode) (k : ℕ) (o : Tag) (n : Mode) : Type 0 where
   pub session : k ≡ s
   pub tag : o ≡ t

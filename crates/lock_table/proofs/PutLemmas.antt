@@ -12,7 +12,7 @@ put_here same f k a j e = cond-true (same j k) a (f j) e
 pub put_else : {K A : Type 0} (same : K → K → Bool) (f : K → A) (k : K) (a : A) (j : K) → same j k ≡ false → put same f k a j ≡ f j
 put_else same f k a j e = cond-false (same j k) a (f j) e
 
--- The same of numbers.
+-- A changed function of numbers has the new value at the number, and the old one elsewhere.
 pub set_at-here : {A : Type 0} (f : ℕ → A) (k : ℕ) (a : A) (j : ℕ) → j ≡ k → set_at f k a j ≡ a
 set_at-here f k a j e = put_here (λ i j. i == j) f k a j (eq-eqb j k e)
 

@@ -202,7 +202,7 @@ Waking-end hs0 ws0 t hs ws woken all = (
         | inr other ↦ ap (λ xs. queues_in xs o) (sym (append-nil ws)) ∙ all.others o other ∙ sym (put_else tag_eq (queues_in ws0) t (queues_in ws t) o other)
       ]
 
--- The same at a place of the list.
+-- A wakeup goes on over a wait that stays, at a place of the list.
 pub Waking-stay_at :
     (hs0 : List Request) (ws0 : List PartWait) (t : Tag) (hs : List Request) (ws : List PartWait) (i : ℕ) (w : PartWait) (woken : List (ℕ × Mode)) →
     i < length ws → w ≡ get_or ws i w → goes_now hs (take i ws) w t ≡ false →

@@ -99,7 +99,7 @@ module _ {C : Type 0} (Runs : C → ScriptLine → C → Type 0) where
   takes-next old mid new kept some left (first ∷ lines) line (next, later, here, rest) takes =
       (next, later, here, takes-next next mid new later some left lines line rest takes)
 
-  -- It is the next one of a list.
+  -- The line that is taken in is the next one of a list.
   pub takes-item :
       {X : Type 0} (old mid new : C) (kept some left : List KeptQueue) (number : ℕ) (say : X → List ℕ) (items : List X) (k : ℕ) (item : X) (text : List ℕ) →
       k < length items → item ≡ get_or items k item → text ≡ say item → TakesInEach Runs old kept (lines_at number (map say (take k items))) mid some →

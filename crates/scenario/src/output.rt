@@ -100,7 +100,7 @@ impl<W: Write + Drop> Output<W> {
         written(writeln!(self.writer, "{text}"))
     }
 
-    /// Passes on what was printed.
+    /// Passes what was printed on to the writer.
     fn flush(&mut self) -> Result<(), Fault>
         ensures kept { Keeps (W.contents self.old.writer) (W.contents self.new.writer) }
         ensures unheard { IfErr result IsUnheard }

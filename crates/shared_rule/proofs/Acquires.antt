@@ -118,7 +118,7 @@ module _ {T : Type 0} (content : T → Content) where
         waiters = takes.waiters;
       }
 
-  -- The same where it left all as it was.
+  -- A call that got nothing and left all as it was, with one attempt more.
   pub nothing-then_got :
       (before middle after : Seat (Kept T) (View T)) → IsAsBefore content before middle → (does : Todo → Todo)
       → GotNothing content middle after (does (todo_at middle)) → GotNothing content before after (does (todo_at before))

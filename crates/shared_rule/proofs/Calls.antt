@@ -70,7 +70,7 @@ module _ (w : World) (b : Beside) (n : ℕ) (owed : List ℕ) (was : OwesAsTold 
   same : (its it : Step) → its ≡ it → Then it owed → Then its owed
   same its it is told = subst (λ s. Then s owed) (sym is) told
 
-  -- It changes the word of another, which it owes a call then.
+  -- Such a step changes the word of another session, which is owed a call then.
   changes : (other : ℕ) → (k : ℕ) → (changing b.waits n other).owed n k ≡ true → is_among (owing owed other) k ≡ true
   changes other k owes = elim (cases_eq k other) [
     | inl it ↦ owing-here owed other k it

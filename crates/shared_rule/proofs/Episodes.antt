@@ -19,7 +19,7 @@ use Rattle.shared_rule.specs.Seats.{MayCloseBy}
 abbrev pub fresh_hand : Content → InHand
 fresh_hand content = record { taken = content; now = content; recorded = None; unmarked = λ _. false }
 
--- It is in hand,
+-- A partition that was taken is in hand,
 pub taken-in_hand : (a : Account) (p : ℕ) (content : Content) → (account_taking a p content).hand p ≡ Some (fresh_hand content)
 taken-in_hand a p content = set_at-here a.hand p (Some (fresh_hand content)) p refl
 

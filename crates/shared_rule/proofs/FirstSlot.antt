@@ -105,7 +105,7 @@ module _ (n index shown : ℕ) (slots : SlotsInHand) (is : index ≡ index_of ta
     awaited = refl;
   }
 
-  -- It may set the first mode,
+  -- The first mode may be set where no slot is in use,
   pub first-set : (entry : TraceEntry) → NoSlotInUse slots.word
       → MaySetSlotBy 1 n (account_tracing (ready_account n index shown slots) entry) slots 0 table AccessShare
   first-set entry unused =

@@ -191,7 +191,7 @@ module _ {T : Type 0} (content : T → Content) (begun : T → Option Request) (
   owed-there : OwesAsTold r.wakes.beside x.number (owed_told x.marks)
   owed-there = r.wakes.owed x stands_there
 
-  -- It is a turn of the run, and no event.
+  -- A look is a turn of the run, and no event.
   wakes-looked : (mark : Mark T) → LooksOnly mark → (turn : Turn) → Keeps r.world r.wakes.beside turn r.world → IsInOrder r.world turn → events_of (turn ∷ []) ≡ []
       → is_turn_of x.number turn ≡ true → TellsTurn x.number mark turn → ((k : ℕ) → k ≢ x.number → is_turn_of k turn ≡ false)
       → todo_told_by x.number (mark ∷ x.marks) ≡ todo_of (beside_after r.world r.wakes.beside turn) x.number

@@ -26,7 +26,7 @@ use Rattle.shared_rule.proofs.Taken.{lone-noted, number-noted, session-noted, ac
 -- What calls of several steps make of a seat, step by step.
 
 module _ {T : Type 0} where
-  -- It is one session's still, through two calls.
+  -- A seat of one session is one session's still through two calls.
   lone-then : (a b c : View T) → StaysLone a b → StaysLone b c → StaysLone a c
   lone-then a b c one two number is = two number (one number is)
 
@@ -74,7 +74,7 @@ module _ {T : Type 0} (content : T → Content) (before after : Seat (Kept T) (V
     others = subst (KeepsOthers before.me.0) (sym is) (record { next = refl; closed = refl; behind = refl });
   }
 
-  -- The same by another account that is equal, and by as much to do.
+  -- A view that was led by an account is led by an equal one, with as much to do.
   pub led_by-as : (its : List Quiet) (todo : Todo) (a b : Account) → LedBy content before after a its todo → a ≡ b → LedBy content before after b its todo
   led_by-as its todo a b led same = subst (λ c. LedBy content before after c its todo) same led
 
@@ -103,7 +103,7 @@ module _ {T : Type 0} (content : T → Content) (before after : Seat (Kept T) (V
     others = others-then before.me.0 after.me.0 last.me.0 one.others two.others;
   }
 
-  -- The same where neither makes one,
+  -- Two calls of which neither makes a quiet step, one after the other,
   pub led_to-then : (last : Seat (Kept T) (View T)) (a : Account) (todo : Todo) (next : Account → Account) (does : Todo → Todo) → LedTo content before after a todo
       → LedTo content after last (next (account_at content after)) (does (todo_at after)) → LedTo content before last (next a) (does todo)
   led_to-then last a todo next does one two = led_by-then last a (quiet_at before) todo next (λ its. its) does one two

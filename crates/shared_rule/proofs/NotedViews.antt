@@ -43,7 +43,7 @@ module _ {T : Type 0} where
   noting-get x others mark zero y get = let same : record { number = x.number; marks = mark ∷ x.marks } ≡ y = cc (get) in inl (refl, sym same)
   noting-get x others mark (suc j) y get = inr ((λ e. omega (arith, e)), get)
 
-  -- It keeps the same ones apart.
+  -- Another mark of the first history keeps the same sessions apart.
   noting-keeper : (x : History T) (others : List (History T)) (mark : Mark T) (j : ℕ) → keeper (noting_first (x ∷ others) mark) j ≡ keeper (x ∷ others) j
   noting-keeper x others mark zero = refl
   noting-keeper x others mark (suc j) = refl

@@ -12,7 +12,7 @@ use Rattle.shared_rule.specs.Owed.{waking}
 pub taken-last : (s t : Stack) (part : ℕ) → t ≡ stack_taking s part → (others : List ℕ) × (t.parts ≡ part ∷ others)
 taken-last s t part took = (s.parts, ap (λ (x : Stack). x.parts) took)
 
--- The same to do, with others to wake.
+-- what is to do, with others to wake
 abbrev pub with_owed : Stack → List ℕ → Stack
 with_owed s owed = record { parts = s.parts; owed = owed }
 

@@ -16,7 +16,7 @@ use Rattle.shared_rule.proofs.Orders.{MayAttempt}
 -- What a step that is noted makes of the view and of the account.
 
 module _ {T : Type 0} where
-  -- It is one session's still,
+  -- A view of one session is one session's still,
   pub lone-noted : (view : View T) (mark : Mark T) → StaysLone view (noting view mark)
   lone-noted view mark number is =
       subst (λ (v : View T). noting v mark ≡ lone number (first_marks (noting v mark).sessions)) (sym is) refl

@@ -150,6 +150,6 @@ left-well a b todo lock (w ∷ ws) taken left is rest now =
     let f = some-off taken a (λ none. absurd (let never : w ∷ ws ≡ [] = wakeup-somebody (w ∷ ws) (sym is ∙ none) in cc (never))) in
     took_off f.0 (ap (λ (c : Account). c.lists.off f.0) now ∙ f.1)
 
--- It is so still after a step that changes neither the account nor what is to do.
+-- A list that was left well is so still after a step that changes neither the account nor what is to do.
 pub well-then : (a b : Account) (todo other : Todo) (lock : LwLock) (ws : List LwWaiter) → b ≡ a → other ≡ todo → IsLeftWellBy a todo lock ws → IsLeftWellBy b other lock ws
 well-then a b todo other lock ws same as_much well = subst (λ (c : Account). IsLeftWellBy c other lock ws) (sym same) (subst (λ (t : Todo). IsLeftWellBy a t lock ws) (sym as_much) well)

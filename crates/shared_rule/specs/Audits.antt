@@ -53,7 +53,7 @@ audit_steps limit groups counters word contents = counter_loads 1024 counters ++
 
 -- How the view of a seat changes by steps of its first session.
 module _ {T : Type 0} where
-  -- It is the view of the same seat after steps of its first session, none of which is quiet.
+  -- The later view is that of the same seat after steps of its first session, none of which is quiet.
   pub record IsFurther (before after : View T) : Type 0 where
     pub next : after.next ≡ before.next
     pub closed : after.closed ≡ before.closed

@@ -4,15 +4,17 @@ use crate::belongings::AttachedKind;
 use crate::reader::StatementReader;
 use sql_locks::{Defect, Form, SqlFault};
 
-/// The kinds of what is dropped and altered by these words.
+/// The kinds of what `DROP TRIGGER` and `ALTER TRIGGER` name.
 pub static TRIGGERS: [AttachedKind; 2] = [AttachedKind::RowTrigger, AttachedKind::Trigger];
 
+/// The kinds of what `DROP RULE` and `ALTER RULE` name.
 pub static RULES: [AttachedKind; 3] = [
     AttachedKind::InsertRule,
     AttachedKind::UpdateRule,
     AttachedKind::DeleteRule,
 ];
 
+/// The kind of what `DROP POLICY` and `ALTER POLICY` name.
 pub static POLICIES: [AttachedKind; 1] = [AttachedKind::Policy];
 
 impl StatementReader {

@@ -41,7 +41,7 @@ shared_partition-safe w s p n b safe live shows = record {
   traces = safe.traces;
 }
 
--- The same of the lock of a session's fast-path slots.
+-- Another word of the lock of a session's fast-path slots, which a live session shares or not, is safe likewise.
 shared_fast-safe :
     (w : World) (s o n : ℕ) (b : Bool) (remembered : ℕ → ℕ → ℕ) → SafeButSlots w → w.numbers.live s ≡ true
     → ShowsHolders w.numbers.limit n (λ k. w.sessions.holds_fast k o) (set_at (λ k. w.sessions.shares_fast k o) s b) → SafeButSlots (with_shared_fast w s o n b remembered)

@@ -91,7 +91,7 @@ OneSlotEach-clear slot mode place weak one relation k l k_within l_within k_is l
         | inr other ↦ ap (λ w. is_slot_of w relation) (sym (set_at-else slot place (word_without (slot place) mode) j other)) ∙ is
       ]
 
--- And each in use is of its relation's group.
+-- Each slot in use is still of its relation's group.
 pub AreInGroups-clear :
     (groups : ℕ) (slot : ℕ → ℕ) (mode : Mode) (place : ℕ) → number_of mode ≤ 3 →
     AreInGroups groups slot → AreInGroups groups (set_at slot place (word_without (slot place) mode))

@@ -109,7 +109,7 @@ OneSlotEach-set groups slot relation mode place fits weak takes in_groups one r 
                 let both = and_parts (in_use (slot j)) (nat_eq (relation_in (slot j)) relation) is in
                 ap (λ r. may_use groups r j) (sym (eqb-true (relation_in (slot j)) relation both.1)) ∙ in_groups j within both.0
 
--- And each in use is of its relation's group.
+-- Each slot in use is still of its relation's group.
 pub AreInGroups-set :
     (groups : ℕ) (slot : ℕ → ℕ) (relation : ℕ) (mode : Mode) (place : ℕ) → relation < 2 ^ 32 → number_of mode ≤ 3 → may_use groups relation place ≡ true →
     AreInGroups groups slot → AreInGroups groups (set_at slot place (word_with (slot place) relation mode))

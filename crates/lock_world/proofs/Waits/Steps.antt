@@ -316,7 +316,7 @@ module _ (now : ℕ → Content) (own : Holds) (awaited : ℕ → Option OwnWait
     taking_over-safe wait is granted = cleared-safe (set_hold own s wait.tag wait.mode true)
         (taken-one_place now own awaited stage s s safe.one_place wait (λ k. stage_of (set_at word s 0 k) hand k (set_at awaited s None k)) is granted stage_else)
 
-    -- It had left the queue.
+    -- A wait that ends so had left the queue.
     pub ending-safe : (wait : OwnWait) → awaited s ≡ Some wait → stage s ≡ HasLeft
         → WaitsAreSafe now own (set_at awaited s None) (set_at seen s false) (set_at word s 0) hand
     ending-safe wait is left = cleared-safe own

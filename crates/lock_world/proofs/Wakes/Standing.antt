@@ -73,7 +73,7 @@ module _ (list : ℕ → List LwWaiter) (lock : ℕ) (x : LwWaiter) where
     | inr away ↦ ap (stands_in k) (sym (set_at-else list lock (list lock ++ x ∷ []) l away)) ∙ there
   ]
 
--- And where one is left.
+-- Of all lists, where one is left.
 module _ (list : ℕ → List LwWaiter) (lock o : ℕ) where
   abbrev pub lists-left : ℕ → List LwWaiter
   lists-left = set_at list lock (without o (list lock))

@@ -146,7 +146,7 @@ module _ {T : Type 0} (content : T → Content) (begun : T → Option Request) (
         refl,
       )
 
-  -- The same of the word at an index.
+  -- What is lawful of a lightweight word is so of the word at its index.
   pub locks_list_at : MayLockListBy (told content x.number x.marks) → NoneOr (todo_told_by x.number x.marks).due (lock_number lock)
       → TellsNobodyBy (told content x.number x.marks) → (known : ℕ) → known ≡ sizes.sessions → (i : ℕ) → i ≡ at_word
       → Allows (Ruled content begun sizes) slots id me i (λ n. bit_or n (2 ^ 28)) (LockedListOr content known (step slots i (2 ^ 28) 0 none) me)

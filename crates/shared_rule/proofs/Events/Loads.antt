@@ -71,7 +71,7 @@ module _ {T : Type 0} (content : T → Content) (sizes : TableSizes) (x : Histor
     lists = λ lock nobody. (nobody, refl);
   }
 
-  -- Also where an exchange finds another number than the one expected.
+  -- An exchange of the session's own lock that finds another number than the one expected is a load.
   pub loading_fast-lawful : (expected : ℕ → Type 0) → IsAlwaysLawful content sizes x (Fast x.number) expected (λ n. n)
       mark.LoadedFast
   loading_fast-lawful expected w steps n below shown _ = record {

@@ -278,7 +278,7 @@ module _ {T : Type 0} (content : T → Content) (begun : T → Option Request) (
         refl,
       )
 
--- The same of the word at an index, in a table with this many shelves.
+-- What is lawful of a partition's word is so of the word at its index, in a table with this many shelves.
 module _ {T : Type 0} (content : T → Content) (begun : T → Option Request) (sizes : TableSizes) (id : ℕ) (me : Side T) (x : History T) (others : List (History T)) (is : me.0.sessions ≡ x ∷ others)
     (p : ℕ) (exists : p < 16) (slots i : ℕ) (many : slots ≡ shelves_of sizes.sessions) (at : i ≡ index_of_word sizes.sessions (Partition p)) where
   pub takes_part_at : (known old new : ℕ) → known ≡ sizes.sessions → IsHeldByNobody old → new ≡ taken_word old → MayAttempt (told content x.number x.marks) (todo_told_by x.number x.marks) (partition_lock p)

@@ -166,7 +166,7 @@ nothing-changes {T} content begun sizes id i view s r at =
     subst (λ (words : List ℕ). Ruled content begun sizes (record { words = words; homes = s.homes; views = slice_set s.views id view })) (sym (set-get_or s.words i 0))
     (subst (λ (views : List (View T)). Ruled content begun sizes (record { words = s.words; homes = s.homes; views = views })) (sym (set_again s.views id view at)) r)
 
--- The same of the word at an index: a play of a mark reads nothing else of its step.
+-- What a mark says of a word is so of the word at its index: a play of a mark reads nothing else of its step.
 pub marks_at :
     {T : Type 0} (content : T → Content) (begun : T → Option Request) (sizes : TableSizes) (slots id : ℕ) (me : Side T) (x : History T) (others : List (History T)) → me.0.sessions ≡ x ∷ others
     → (word : Word) → IsInTable sizes word → (i : ℕ) → i ≡ index_of_word sizes.sessions word → (next : ℕ → ℕ) (mark : ℕ → Mark T)

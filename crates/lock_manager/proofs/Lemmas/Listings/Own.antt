@@ -32,7 +32,7 @@ use Rattle.lock_table.proofs.PartitionRows.{waits-foreign}
 
 -- ---- what the caller knows of the contents that it takes
 
--- It is known after a partition was taken as before.
+-- What the caller knows is known after a partition was taken as before.
 pub caller-taking :
     (number its : ℕ) (a taking : Account) (p : ℕ) (content : Content) (q : ℕ) (contents : List Content) → its ≡ number
     → taking ≡ account_taking a p content

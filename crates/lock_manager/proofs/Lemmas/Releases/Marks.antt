@@ -220,7 +220,7 @@ module _ (seat : Seated) (a : Account) (p : ℕ) (done : Move) (woken : List (�
   marked-in_hand : (rest : List (ℕ × Mode)) → (account_marked a p done now rest).hand p ≡ Some (hand_marked a p done now rest)
   marked-in_hand rest = set_at-here a.hand p _ p refl
 
-  -- It was taken with the same content all the time.
+  -- A partition whose waits are marked was taken with the same content all the time.
   marked-taken : (rest : List (ℕ × Mode)) → taken_of ((account_marked a p done now rest).hand p) ≡ taken_of (a.hand p)
   marked-taken rest = ap taken_of (marked-in_hand rest) ∙ ap (λ (mine : InHand). mine.taken) hand-known ∙ ap taken_of (sym wakens.may_move.in_hand)
 

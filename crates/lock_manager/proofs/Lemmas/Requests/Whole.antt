@@ -128,7 +128,7 @@ led-transferred groups limit a b uses tag mode strong moved = record {
 
 -- ---- the episode
 
--- It leaves what the session has of the fast path.
+-- An episode leaves what the session has of the fast path.
 decided-fast :
     (kind : Kind) (number : ℕ) (a b : Account) (tag : Tag) (mode : Mode) (result : Result Decision Refusal) → DecidesInPart kind number a tag mode result b
     → b.fast ≡ a.fast

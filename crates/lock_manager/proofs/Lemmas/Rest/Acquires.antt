@@ -89,7 +89,7 @@ not_held_yet old new tag mode answer held ok is none same =
     let missed : answer ≡ Ok false = ok ∙ ap (λ (b : Bool). Ok b) is in
     (none missed, ap (λ (owned : Owned). owned.entries) (same (λ found. cc)))
 
--- It has counted nothing for what it has no entry of,
+-- A session at rest has counted nothing for what it has no entry of,
 pub counted-none :
     (limit : ℕ) (entries : List Entry) (tag : Tag) (mode : Mode) → has_entry entries tag mode ≡ false → is_counted (counted_for limit entries) tag mode ≡ false
 counted-none limit [] tag mode none = refl

@@ -315,7 +315,7 @@ pub rest-left :
 rest-left groups limit database uses end a stack old new none left at =
     rest-last groups limit database uses end a stack old new none (left ∙ sym (with_next_ended-left end old none)) at
 
--- It holds what the end takes away next, and has counted it where it is a strong lock.
+-- A session at rest holds what the end takes away next, and has counted it where it is a strong lock.
 pub rest-held :
     (groups limit database : ℕ) (uses : UseCounts) (end : End) (a : Account) (stack : Stack) (entries : List Entry) (key : Tag × Mode) (rest : List (Tag × Mode))
     → ended_by end entries ≡ key ∷ rest → IsAtRest groups limit database uses a stack entries → a.own key.0 key.1 ≡ true

@@ -25,7 +25,7 @@ use Rattle.lock_manager.specs.Releases.{counted_released, account_released}
 use Rattle.lock_manager.specs.Sessions.{DontConflict}
 use Rattle.lock_manager.proofs.Lemmas.Rest.Acquires.{rest-same}
 
--- It holds what it has entries for.
+-- A session at rest holds what it has entries for.
 pub own-rest :
     (groups limit database : ℕ) (uses : UseCounts) (a : Account) (stack : Stack) (entries : List Entry) → IsAtRest groups limit database uses a stack entries →
     (tag : Tag) (mode : Mode) → a.own tag mode ≡ has_entry entries tag mode

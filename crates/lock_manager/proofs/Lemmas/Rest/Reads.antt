@@ -11,7 +11,7 @@ use Rattle.lock_manager.proofs.Lemmas.Rest.Acquires.{use_count-same, use_count-f
 -- A session at rest that reads is at rest after it.
 
 module _ (groups limit database : ℕ) (uses : UseCounts) (a b : Account) (stack left : Stack) (entries : List Entry) (same : left ≡ stack) (rest : IsAtRest groups limit database uses a stack entries) where
-  -- It may remember less of its own slots than before, once it has read these,
+  -- A session may remember less of its own slots than before, once it has read these,
   pub rest-read_slots : (trace : List TraceEntry) → ShowsNoMore b.fast.remembered a.fast.remembered
       → b ≡ record a { fast = record (a.fast) { remembered = b.fast.remembered }; trace = trace }
       → IsAtRest groups limit database uses b left entries

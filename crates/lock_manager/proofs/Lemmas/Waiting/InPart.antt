@@ -155,7 +155,7 @@ module _ (number : ℕ) (a : Account) (stack : Stack) (p : ℕ) (tag : Tag) (mod
 
   module _ (put : Content) (granted : List Wait) (woken : List (ℕ × Mode)) (moved : Moves taken number (Leave tag) granted put) (whose : woken ≡ map whose_and_mode granted)
       (b : Account) (took : b ≡ account_taking a p taken) where
-    -- It may leave the queue,
+    -- A session that waits may leave the queue,
     pub may_leave :
         (limit : ℕ) → (its : OwnWait) × (mine : InHand) × (others : List Wait) × (woken ≡ map whose_and_mode others) × MayLeaveBy limit number b its mine others put
     may_leave limit = (

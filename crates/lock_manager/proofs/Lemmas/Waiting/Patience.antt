@@ -17,7 +17,7 @@ module _ {K : Type 0} (Says : K → Bool → K → Type 0) where
     pub trace : after ≡ before ++ looks
     pub said : FoldsTo (λ now look next. Says now true next) keep looks last
 
-  -- It looks once more, and goes on as its caller says.
+  -- A session that waits looks once more, and goes on as its caller says.
   pub watching_while-next :
       (keep last next : K) (number : ℕ) (before now looked : List TraceEntry) (shown : ℕ)
       → IsWatchingWhile keep number before now last → looked ≡ now ++ Loaded (Wait number) shown ∷ [] → polled_as shown ≡ Still → Says last true next

@@ -32,7 +32,7 @@ module _ (number : ℕ) (before now looked : List TraceEntry) (shown : ℕ) (so_
   grown : looked ≡ before ++ so_far.looks ++ Loaded (Wait number) shown ∷ []
   grown = loads ∙ ap (λ trace. trace ++ Loaded (Wait number) shown ∷ []) so_far.trace
 
-  -- It looks once more and goes on,
+  -- A session that waits looks once more and goes on,
   pub watching-next : (after : List TraceEntry) → after ≡ looked → polled_as shown ≡ Still → IsWatching number before after
   watching-next after same still = record {
     looks = so_far.looks ++ Loaded (Wait number) shown ∷ [];

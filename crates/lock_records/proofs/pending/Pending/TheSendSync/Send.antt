@@ -1,4 +1,4 @@
--- It owns nothing, so it may go to another thread.
+-- A pending request owns nothing, so it may go to another thread.
 use denote.Param.Send.{IsSend, owning_send}
 use Rattle.lock_records.specs.contracts.pending.Pending.{the_row, the_type}
 
