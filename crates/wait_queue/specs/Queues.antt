@@ -27,7 +27,7 @@ abbrev pub holding_of : Content → Tag → ℕ → Mode → ℕ → List Blocke
 holding_of content tag session mode other =
     if other == session then [] else by_modes other (content.holds other tag) (conflict mode)
 
--- this many lists, one after another
+-- the lists of the numbers below a limit, one after another
 unfoldable pub lists_below : ℕ → (ℕ → List Blocker) → List Blocker
 lists_below zero lists = []
 lists_below (suc limit) lists = lists_below limit lists ++ lists limit

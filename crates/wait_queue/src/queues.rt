@@ -85,7 +85,8 @@ fn append_holding<P: PartTable>(
 ) -> Result<(), NoMemory>
     ensures { OnOk result (found.new.items ≡ found.old.items ++ holding (P.content part.now) tag.now session mode) }
 {
-    for number in 0..part.above_holders(tag) {
+    let above = part.above_holders(tag);
+    for number in 0..above {
         let other = SessionId::new(number).unwrap();
         append_holding_of(part, tag, session, mode, other, found)?;
     }

@@ -1,7 +1,8 @@
-use Rattle.std.proofs.Common.{◌≡◌, ℕ, ◌++◌, ap, ◌∙◌, arith, subst}
+use Rattle.std.proofs.Common.{◌≡◌, ℕ, ◌++◌, ap, ◌∙◌, inl, inr, arith, subst}
+use Rattle.std.proofs.Math.Nat.{eq-or-lt_of_le}
 use Rattle.std.specs.Prelude.{IfSome}
 use Rattle.wait_queue.specs.Queues.{holding_of, lists_below}
-use Rattle.wait_queue.proofs.BlockerLemmas.{lists_below-start, lists_below-more}
+use Rattle.wait_queue.proofs.BlockerLemmas.{lists_below-start, lists_below-more, lists_below-rest_empty, holding-nothing}
 use Rattle.wait_queue.proofs.queues.append_holding.Goals as goal
 use Rattle.modes_core.specs.Sessions.{most_sessions}
 
@@ -17,6 +18,16 @@ loop-number-preserved g c =
 
 pub returns : goal.returns
 returns g c =
-    let all : c.loop-number.number ≡ most_sessions = omega (arith, c.loop-number-test.false, c.loop-number.auto.number-end) in
-    c.loop-number.invariant
-    ∙ ap (λ (k : ℕ). c.args.found.now.items ++ lists_below k (holding_of (g.P.PartTable.content c.args.part.now) c.args.tag.now c.args.session c.args.mode)) all
+    let lists = holding_of (g.P.PartTable.content c.args.part.now) c.args.tag.now c.args.session c.args.mode in
+    let above = c.above_holders-above.result in
+    let ended : c.loop-number.number ≡ above = omega (arith, c.loop-number-test.false, c.loop-number.auto.number-end) in
+    let rest : lists_below above lists ≡ lists_below most_sessions lists =
+    elim (eq-or-lt_of_le c.above_holders-above.ensures.within) [
+      | inl same ↦ ap (λ (k : ℕ). lists_below k lists) same
+      | inr below ↦
+          lists_below-rest_empty most_sessions above lists c.above_holders-above.ensures.within (λ k from.
+          holding-nothing (g.P.PartTable.content c.args.part.now) c.args.tag.now c.args.session c.args.mode k
+          (λ its. c.above_holders-above.ensures.above below k its from))
+    ] in
+    c.loop-number.invariant ∙ ap (λ (k : ℕ). c.args.found.now.items ++ lists_below k lists) ended
+    ∙ ap (λ rows. c.args.found.now.items ++ rows) rest
