@@ -168,13 +168,13 @@ waits_in-without xs w ys o is_not =
 pub parts_at : {X : Type 0} (xs : List X) (i : ℕ) (x : X) → i < length xs → x ≡ get_or xs i x → xs ≡ take i xs ++ x ∷ drop (i + 1) xs
 parts_at xs i x within is = sym (take-append-drop i xs) ∙ ap (λ ys. take i xs ++ ys) (drop_more xs i x within ∙ ap (λ y. y ∷ drop (i + 1) xs) (sym is))
 
--- The element of a list after the first `n`.
+-- The element of a list behind a number of others.
 slice_get_at : {X : Type 0} (xs : List X) (y : X) (ys : List X) (n : ℕ) → length xs ≡ n → slice_get (xs ++ y ∷ ys) n ≡ Some y
 slice_get_at xs y ys n e =
     let total : length (xs ++ y ∷ ys) ≡ length xs + length (y ∷ ys) = length-append xs (y ∷ ys) in
     slice_get-get_or (xs ++ y ∷ ys) n y (omega arith) ∙ ap Some (get_or_at xs y ys y n e)
 
--- The wait of an object's queue at this place.
+-- The wait of an object's queue behind a number of others.
 pub waiter-there :
     (ws : List PartWait) (i : ℕ) (w : PartWait) (o : Tag) (place : ℕ) → i < length ws → w ≡ get_or ws i w → tag_eq o w.tag ≡ true →
     length (queues_in (take i ws) o) ≡ place → slice_get (queues_in ws o) place ≡ Some (shown_wait w.waiter)

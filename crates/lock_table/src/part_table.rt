@@ -68,8 +68,8 @@ pub trait PartTable {
     fn held(&self, session: SessionId, tag: &Tag) -> ModeSet
         ensures { set_has result ≡ (content self.now).holds session tag.now };
 
-    /// A number above those of all sessions that hold `tag`, or `MOST_SESSIONS`, which says nothing: a keeper answers that which would have
-    /// to search. Who asks of each session what it holds of `tag` need ask no further.
+    /// A number above those of all sessions that hold `tag`, or `MOST_SESSIONS`, which says nothing: that is the answer of
+    /// a keeper that would have to search. Who asks of each session what it holds of `tag` need ask no further.
     fn above_holders(&self, tag: &Tag) -> u16
         ensures within { result ≤ most_sessions }
         ensures above { result < most_sessions → (session : ℕ) (mode : Mode) → result ≤ session →
