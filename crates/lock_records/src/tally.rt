@@ -18,7 +18,7 @@ pub struct Tally {
 }
 
 impl Model for Tally {
-    ghost use Rattle.std.specs.Prelude.{List};
+    ghost use Rattle.std.specs.Prelude.{List, ℕ};
     ghost use Rattle.lock_records.specs.Tally.{IsTally};
 
     ghost Value = { List ℕ };
