@@ -26,7 +26,7 @@ use Rattle.shared_rule.specs.History.{noting, taken_of, first_account, first_num
 use Rattle.shared_rule.specs.Marks.{LoadedSlot, LoadedStrong, TookPart}
 use Rattle.shared_rule.specs.Plays.{HasSession}
 use Rattle.shared_rule.specs.Lawful.{IsAboveHand}
-use Rattle.shared_rule.specs.Gatherings.{account_among, counted_at, HasAllInHand, AreAll, gathered_in, KnowsOfAll, KnowsAll}
+use Rattle.shared_rule.specs.Gatherings.{most_shown, account_among, counted_at, HasAllInHand, AreAll, gathered_in, KnowsOfAll, KnowsAll}
 use Rattle.shared_rule.specs.Audits.{account_after, counter_loads, CountersSeen, slot_loads_of, all_slot_loads, IsFurther, HasPartInHand, holding_steps, SeesSlots, SeesAllSlots, Finds, CountsFrom}
 use Rattle.shared_rule.proofs.Episodes.{fresh_hand, taken-in_hand, kept-since}
 use Rattle.shared_rule.proofs.FurtherViews.{noting-some, noting-further, further-itself, further-then, further-all, account-noting, number, distinct-before, none_waits-after, stand-before, left-before, counted-before}
@@ -206,7 +206,7 @@ module _ {T : Type 0} (content : T → Content) where
             let sum_before = so_far.sum_ in
             omega (arith, added, total_more, here, sum_before);
         few =
-            let most : shown ≤ 67108864 = known.1 in
+            let most : shown ≤ most_shown = known.1 in
             let few_before = so_far.few in
             omega (arith, added, most, few_before);
       }

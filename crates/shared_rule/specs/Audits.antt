@@ -20,7 +20,7 @@ use Rattle.shared_rule.specs.Seats.{behind_of}
 use Rattle.shared_rule.specs.Plays.{HasSession}
 use Rattle.shared_rule.specs.Owed.{first_owed}
 use Rattle.shared_rule.specs.Todos.{first_todo, nothing_to_do}
-use Rattle.shared_rule.specs.Gatherings.{Gathered, counted_at, account_among, AreDistinct, NoneWaits, HasAllInHand, AreAll, gathered_in}
+use Rattle.shared_rule.specs.Gatherings.{most_shown, Gathered, counted_at, account_among, AreDistinct, NoneWaits, HasAllInHand, AreAll, gathered_in}
 
 -- What an audit does and finds.
 
@@ -79,7 +79,7 @@ module _ {T : Type 0} (content : T → Content) where
         ≡ account_after (first_account content before.sessions)
         (counter_loads count (λ index. counted_at index (gathered_in content before.sessions)))
     pub sum_ : sum ≡ total count (λ index. counted_at index (gathered_in content before.sessions))
-    pub few : sum ≤ 67108864 * count
+    pub few : sum ≤ most_shown * count
 
   -- The words of the first `count` slots of a session were loaded, and show, with all partitions in hand, what is left to them.
   pub record SeesSlots (owner count : ℕ) (before after : View T) (sum : ℕ) : Type 0 where

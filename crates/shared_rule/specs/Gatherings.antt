@@ -1,11 +1,13 @@
-use Rattle.std.specs.Prelude.{◌≡◌, ◌≢◌, ℕ, ◌+◌, ◌<◌, ◌≤◌, ◌==◌, List, [], ◌∷◌, map, length, sum_by, Some, None, if◌then◌else◌}
+use Rattle.std.specs.Prelude.{◌≡◌, ◌≢◌, ℕ, ◌+◌, ◌*◌, ◌<◌, ◌≤◌, ◌==◌, List, [], ◌∷◌, map, length, sum_by, Some, None, if◌then◌else◌}
 use Rattle.atomic_table.specs.Table.{Step}
 use Rattle.lock_table.specs.Content.{Content}
 use Rattle.lock_world.specs.declared.events.Word.{Word}
 use Rattle.lock_world.specs.declared.events.Word.TheVariants.{Partition, Fast, Database, Slot, Wait, Strong, Sleep}
 use Rattle.lock_world.specs.Account.{Account, InHand}
 use Rattle.lock_world.specs.Counted.{count_at}
+use Rattle.lock_world.specs.Happens.Counters.{most_counted}
 use Rattle.lock_world.specs.Tallies.{OwnStand, ShowsLeft}
+use Rattle.modes_core.specs.Sessions.{most_sessions}
 use Rattle.shared_rule.specs.declared.history.History.{History}
 use Rattle.shared_rule.specs.declared.history.Mark.{Mark}
 use Rattle.shared_rule.specs.declared.history.View.{View}
@@ -15,6 +17,10 @@ use Rattle.shared_rule.specs.Looks.{word_looked_at}
 use Rattle.shared_rule.specs.Plays.{Side, Marked}
 
 -- Sessions gathered at the opener's seat: the first makes steps with it, and keeps the others apart.
+
+-- the most that a strong lock counter shows: what all sessions can count together
+abbrev pub most_shown : ℕ
+most_shown = most_sessions * most_counted
 
 -- a session there: its number and its account
 pub record Gathered : Type 0 where
@@ -75,7 +81,7 @@ module _ {T : Type 0} (content : T → Content) where
       (contents : ℕ → Content) → HasAllInHand (first_account content view.sessions) contents
       → ShowsLeft owner (account_among (gathered_in view.sessions) owner) contents slot found
   KnowsOfAll view (Wait owner) found = Unit {0}
-  KnowsOfAll view (Strong index) found = (found ≡ counted_at index (gathered_in view.sessions)) × (found ≤ 67108864)
+  KnowsOfAll view (Strong index) found = (found ≡ counted_at index (gathered_in view.sessions)) × (found ≤ most_shown)
   KnowsOfAll view (Sleep owner) found = Unit {0}
 
   -- A load was noted, and the seat learns that of the number found, of the word that the mark names.

@@ -158,7 +158,7 @@ pub(crate) fn list_shelf(lock: u16) -> usize
 
 // Where the block of this number begins.
 fn block(number: usize) -> usize
-    requires few { number ≤ 65536 }
+    requires few { number ≤ 16777216 }
     ensures start { result ≡ block_start number }
 {
     SESSIONS_START + BLOCK * number

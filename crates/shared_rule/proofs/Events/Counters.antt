@@ -22,6 +22,7 @@ use Rattle.shared_rule.specs.Marks as mark
 use Rattle.shared_rule.specs.declared.rule.TableSizes.{TableSizes}
 use Rattle.shared_rule.specs.declared.history.History.{History}
 use Rattle.shared_rule.specs.Shown.{set_word}
+use Rattle.shared_rule.specs.Gatherings.{most_shown}
 use Rattle.shared_rule.specs.History.{told}
 use Rattle.shared_rule.proofs.Frame.{Stepper}
 use Rattle.shared_rule.proofs.Events.Words.{IsAlwaysLawful}
@@ -40,9 +41,9 @@ total-most (suc limit) f most each =
     omega (arith, before, last, product)
 
 -- No counter shows more than all sessions can count.
-pub counter-most : (limit : ℕ) (counted : ℕ → Rattle.std.proofs.Common.List Counted) (index : ℕ) → limit ≤ most_sessions → ((k : ℕ) → length (counted k) ≤ most_counted) → counter limit counted index ≤ 67108864
+pub counter-most : (limit : ℕ) (counted : ℕ → Rattle.std.proofs.Common.List Counted) (index : ℕ) → limit ≤ most_sessions → ((k : ℕ) → length (counted k) ≤ most_counted) → counter limit counted index ≤ most_shown
 counter-most limit counted index few each =
-    let most = total-most limit (λ k. count_at index (counted k)) 65536 (λ k.
+    let most = total-most limit (λ k. count_at index (counted k)) most_counted (λ k.
     let most_here : count_at index (counted k) ≤ length (counted k) = count_by-le-length (λ (c : Counted). index_of c.tag == index) (counted k) in
     let few_here = each k in omega (arith, most_here, few_here)) in
     omega (arith, most, few)
@@ -53,7 +54,7 @@ module _ {T : Type 0} (content : T → Content) (sizes : TableSizes) (x : Histor
   index = index_of tag
 
   -- the counter shows no more than that
-  shown-most : (w : World) → Stepper sizes w x.number (told content x.number x.marks) → w.words.strong index ≤ 67108864
+  shown-most : (w : World) → Stepper sizes w x.number (told content x.number x.marks) → w.words.strong index ≤ most_shown
   shown-most w steps =
       let few : w.numbers.limit ≤ most_sessions = subst (λ n. n ≤ most_sessions) (sym steps.is_limit) steps.few in
       let shown : w.words.strong index ≡ counter w.numbers.limit w.sessions.counted index = steps.safe.counters.shown index in

@@ -84,7 +84,7 @@ slots-listed database slot rest =
     k rest i in
     λ i. record { word = same i; holds = slot_holds database (same i) }
 
--- What is beyond all slots is beyond those of `groups` groups.
+-- What is beyond all slots is beyond those of the first `groups` groups.
 beyond-all : (groups : ℕ) → groups ≤ most_groups → (slot : ℕ → ℕ) → ((j : ℕ) → group_size * groups ≤ j → slot j ≡ 0)
     → (j : ℕ) → slot_count ≤ j → slot j ≡ 0
 beyond-all groups few slot rest j later = rest j (omega (arith, few, later))
