@@ -15,7 +15,7 @@ use Rattle.fast_path.specs.Slots.{IsOfGroup, NoneInGroup, IsSeenOf, Sights}
 abbrev pub in_group : ℕ → (ℕ → ℕ) → ℕ → ℕ
 in_group group word k = word (place_in_group group k)
 
--- The slot is one of the group's first `limit`, and in use for the relation.
+-- The slot is one of the first `limit` of the group, and in use for the relation.
 pub record IsOfRelation (group : ℕ) (word : ℕ → ℕ) (relation limit : ℕ) (slot : SeenSlot) : Type 0 where
   pub index : ℕ
   pub within : index < limit
@@ -23,7 +23,7 @@ pub record IsOfRelation (group : ℕ) (word : ℕ → ℕ) (relation limit : ℕ
   pub shown : slot.word ≡ in_group group word index
   pub its : is_slot_of slot.word relation ≡ true
 
--- What is found among the group's first `limit` slots with these words.
+-- What is found among the first `limit` slots of the group, with these words.
 pub record SightsBelow (group : ℕ) (word : ℕ → ℕ) (relation limit : ℕ) (its : Option SeenSlot) (count : ℕ) :
     Type 0 where
   pub found : IfSome its (IsOfRelation group word relation limit)

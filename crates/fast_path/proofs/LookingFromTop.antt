@@ -13,7 +13,8 @@ use Rattle.fast_path.proofs.Looking.{below-more, counted-more, counted-same}
 
 -- Looking through a group's slots from the highest-numbered one down, as far as a grant does.
 
--- How many of the numbers below a limit pass among the last ones, counted down from the highest.
+-- The numbers below `limit` that pass are those that pass below `rest`, and those that pass among the last `seen`, counted down
+-- from the highest.
 counted-down :
     (limit : ℕ) (test down : ℕ → Bool) → ((k j : ℕ) → k + j + 1 ≡ limit → down k ≡ test j)
     → (seen rest : ℕ) → rest + seen ≡ limit → how_many limit test ≡ how_many rest test + how_many seen down
@@ -54,7 +55,7 @@ pub record IsFirstUnused (group : ℕ) (word : ℕ → ℕ) (seen : ℕ) (slot :
   pub unused : in_use slot.word ≡ false
   pub before : (other : ℕ) → other < step → in_use (from_top group word other) ≡ true
 
--- What is found among slots none of which is in use for the relation.
+-- What is found among the first `seen` slots from the top, none of which is in use for the relation.
 pub record SeesFromTop (group : ℕ) (word : ℕ → ℕ) (relation seen : ℕ) (highest : Option SeenSlot) (count : ℕ) :
     Type 0 where
   pub none : (k : ℕ) → k < seen → is_slot_of (from_top group word k) relation ≡ false
@@ -71,7 +72,7 @@ sees-none group word relation = record {
   counted = refl;
 }
 
--- What was found from the top with equal words and numbers is found with these.
+-- What was found with equal words and numbers is found with these.
 pub sees-same :
     (group : ℕ) (word : ℕ → ℕ) (relation seen : ℕ) (highest highest_now : Option SeenSlot) (count count_now : ℕ)
     → highest_now ≡ highest → count_now ≡ count → SeesFromTop group word relation seen highest count
