@@ -1,5 +1,6 @@
 -- The machine follows each kind of event: it shows the World that the event leads to.
 pub mod Skipped
+pub mod Beyond
 pub mod Seats
 pub mod Partitions
 pub mod Waits

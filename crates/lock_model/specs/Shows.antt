@@ -3,6 +3,7 @@ use Rattle.std.specs.List.{list_any}
 use Rattle.modes_core.specs.declared.modes.Mode.{Mode}
 use Rattle.modes_core.specs.declared.tags.Tag.{Tag}
 use Rattle.modes_core.specs.Mode.{mode_eq}
+use Rattle.modes_core.specs.Sessions.{most_sessions}
 use Rattle.modes_core.specs.Tag.{tag_eq, partition_of}
 use Rattle.lock_model.specs.declared.machine.plain.Hold.{Hold}
 use Rattle.lock_model.specs.declared.machine.plain.Spot.TheVariants.{Table}
@@ -92,10 +93,10 @@ pub record ShowsLock (shown : LockState) (word : ℕ) : Type 0 where
   pub says : shown ≡ state_of word
   pub is_word : IsLightweightWord word
 
--- The words show what they show in the World.
+-- The words show what they show in the World. A wait word is there of each session that has a number, since any may be asked to cancel.
 pub record ShowsWords (shown : Words) (words : world.Words) : Type 0 where
   pub sixty_four_fast : length shown.fast ≡ 64
-  pub sixty_four_waits : length shown.waits ≡ 64
+  pub all_waits : length shown.waits ≡ most_sessions
   pub partition : (p : ℕ) → ShowsLock (slice_index_or shown.partitions p opening_state) (words.partition p)
   pub fast : (session : ℕ) → ShowsLock (slice_index_or shown.fast session opening_state) (words.fast session)
   pub wait : (session : ℕ) → slice_index_or shown.waits session 0 ≡ words.wait session

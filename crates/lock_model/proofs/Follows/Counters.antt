@@ -51,7 +51,7 @@ use Rattle.lock_model.proofs.Shows.Kept.{fast_path_shown}
 counters_apart : (shown : Words) (words : world.Words) (strong : ℕ → ℕ) → ShowsWords shown words → ShowsWords shown (record words { strong = strong })
 counters_apart shown words strong shows = record {
   sixty_four_fast = shows.sixty_four_fast;
-  sixty_four_waits = shows.sixty_four_waits;
+  all_waits = shows.all_waits;
   partition = shows.partition;
   fast = shows.fast;
   wait = shows.wait;

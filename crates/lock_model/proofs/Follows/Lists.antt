@@ -32,7 +32,7 @@ sleepers_apart : (shown : Words) (words : world.Words) (list : ℕ → List LwWa
     → ShowsWords shown (record words { list = list; sleep = sleep })
 sleepers_apart shown words list sleep shows = record {
   sixty_four_fast = shows.sixty_four_fast;
-  sixty_four_waits = shows.sixty_four_waits;
+  all_waits = shows.all_waits;
   partition = shows.partition;
   fast = shows.fast;
   wait = shows.wait;

@@ -116,7 +116,7 @@ module _ (m : Machine) (w : World) (safe : SafeWorld w) (shows_w : Shows m w) wh
   words_kept : (database : ℕ → ℕ) (slot : ℕ → ℕ → ℕ) → ShowsWords m.words (record (w.words) { database = database; slot = slot })
   words_kept database slot = record {
     sixty_four_fast = shows_w.words.sixty_four_fast;
-    sixty_four_waits = shows_w.words.sixty_four_waits;
+    all_waits = shows_w.words.all_waits;
     partition = shows_w.words.partition;
     fast = shows_w.words.fast;
     wait = shows_w.words.wait;

@@ -3,6 +3,7 @@ use Rattle.std.specs.Vec.{with_item}
 use Rattle.std.proofs.Math.ListN.{set, length-set}
 use Rattle.std.proofs.lemmas.Bool.{cases_eq}
 use Rattle.std.proofs.lemmas.List.{get_or-set_same, get_or-set_other}
+use Rattle.modes_core.specs.Sessions.{most_sessions}
 use Rattle.lock_model.specs.declared.machine.hands.InHand.{InHand}
 use Rattle.lock_model.specs.declared.machine.own_waits.Awaited.{Awaited}
 use Rattle.lock_model.specs.declared.machine.state.Words.{Words}
@@ -29,7 +30,7 @@ pub partition_word-set : (shown : Words) (words : world.Words) (p : ℕ) (a : Lo
     → ShowsWords (record shown { partitions = set shown.partitions p a }) (record words { partition = set_at words.partition p b })
 partition_word-set shown words p a b shows within is = record {
   sixty_four_fast = shows.sixty_four_fast;
-  sixty_four_waits = shows.sixty_four_waits;
+  all_waits = shows.all_waits;
   partition = λ q. written-at ShowsLock shown.partitions p a opening_state words.partition b within is q (shows.partition q);
   fast = shows.fast;
   wait = shows.wait;
@@ -39,20 +40,20 @@ pub fast_word-set : (shown : Words) (words : world.Words) (o : ℕ) (a : LockSta
     → ShowsWords (record shown { fast = set shown.fast o a }) (record words { fast = set_at words.fast o b })
 fast_word-set shown words o a b shows below is = record {
   sixty_four_fast = length-set shown.fast o a ∙ shows.sixty_four_fast;
-  sixty_four_waits = shows.sixty_four_waits;
+  all_waits = shows.all_waits;
   partition = shows.partition;
   fast = λ k. written-at ShowsLock shown.fast o a opening_state words.fast b (subst (λ n. o < n) (sym shows.sixty_four_fast) below) is k (shows.fast k);
   wait = shows.wait;
 }
 
-pub wait_word-set : (shown : Words) (words : world.Words) (s a b : ℕ) → ShowsWords shown words → s < 64 → a ≡ b
+pub wait_word-set : (shown : Words) (words : world.Words) (s a b : ℕ) → ShowsWords shown words → s < most_sessions → a ≡ b
     → ShowsWords (record shown { waits = set shown.waits s a }) (record words { wait = set_at words.wait s b })
 wait_word-set shown words s a b shows below same = record {
   sixty_four_fast = shows.sixty_four_fast;
-  sixty_four_waits = length-set shown.waits s a ∙ shows.sixty_four_waits;
+  all_waits = length-set shown.waits s a ∙ shows.all_waits;
   partition = shows.partition;
   fast = shows.fast;
-  wait = λ k. get_or-set_at shown.waits s a 0 words.wait (subst (λ n. s < n) (sym shows.sixty_four_waits) below) shows.wait k ∙ ap (λ n. set_at words.wait s n k) same;
+  wait = λ k. get_or-set_at shown.waits s a 0 words.wait (subst (λ n. s < n) (sym shows.all_waits) below) shows.wait k ∙ ap (λ n. set_at words.wait s n k) same;
 }
 
 -- A hand.

@@ -60,7 +60,7 @@ NobodySleeps m =
 
 -- The machine as it is made shows the opening World.
 pub opening-shown : (m : Machine) (groups : ℕ) → m.numbers.groups ≡ groups → 0 < groups → m.numbers.issued ≡ 0 → m.numbers.live ≡ replicate 64 false → m.numbers.kept_by ≡ replicate 64 None → m.words.partitions ≡ replicate 16 opening_state
-    → m.words.fast ≡ replicate 64 opening_state → m.words.waits ≡ replicate 64 0 → m.locks.fast_holders ≡ replicate 64 (replicate 64 false)
+    → m.words.fast ≡ replicate 64 opening_state → m.words.waits ≡ replicate 1024 0 → m.locks.fast_holders ≡ replicate 64 (replicate 64 false)
     → m.locks.fast_sharers ≡ replicate 64 (replicate 64 false) → m.locks.partition_sharers ≡ replicate 16 (replicate 64 false) → m.fast_path.databases ≡ replicate 64 0 → m.fast_path.slots ≡ replicate 64 (replicate 128 0) → m.fast_path.zeros ≡ replicate 64 None → m.counted.items ≡ []
     → NobodySleeps m
     → m.contents.hands ≡ replicate 16 None → m.waits.awaited ≡ replicate 64 None → m.waits.seen ≡ replicate 64 false
@@ -76,10 +76,10 @@ opening-shown m groups same_groups some issued live kept_by words fast_words wai
   };
   words = record {
     sixty_four_fast = ap length fast_words ∙ length-replicate {A = LockState} 64 opening_state;
-    sixty_four_waits = ap length wait_words ∙ length-replicate {A = ℕ} 64 0;
+    all_waits = ap length wait_words ∙ length-replicate {A = ℕ} 1024 0;
     partition = λ p. made_shown _ opening_state (ap (λ list. get_or list p opening_state) words ∙ get_or-one_value 16 opening_state p) opening-word_shown;
     fast = λ k. made_shown _ opening_state (ap (λ list. get_or list k opening_state) fast_words ∙ get_or-one_value 64 opening_state k) opening-word_shown;
-    wait = λ k. ap (λ list. get_or list k 0) wait_words ∙ get_or-one_value 64 0 k;
+    wait = λ k. ap (λ list. get_or list k 0) wait_words ∙ get_or-one_value 1024 0 k;
   };
   fast_path = record {
     sixty_four_databases = ap length databases ∙ length-replicate {A = ℕ} 64 0;

@@ -7,7 +7,7 @@ use super::lw_words::put;
 use super::state::{CountedBy, Machine};
 use lock_table::{NoMemory, PartTable};
 use lw_word::LwMode;
-use modes_core::{Mode, SessionId, Tag, is_strong};
+use modes_core::{Mode, SessionId, Tag, USUAL_SESSIONS, is_strong};
 
 /// How many strong locks a session may have counted.
 const MOST_COUNTED: usize = 65_536;
@@ -65,7 +65,8 @@ fn uncounted(counted: &mut Vec<CountedBy>, session: SessionId, tag: Tag, mode: M
 }
 
 impl Machine {
-    ghost use Rattle.std.specs.Prelude.{◌≡◌, ◌==◌, ◌≤◌, ◌||◌, false, not, [], count_by, slice_set, slice_index_or, OnOk, OnErr, None, if◌then◌else◌, vec_len};
+    ghost use Rattle.std.specs.Prelude.{◌≡◌, ◌<◌, ◌==◌, ◌≤◌, ◌||◌, false, not, [], count_by, slice_set, slice_index_or, OnOk, OnErr, None, if◌then◌else◌, vec_len};
+    ghost use Rattle.modes_core.specs.Sessions.{usual_sessions};
     ghost use Rattle.std.specs.List.{list_any};
     ghost use Rattle.std.specs.Vec.{vec_capacity};
     ghost use Rattle.modes_core.specs.Tag.{partition_of};
@@ -81,6 +82,7 @@ impl Machine {
     /// (`BeginStrongLockAcquire` in lock.c). After `NoMemory`, which comes only where the list was full, the machine
     /// shows what it showed.
     pub fn count(&mut self, session: SessionId, tag: Tag, mode: Mode) -> Result<(), NoMemory>
+        requires within { session < usual_sessions }
         requires shown { ShowsSafe self.old }
         ensures followed { OnOk result (Follows self.old session (Step.Count tag mode) self.new) }
         ensures refused { OnErr result ((w : World) → Shows self.old w → Shows self.new w) }
@@ -100,6 +102,7 @@ impl Machine {
     /// Takes the count of `mode` on `tag` back, which `session` neither has nor awaits (`AbortStrongLockAcquire` in
     /// lock.c).
     pub fn uncount(&mut self, session: SessionId, tag: Tag, mode: Mode)
+        requires within { session < usual_sessions }
         requires shown { ShowsSafe self.old }
         ensures { Follows self.old session (Step.Uncount tag mode) self.new }
     {
@@ -112,9 +115,13 @@ impl Machine {
     /// slot on `tag`, a strong lock in `mode` being asked for (a turn of the loop of `FastPathTransferRelationLocks`
     /// in lock.c).
     pub fn put_passing(&mut self, session: SessionId, owner: SessionId, tag: Tag, mode: Mode)
+        requires within { session < usual_sessions }
         requires shown { ShowsSafe self.old }
         ensures { Follows self.old session (Step.PutPassing owner tag mode) self.new }
     {
+        if owner.number() >= USUAL_SESSIONS {
+            return;
+        }
         if self.may_pass(session, owner, tag, mode) {
             self.free_fast(session, owner);
             pass(self.counted.as_mut_slice(), session, owner, tag, mode);
@@ -124,6 +131,7 @@ impl Machine {
     /// Loads the strong lock counter at `index`, which must show `shown`. Where it is 0 and `session` holds the lock
     /// of its own slots, it may set slots for objects of this index (`LockAcquireExtended` in lock.c).
     pub fn load_strong(&mut self, session: SessionId, index: u16, shown: u64)
+        requires within { session < usual_sessions }
         ensures { Follows self.old session (Step.LoadStrong index shown) self.new }
     {
         if self.reads_zero(session, index, shown) {
@@ -148,6 +156,7 @@ impl Machine {
 
     /// Whether `session` may count `mode` on `tag`.
     fn may_count(&self, session: SessionId, tag: Tag, mode: Mode) -> bool
+        requires within { session < usual_sessions }
         ensures { result ≡ may_count self.now session tag mode }
     {
         self.makes_steps(session)
@@ -158,6 +167,7 @@ impl Machine {
 
     /// Whether `session` may count `mode` on `tag` no more.
     fn may_uncount(&self, session: SessionId, tag: Tag, mode: Mode) -> bool
+        requires within { session < usual_sessions }
         requires shown { ShowsSafe self.now }
         ensures { result ≡ may_uncount self.now session tag mode }
     {
@@ -168,6 +178,8 @@ impl Machine {
 
     /// Whether `session` may go past `owner` with its counted lock of `mode` on `tag`.
     fn may_pass(&self, session: SessionId, owner: SessionId, tag: Tag, mode: Mode) -> bool
+        requires within { session < usual_sessions }
+        requires exists { owner < usual_sessions }
         requires shown { ShowsSafe self.now }
         ensures { result ≡ may_pass self.now session owner tag mode }
     {
@@ -179,6 +191,7 @@ impl Machine {
 
     /// Whether `session` may load the counter at `index`, and it shows `shown`.
     fn may_load_counter(&self, session: SessionId, index: u16, shown: u64) -> bool
+        requires within { session < usual_sessions }
         ensures { result ≡ may_load_counter self.now session index shown }
     {
         self.makes_steps(session) && index < 1024 && shown == self.counter(index)
@@ -186,6 +199,7 @@ impl Machine {
 
     /// Whether `session` reads the counter at `index`, which shows `shown`, as 0, and may set slots then.
     fn reads_zero(&self, session: SessionId, index: u16, shown: u64) -> bool
+        requires within { session < usual_sessions }
         ensures { result ≡ reads_zero self.now session index shown }
     {
         self.may_load_counter(session, index, shown)
@@ -205,6 +219,8 @@ impl Machine {
 
     /// Whether `session` holds the lock of the slots of `owner` exclusively.
     pub fn holds_fast(&self, session: SessionId, owner: SessionId) -> bool
+        requires within { session < usual_sessions }
+        requires exists { owner < usual_sessions }
         ensures { result ≡ holds_fast self.now session owner }
     {
         self.locks.fast_holders[usize::from(owner.number())][usize::from(session.number())]
@@ -213,6 +229,8 @@ impl Machine {
     /// Puts the lock of the slots of `owner` back, which `session` holds exclusively: a counter that it read as 0
     /// permits no more slot to be set once its own lock is put.
     fn free_fast(&mut self, session: SessionId, owner: SessionId)
+        requires within { session < usual_sessions }
+        requires exists { owner < usual_sessions }
         ensures { self.new ≡ record self.old {
           words = record (self.old.words) {
             fast = slice_set self.old.words.fast owner
@@ -239,6 +257,7 @@ impl Machine {
 
     /// Whether `session` has `mode` on `tag`, in a content or in a slot, or awaits it.
     fn has_or_awaits(&self, session: SessionId, tag: Tag, mode: Mode) -> bool
+        requires within { session < usual_sessions }
         requires shown { ShowsSafe self.now }
         ensures { result ≡ has_or_awaits self.now session tag mode }
     {
@@ -259,6 +278,7 @@ impl Machine {
 
     /// Whether the slots of `owner` show that it holds any mode on `tag`.
     fn slots_show(&self, owner: SessionId, tag: Tag) -> bool
+        requires exists { owner < usual_sessions }
         requires shown { ShowsSafe self.now }
         ensures { result ≡ slots_show self.now owner tag }
     {

@@ -17,8 +17,8 @@ pub struct InHand {
     pub holder: SessionId,
     /// The move that the session has made on the content, if any.
     pub recorded: Option<Move>,
-    /// The sessions whom that move granted and whose wait words are not yet marked so.
-    pub unmarked: [bool; 64],
+    /// Of each session number whether that move granted its session, whose wait word is not yet marked so.
+    pub unmarked: [bool; 1024],
 }
 
 impl InHand {
@@ -60,6 +60,7 @@ impl InHand {
 
 impl Machine {
     ghost use Rattle.std.specs.Prelude.{◌≡◌, ◌<◌, ◌+◌, replicate, false, slice_set, slice_index_or, Some, None};
+    ghost use Rattle.modes_core.specs.Sessions.{usual_sessions};
     ghost use Rattle.lw_word.specs.declared.words.LwMode.TheVariants.{Exclusive};
     ghost use Rattle.lw_word.specs.LockState.{opening_state, put_in};
     ghost use Rattle.lock_world.specs.WaitWord.{wait_state, granted_word};
@@ -67,6 +68,7 @@ impl Machine {
 
     /// The hand that has `partition`, where `session` makes steps of its own and has it.
     pub fn hand_of(&self, session: SessionId, partition: u8) -> Option<InHand>
+        requires within { session < usual_sessions }
         ensures { result ≡ hand_of self.now session partition }
     {
         let hands = self.contents.hands.as_slice();
@@ -93,7 +95,7 @@ impl Machine {
           words = record (self.old.words) { partitions = slice_set self.old.words.partitions partition held };
           contents = record (self.old.contents) {
             hands = slice_set self.old.contents.hands partition
-                (Some (record { holder = session; recorded = None; unmarked = replicate 64 false }));
+                (Some (record { holder = session; recorded = None; unmarked = replicate 1024 false }));
           };
         } }
     {
@@ -102,12 +104,12 @@ impl Machine {
         self.contents.hands[index] = Some(InHand {
             holder: session,
             recorded: None,
-            unmarked: [false; 64],
+            unmarked: [false; 1024],
         });
     }
 
     /// Records the move `done` in `hand`, which has `partition`, with those of `unmarked` whom it granted unmarked.
-    pub fn record(&mut self, partition: u8, hand: InHand, done: Move, unmarked: [bool; 64])
+    pub fn record(&mut self, partition: u8, hand: InHand, done: Move, unmarked: [bool; 1024])
         requires { partition < 16 }
         ensures { self.new ≡ record self.old {
           contents = record (self.old.contents) {
@@ -131,7 +133,7 @@ impl Machine {
         hand: InHand,
         other: SessionId,
         done: Move,
-        unmarked: [bool; 64],
+        unmarked: [bool; 1024],
     )
         requires exists { partition < 16 }
         requires waiting { wait_state (slice_index_or self.old.words.waits other 0) ≡ 1 }
@@ -182,10 +184,10 @@ pub fn is_among(woken: &[(SessionId, Mode)], session: SessionId) -> bool
 }
 
 /// The sessions in `woken`, by number: none of their grants is marked yet.
-pub fn unmarked_of(woken: &[(SessionId, Mode)]) -> [bool; 64]
+pub fn unmarked_of(woken: &[(SessionId, Mode)]) -> [bool; 1024]
     ensures { (session : ℕ) → is_unmarked_in result session ≡ names_in woken.now session }
 {
-    let mut marks = [false; 64];
+    let mut marks = [false; 1024];
     for whose in woken {
         marks[usize::from(whose.0.number())] = true;
     }

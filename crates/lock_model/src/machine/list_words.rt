@@ -3,10 +3,11 @@
 use super::lw_words::unlocked;
 use super::state::Machine;
 use lock_world::Word;
-use modes_core::SessionId;
+use modes_core::{SessionId, USUAL_SESSIONS};
 
 impl Machine {
-    ghost use Rattle.std.specs.Prelude.{◌≡◌};
+    ghost use Rattle.std.specs.Prelude.{◌≡◌, ◌<◌};
+    ghost use Rattle.modes_core.specs.Sessions.{usual_sessions};
     ghost use Rattle.lock_world.specs.declared.events.Step.{Step};
     ghost use Rattle.lock_world.specs.declared.events.Word.{Word};
     ghost use Rattle.lock_model.specs.Shows.{Follows};
@@ -15,6 +16,7 @@ impl Machine {
     /// Locks the wait list of the lightweight lock `word`, where nobody has locked it and `session` has locked no other
     /// (`LWLockWaitListLock` in lwlock.c).
     pub fn lock_list(&mut self, session: SessionId, word: Word)
+        requires within { session < usual_sessions }
         ensures { Follows self.old session (Step.LockList word) self.new }
     {
         match word {
@@ -34,6 +36,7 @@ impl Machine {
         has_waiters: bool,
         release_ok: bool,
     )
+        requires within { session < usual_sessions }
         ensures { Follows self.old session (Step.UnlockList word has_waiters release_ok) self.new }
     {
         match word {
@@ -48,6 +51,7 @@ impl Machine {
 
     /// Sets release-ok in `word`, which showed `shown` before, for `session` (`LWLockAcquire`, once it was woken).
     pub fn set_release_ok(&mut self, session: SessionId, word: Word, shown: u64)
+        requires within { session < usual_sessions }
         ensures { Follows self.old session (Step.SetReleaseOk word shown) self.new }
     {
         match word {
@@ -61,6 +65,7 @@ impl Machine {
     /// Sets has-waiters in `word`, that of the lock whose wait list `session` has in hand, which showed `shown`
     /// before (`LWLockQueueSelf`).
     pub fn set_has_waiters(&mut self, session: SessionId, word: Word, shown: u64)
+        requires within { session < usual_sessions }
         ensures { Follows self.old session (Step.SetHasWaiters word shown) self.new }
     {
         match word {
@@ -73,6 +78,7 @@ impl Machine {
 
     /// Whether `session` may lock a wait list that nobody has.
     fn may_lock_list(&self, session: SessionId) -> bool
+        requires within { session < usual_sessions }
         ensures { result ≡ may_lock_list self.now session }
     {
         self.makes_steps(session) && self.lists.has_list[usize::from(session.number())].is_none()
@@ -80,6 +86,7 @@ impl Machine {
 
     /// Whether `session` makes steps, and has the wait list of `lock` in hand.
     fn has_list(&self, session: SessionId, lock: u16) -> bool
+        requires within { session < usual_sessions }
         ensures { result ≡ has_list self.now session lock }
     {
         self.makes_steps(session)
@@ -88,6 +95,7 @@ impl Machine {
 
     /// Locks the wait list of the lock of `partition`, for `session`.
     fn lock_partition_list(&mut self, session: SessionId, partition: u8)
+        requires within { session < usual_sessions }
         ensures { Follows self.old session (Step.LockList (Word.Partition partition)) self.new }
     {
         let index = usize::from(partition);
@@ -101,8 +109,12 @@ impl Machine {
 
     /// Locks the wait list of the lock of the fast-path slots of `owner`, for `session`.
     fn lock_fast_list(&mut self, session: SessionId, owner: SessionId)
+        requires within { session < usual_sessions }
         ensures { Follows self.old session (Step.LockList (Word.Fast owner)) self.new }
     {
+        if owner.number() >= USUAL_SESSIONS {
+            return;
+        }
         let index = usize::from(owner.number());
         if self.may_lock_list(session) {
             if let Some(word) = self.words.fast[index].lock_list() {
@@ -121,6 +133,7 @@ impl Machine {
         has_waiters: bool,
         release_ok: bool,
     )
+        requires within { session < usual_sessions }
         ensures { Follows self.old session (Step.UnlockList (Word.Partition partition) has_waiters release_ok)
             self.new }
     {
@@ -141,8 +154,12 @@ impl Machine {
         has_waiters: bool,
         release_ok: bool,
     )
+        requires within { session < usual_sessions }
         ensures { Follows self.old session (Step.UnlockList (Word.Fast owner) has_waiters release_ok) self.new }
     {
+        if owner.number() >= USUAL_SESSIONS {
+            return;
+        }
         let index = usize::from(owner.number());
         if self.has_list(session, 2 * owner.number() + 1) {
             let word = self.words.fast[index];
@@ -153,6 +170,7 @@ impl Machine {
 
     /// Sets release-ok in the word of the lock of `partition`, which showed `shown` before, for `session`.
     fn set_partition_release_ok(&mut self, session: SessionId, partition: u8, shown: u64)
+        requires within { session < usual_sessions }
         ensures { Follows self.old session (Step.SetReleaseOk (Word.Partition partition) shown) self.new }
     {
         let index = usize::from(partition);
@@ -167,8 +185,12 @@ impl Machine {
     /// Sets release-ok in the word of the lock of the fast-path slots of `owner`, which showed `shown` before, for
     /// `session`.
     fn set_fast_release_ok(&mut self, session: SessionId, owner: SessionId, shown: u64)
+        requires within { session < usual_sessions }
         ensures { Follows self.old session (Step.SetReleaseOk (Word.Fast owner) shown) self.new }
     {
+        if owner.number() >= USUAL_SESSIONS {
+            return;
+        }
         let index = usize::from(owner.number());
         if self.makes_steps(session) && shown == self.words.fast[index].number() {
             self.words.fast[index] = self.words.fast[index].set_release_ok();
@@ -178,6 +200,7 @@ impl Machine {
     /// Sets has-waiters in the word of the lock of `partition`, which showed `shown` before and whose list `session`
     /// has in hand.
     fn set_partition_has_waiters(&mut self, session: SessionId, partition: u8, shown: u64)
+        requires within { session < usual_sessions }
         ensures { Follows self.old session (Step.SetHasWaiters (Word.Partition partition) shown) self.new }
     {
         let index = usize::from(partition);
@@ -192,8 +215,12 @@ impl Machine {
     /// Sets has-waiters in the word of the lock of the fast-path slots of `owner`, which showed `shown` before and
     /// whose list `session` has in hand.
     fn set_fast_has_waiters(&mut self, session: SessionId, owner: SessionId, shown: u64)
+        requires within { session < usual_sessions }
         ensures { Follows self.old session (Step.SetHasWaiters (Word.Fast owner) shown) self.new }
     {
+        if owner.number() >= USUAL_SESSIONS {
+            return;
+        }
         let index = usize::from(owner.number());
         if self.has_list(session, 2 * owner.number() + 1)
             && shown == self.words.fast[index].number()

@@ -6,7 +6,7 @@ ghost use Rattle.lock_model.specs.SleeperLists.{is_at};
 use super::state::{Machine, Sleeper};
 use lock_table::NoMemory;
 use lw_word::{LwMode, LwWaiter};
-use modes_core::SessionId;
+use modes_core::{SessionId, USUAL_SESSIONS};
 
 impl Sleeper {
     /// Whether `session` waits for `lock`.
@@ -25,7 +25,8 @@ fn take_out(sleepers: &mut Vec<Sleeper>, lock: u16, session: SessionId)
 }
 
 impl Machine {
-    ghost use Rattle.std.specs.Prelude.{◌≡◌, ◌≤◌, OnOk, OnErr, vec_len};
+    ghost use Rattle.std.specs.Prelude.{◌≡◌, ◌<◌, ◌≤◌, OnOk, OnErr, vec_len};
+    ghost use Rattle.modes_core.specs.Sessions.{usual_sessions};
     ghost use Rattle.std.specs.List.{list_any};
     ghost use Rattle.std.specs.Vec.{vec_capacity};
     ghost use Rattle.lock_world.specs.declared.events.Step.{Step};
@@ -36,6 +37,7 @@ impl Machine {
     /// Puts `session` at the end of the wait list that it has in hand, as one that wants `mode` (`LWLockQueueSelf`
     /// in lwlock.c). After `NoMemory`, which comes only where the list was full, the machine shows what it showed.
     pub fn join_list(&mut self, session: SessionId, mode: LwMode) -> Result<(), NoMemory>
+        requires within { session < usual_sessions }
         requires shown { ShowsSafe self.old }
         ensures followed { OnOk result (Follows self.old session (Step.JoinList mode) self.new) }
         ensures refused { OnErr result ((w : World) → Shows self.old w → Shows self.new w) }
@@ -58,6 +60,7 @@ impl Machine {
 
     /// Takes `session` out of the wait list that it has in hand, where it is in it (`LWLockDequeueSelf` in lwlock.c).
     pub fn leave_list(&mut self, session: SessionId)
+        requires within { session < usual_sessions }
         requires shown { ShowsSafe self.old }
         ensures { Follows self.old session Step.LeaveList self.new }
     {
@@ -75,9 +78,13 @@ impl Machine {
     /// Takes `other` off the wait list that `session` has in hand, to be woken later (the first loop of
     /// `LWLockWakeup` in lwlock.c).
     pub fn take_off(&mut self, session: SessionId, other: SessionId)
+        requires within { session < usual_sessions }
         requires shown { ShowsSafe self.old }
         ensures { Follows self.old session (Step.TakeOff other) self.new }
     {
+        if other.number() >= USUAL_SESSIONS {
+            return;
+        }
         if other == session {
             return;
         }
@@ -95,9 +102,13 @@ impl Machine {
 
     /// Clears the sleep word of `other`, which `session` took off a wait list (the second loop of `LWLockWakeup` in lwlock.c).
     pub fn tell(&mut self, session: SessionId, other: SessionId)
+        requires within { session < usual_sessions }
         requires shown { ShowsSafe self.old }
         ensures { Follows self.old session (Step.Tell other) self.new }
     {
+        if other.number() >= USUAL_SESSIONS {
+            return;
+        }
         let index = usize::from(session.number());
         let whose = usize::from(other.number());
         if self.may_tell(session, other) {
@@ -109,6 +120,7 @@ impl Machine {
     /// Loads the sleep word of `session`, which must show `shown`: where that is 0, the session is in no list (the
     /// sleep in `LWLockAcquire` in lwlock.c).
     pub fn load_sleep(&mut self, session: SessionId, shown: u8)
+        requires within { session < usual_sessions }
         requires shown { ShowsSafe self.old }
         ensures { Follows self.old session (Step.LoadSleep shown) self.new }
     {
@@ -120,6 +132,7 @@ impl Machine {
 
     /// The lock whose wait list `session` has in hand, where it makes steps.
     fn list_to_change(&self, session: SessionId) -> Option<u16>
+        requires within { session < usual_sessions }
         ensures { result ≡ list_to_change self.now session }
     {
         if self.makes_steps(session) {
@@ -131,6 +144,7 @@ impl Machine {
 
     /// Whether `session` is in the list of `lock`, and its sleep word shows waiting.
     fn waits_at(&self, lock: u16, session: SessionId) -> bool
+        requires within { session < usual_sessions }
         ensures { result ≡ waits_at self.now lock session }
     {
         self.stands_at(lock, session) && self.lists.sleep[usize::from(session.number())] == 1
@@ -148,6 +162,8 @@ impl Machine {
 
     /// Whether `session` has `other` to wake, which it took off.
     fn may_tell(&self, session: SessionId, other: SessionId) -> bool
+        requires within { session < usual_sessions }
+        requires exists { other < usual_sessions }
         ensures { result ≡ may_tell self.now session other }
     {
         let whose = usize::from(other.number());
@@ -158,6 +174,7 @@ impl Machine {
 
     /// Whether `session` may load its sleep word, and it shows `shown`.
     fn may_load_sleep(&self, session: SessionId, shown: u8) -> bool
+        requires within { session < usual_sessions }
         ensures { result ≡ may_load_sleep self.now session shown }
     {
         self.makes_steps(session) && shown == self.lists.sleep[usize::from(session.number())]
@@ -165,6 +182,7 @@ impl Machine {
 
     /// Whether `session`, whose sleep word shows `shown`, sees by it that it is in no list.
     fn sees_no_sleep(&self, session: SessionId, shown: u8) -> bool
+        requires within { session < usual_sessions }
         ensures { result ≡ sees_no_sleep self.now session shown }
     {
         self.may_load_sleep(session, shown) && shown == 0

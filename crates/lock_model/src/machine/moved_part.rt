@@ -93,6 +93,7 @@ pub fn after_leaving(
 
 impl Machine {
     ghost use Rattle.std.specs.Prelude.{◌≡◌, ◌<◌, length, IfOk, IfSome, slice_index_or, None};
+    ghost use Rattle.modes_core.specs.Sessions.{usual_sessions};
     ghost use Rattle.lock_table.specs.Parts.{part_at, contents_in};
     ghost use Rattle.lock_model.specs.MovedPart.{IsMoved};
     ghost use Rattle.lock_model.specs.Shows.{IsOwnFor, CannotMake};
@@ -105,6 +106,7 @@ impl Machine {
         partition: u8,
         done: &Move,
     ) -> Result<Option<MovedPart>, NoMemory>
+        requires within { session < usual_sessions }
         requires exists { partition < 16 }
         requires sixteen { length self.now.contents.parts.items ≡ 16 }
         ensures moved { IfOk result (λ found.

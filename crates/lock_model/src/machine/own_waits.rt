@@ -14,7 +14,8 @@ pub struct Awaited {
 }
 
 impl Machine {
-    ghost use Rattle.std.specs.Prelude.{◌≡◌, ◌&&◌, true, false, not, is_none, slice_set, slice_index_or, Some, None};
+    ghost use Rattle.std.specs.Prelude.{◌≡◌, ◌<◌, ◌&&◌, true, false, not, is_none, slice_set, slice_index_or, Some, None};
+    ghost use Rattle.modes_core.specs.Sessions.{usual_sessions};
     ghost use Rattle.modes_core.specs.Tag.{partition_of};
     ghost use Rattle.lock_table.specs.Parts.{contents_in};
     ghost use Rattle.lock_model.specs.Shows.{ShowsSafe, awaits};
@@ -22,6 +23,7 @@ impl Machine {
 
     /// Whether `session` waits for `mode` on `tag`.
     pub fn awaits(&self, session: SessionId, tag: Tag, mode: Mode) -> bool
+        requires within { session < usual_sessions }
         ensures { result ≡ awaits (slice_index_or self.now.waits.awaited session None) tag mode }
     {
         match self.waits.awaited[usize::from(session.number())] {
@@ -33,6 +35,7 @@ impl Machine {
     /// Whether `session` may ask for `mode` on `tag`: it waits for nothing, and hasn't the hold, in no content and
     /// in no slot.
     pub fn may_ask(&self, session: SessionId, tag: Tag, mode: Mode) -> bool
+        requires within { session < usual_sessions }
         requires shown { ShowsSafe self.now }
         ensures { result ≡ may_ask self.now session tag mode }
     {
@@ -41,6 +44,7 @@ impl Machine {
 
     /// Whether `session` waits for nothing, and no content has its hold on `tag` in `mode`.
     fn may_ask_table(&self, session: SessionId, tag: Tag, mode: Mode) -> bool
+        requires within { session < usual_sessions }
         requires shown { ShowsSafe self.now }
         ensures { result ≡ (is_none (slice_index_or self.now.waits.awaited session None)
             && not ((contents_in self.now.contents.parts.items (partition_of tag)).holds session tag mode)) }
@@ -52,6 +56,7 @@ impl Machine {
 
     /// Makes `session` wait for `tag` in `mode` from now on, by its own account and by its wait word.
     pub fn begin_wait(&mut self, session: SessionId, tag: Tag, mode: Mode)
+        requires within { session < usual_sessions }
         ensures { self.new ≡ record self.old {
           words = record (self.old.words) { waits = slice_set self.old.words.waits session 1 };
           waits = record {
@@ -68,6 +73,7 @@ impl Machine {
 
     /// The wait of `session` is over, by its own account and by its wait word.
     pub fn end_wait(&mut self, session: SessionId)
+        requires within { session < usual_sessions }
         ensures { self.new ≡ record self.old {
           words = record (self.old.words) { waits = slice_set self.old.words.waits session 0 };
           waits = record {

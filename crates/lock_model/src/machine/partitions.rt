@@ -7,7 +7,8 @@ use lw_word::LwMode;
 use modes_core::{Mode, SessionId, Tag};
 
 impl Machine {
-    ghost use Rattle.std.specs.Prelude.{◌≡◌, OnOk, slice_index_or, None};
+    ghost use Rattle.std.specs.Prelude.{◌≡◌, ◌<◌, OnOk, slice_index_or, None};
+    ghost use Rattle.modes_core.specs.Sessions.{usual_sessions};
     ghost use Rattle.lock_world.specs.declared.events.Step.{Step};
     ghost use Rattle.lock_world.specs.declared.events.Word.{Word};
     ghost use Rattle.lock_table.specs.declared.moves.Move.{Move};
@@ -16,6 +17,7 @@ impl Machine {
     /// Takes `word` exclusively, where nobody has it: that of a partition, with its content, or that of the
     /// fast-path slots of `session` (`LWLockAcquire` with `LW_EXCLUSIVE` in lwlock.c).
     pub fn take_exclusive(&mut self, session: SessionId, word: Word)
+        requires within { session < usual_sessions }
         ensures { Follows self.old session (Step.TakeExclusive word) self.new }
     {
         match word {
@@ -34,6 +36,7 @@ impl Machine {
         word: Word,
         done: Move,
     ) -> Result<(), NoMemory>
+        requires within { session < usual_sessions }
         requires shown { ShowsSafe self.old }
         ensures { OnOk result (Follows self.old session (Step.PutExclusive word done) self.new) }
     {
@@ -53,6 +56,7 @@ impl Machine {
 
     /// Takes `partition` into the hand of `session`, where nobody holds its word.
     fn take_partition(&mut self, session: SessionId, partition: u8)
+        requires within { session < usual_sessions }
         ensures { Follows self.old session (Step.TakeExclusive (Word.Partition partition)) self.new }
     {
         let index = usize::from(partition);
@@ -71,6 +75,7 @@ impl Machine {
         partition: u8,
         done: Move,
     ) -> Result<(), NoMemory>
+        requires within { session < usual_sessions }
         requires shown { ShowsSafe self.old }
         ensures { OnOk result (Follows self.old session (Step.PutExclusive (Word.Partition partition) done) self.new) }
     {
@@ -88,6 +93,7 @@ impl Machine {
 
     /// Whether `session` has no wait on an object of `partition` that the move `done` should have ended.
     fn is_over(&self, session: SessionId, partition: u8, done: Move) -> bool
+        requires within { session < usual_sessions }
         ensures { result ≡ is_over (slice_index_or self.now.waits.awaited session None) partition done }
     {
         if !done.is_leave() {
@@ -101,6 +107,7 @@ impl Machine {
 
     /// Puts `partition`, which `session` has in hand, back with the move `done`, which is made as it is put.
     fn put_made(&mut self, session: SessionId, partition: u8, done: Move) -> Result<(), NoMemory>
+        requires within { session < usual_sessions }
         requires shown { ShowsSafe self.old }
         requires in_hand { HasUnmoved self.old session partition }
         ensures { OnOk result (Follows self.old session (Step.PutExclusive (Word.Partition partition) done) self.new) }
@@ -127,6 +134,7 @@ impl Machine {
         tag: Tag,
         mode: Mode,
     ) -> Result<(), NoMemory>
+        requires within { session < usual_sessions }
         requires shown { ShowsSafe self.old }
         requires in_hand { HasUnmoved self.old session partition }
         ensures { OnOk result
@@ -158,6 +166,7 @@ impl Machine {
         tag: Tag,
         mode: Mode,
     ) -> Result<(), NoMemory>
+        requires within { session < usual_sessions }
         requires shown { ShowsSafe self.old }
         requires in_hand { HasUnmoved self.old session partition }
         ensures { OnOk result

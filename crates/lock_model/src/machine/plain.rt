@@ -1,5 +1,6 @@
 use super::state::{CountedBy, FastPath, Lists, Sleeper, Words};
 use lock_world::Word;
+use lw_word::LwWord;
 use modes_core::{Mode, ModeSet, SessionId, Tag};
 
 /// Where a hold is recorded.
@@ -89,7 +90,8 @@ impl Plain {
     }
 
     /// What `word` shows, and 0 where there is no such word: there are 16 partitions, 16 fast-path slots a session
-    /// in each group, and 1,024 strong lock counters.
+    /// in each group, and 1,024 strong lock counters. Words of a session numbered 64 or above show what they show at
+    /// the opening, but for its wait word once it was asked to cancel.
     pub fn word(&self, word: Word) -> u64
         ensures shown { WordExists (groups_of self.now) word → result ≡ word_of self.now word }
         ensures absent { ¬ (WordExists (groups_of self.now) word) → result ≡ 0 }
@@ -103,14 +105,23 @@ impl Plain {
                     0
                 }
             }
-            Word::Fast(session) => self.words.fast[usize::from(session.number())].number(),
+            Word::Fast(session) => match self.words.fast.get(usize::from(session.number())) {
+                Some(word) => word.number(),
+                None => LwWord::opening().number(),
+            },
             Word::Database(session) => {
-                u64::from(self.fast_path.databases[usize::from(session.number())])
+                match self.fast_path.databases.get(usize::from(session.number())) {
+                    Some(database) => u64::from(*database),
+                    None => 0,
+                }
             }
             Word::Slot(session, place) => self.slot(session, place),
             Word::Wait(session) => u64::from(self.words.waits[usize::from(session.number())]),
             Word::Strong(index) => self.counted_at(index),
-            Word::Sleep(session) => u64::from(self.lists.sleep[usize::from(session.number())]),
+            Word::Sleep(session) => match self.lists.sleep.get(usize::from(session.number())) {
+                Some(shown) => u64::from(*shown),
+                None => 0,
+            },
         }
     }
 
@@ -121,7 +132,9 @@ impl Plain {
     {
         let index = usize::from(place);
         if index < 16 * usize::from(self.groups) {
-            let row = self.fast_path.slots[usize::from(session.number())];
+            let Some(row) = self.fast_path.slots.get(usize::from(session.number())) else {
+                return 0;
+            };
             match row.get(index) {
                 Some(word) => word.number(),
                 None => 0,

@@ -6,7 +6,7 @@ ghost use Rattle.lock_model.specs.Shows.{is_holder};
 use super::hands::InHand;
 use super::state::Machine;
 use lock_table::PartTable;
-use modes_core::SessionId;
+use modes_core::{SessionId, USUAL_SESSIONS};
 
 /// Whether `hand` is that of `session`.
 fn is_holder(hand: &Option<InHand>, session: SessionId) -> bool
@@ -19,13 +19,15 @@ fn is_holder(hand: &Option<InHand>, session: SessionId) -> bool
 }
 
 impl Machine {
-    ghost use Rattle.std.specs.Prelude.{◌≡◌, ◌==◌, Some, None};
+    ghost use Rattle.std.specs.Prelude.{◌≡◌, ◌<◌, ◌==◌, Some, None};
+    ghost use Rattle.modes_core.specs.Sessions.{usual_sessions};
     ghost use Rattle.std.specs.List.{list_any};
     ghost use Rattle.lock_world.specs.declared.events.Step.{Step};
     ghost use Rattle.lock_model.specs.Shows.{Follows, is_number, is_holder, has_no_list, owes_a_telling};
 
     /// Issues the number of `session`, where it is the next one, or lets a session that is kept apart go on.
     pub fn split_seat(&mut self, session: SessionId)
+        requires within { session < usual_sessions }
         ensures { Follows self.old session Step.SplitSeat self.new }
     {
         let index = usize::from(session.number());
@@ -40,6 +42,7 @@ impl Machine {
     /// Joins the seat of `session` to that of `joiner`, which keeps it apart, or closes the session where there is
     /// none.
     pub fn join_seat(&mut self, session: SessionId, joiner: Option<SessionId>)
+        requires within { session < usual_sessions }
         ensures { Follows self.old session (Step.JoinSeat joiner) self.new }
     {
         match joiner {
@@ -50,8 +53,12 @@ impl Machine {
 
     /// Keeps `session` apart for `joiner`.
     fn keep_apart(&mut self, session: SessionId, joiner: SessionId)
+        requires within { session < usual_sessions }
         ensures { Follows self.old session (Step.JoinSeat (Some joiner)) self.new }
     {
+        if joiner.number() >= USUAL_SESSIONS {
+            return;
+        }
         if self.makes_steps(session)
             && joiner != session
             && self.makes_steps(joiner)
@@ -65,6 +72,7 @@ impl Machine {
 
     /// Closes `session`, where it has nothing left: no hold, no wait, no lightweight lock and no counted strong lock.
     fn close(&mut self, session: SessionId)
+        requires within { session < usual_sessions }
         ensures { Follows self.old session (Step.JoinSeat None) self.new }
     {
         let index = usize::from(session.number());
@@ -87,6 +95,7 @@ impl Machine {
 
     /// Whether `session` has no wait list in hand and is in none.
     fn has_no_list(&self, session: SessionId) -> bool
+        requires within { session < usual_sessions }
         ensures { result ≡ has_no_list self.now session }
     {
         let index = usize::from(session.number());
@@ -95,6 +104,7 @@ impl Machine {
 
     /// Whether `session` has taken somebody off a wait list and not woken it.
     fn owes_a_telling(&self, session: SessionId) -> bool
+        requires within { session < usual_sessions }
         ensures { result ≡ owes_a_telling self.now session }
     {
         let off = &self.lists.off[usize::from(session.number())];

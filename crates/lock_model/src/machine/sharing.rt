@@ -5,10 +5,11 @@ use super::lw_words::{put, share};
 use super::state::{Machine, has_a_mark};
 use lock_world::Word;
 use lw_word::LwMode;
-use modes_core::SessionId;
+use modes_core::{SessionId, USUAL_SESSIONS};
 
 impl Machine {
-    ghost use Rattle.std.specs.Prelude.{◌≡◌, ◌||◌};
+    ghost use Rattle.std.specs.Prelude.{◌≡◌, ◌<◌, ◌||◌};
+    ghost use Rattle.modes_core.specs.Sessions.{usual_sessions};
     ghost use Rattle.lock_world.specs.declared.events.Step.{Step};
     ghost use Rattle.lock_world.specs.declared.events.Word.{Word};
     ghost use Rattle.lock_model.specs.Shows.{Follows, has_a_mark};
@@ -16,6 +17,7 @@ impl Machine {
     /// Shares `word`, where nobody holds it exclusively and `session` does not share it yet (`LWLockAcquire` with
     /// `LW_SHARED` in lwlock.c).
     pub fn take_shared(&mut self, session: SessionId, word: Word)
+        requires within { session < usual_sessions }
         ensures { Follows self.old session (Step.TakeShared word) self.new }
     {
         match word {
@@ -28,6 +30,7 @@ impl Machine {
 
     /// Releases `word` by `session`, which shares it (`LWLockRelease` in lwlock.c).
     pub fn put_shared(&mut self, session: SessionId, word: Word)
+        requires within { session < usual_sessions }
         ensures { Follows self.old session (Step.PutShared word) self.new }
     {
         match word {
@@ -40,6 +43,7 @@ impl Machine {
 
     /// Shares the word of `partition`, for `session`.
     fn share_partition(&mut self, session: SessionId, partition: u8)
+        requires within { session < usual_sessions }
         ensures { Follows self.old session (Step.TakeShared (Word.Partition partition)) self.new }
     {
         let index = usize::from(partition);
@@ -54,6 +58,7 @@ impl Machine {
 
     /// Gives the word of `partition`, which `session` shares, back.
     fn unshare_partition(&mut self, session: SessionId, partition: u8)
+        requires within { session < usual_sessions }
         ensures { Follows self.old session (Step.PutShared (Word.Partition partition)) self.new }
     {
         let index = usize::from(partition);
@@ -66,8 +71,12 @@ impl Machine {
 
     /// Shares the word of the fast-path slots of `owner`, for `session`.
     fn share_fast(&mut self, session: SessionId, owner: SessionId)
+        requires within { session < usual_sessions }
         ensures { Follows self.old session (Step.TakeShared (Word.Fast owner)) self.new }
     {
+        if owner.number() >= USUAL_SESSIONS {
+            return;
+        }
         let index = usize::from(owner.number());
         let whose = usize::from(session.number());
         if self.makes_steps(session) && !self.locks.fast_sharers[index][whose] {
@@ -80,8 +89,12 @@ impl Machine {
 
     /// Gives the word of the fast-path slots of `owner`, which `session` shares, back.
     fn unshare_fast(&mut self, session: SessionId, owner: SessionId)
+        requires within { session < usual_sessions }
         ensures { Follows self.old session (Step.PutShared (Word.Fast owner)) self.new }
     {
+        if owner.number() >= USUAL_SESSIONS {
+            return;
+        }
         let index = usize::from(owner.number());
         let whose = usize::from(session.number());
         if self.makes_steps(session) && self.locks.fast_sharers[index][whose] {
@@ -92,6 +105,7 @@ impl Machine {
 
     /// Whether `session` shares any word.
     pub fn shares_a_word(&self, session: SessionId) -> bool
+        requires within { session < usual_sessions }
         ensures { result ≡ (has_a_mark session self.now.locks.fast_sharers
             || has_a_mark session self.now.locks.partition_sharers) }
     {

@@ -16,12 +16,14 @@ fn some_slot_shows(slots: &[SlotWord], relation: u32, mode: Mode) -> bool
 }
 
 impl Machine {
-    ghost use Rattle.std.specs.Prelude.{◌≡◌, slice_index_or, []};
+    ghost use Rattle.std.specs.Prelude.{◌≡◌, ◌<◌, slice_index_or, []};
+    ghost use Rattle.modes_core.specs.Sessions.{usual_sessions};
     ghost use Rattle.lock_world.specs.SlotHolds.{slot_holds};
     ghost use Rattle.lock_model.specs.Shows.{ShowsSafe};
 
     /// Whether the slots of `session` show that it holds `mode` on `tag`.
     pub fn slots_hold(&self, session: SessionId, tag: Tag, mode: Mode) -> bool
+        requires within { session < usual_sessions }
         requires shown { ShowsSafe self.now }
         ensures { result ≡ slot_holds (slice_index_or self.now.fast_path.databases session 0)
             (λ place. slice_index_or (slice_index_or self.now.fast_path.slots session []) place 0) tag mode }

@@ -1,6 +1,7 @@
 //! The holds that sessions' fast-path slots show, in a plain list.
 
 ghost use Rattle.std.specs.Prelude.{◌≡◌, ◌<◌, ◌++◌, [], slice_index_or, OnOk};
+ghost use Rattle.modes_core.specs.Sessions.{usual_sessions};
 ghost use Rattle.lock_model.specs.SlotRows.{shown_hold, slot_rows, session_rows, fast_path_rows};
 
 use super::plain::{Hold, Spot};
@@ -28,6 +29,7 @@ fn append_session(
     fast_path: &FastPath,
     list: &mut Vec<Hold>,
 ) -> Result<(), NoMemory>
+    requires within { session < usual_sessions }
     ensures { OnOk result (list.new.items ≡ list.old.items ++ session_rows session
         (slice_index_or fast_path.now.databases session 0) (slice_index_or fast_path.now.slots session [])) }
 {
@@ -41,7 +43,8 @@ fn append_session(
 
 /// The word of the slot of `session` at `place` in `fast_path`.
 fn word_at(fast_path: &FastPath, session: SessionId, place: u8) -> SlotWord
-    requires { place < 128 }
+    requires within { session < usual_sessions }
+    requires place { place < 128 }
     ensures { result ≡ slice_index_or (slice_index_or fast_path.now.slots session []) place 0 }
 {
     fast_path.slots[usize::from(session.number())][usize::from(place)]

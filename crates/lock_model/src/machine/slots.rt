@@ -11,7 +11,7 @@ use super::state::{Machine, has_a_mark};
 use lock_table::Move;
 use lock_world::Word;
 use lw_word::{LwMode, SlotWord};
-use modes_core::{Mode, SessionId, Tag, is_eligible};
+use modes_core::{Mode, SessionId, Tag, USUAL_SESSIONS, is_eligible};
 
 /// Whether a slot of `slots` is in use.
 fn some_slot_in_use(slots: &[SlotWord]) -> bool
@@ -55,7 +55,8 @@ fn is_slot_to_grant(groups: u8, slots: &[SlotWord], relation: u32, place: usize)
 }
 
 impl Machine {
-    ghost use Rattle.std.specs.Prelude.{◌≡◌, slice_index_or, None};
+    ghost use Rattle.std.specs.Prelude.{◌≡◌, ◌<◌, slice_index_or, None};
+    ghost use Rattle.modes_core.specs.Sessions.{usual_sessions};
     ghost use Rattle.std.specs.List.{list_any};
     ghost use Rattle.lw_word.specs.SlotWord.{in_use};
     ghost use Rattle.modes_core.specs.Tag.{index_of};
@@ -68,8 +69,12 @@ impl Machine {
     /// Takes the lock of the slots of `owner` exclusively for `session`, where nobody has it (`LWLockAcquire` with
     /// `LW_EXCLUSIVE` in lwlock.c). `owner` is any session number, issued or not, that of `session` too.
     pub fn take_fast(&mut self, session: SessionId, owner: SessionId)
+        requires within { session < usual_sessions }
         ensures { Follows self.old session (Step.TakeExclusive (Word.Fast owner)) self.new }
     {
+        if owner.number() >= USUAL_SESSIONS {
+            return;
+        }
         let index = usize::from(owner.number());
         let whose = usize::from(session.number());
         if self.makes_steps(session) {
@@ -83,8 +88,12 @@ impl Machine {
     /// Puts the lock of the slots of `owner` back, which `session` holds exclusively, with `done`, which is no move
     /// (`LWLockRelease` in lwlock.c). With its own lock put, a counter that was read as 0 counts no more.
     pub fn put_fast(&mut self, session: SessionId, owner: SessionId, done: Move)
+        requires within { session < usual_sessions }
         ensures { Follows self.old session (Step.PutExclusive (Word.Fast owner) done) self.new }
     {
+        if owner.number() >= USUAL_SESSIONS {
+            return;
+        }
         let index = usize::from(owner.number());
         let whose = usize::from(session.number());
         if done.is_same(Move::Keep)
@@ -101,6 +110,7 @@ impl Machine {
 
     /// Whether `session` holds the lock of any session's slots exclusively.
     pub fn has_a_fast_word(&self, session: SessionId) -> bool
+        requires within { session < usual_sessions }
         ensures { result ≡ has_a_mark session self.now.locks.fast_holders }
     {
         has_a_mark(self.locks.fast_holders.as_slice(), session)
@@ -115,6 +125,7 @@ impl Machine {
     /// Sets `mode` on the relation of `tag` in `slot` of `session`, with the lock of its slots held, after its
     /// counter was read as 0 (`FastPathGrantRelationLock` in lock.c).
     pub fn set_slot(&mut self, session: SessionId, slot: u8, tag: Tag, mode: Mode)
+        requires within { session < usual_sessions }
         requires shown { ShowsSafe self.old }
         ensures { Follows self.old session (Step.SetSlot slot tag mode) self.new }
     {
@@ -129,6 +140,7 @@ impl Machine {
     /// Clears `mode` on the relation of `tag` in `slot` of `session`, with the lock of its slots held
     /// (`FastPathUnGrantRelationLock` in lock.c).
     pub fn clear_slot(&mut self, session: SessionId, slot: u8, tag: Tag, mode: Mode)
+        requires within { session < usual_sessions }
         ensures { Follows self.old session (Step.ClearSlot slot tag mode) self.new }
     {
         let index = usize::from(session.number());
@@ -141,6 +153,7 @@ impl Machine {
 
     /// Stores `database` as that of `session`, where it has none and no slot in use (`InitPostgres` in postinit.c).
     pub fn store_database(&mut self, session: SessionId, database: u32)
+        requires within { session < usual_sessions }
         ensures { Follows self.old session (Step.StoreDatabase database) self.new }
     {
         if self.may_store_database(session) {
@@ -150,6 +163,7 @@ impl Machine {
 
     /// Whether `session` has a slot in use.
     pub fn has_a_slot(&self, session: SessionId) -> bool
+        requires within { session < usual_sessions }
         ensures { result ≡ list_any in_use (slots_at self.now session) }
     {
         let slots = self.fast_path.slots[usize::from(session.number())];
@@ -158,6 +172,7 @@ impl Machine {
 
     /// Whether `session` makes steps, and holds the lock of its own slots.
     fn has_own_slots(&self, session: SessionId) -> bool
+        requires within { session < usual_sessions }
         ensures { result ≡ has_own_slots self.now session }
     {
         let index = usize::from(session.number());
@@ -166,6 +181,7 @@ impl Machine {
 
     /// Whether `session` has read the counter of `tag` as 0, and may set slots for that.
     fn has_read_zero(&self, session: SessionId, tag: Tag) -> bool
+        requires within { session < usual_sessions }
         ensures { result ≡ is_number (index_of tag) (slice_index_or self.now.fast_path.zeros session None) }
     {
         let index = tag.strong_index();
@@ -174,6 +190,7 @@ impl Machine {
 
     /// Whether `session` may set `mode` for `tag` in its slot at `place`.
     fn may_set_slot(&self, session: SessionId, place: usize, tag: Tag, mode: Mode) -> bool
+        requires within { session < usual_sessions }
         requires shown { ShowsSafe self.now }
         ensures { result ≡ may_set_slot self.now session place tag mode }
     {
@@ -194,6 +211,7 @@ impl Machine {
 
     /// Whether `session` may clear `mode` for `tag` in its slot at `place`.
     fn may_clear_slot(&self, session: SessionId, place: usize, tag: Tag, mode: Mode) -> bool
+        requires within { session < usual_sessions }
         ensures { result ≡ may_clear_slot self.now session place tag mode }
     {
         let index = usize::from(session.number());
@@ -205,6 +223,7 @@ impl Machine {
 
     /// Whether `session` may store its database.
     fn may_store_database(&self, session: SessionId) -> bool
+        requires within { session < usual_sessions }
         ensures { result ≡ may_store_database self.now session }
     {
         self.makes_steps(session) && !self.has_a_slot(session)

@@ -1,4 +1,5 @@
-ghost use Rattle.std.specs.Prelude.{◌≡◌, ℕ, length, IfOk, None};
+ghost use Rattle.std.specs.Prelude.{◌≡◌, ◌<◌, ℕ, length, IfOk, None};
+ghost use Rattle.modes_core.specs.Sessions.{usual_sessions};
 ghost use Rattle.lock_table.specs.Content.{empty_content};
 ghost use Rattle.lock_table.specs.Parts.{part_at, contents_in};
 ghost use Rattle.lock_model.specs.Shows.{has_a_mark};
@@ -10,7 +11,7 @@ use super::plain_lists::{gather_holds, gather_waits};
 use lock_table::{NoMemory, PlainPart, empty_parts};
 use lock_world::{Event, Step};
 use lw_word::{LwWaiter, LwWord, SlotWord};
-use modes_core::{Mode, SessionId, Tag};
+use modes_core::{Mode, SessionId, Tag, USUAL_SESSIONS};
 use std::alloc::Global;
 
 /// The session numbers: which were given out, which are open, and which are kept apart.
@@ -33,8 +34,8 @@ pub struct Words {
     pub partitions: [LwWord; 16],
     /// The lightweight lock of each session's fast-path slots.
     pub fast: [LwWord; 64],
-    /// The wait word of each session.
-    pub waits: [u8; 64],
+    /// The wait word of each session number: any session may be asked to cancel, one that can't open too.
+    pub waits: [u8; 1024],
 }
 
 /// Who has which lightweight locks: of each lock a mark for each session. Who holds a partition's exclusively,
@@ -51,6 +52,7 @@ pub struct Locks {
 
 /// Whether `marks` has one of `session`, of any lock.
 pub fn has_a_mark(marks: &[[bool; 64]], session: SessionId) -> bool
+    requires within { session < usual_sessions }
     ensures { result ≡ has_a_mark session marks.now }
 {
     marks
@@ -187,6 +189,7 @@ pub struct Machine {
 
 impl Machine {
     ghost use Rattle.std.specs.Prelude.{◌≡◌, ◌<◌, ◌&&◌, not, OnOk, IfOk, is_none, slice_index_or, None};
+    ghost use Rattle.modes_core.specs.Sessions.{usual_sessions};
     ghost use Rattle.std.specs.List.Sorted.{IsSorted};
     ghost use Rattle.lock_world.specs.World.{World, opening};
     ghost use Rattle.lock_world.specs.SafeWorld.{SafeWorld};
@@ -211,7 +214,7 @@ impl Machine {
             words: Words {
                 partitions: [LwWord::opening(); 16],
                 fast: [LwWord::opening(); 64],
-                waits: [0; 64],
+                waits: [0; 1024],
             },
             locks: Locks {
                 fast_holders: [[false; 64]; 64],
@@ -234,18 +237,22 @@ impl Machine {
 
     /// Whether `session` makes steps of its own: it is live, and no other session keeps it apart.
     pub fn makes_steps(&self, session: SessionId) -> bool
+        requires within { session < usual_sessions }
         ensures { result ≡ makes_steps self.now session }
     {
         let index = usize::from(session.number());
         self.numbers.live[index] && self.numbers.kept_by[index].is_none()
     }
 
-    /// Makes the step of `event`, where it is lawful.
+    /// Makes the step of `event`, where it is lawful. No session numbered 64 or above makes a lawful step.
     pub fn step(&mut self, event: Event) -> Result<(), NoMemory>
         requires shown { ShowsSafe self.old }
         ensures { OnOk result (Follows self.old event.session event.step self.new) }
     {
         let Event { session, step } = event;
+        if session.number() >= USUAL_SESSIONS {
+            return Ok(());
+        }
         match step {
             Step::TakeExclusive { word } => self.take_exclusive(session, word),
             Step::PutExclusive { word, done } => return self.put_exclusive(session, word, done),

@@ -2,10 +2,11 @@
 
 use super::state::Machine;
 use lock_table::{Move, NoMemory, PartTable};
-use modes_core::{Mode, SessionId, Tag, is_eligible};
+use modes_core::{Mode, SessionId, Tag, USUAL_SESSIONS, is_eligible};
 
 impl Machine {
-    ghost use Rattle.std.specs.Prelude.{◌≡◌, OnOk, OnErr};
+    ghost use Rattle.std.specs.Prelude.{◌≡◌, ◌<◌, OnOk, OnErr};
+    ghost use Rattle.modes_core.specs.Sessions.{usual_sessions};
     ghost use Rattle.lock_world.specs.declared.events.Step.{Step};
     ghost use Rattle.lock_world.specs.World.{World};
     ghost use Rattle.lock_model.specs.Shows.{Shows, ShowsSafe, Follows};
@@ -23,6 +24,7 @@ impl Machine {
         mode: Mode,
         strong: Mode,
     ) -> Result<(), NoMemory>
+        requires within { session < usual_sessions }
         requires shown { ShowsSafe self.old }
         ensures followed { OnOk result
             (Follows self.old session (Step.TransferSlot owner slot tag mode strong) self.new) }
@@ -30,6 +32,9 @@ impl Machine {
     {
         let partition = tag.partition();
         let number = owner.number();
+        if number >= USUAL_SESSIONS {
+            return Ok(());
+        }
         let index = usize::from(number);
         let place = usize::from(slot);
         let Some(hand) = self.hand_of(session, partition) else {
@@ -68,6 +73,8 @@ impl Machine {
         mode: Mode,
         strong: Mode,
     ) -> bool
+        requires within { session < usual_sessions }
+        requires exists { owner < usual_sessions }
         ensures { result ≡ may_transfer self.now session owner place tag mode strong }
     {
         self.holds_fast(session, owner)
@@ -77,6 +84,7 @@ impl Machine {
 
     /// Whether the slot of `owner` at `place` shows that it holds `mode` on `tag`.
     fn is_in_slot(&self, owner: SessionId, place: usize, tag: Tag, mode: Mode) -> bool
+        requires exists { owner < usual_sessions }
         ensures { result ≡ is_in_slot self.now owner place tag mode }
     {
         let index = usize::from(owner.number());

@@ -8,6 +8,7 @@ use wait_queue::remove_waiter;
 
 impl Machine {
     ghost use Rattle.std.specs.Prelude.{◌≡◌, ◌≢◌, ◌<◌, ◌+◌, ◌&&◌, true, false, not, length, is_some, is_none, OnOk, IfOk, IfSome, slice_set, slice_index_or, Some, None};
+    ghost use Rattle.modes_core.specs.Sessions.{usual_sessions};
     ghost use Rattle.modes_core.specs.Tag.{partition_of};
     ghost use Rattle.lock_world.specs.declared.events.Step.{Step};
     ghost use Rattle.lock_model.specs.declared.machine.own_waits.Awaited.{Awaited};
@@ -24,6 +25,7 @@ impl Machine {
     /// Asks `other`, which may be any session, on behalf of `session` to cancel its wait: bit 2 of its wait word is
     /// set.
     pub fn ask_cancel(&mut self, session: SessionId, other: SessionId)
+        requires within { session < usual_sessions }
         ensures { Follows self.old session (Step.AskCancel other) self.new }
     {
         let index = usize::from(other.number());
@@ -35,6 +37,7 @@ impl Machine {
     /// Loads the wait word of `session`, which must show `shown`: where it shows that the wait was granted, the
     /// session has seen it.
     pub fn load_wait(&mut self, session: SessionId, shown: u8)
+        requires within { session < usual_sessions }
         ensures { Follows self.old session (Step.LoadWait shown) self.new }
     {
         let index = usize::from(session.number());
@@ -45,6 +48,7 @@ impl Machine {
 
     /// Puts `session` into the queue of `tag` as a wait for `mode`, and sets its wait word to waiting.
     pub fn set_waiting(&mut self, session: SessionId, tag: Tag, mode: Mode) -> Result<(), NoMemory>
+        requires within { session < usual_sessions }
         requires shown { ShowsSafe self.old }
         ensures { OnOk result (Follows self.old session (Step.SetWaiting tag mode) self.new) }
     {
@@ -72,6 +76,7 @@ impl Machine {
         other: SessionId,
         done: Move,
     ) -> Result<(), NoMemory>
+        requires within { session < usual_sessions }
         requires shown { ShowsSafe self.old }
         ensures { OnOk result (Follows self.old session (Step.MarkGranted other done) self.new) }
     {
@@ -91,6 +96,7 @@ impl Machine {
     /// Clears the wait word of `session`, where it has seen its grant, or has the partition in hand and its wait is
     /// in the queue no more. With `leaving`, this step may take the wait out.
     pub fn clear_wait(&mut self, session: SessionId, leaving: bool)
+        requires within { session < usual_sessions }
         requires shown { ShowsSafe self.old }
         ensures { Follows self.old session (Step.ClearWait leaving) self.new }
     {
@@ -118,6 +124,7 @@ impl Machine {
         hand: InHand,
         place: usize,
     ) -> Result<(), NoMemory>
+        requires within { session < usual_sessions }
         requires shown { ShowsSafe self.old }
         requires in_hand { hand_of self.old session (partition_of tag) ≡ Some hand }
         requires unmoved { hand.recorded ≡ None }
@@ -134,7 +141,7 @@ impl Machine {
         let part = &mut self.contents.parts[usize::from(partition)];
         part.begin(session, &tag, mode)?;
         part.join(session, &tag, mode, place);
-        self.record(partition, hand, Move::Join { tag, mode }, [false; 64]);
+        self.record(partition, hand, Move::Join { tag, mode }, [false; 1024]);
         self.begin_wait(session, tag, mode);
         Ok(())
     }
@@ -147,6 +154,7 @@ impl Machine {
         partition: u8,
         done: Move,
     ) -> Result<(), NoMemory>
+        requires within { session < usual_sessions }
         requires shown { ShowsSafe self.old }
         requires another { other ≢ session }
         requires waiting { wait_state (slice_index_or self.old.words.waits other 0) ≡ 1 }
@@ -176,6 +184,7 @@ impl Machine {
         hand: InHand,
         done: Move,
     ) -> Result<(), NoMemory>
+        requires within { session < usual_sessions }
         requires shown { ShowsSafe self.old }
         requires another { other ≢ session }
         requires waiting { wait_state (slice_index_or self.old.words.waits other 0) ≡ 1 }
@@ -198,6 +207,7 @@ impl Machine {
 
     /// Whether `session` has the partition of `tag` in hand, and no wait in the object's queue.
     fn is_gone(&self, session: SessionId, tag: Tag) -> bool
+        requires within { session < usual_sessions }
         requires shown { ShowsSafe self.now }
         ensures { result ≡ (is_some (hand_of self.now session (partition_of tag))
             && not (waits_there ((contents_in self.now.contents.parts.items (partition_of tag)).waits tag) session)) }
@@ -212,6 +222,7 @@ impl Machine {
     /// Takes the wait of `session` out of the queue of `tag`, and clears its wait word. Where that leave is recorded
     /// already, it only clears the word.
     fn leave_queue(&mut self, session: SessionId, tag: Tag)
+        requires within { session < usual_sessions }
         requires shown { ShowsSafe self.old }
         requires steps { makes_steps self.old session ≡ true }
         requires awaited { (wait : Awaited)
@@ -237,6 +248,7 @@ impl Machine {
 
     /// Makes the leave in `hand`: takes the wait of `session` out of the queue of `tag`, and clears its wait word.
     fn leave_now(&mut self, session: SessionId, tag: Tag, hand: InHand)
+        requires within { session < usual_sessions }
         requires shown { ShowsSafe self.old }
         requires awaited { (wait : Awaited)
             × (slice_index_or self.old.waits.awaited session None ≡ Some wait) × (wait.tag ≡ tag) }

@@ -3,6 +3,7 @@ use Rattle.std.specs.Prelude.{◌==◌}
 use Rattle.std.proofs.Math.ListN.{set, length-set}
 use Rattle.std.proofs.Math.Bool.{or-true, or-false}
 use Rattle.std.proofs.lemmas.Bool.{eq-eqb, ne_eqb}
+use Rattle.modes_core.specs.Sessions.{most_sessions}
 use Rattle.lock_world.specs.declared.events.Step.TheVariants.{AskCancel, LoadWait}
 use Rattle.lock_model.specs.declared.machine.state.Machine.{Machine}
 use Rattle.lock_world.specs.WaitWord.{wait_state, asked_word}
@@ -20,7 +21,7 @@ use Rattle.lock_model.proofs.Shows.Kept.{table_shown}
 -- Asking to cancel, and loading one's own wait word.
 
 module _ (m : Machine) (w : World) (safe : SafeWorld w) (shows : Shows m w) where
-  pub was_asked : (s k : ℕ) → makes_steps m s ≡ true → k < 64
+  pub was_asked : (s k : ℕ) → makes_steps m s ≡ true → k < most_sessions
       → (v : World) × Next w (record { session = s; step = AskCancel k }) v × Shows (record m { words = record (m.words) { waits = set m.words.waits k (asked_word (get_or m.words.waits k 0)) } }) v
   was_asked s k steps below = (
     after_asking w s k,

@@ -1,4 +1,4 @@
-use Rattle.std.proofs.Common.{◌≡◌, ℕ, ◌<◌, Bool, true, false, not, ◌&&◌, List, get_or, Option, Some, None, is_some, option_map, refl, sym, ap, ◌∙◌, subst, inl, inr}
+use Rattle.std.proofs.Common.{◌≡◌, ℕ, ◌<◌, Bool, true, false, not, ◌&&◌, List, get_or, Option, Some, None, is_some, option_map, refl, sym, ap, ◌∙◌, subst, inl, inr, arith}
 use Rattle.std.specs.Vec.{with_item}
 use Rattle.std.proofs.Math.ListN.{set}
 use Rattle.std.proofs.lemmas.Bool.{both_ways, and_parts, and_from, not-true, not_from_false}
@@ -93,7 +93,7 @@ module _ (m : Machine) (w : World) (safe : SafeWorld w) (shows : Shows m w) wher
   ended : (s : ℕ) (wait : OwnWait) → s < 64
       → Shows (ended_by m s) (after_clearing w s wait)
   ended s wait below = table_shown shows (after_clearing w s wait)
-      (wait_word-set m.words w.words s 0 0 shows.words below refl)
+      (wait_word-set m.words w.words s 0 0 shows.words (omega (arith, below)) refl)
       shows.contents
       (own_wait-set m.waits w.sessions.awaited w.sessions.seen s None None shows.waits below refl)
 
@@ -192,7 +192,7 @@ module _ (m : Machine) (w : World) (safe : SafeWorld w) (shows : Shows m w) wher
               after_leaving w s wait granted (content_of part),
               inl (inl (wait, granted, content_of part, record { is_wait = is; may_move = may }, refl)),
               table_shown shows (after_leaving w s wait granted (content_of part))
-                  (wait_word-set m.words w.words s 0 0 shows.words below refl)
+                  (wait_word-set m.words w.words s 0 0 shows.words (omega (arith, below)) refl)
                   (hand-set _ _ p _ _ (part-set m.contents w.contents p part (content_of part) shows.contents has.exists refl begun) has.exists
                   (recording-shown (w.contents.hand p) has.hand shown.holder (Leave wait.tag) marks (waits_there granted) has.is_hand has.shows.holder marked))
                   (own_wait-set m.waits w.sessions.awaited w.sessions.seen s None None shows.waits below refl),

@@ -1,4 +1,4 @@
-use Rattle.std.proofs.Common.{◌≡◌, ℕ, ◌<◌, Bool, true, false, List, [], get_or, Some, None, is_none, is_some, refl, sym, ap, ◌∙◌, subst, inl}
+use Rattle.std.proofs.Common.{◌≡◌, ℕ, ◌<◌, Bool, true, false, List, [], get_or, Some, None, is_none, is_some, refl, sym, ap, ◌∙◌, subst, inl, arith}
 use Rattle.std.specs.Vec.{with_item}
 use Rattle.std.proofs.Math.ListN.{set}
 use Rattle.std.proofs.lemmas.Bool.{both_ways}
@@ -55,7 +55,7 @@ module _ (m : Machine) (w : World) (safe : SafeWorld w) (shows : Shows m w) wher
     after_setting_waiting w s t n content,
     inl (content, may, refl),
     table_shown shows (after_setting_waiting w s t n content)
-        (wait_word-set m.words w.words s 1 1 shows.words below refl)
+        (wait_word-set m.words w.words s 1 1 shows.words (omega (arith, below)) refl)
         (hand-set _ _ p _ _
         (part-set m.contents w.contents p part content shows.contents has.exists (is ∙ ap (λ (c : Content). add_wait c s t n place) same) begun) has.exists
         (recording-shown (w.contents.hand p) has.hand shown.holder (Join t n) marks (λ _. false) has.is_hand has.shows.holder unmarked))

@@ -124,7 +124,7 @@ module _ (m : Machine) (w : World) (safe : SafeWorld w) (shows : Shows m w) wher
           refl,
         )),
     table_shown shows (after_marking_next w k p done)
-        (wait_word-set m.words w.words k _ _ shows.words (subst (λ n. k < n) shows.words.sixty_four_waits (word_within m.words.waits k waiting)) (ap granted_word (shows.words.wait k)))
+        (wait_word-set m.words w.words k _ _ shows.words (subst (λ n. k < n) shows.words.all_waits (word_within m.words.waits k waiting)) (ap granted_word (shows.words.wait k)))
         (hand-set m.contents w.contents p _ _ shows.contents has.exists
         (recording-shown (w.contents.hand p) has.hand hand.holder done (set hand.unmarked k false) (unmarked_but (is_unmarked (w.contents.hand p)) k) has.is_hand has.shows.holder
         (marks-without hand.unmarked (is_unmarked (w.contents.hand p)) k (unmarked_within hand.unmarked k unmarked) (λ j. sym (unmarked_from w s p hand has j)))))
@@ -164,7 +164,7 @@ module _ (m : Machine) (w : World) (safe : SafeWorld w) (shows : Shows m w) wher
     after_marking_first w s k p done moved.granted (content_of after.part),
     inl (inl (moved.granted, content_of after.part, record { may_move = may_move; may_mark = may_mark s k another waiting; among = sym (granted_named k) ∙ among }, refl)),
     table_shown shows (after_marking_first w s k p done moved.granted (content_of after.part))
-        (wait_word-set m.words w.words k _ _ shows.words (subst (λ n. k < n) shows.words.sixty_four_waits (word_within m.words.waits k waiting)) (ap granted_word (shows.words.wait k)))
+        (wait_word-set m.words w.words k _ _ shows.words (subst (λ n. k < n) shows.words.all_waits (word_within m.words.waits k waiting)) (ap granted_word (shows.words.wait k)))
         (hand-set _ _ p _ _
         (part-set m.contents w.contents p after.part (content_of after.part) shows.contents has.exists refl (moved.begun ∙ shows.contents.none_begun p)) has.exists
         (recording-shown (w.contents.hand p) has.hand hand.holder done (set unmarked k false) (unmarked_but (waits_there moved.granted) k) has.is_hand has.shows.holder

@@ -7,16 +7,16 @@ use Rattle.lock_model.proofs.Shows.Hands.{marks-one_more}
 use Rattle.lock_model.proofs.machine.hands.unmarked_of.Goals as goal
 
 pub loop-whose-init : goal.loop-whose-init
-loop-whose-init c = (refl, λ k. get_or-one_value 64 false k)
+loop-whose-init c = (refl, λ k. get_or-one_value 1024 false k)
 
 pub loop-whose-preserved : goal.loop-whose-preserved
 loop-whose-preserved c =
     let marks = c.loop-whose.marks in
-    let sixty_four : length marks ≡ 64 = c.loop-whose.invariant.0 in
+    let as_many : length marks ≡ 1024 = c.loop-whose.invariant.0 in
     let place : c.from.result ≡ c.whose-item.result.0 = c.from.ensures ∙ c.number.ensures.value in
     let below = c.number.ensures.within in
     let within : c.from.result < length marks = omega arith in (
-      length-set marks c.from.result true ∙ sixty_four,
+      length-set marks c.from.result true ∙ as_many,
       marks-one_more marks c.args.woken.now c.loop-whose.whose-index c.whose-item.result c.from.result within place c.loop-whose-test.true c.whose-item.is c.loop-whose.invariant.1,
     )
 

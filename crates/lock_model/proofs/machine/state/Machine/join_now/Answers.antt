@@ -38,4 +38,4 @@ returns c = λ w safe shows.
     rw (c.begin_wait.ensures, c.record.ensures, place, c.partition-partition.ensures.value)
     (was_set_waiting now w safe shows c.args.session c.args.tag c.args.mode c.args.hand c.args.place c.join.new.self _ c.requires.in_hand c.requires.unmoved c.requires.no_wait c.requires.not_held c.requires.in_no_slot c.requires.counted c.requires.answer
     (c.join.ensures.content ∙ ap (λ (x : Content). add_wait x c.args.session c.args.tag c.args.mode c.args.place) (c.begin.ensures.content ∙ ap content_of part))
-    c.join.ensures.ended (λ k. get_or-one_value 64 false k) (omega arith))
+    c.join.ensures.ended (λ k. get_or-one_value 1024 false k) (omega arith))

@@ -1,6 +1,7 @@
 use Rattle.std.proofs.Common.{Some, ◌≡◌, ◌≢◌, ◌<◌, length, sym, ◌∙◌, arith}
 use Rattle.lock_world.specs.declared.events.Step.TheVariants.{JoinSeat}
 use Rattle.std.proofs.lemmas.Bool.{eqb-false, not-true, not-false, eqb-true}
+use Rattle.lock_model.proofs.Follows.Beyond.{joining-beyond}
 use Rattle.lock_model.proofs.Shows.Looks.{steps_not}
 use Rattle.lock_model.proofs.Follows.Skipped.{skipped}
 use Rattle.lock_model.proofs.Follows.Seats.{was_kept_apart, some_word, some_fast_word, some_shared_word}
@@ -10,7 +11,7 @@ use Rattle.lock_model.proofs.machine.state.Machine.keep_apart.Goals.{else-makes_
 pub returns-then-not-shares_a_word : goal.returns-then-not-shares_a_word
 returns-then-not-shares_a_word c = λ w safe shows.
     let now = c.args.self.now in
-    let place : c.from.result ≡ c.args.session = c.from.ensures ∙ c.number.ensures.value in
+    let place : c.from.result ≡ c.args.session = c.from.ensures ∙ c.number-then-not-shares_a_word.ensures.value in
     let in_kept_by : c.args.session < length now.numbers.kept_by = omega arith in
     let another : c.args.joiner ≢ c.args.session = eqb-false c.args.joiner c.args.session (not-true _ (sym c.if-ne.ensures)) in
     rw place (was_kept_apart now w safe shows c.args.session c.args.joiner
@@ -33,3 +34,6 @@ returns-else-makes_steps c = λ w safe shows.
       | else-makes_steps-via-else-makes_steps b ↦
           steps_not now w safe shows c.args.session (sym b.if-makes_steps.ensures) lawful.1.0.steps
     ])
+
+pub returns-then-number-ge-USUAL_SESSIONS : goal.returns-then-number-ge-USUAL_SESSIONS
+returns-then-number-ge-USUAL_SESSIONS c = λ w safe shows. joining-beyond c.args.self.now w safe shows c.args.session c.args.joiner (omega arith)

@@ -7,6 +7,7 @@ use Rattle.lock_world.specs.declared.events.Step.TheVariants.{PutPassing}
 use Rattle.lock_world.specs.World.{World}
 use Rattle.lock_world.specs.Happens.{Next}
 use Rattle.lock_model.specs.Shows.{Shows}
+use Rattle.lock_model.proofs.Follows.Beyond.{passing-beyond}
 use Rattle.lock_model.proofs.Follows.Counters.{has_passed, not_passed}
 use Rattle.lock_model.proofs.machine.state.Machine.put_passing.Goals as goal
 
@@ -23,3 +24,6 @@ returns-then-may_pass c = λ w safe shows.
 pub returns-else-may_pass : goal.returns-else-may_pass
 returns-else-may_pass c = λ w safe shows.
     not_passed c.args.self.now w safe shows c.args.session c.args.owner c.args.tag c.args.mode (sym c.if-may_pass.ensures)
+
+pub returns-then-number-ge-USUAL_SESSIONS : goal.returns-then-number-ge-USUAL_SESSIONS
+returns-then-number-ge-USUAL_SESSIONS c = λ w safe shows. passing-beyond c.args.self.now w safe shows c.args.session c.args.owner c.args.tag c.args.mode (omega arith)

@@ -1,3 +1,5 @@
+use Rattle.std.proofs.Common.{arith}
+use Rattle.lock_model.proofs.Follows.Beyond.{step-beyond}
 use Rattle.lock_model.proofs.machine.state.Machine.step.Goals as goal
 
 pub returns-in-PutExclusive : goal.returns-in-PutExclusive
@@ -86,3 +88,6 @@ returns-in-SetReleaseOk c = rw c.in-SetReleaseOk.is c.set_release_ok.ensures
 
 pub returns-in-SetHasWaiters : goal.returns-in-SetHasWaiters
 returns-in-SetHasWaiters c = rw c.in-SetHasWaiters.is c.set_has_waiters.ensures
+
+pub returns-then-number-ge-USUAL_SESSIONS : goal.returns-then-number-ge-USUAL_SESSIONS
+returns-then-number-ge-USUAL_SESSIONS c = λ w safe shows. step-beyond c.args.self.now w safe shows c.args.event.session c.args.event.step (omega arith)

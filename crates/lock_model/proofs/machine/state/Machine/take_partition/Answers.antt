@@ -9,4 +9,4 @@ returns-in-Some c = λ w safe shows.
     let now = c.args.self.now in
     rw c.set_held.ensures
     (taken now w safe shows c.args.session c.args.partition _ c.in-Some.word _ (sym c.if-makes_steps.ensures) (omega arith) (omega arith)
-    (partition_word_from now w safe shows c.from-index.result c.args.partition c.index-self-index.result c.from-index.ensures (omega arith)) c.in-Some.ensures.answer (λ k. get_or-one_value 64 false k))
+    (partition_word_from now w safe shows c.from-index.result c.args.partition c.index-self-index.result c.from-index.ensures (omega arith)) c.in-Some.ensures.answer (λ k. get_or-one_value 1024 false k))

@@ -14,6 +14,7 @@ use Rattle.lock_model.specs.Transfers.{may_adopt, may_transfer}
 use Rattle.lock_world.specs.declared.events.Step.TheVariants.{TransferSlot}
 use Rattle.lock_world.specs.World.{World}
 use Rattle.lock_world.specs.Happens.{Next}
+use Rattle.lock_model.proofs.Follows.Beyond.{transferring-beyond}
 use Rattle.lock_model.proofs.Shows.Places.{partition_read}
 use Rattle.lock_model.proofs.Follows.SlotSteps.{slot_read}
 use Rattle.lock_model.proofs.Follows.Transfers.{transfer_within, transfer_is_eligible, not_in_content, not_in_queue, was_transferred, transfer_without_hand, transfer_after_move, not_transferred, transfer_refused}
@@ -101,3 +102,6 @@ returns-clause-followed c = λ w safe shows.
     (ap (hand_of now c.args.session) (sym c.partition-partition.ensures.value) ∙ sym c.hand_of.ensures ∙ c.in-Some.is)
     (ap (λ k. may_adopt c.in-Some.hand.recorded k c.args.slot) (sym c.number-number.ensures.value) ∙ sym c.if-not-may_adopt.ensures) may (omega arith)
     (c.grant.ensures.content ∙ ap (λ (x : Content). add_hold x c.args.owner c.args.tag c.args.mode) (c.begin.ensures.content ∙ ap content_of part)) c.grant.ensures.ended))
+
+pub returns-then-number-ge-USUAL_SESSIONS-clause-followed : goal.returns-then-number-ge-USUAL_SESSIONS-clause-followed
+returns-then-number-ge-USUAL_SESSIONS-clause-followed c = λ w safe shows. transferring-beyond c.args.self.now w safe shows c.args.session c.args.owner c.args.slot c.args.tag c.args.mode c.args.strong (omega arith)
