@@ -15,7 +15,8 @@ pub const MOST_GROUPS: u32 = 8;
 /// How large a manager is.
 #[derive(Clone, Copy, Debug, PartialEq, Eq)]
 pub struct Config {
-    /// How many sessions the manager may open over its life, 1 to 64, or 1 to 1,024 of a server's (`max_connections`).
+    /// How many sessions the manager may open over its life, 1 to 64, of a server's manager 1 to 1,024
+    /// (`max_connections`).
     pub sessions: u32,
     /// How many local entries each may have, 1 to 65,536.
     pub max_local: u32,
@@ -47,7 +48,8 @@ impl Config {
         self.is_within(USUAL_SESSIONS)
     }
 
-    /// Whether all numbers are in the ranges of a server's manager, so that `Manager::for_server` doesn't refuse with `BadConfig`.
+    /// Whether all numbers are in the ranges of a server's manager, so that `Manager::for_server` doesn't refuse with
+    /// `BadConfig`.
     pub fn is_in_server_range(self) -> bool
         ensures { result ≡ is_in_server_range self }
     {

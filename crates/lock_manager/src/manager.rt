@@ -88,8 +88,8 @@ impl Model for Opener {
 
 impl Manager {
     /// A manager as `config` says, with no session yet, and its opener (`InitLocks` in lock.c with `InitProcGlobal`
-    /// in proc.c). Refused where a number of the configuration is out of its range, of which sessions is 1 to 64, and then where memory, by
-    /// `alloc`, runs out.
+    /// in proc.c). Refused where a number of the configuration is out of its range, which is 1 to 64 for the sessions, and then
+    /// where memory, by `alloc`, runs out.
     pub fn new(alloc: Global, config: Config) -> Result<(Manager, Opener), Refusal>
         ensures ok { IfOk result (λ made. IsNew made.0 made.1 config) }
         ensures bad_config { IsErrOf result Refusal.BadConfig ↔ (is_in_range config ≡ false) }
@@ -101,9 +101,9 @@ impl Manager {
         Manager::of_size(alloc, config)
     }
 
-    /// A server's manager as `config` says, which may have up to 1,024 sessions, with none yet, and its opener. What it takes grows with the
-    /// sessions asked for: memory, a strong lock of a relation, and a listing. Refused where a number of the configuration is out of its
-    /// range, and then where memory, by `alloc`, runs out.
+    /// A server's manager as `config` says, which may have up to 1,024 sessions, with none yet, and its opener. What the table, a strong
+    /// lock of a relation and a listing cost grows with the sessions that are asked for. Refused where a number of the configuration is out
+    /// of its range, and then where memory, by `alloc`, runs out.
     pub fn for_server(alloc: Global, config: Config) -> Result<(Manager, Opener), Refusal>
         ensures ok { IfOk result (λ made. IsNew made.0 made.1 config) }
         ensures bad_config { IsErrOf result Refusal.BadConfig ↔ (is_in_server_range config ≡ false) }
@@ -115,8 +115,8 @@ impl Manager {
         Manager::of_size(alloc, config)
     }
 
-    /// A manager as `config` says, whose numbers are in their ranges, with no session yet, and its opener. Refused where memory, by `alloc`,
-    /// runs out.
+    /// A manager as `config` says, whose numbers are in the ranges of a server's manager, with no session yet, and its opener. Refused where
+    /// memory, by `alloc`, runs out.
     fn of_size(alloc: Global, config: Config) -> Result<(Manager, Opener), Refusal>
         requires within { is_in_server_range config ≡ true }
         ensures ok { IfOk result (λ made. IsNew made.0 made.1 config) }

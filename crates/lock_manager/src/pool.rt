@@ -76,8 +76,8 @@ fn no_lives(alloc: Global, sessions: u16) -> Result<Vec<u64>, AllocError>
 }
 
 impl<T: PartTable, B: Board<T>> SessionPool<T, B> {
-    /// A pool with no session yet, for those of a manager of `Manager::new`: it has room for `USUAL_SESSIONS`. Refused where memory, by
-    /// `alloc`, runs out.
+    /// A pool with no session yet, for those of a manager of `Manager::new`: there is room for `USUAL_SESSIONS`, which is 64. Refused
+    /// where memory, by `alloc`, runs out.
     pub fn new(alloc: Global) -> Result<Self, Refusal>
         ensures ok { IfOk result (λ pool. IsNewPool usual_sessions pool) }
         ensures no_memory { IsOkUnless result Refusal.NoMemory }
@@ -85,8 +85,8 @@ impl<T: PartTable, B: Board<T>> SessionPool<T, B> {
         Self::with_room(alloc, USUAL_SESSIONS)
     }
 
-    /// A pool with no session yet, for those of a manager of `Manager::for_server`: it has room for `sessions`, or for `MOST_SESSIONS` where
-    /// these are fewer, some hundred and seventy bytes each. Refused where memory, by `alloc`, runs out.
+    /// A pool with no session yet, for those of a manager of `Manager::for_server`: there is room for `sessions`, or for `MOST_SESSIONS`,
+    /// which is 1,024, where these are fewer. Room for one takes some thirty bytes. Refused where memory, by `alloc`, runs out.
     pub fn for_server(alloc: Global, sessions: u32) -> Result<Self, Refusal>
         ensures ok { IfOk result (λ pool. IsNewPool (min sessions most_sessions) pool) }
         ensures no_memory { IsOkUnless result Refusal.NoMemory }
@@ -131,8 +131,8 @@ impl<T: PartTable, B: Board<T>> SessionPool<T, B> {
     }
 
     /// Takes `session` in, all of whose holds are released, in the order of making (`ProcKill` in proc.c). Nobody has its life any more.
-    /// The session comes back, with nothing held, where the pool has no room for it: it has as many as it has room for, or its number is
-    /// none of those that the pool has room for. That can't be of a pool as large as the manager.
+    /// The session comes back, with nothing held, where the pool has no room for it: as many are there as there is room for, or its number
+    /// is none of those that there is room for. Neither can be where the pool has room for all sessions of the manager.
     pub fn take_in<R: Wait>(
         &mut self,
         rt: &R,
@@ -228,7 +228,8 @@ impl<T: PartTable, B: Board<T>> SessionPool<T, B> {
         }
     }
 
-    /// Takes `session` back, one of `desk`, whose connection has ended (`take_in`). Should the pool be full, which can't be, it is closed.
+    /// Takes `session` back, one of `desk`, whose connection has ended (`take_in`). Where the pool has no room for it, which can't be in one
+    /// with room for all sessions of the manager, it is closed, and its number is given out no more.
     pub fn close<D: Desk<OwnSession<T, B>>, R: Wait>(
         &mut self,
         rt: &R,

@@ -12,5 +12,5 @@ returns-clause-lent g c =
       there = slice_get_read free (length free) found.result c.remove-session.result refl found.ensures.within c.remove-session.ensures.value;
       lowest = found.ensures.lowest;
       next = c.serve_next.ensures.next;
-      pool = ap (λ items. record { free = items; lives = c.self.inside.lives }) c.remove-session.ensures.items;
+      pool = ap (λ items. record { free = items; lives = c.self.inside.lives.items }) c.remove-session.ensures.items;
     })
