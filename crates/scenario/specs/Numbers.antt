@@ -1,18 +1,18 @@
-use Rattle.std.specs.Prelude.{◌≡◌, ◌⊎◌, ℕ, ◌+◌, ◌<◌, Bool, true, false, List, [], ◌∷◌, ◌++◌, length, set}
+use Rattle.std.specs.Prelude.{◌≡◌, ◌⊎◌, ℕ, ◌+◌, ◌<◌, ◌≤◌, Bool, true, false, List, [], ◌∷◌, ◌++◌, length, set}
 use Rattle.arrayvec.specs.declared.array_string.ArrayString.{ArrayString}
 use Rattle.local_locks.specs.declared.records.Entry.{Entry}
-use Rattle.modes_core.specs.Sessions.{usual_sessions}
 use Rattle.shared_rule.specs.Boards.{Seated}
 use Rattle.lock_manager.specs.Managers.{ManagerView}
 use Rattle.lock_manager.specs.Sessions.{SessionView}
 
 -- Which numbers the sessions of a script have, and which names these are known by.
 
--- A session was opened under this number, where this number of numbers was given out before and after it: the next one, or, where those of closed
--- sessions are given out again, one of these.
-abbrev pub IsNumbered : Bool → ℕ → ℕ → ℕ → Type 0
-IsNumbered again number before after =
-    ((number ≡ before) × (before < usual_sessions) × (after ≡ before + 1))
+-- A session was opened under this number, at a manager that has this limit, where this number of numbers was given out before and after it:
+-- the next one, which is below the limit where none beyond it was given out, or, where those of closed sessions are given out again, one of
+-- these.
+abbrev pub IsNumbered : Bool → ℕ → ℕ → ℕ → ℕ → Type 0
+IsNumbered again limit number before after =
+    ((number ≡ before) × (before ≤ limit → before < limit) × (after ≡ before + 1))
     ⊎ ((again ≡ true) × (number < before) × (after ≡ before))
 
 -- There is no number to give out: all were given out, or, where they are given out again, those of this many open sessions are all.

@@ -1,7 +1,6 @@
 //! Desks of scripts: they open and close its sessions, and give them their numbers.
 ghost use Rattle.std.specs.Prelude.{◌≡◌, ◌⊎◌, ◌↔◌, ◌≤◌, ◌<◌, ◌+◌, ◌-◌, [], All, true, false, length, IfOk, IfErr, OnOk, OnErr, IsErrOf};
 ghost use Rattle.lock_manager.specs.Crews.{AreOf, SeatsAre};
-ghost use Rattle.modes_core.specs.Sessions.{usual_sessions};
 ghost use Rattle.scenario.specs.Numbers.{IsFull, IsNumbered, SeesSessions};
 
 use lock_manager::{Desk, OwnSession, Refusal, SessionPool};
@@ -42,7 +41,7 @@ pub trait ScriptDesk<S> {
         ensures database { IfOk result (λ session. database_of session ≡ database) }
         ensures nothing { IfOk result (λ session. entries session ≡ []) }
         ensures numbered { IfOk result (λ session.
-            IsNumbered again (seat session).number (issued self.old) (issued self.new)) }
+            IsNumbered again (manager self.old).limit (seat session).number (issued self.old) (issued self.new)) }
         ensures live { OnOk result (live self.new ≡ live self.old + 1) }
         ensures within { OnOk result (live self.old ≤ issued self.old → live self.new ≤ issued self.new) }
         ensures no_more { IsErrOf result Refusal.NoMoreSessions
@@ -91,7 +90,8 @@ impl<S, D: Desk<S>> ScriptDesk<S> for OnceDesk<D> {
     }
 }
 
-/// A desk that gives the lowest number that no open session has. Closed sessions go to its pool, which lends them again.
+/// A desk that gives the lowest number that no open session has. Closed sessions go to its pool, which has room for all of the manager's, and
+/// lends them again.
 pub struct ReusingDesk<T: PartTable, B: Board<T>, D: Desk<OwnSession<T, B>>> {
     pub desk: D,
     pub pool: SessionPool<T, B>,
@@ -102,7 +102,7 @@ pub struct ReusingDesk<T: PartTable, B: Board<T>, D: Desk<OwnSession<T, B>>> {
     ghost none_closed: { D.live desk ≡ D.issued desk },
     ghost free: { length pool.free ≤ D.issued desk },
     ghost issued: { D.issued desk ≤ (D.manager desk).limit },
-    ghost few: { D.issued desk ≤ usual_sessions },
+    ghost room: { (D.manager desk).limit ≤ length pool.lives },
 }
 
 impl<T: PartTable, B: Board<T>, D: Desk<OwnSession<T, B>>> ScriptDesk<OwnSession<T, B>>

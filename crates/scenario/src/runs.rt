@@ -1,6 +1,7 @@
 //! Runs of whole scripts, each against a lock manager of its own.
-ghost use Rattle.std.specs.Prelude.{◌≡◌, [], IfOk};
+ghost use Rattle.std.specs.Prelude.{◌≡◌, ◌≤◌, [], IfOk};
 ghost use Rattle.lock_manager.specs.Crews.{SeatsAre};
+ghost use Rattle.modes_core.specs.Sessions.{usual_sessions};
 ghost use Rattle.scenario.specs.Numbers.{SeesSessions};
 ghost use Rattle.scenario.specs.Sizes.{IsForManager};
 
@@ -125,6 +126,7 @@ fn play<
 ) -> Result<(D, Result<(), Fault>), AllocError>
     requires seats { SeatsAre B.seat D.seat }
     requires sees { SeesSessions D.database_of D.entries }
+    requires few { (D.manager desk).limit ≤ usual_sessions }
     requires none_issued { D.issued desk ≡ 0 }
     requires none_live { D.live desk ≡ 0 }
     ensures manager { IfOk result (λ played. D.manager played.0 ≡ D.manager desk) }
@@ -154,6 +156,7 @@ fn play_once<
     manner: Manner,
 ) -> Result<(D, Result<(), Fault>), AllocError>
     requires seats { SeatsAre B.seat D.seat }
+    requires few { (D.manager desk).limit ≤ usual_sessions }
     requires none_issued { D.issued desk ≡ 0 }
     requires none_live { D.live desk ≡ 0 }
     ensures manager { IfOk result (λ played. D.manager played.0 ≡ D.manager desk) }
@@ -185,6 +188,7 @@ impl<T: PartTable, B: Board<T>, D: Desk<OwnSession<T, B>>, L: Listener> Scene<
         L: Drop,
         requires seats { SeatsAre B.seat D.seat }
         requires sees { SeesSessions D.database_of D.entries }
+        requires few { (D.manager desk).limit ≤ usual_sessions }
         requires none_issued { D.issued desk ≡ 0 }
         requires none_live { D.live desk ≡ 0 }
         ensures desk { IfOk result (λ scene. scene.stage.desk.desk ≡ desk) }
@@ -223,6 +227,7 @@ fn play_reusing<
 ) -> Result<(D, Result<(), Fault>), AllocError>
     requires seats { SeatsAre B.seat D.seat }
     requires sees { SeesSessions D.database_of D.entries }
+    requires few { (D.manager desk).limit ≤ usual_sessions }
     requires none_issued { D.issued desk ≡ 0 }
     requires none_live { D.live desk ≡ 0 }
     ensures manager { IfOk result (λ played. D.manager played.0 ≡ D.manager desk) }

@@ -84,13 +84,15 @@ pub fn deed_of(command: Command, other: SessionId) -> Deed
 }
 
 /// A desk, the names of sessions by the numbers that were given out there, and of objects, and the open sessions. Each of these is the desk's
-/// manager's, under one of these numbers, and the desk counts them. It is taken apart at its end, once no session is open.
+/// manager's, which has `USUAL_SESSIONS` at most, under one of these numbers, and the desk counts them. The stage is taken apart at its end,
+/// once no session is open.
 pub struct Stage<T: PartTable, B: Board<T>, D: ScriptDesk<OwnSession<T, B>>> {
     pub desk: D,
     pub names: Names,
     pub sessions: OpenSessions<OwnSession<T, B>, OwnWaiting<T, B>>,
     ghost named: { length names.sessions ≡ D.issued desk },
-    ghost few: { D.issued desk ≤ usual_sessions },
+    ghost few: { (D.manager desk).limit ≤ usual_sessions },
+    ghost issued: { D.issued desk ≤ (D.manager desk).limit },
     ghost within: { D.live desk ≤ D.issued desk },
     ghost counted: { D.live desk ≡ length sessions.resting + length sessions.waiting },
     ghost resting: { All (λ one. IsKnown (B.seat one.session.board) (D.manager desk) (D.issued desk)) sessions.resting },
@@ -105,6 +107,7 @@ impl<T: PartTable, B: Board<T>, D: ScriptDesk<OwnSession<T, B>>> Stage<T, B, D> 
     pub fn new(alloc: Global, desk: D) -> Result<Self, AllocError>
     where
         D: Drop,
+        requires few { (D.manager desk).limit ≤ usual_sessions }
         requires none_issued { D.issued desk ≡ 0 }
         requires none_live { D.live desk ≡ 0 }
         ensures desk { IfOk result (λ stage. stage.desk ≡ desk) }

@@ -17,7 +17,7 @@ invariant_of-self g c =
       none_closed = c.args.self.now.none_closed;
       free = omega (arith, fewer, c.args.self.now.free);
       issued = c.args.self.now.issued;
-      few = c.args.self.now.few;
+      room = rw (ap (λ pool. pool.lives) lent.pool) c.args.self.now.room;
     }
 
 pub returns-in-Some-clause-own : goal.returns-in-Some-clause-own

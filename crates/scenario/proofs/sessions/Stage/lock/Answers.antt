@@ -40,7 +40,7 @@ invariant_of-self-in-Err-clause-waiting g c =
 pub put-requires : goal.put-requires
 put-requires g c =
     let left = length-left c.args.self.now.sessions.resting c.take-name.new.self c.args.target.caller.place c.requires c.take-name.ensures.left in
-    omega (arith, left, c.requires, c.args.self.now.counted, c.args.self.now.few, c.args.self.now.within)
+    omega (arith, left, c.requires, c.args.self.now.counted, c.args.self.now.few, c.args.self.now.issued, c.args.self.now.within)
 
 pub returns-in-Ok-clause-locked : goal.returns-in-Ok-clause-locked
 returns-in-Ok-clause-locked g c = inl (record {
