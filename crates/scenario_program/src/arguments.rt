@@ -313,7 +313,9 @@ fn config_of(words: &ArgMatches) -> Config
 {
     let sessions = words.get_one::<u32>("sessions").unwrap_or(DEFAULT_SESSIONS);
     let max_local = words.get_one::<u32>("max-local").unwrap_or(DEFAULT_LOCAL);
-    let slot_groups = words.get_one::<u32>("slot-groups").unwrap_or(DEFAULT_GROUPS);
+    let slot_groups = words
+        .get_one::<u32>("slot-groups")
+        .unwrap_or(DEFAULT_GROUPS);
     Config {
         sessions: sessions.clamp(1, USUAL_SESSIONS),
         max_local: max_local.clamp(1, MOST_LOCAL),

@@ -1,12 +1,13 @@
 //! The orders of a script, played against lock managers that are emptied between two orders.
 
-ghost use Rattle.std.specs.Prelude.{◌≡◌, IfOk};
+ghost use Rattle.std.specs.Prelude.{◌≡◌, ◌≤◌, IfOk};
 ghost use Rattle.lock_manager.specs.Crews.{SeatsAre};
+ghost use Rattle.modes_core.specs.Sessions.{usual_sessions};
 ghost use Rattle.scenario.specs.Sizes.{IsForManager};
 
 use crate::hints::{Reader, push_correction};
 use lock_manager::{
-    Blocked, Config, Desk, USUAL_SESSIONS, Manager, ManagerDesk, OwnSession, Refusal,
+    Blocked, Config, Desk, Manager, ManagerDesk, OwnSession, Refusal, USUAL_SESSIONS,
 };
 use lock_script::{Caller, Command, Fault, Name, Names, parse};
 use lock_table::PartTable;
@@ -50,6 +51,7 @@ fn play_at<T: PartTable, B: Board<T>, D: Desk<OwnSession<T, B>> + Drop, H: Wait>
     orders: &mut Orders<'_>,
 ) -> Result<(D, Result<(), Fault>), AllocError>
     requires seats { SeatsAre B.seat D.seat }
+    requires few { (D.manager desk).limit ≤ usual_sessions }
     requires none_issued { D.issued desk ≡ 0 }
     requires none_live { D.live desk ≡ 0 }
     ensures manager { IfOk result (λ played. D.manager played.0 ≡ D.manager desk) }

@@ -1,6 +1,7 @@
 //! A shell: the lines of a script as somebody types them, with help, and with what is wrong with a bad one.
-ghost use Rattle.std.specs.Prelude.{◌≡◌, IfOk};
+ghost use Rattle.std.specs.Prelude.{◌≡◌, ◌≤◌, IfOk};
 ghost use Rattle.lock_manager.specs.Crews.{SeatsAre};
+ghost use Rattle.modes_core.specs.Sessions.{usual_sessions};
 ghost use Rattle.scenario.specs.Numbers.{SeesSessions};
 ghost use Rattle.scenario.specs.Sizes.{IsForManager};
 
@@ -151,6 +152,7 @@ fn converse_at<
 ) -> Result<(D, Result<(), Fault>), AllocError>
     requires seats { SeatsAre B.seat D.seat }
     requires sees { SeesSessions D.database_of D.entries }
+    requires few { (D.manager desk).limit ≤ usual_sessions }
     requires none_issued { D.issued desk ≡ 0 }
     requires none_live { D.live desk ≡ 0 }
     ensures manager { IfOk result (λ played. D.manager played.0 ≡ D.manager desk) }
@@ -180,6 +182,7 @@ fn converse_once<
     shell: Shell,
 ) -> Result<(D, Result<(), Fault>), AllocError>
     requires seats { SeatsAre B.seat D.seat }
+    requires few { (D.manager desk).limit ≤ usual_sessions }
     requires none_issued { D.issued desk ≡ 0 }
     requires none_live { D.live desk ≡ 0 }
     ensures manager { IfOk result (λ played. D.manager played.0 ≡ D.manager desk) }
@@ -216,6 +219,7 @@ fn converse_reusing<
 ) -> Result<(D, Result<(), Fault>), AllocError>
     requires seats { SeatsAre B.seat D.seat }
     requires sees { SeesSessions D.database_of D.entries }
+    requires few { (D.manager desk).limit ≤ usual_sessions }
     requires none_issued { D.issued desk ≡ 0 }
     requires none_live { D.live desk ≡ 0 }
     ensures manager { IfOk result (λ played. D.manager played.0 ≡ D.manager desk) }
