@@ -24,7 +24,7 @@ mod slots;
 // and 37 for each session, and again for each group of slots after the first. Most are of a table for 64 sessions.
 
 /// The number of words of a table for `sessions` sessions with `groups` groups of slots each.
-fn words_of(sessions: u8, groups: u8) -> usize {
+fn words_of(sessions: u16, groups: u8) -> usize {
     table_words(TableSizes { sessions, groups })
 }
 

@@ -10,8 +10,8 @@ use crate::rush::{come_and_go, rush};
 use crate::shifts::{Shift, work};
 use crate::watch::Watch;
 use lock_manager::{
-    Board, Config, Desk, USUAL_SESSIONS, Manager, ManagerDesk, OwnSession, Part, Refusal,
-    SessionPool,
+    Board, Config, Desk, Manager, ManagerDesk, OwnSession, Part, Refusal, SessionPool,
+    USUAL_SESSIONS,
 };
 use std::alloc::Global;
 use std::sync::Wait;

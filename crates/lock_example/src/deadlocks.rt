@@ -2,7 +2,7 @@
 
 ghost use Rattle.lock_manager.specs.Crews.{KeepsSeat};
 
-use lock_manager::{Blocked, Board, USUAL_SESSIONS, OwnSession, Part, SessionId};
+use lock_manager::{Blocked, Board, OwnSession, Part, SessionId, USUAL_SESSIONS};
 use std::sync::Wait;
 
 /// The length of a list that has a place for each session number.

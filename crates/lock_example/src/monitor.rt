@@ -5,8 +5,8 @@ ghost use Rattle.lock_manager.specs.Crews.{KeepsSeat, SeatsAre};
 
 use crate::bank::{ACCOUNTS, DATABASE};
 use lock_manager::{
-    Blocker, Board, Config, Desk, USUAL_SESSIONS, Manager, ManagerDesk, Mode, OwnSession,
-    OwnWaiting, Owner, Part, QueueRow, Started, TableRow,
+    Blocker, Board, Config, Desk, Manager, ManagerDesk, Mode, OwnSession, OwnWaiting, Owner, Part,
+    QueueRow, Started, TableRow, USUAL_SESSIONS,
 };
 use std::alloc::Global;
 use std::io;

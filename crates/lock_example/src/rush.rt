@@ -7,7 +7,7 @@ use crate::bank::DATABASE;
 use crate::connections::Connection;
 use crate::shifts::{dismiss, hire};
 use lock_manager::{
-    Board, Desk, USUAL_SESSIONS, OwnSession, Part, Refusal, SessionId, SessionLife, SessionPool,
+    Board, Desk, OwnSession, Part, Refusal, SessionId, SessionLife, SessionPool, USUAL_SESSIONS,
 };
 use std::alloc::Global;
 use std::sync::Wait;

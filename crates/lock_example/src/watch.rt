@@ -5,7 +5,7 @@ ghost use Rattle.lock_manager.specs.Crews.{KeepsSeat};
 
 use crate::deadlocks::break_circle;
 use crate::shut_down::shut_down;
-use lock_manager::{Board, USUAL_SESSIONS, OwnSession, Part, SessionId};
+use lock_manager::{Board, OwnSession, Part, SessionId, USUAL_SESSIONS};
 use std::sync::Wait;
 use std::sync::atomic::{AtomicBool, AtomicU64, Ordering};
 use std::thread;

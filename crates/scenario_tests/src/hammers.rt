@@ -87,7 +87,10 @@ fn expect_hammer<G: Gate + Sync>(
     fault: &str,
 ) -> Result<(), Fail> {
     let alloc: Global = rt.alloc();
-    let (sessions, rounds) = (sessions.clamp(1, USUAL_SESSIONS), rounds.clamp(1, 1_000_000));
+    let (sessions, rounds) = (
+        sessions.clamp(1, USUAL_SESSIONS),
+        rounds.clamp(1, 1_000_000),
+    );
     let mut output = Vec::new(alloc);
     let ended = match run_hammer(rt, gate, &mut output, sessions, rounds) {
         Ok(()) => String::new(alloc),
