@@ -9,12 +9,14 @@ mod asked;
 mod audits;
 mod busy;
 mod busy_lives;
+mod configurations;
 mod conflicts;
 mod counted;
 mod crowds;
 mod deeds;
 mod desk;
 mod gates;
+mod lent;
 mod limits;
 mod listings;
 mod lives;
@@ -24,6 +26,7 @@ mod pair;
 mod queues;
 mod races;
 mod scenes;
+mod servers;
 mod threads;
 mod turn_lists;
 mod turns;
@@ -34,9 +37,11 @@ mod wakes;
 mod watched;
 mod watches;
 
+use crowds::Crowd;
 use limits::Limits;
 use lock_manager::{
-    Config, Desk, Final, Manager, ManagerDesk, Mode, Opener, OwnSession, Part, Refusal,
+    Config, Desk, Final, MOST_SESSIONS, Manager, ManagerDesk, Mode, Opener, OwnSession, Part,
+    Refusal, USUAL_SESSIONS,
 };
 use pair::Pair;
 use races::Race;
@@ -70,8 +75,14 @@ enum Story<'a> {
     Asked(u32),
     /// One session lists while three lock and unlock, each in a thread of its own.
     Watch,
-    /// Sessions, as many as there can be, lock and unlock on one partition.
-    Crowd,
+    /// Sessions lock and unlock on one partition, or one object, as the `Crowd` says.
+    Crowd(Crowd),
+    /// Sessions, as many as a server's manager can have, share one table in this mode, and one of them waits for it alone.
+    SharedByAll(Mode),
+    /// Hundreds of sessions wait in one queue, and one release lets them go.
+    LetsHundredsGo,
+    /// A pool lends sessions, as many as a server's manager can have, and takes them back, over and over.
+    LendsAll,
     /// One session sleeps in a wait queue until the wait ahead of it is cancelled.
     LetGoByCancel,
     /// One session sleeps in a wait queue until it is asked to cancel.
@@ -107,7 +118,10 @@ fn tell<
         Story::Queue(mode) => queues::wake_sleepers(rt, alloc, desk, mode),
         Story::Asked(rounds) => asked::race_at(rt, alloc, desk, rounds),
         Story::Watch => watches::watch_at(rt, alloc, desk),
-        Story::Crowd => crowds::crowd_at(rt, alloc, desk),
+        Story::Crowd(crowd) => crowds::crowd_at(rt, alloc, desk, crowd),
+        Story::SharedByAll(mode) => servers::share_among_all(rt, alloc, desk, mode),
+        Story::LetsHundredsGo => servers::let_hundreds_go(rt, alloc, desk),
+        Story::LendsAll => lent::lend_often(rt, alloc, desk),
         Story::LetGoByCancel => wakes::let_go_by_a_cancel(rt, alloc, desk),
         Story::WokenAsAsked => wakes::woken_as_asked(rt, alloc, desk),
         Story::Lives(lives) => lives::come_and_go(rt, alloc, desk, lives),
@@ -115,13 +129,24 @@ fn tell<
     }
 }
 
+/// Makes a manager of `config` and its opener: a server's where a usual one can't have its sessions.
+fn make(alloc: Global, config: Config) -> Result<(Manager, Opener), Refusal>
+    ensures new { IfOk result (λ made. IsNew made.0 made.1 config) }
+{
+    if config.sessions > USUAL_SESSIONS {
+        Manager::for_server(alloc, config)
+    } else {
+        Manager::new(alloc, config)
+    }
+}
+
 /// Makes a manager of `config` and its opener, at the second attempt where there was no memory.
 fn make_at_last(alloc: Global, config: Config) -> Result<(Manager, Opener), Refusal>
     ensures new { IfOk result (λ made. IsNew made.0 made.1 config) }
 {
-    match Manager::new(alloc, config) {
+    match make(alloc, config) {
         Ok(made) => Ok(made),
-        Err(_) => Manager::new(alloc, config),
+        Err(_) => make(alloc, config),
     }
 }
 
@@ -161,63 +186,6 @@ fn expect_nothing<R: Abort>(rt: &R, stood: Final) {
         strong: 0,
     };
     assert_eq!(rt; stood, nothing);
-}
-
-/// How many sessions, with how many entries and groups of slots each, and whether a manager has a range for all of
-/// them.
-static CONFIGURATIONS: [(u32, u32, u32, bool); 14] = [
-    (0, 8, 1, false),
-    (65, 8, 1, false),
-    (8, 0, 1, false),
-    (8, 65_537, 1, false),
-    (0, 0, 1, false),
-    (8, 8, 0, false),
-    (8, 8, 9, false),
-    (0, 0, 0, false),
-    (1, 8, 1, true),
-    (64, 8, 1, true),
-    (8, 1, 1, true),
-    (8, 65_536, 1, true),
-    (8, 8, 8, true),
-    (64, 65_536, 8, true),
-];
-
-/// Ends the test unless a manager of `config` was refused, by `refusal`, exactly where a number is out of its range,
-/// and `config` says so itself.
-fn expect_made<R: Abort>(rt: &R, refusal: Option<Refusal>, config: Config, is_in_range: bool) {
-    let expected = if is_in_range {
-        None
-    } else {
-        Some(Refusal::BadConfig)
-    };
-    let says_so = config.is_in_range() == is_in_range;
-    assert!(rt; says_so);
-    let Config {
-        sessions,
-        max_local,
-        slot_groups,
-    } = config;
-    assert_eq!(rt;
-        refusal,
-        expected,
-        "{sessions}, {max_local} and {slot_groups}"
-    );
-}
-
-#[test]
-fn a_manager_is_made_within_the_ranges_of_its_configuration_alone(
-    rt: HostRuntime,
-) -> Result<(), Fail> {
-    for (sessions, max_local, slot_groups, is_in_range) in &CONFIGURATIONS {
-        let config = Config {
-            sessions: *sessions,
-            max_local: *max_local,
-            slot_groups: *slot_groups,
-        };
-        let refusal = Manager::new(rt.alloc(), config).err();
-        expect_made(&rt, refusal, config, *is_in_range);
-    }
-    Ok(())
 }
 
 /// The configuration of a manager for two sessions with `max_local` entries each.
@@ -316,7 +284,7 @@ fn many_sessions_do_as_the_stories_say(rt: HostRuntime) -> Result<(), Fail> {
         (watches::SESSIONS, Story::Watch),
         (queues::MANY + 1, Story::Queue(Mode::AccessExclusive)),
         (queues::MANY + 1, Story::Queue(Mode::AccessShare)),
-        (crowds::SESSIONS, Story::Crowd),
+        (crowds::USUAL.sessions, Story::Crowd(crowds::USUAL)),
         (3, Story::LetGoByCancel),
         (2, Story::WokenAsAsked),
         (1, Story::Lives(10_000)),
@@ -324,6 +292,26 @@ fn many_sessions_do_as_the_stories_say(rt: HostRuntime) -> Result<(), Fail> {
     ] {
         let config = Config {
             sessions,
+            max_local: 8,
+            slot_groups: 1,
+        };
+        run(&rt, rt.alloc(), config, story)?;
+    }
+    Ok(())
+}
+
+#[test]
+fn a_server_has_a_thousand_sessions(rt: HostRuntime) -> Result<(), Fail> {
+    for story in [
+        Story::SharedByAll(Mode::Share),
+        Story::SharedByAll(Mode::AccessShare),
+        Story::LetsHundredsGo,
+        Story::LendsAll,
+        Story::Crowd(crowds::ON_ONE_PARTITION),
+        Story::Crowd(crowds::AT_ONE_OBJECT),
+    ] {
+        let config = Config {
+            sessions: MOST_SESSIONS,
             max_local: 8,
             slot_groups: 1,
         };

@@ -237,7 +237,7 @@ pub fn audit_often<T: PartTable, B: Board<T>, D: Desk<OwnSession<T, B>>, R: Abor
 }
 
 /// How many of `rows` are of holds.
-fn granted_in(rows: &[TableRow]) -> u64 {
+pub fn granted_in(rows: &[TableRow]) -> u64 {
     rows.iter().filter(|row| row.granted).count() as u64
 }
 

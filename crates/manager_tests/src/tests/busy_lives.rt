@@ -1,7 +1,7 @@
 //! Connections that come and go in one thread, each with the number that the one before it had, while another thread
 //! lists, and a third one takes strong modes on what they hold: under a watchdog.
 
-ghost use Rattle.std.specs.Prelude.{◌≡◌, ◌+◌, ◌<◌, length};
+ghost use Rattle.std.specs.Prelude.{◌≡◌, ◌≤◌, ◌+◌, length};
 ghost use Rattle.lock_manager.specs.Crews.{AreOf, SeatsAre};
 
 use super::answers::Answer;
@@ -180,9 +180,8 @@ fn live_once<T: PartTable, B: Board<T>, D: Desk<OwnSession<T, B>>, R: Abort + Wa
 )
     requires seats { SeatsAre B.seat D.seat }
     requires free { AreOf B.seat (D.manager desk.old) pool.old.free }
-    requires few { length pool.old.free < 2 }
+    requires few { length pool.old.free ≤ D.live desk.old }
     ensures free { AreOf B.seat (D.manager desk.old) pool.new.free }
-    ensures few { length pool.new.free < 2 }
     ensures manager { D.manager desk.new ≡ D.manager desk.old }
     ensures live { D.live desk.new + length pool.old.free ≡ D.live desk.old + length pool.new.free }
     ensures asker { B.seat asker.new.board ≡ B.seat asker.old.board }
@@ -207,9 +206,8 @@ fn serve<T: PartTable, B: Board<T>, D: Desk<OwnSession<T, B>>, R: Abort + Wait>(
 )
     requires seats { SeatsAre B.seat D.seat }
     requires free { AreOf B.seat (D.manager desk.old) pool.old.free }
-    requires few { length pool.old.free < 2 }
+    requires few { length pool.old.free ≤ D.live desk.old }
     ensures free { AreOf B.seat (D.manager desk.old) pool.new.free }
-    ensures few { length pool.new.free < 2 }
     ensures manager { D.manager desk.new ≡ D.manager desk.old }
     ensures live { D.live desk.new + length pool.old.free ≡ D.live desk.old + length pool.new.free }
     ensures asker { B.seat asker.new.board ≡ B.seat asker.old.board }
@@ -312,7 +310,7 @@ fn act_side_by_side<
 )
     requires seats { SeatsAre B.seat D.seat }
     requires free { AreOf B.seat (D.manager desk.old) pool.old.free }
-    requires few { length pool.old.free < 2 }
+    requires few { length pool.old.free ≤ D.live desk.old }
     ensures free { AreOf B.seat (D.manager desk.old) pool.new.free }
     ensures manager { D.manager desk.new ≡ D.manager desk.old }
     ensures live { D.live desk.new + length pool.old.free ≡ D.live desk.old + length pool.new.free }

@@ -1,5 +1,6 @@
-//! As many sessions as there can be on one partition, each in a thread of its own, under a watchdog that ends the
-//! test where nobody goes on. So no session sleeps for ever in the wait list of the partition's lightweight lock.
+//! As many sessions as there can be on one partition, and at one object, each in a thread of its own, under a watchdog
+//! that ends the test where nobody goes on. So no session sleeps for ever in the wait list of the partition's
+//! lightweight lock, or in the object's queue.
 
 ghost use Rattle.std.specs.Prelude.{◌≡◌};
 ghost use Rattle.lock_manager.specs.Crews.{KeepManagers};
@@ -19,13 +20,53 @@ use std::sync::atomic::{AtomicBool, AtomicU64, Ordering};
 use std::thread::{Threads, for_each_mut, join_mut, sleep};
 use std::time::{Clock, Duration};
 
-/// How many sessions there are.
-pub const SESSIONS: u32 = 64;
+/// What the sessions of a crowd take.
+#[derive(Clone, Copy, PartialEq, Eq)]
+pub enum Takes {
+    /// Each takes an object of its own, at once. All these objects lie in one partition.
+    OwnObjects,
+    /// All take one object, for which they wait.
+    OneObject,
+}
 
-/// How often each locks and unlocks, and how often all do.
-const ROUNDS: u32 = 1_563;
+/// How many sessions there are, what they take, and how often each locks and unlocks it.
+#[derive(Clone, Copy)]
+pub struct Crowd {
+    pub sessions: u32,
+    pub takes: Takes,
+    pub rounds: u32,
+}
 
-const ALL: u64 = 100_032;
+impl Crowd {
+    /// How often all sessions together lock and unlock.
+    fn all(self) -> u64 {
+        u64::from(self.sessions).saturating_mul(u64::from(self.rounds))
+    }
+}
+
+/// As many sessions as a usual manager can have, which lock and unlock 100,032 times all together.
+pub const USUAL: Crowd = Crowd {
+    sessions: 64,
+    takes: Takes::OwnObjects,
+    rounds: 1_563,
+};
+
+/// As many sessions as a server's manager can have, on one partition.
+pub const ON_ONE_PARTITION: Crowd = Crowd {
+    sessions: 1_024,
+    takes: Takes::OwnObjects,
+    rounds: 20,
+};
+
+/// As many sessions as a server's manager can have, at one object.
+pub const AT_ONE_OBJECT: Crowd = Crowd {
+    sessions: 1_024,
+    takes: Takes::OneObject,
+    rounds: 5,
+};
+
+/// How many words there are of those that have ended, a bit each.
+const WORDS: usize = 16;
 
 /// How often the watchdog looks in vain before it gives up, with `PAUSE` milliseconds between.
 const LOOKS: u32 = 4_000;
@@ -38,7 +79,7 @@ pub struct Watch {
     start: Gate,
     pub rounds: AtomicU64,
     /// Which sessions have ended, a bit each.
-    ended: AtomicU64,
+    ended: [AtomicU64; WORDS],
     pub is_over: AtomicBool,
 }
 
@@ -48,54 +89,79 @@ impl Watch {
         Watch {
             start: Gate::new(),
             rounds: AtomicU64::new(0),
-            ended: AtomicU64::new(0),
+            ended: std::array::from_fn(|_| AtomicU64::new(0)),
             is_over: AtomicBool::new(false),
         }
     }
+
+    /// Notes that the session numbered `number` has ended.
+    fn end(&self, number: u32) {
+        if let Some(word) = self.ended.get(number as usize / 64) {
+            word.fetch_or(1 << (number % 64), Ordering::SeqCst);
+        }
+    }
+
+    /// Which sessions have not ended, a bit each.
+    fn asleep(&self) -> [u64; WORDS] {
+        let mut asleep = [0; WORDS];
+        for place in 0..WORDS {
+            asleep[place] = !self.ended[place].load(Ordering::SeqCst);
+        }
+        asleep
+    }
 }
 
-/// The tag of the object of the session numbered `number`: all lie in one partition, since their numbers are 16
-/// apart.
-fn own_object(number: u32) -> Tag {
-    Tag::object(5, 1_259, 16 * (number % 1_024), 0)
+/// The tag of what the session numbered `number` takes. Objects of their own lie in one partition, since their numbers
+/// are 16 apart.
+fn object_of(takes: Takes, number: u32) -> Tag {
+    match takes {
+        Takes::OwnObjects => Tag::object(5, 1_259, 16 * (number % 1_024), 0),
+        Takes::OneObject => Tag::object(5, 1_259, 0, 0),
+    }
 }
 
-/// Locks `tag` with `session` and unlocks it.
+/// Locks `tag` with `session`, which waits for it where it is to be the one object, and unlocks it.
 fn lock_once<T: PartTable, B: Board<T>, R: Abort + Wait>(
     rt: &R,
     session: &mut OwnSession<T, B>,
+    takes: Takes,
     tag: Tag,
 )
     ensures seat { B.seat session.new.board ≡ B.seat session.old.board }
 {
-    let answer = session.try_lock(rt, tag, Mode::Exclusive, Owner::Transaction);
+    let answer = match takes {
+        Takes::OwnObjects => session.try_lock(rt, tag, Mode::Exclusive, Owner::Transaction),
+        Takes::OneObject => session.acquire(rt, tag, Mode::Exclusive, Owner::Transaction),
+    };
     expect_granted(rt, answer, tag, Mode::Exclusive);
     let released = session.unlock(rt, tag, Mode::Exclusive, Owner::Transaction);
     expect_released(rt, released, tag, Mode::Exclusive);
 }
 
 /// Locks and unlocks with `session` over and over, once all have come, and shows it to the watchdog by `watch`.
-fn lock_often<T: PartTable, B: Board<T>, R: Abort + Wait>(
+fn lock_often<T: PartTable, B: Board<T>, R: Abort + Clock + Wait>(
     rt: &R,
     session: &mut OwnSession<T, B>,
+    crowd: Crowd,
     watch: &Watch,
 )
     ensures seat { B.seat session.new.board ≡ B.seat session.old.board }
 {
     let number = u32::from(session.id().number());
-    let tag = own_object(number);
-    watch.start.come(rt, u64::from(SESSIONS));
-    'rounds: for _ in 0..ROUNDS {
-        lock_once(rt, session, tag);
+    let tag = object_of(crowd.takes, number);
+    watch.start.come_asleep(rt, u64::from(crowd.sessions));
+    'rounds: for _ in 0..crowd.rounds {
+        lock_once(rt, session, crowd.takes, tag);
         watch.rounds.fetch_add(1, Ordering::SeqCst);
     }
-    watch.ended.fetch_or(1 << (number % 64), Ordering::SeqCst);
+    watch.end(number);
 }
 
 /// Has each of `sessions` lock and unlock in a thread of its own.
-fn lock_side_by_side<B: Board<Part> + Send, R: Abort + Threads + Wait + Sync>(
+fn lock_side_by_side<B: Board<Part> + Send, R: Abort + Clock + Threads + Wait + Sync>(
     rt: &R,
     sessions: &mut [OwnSession<Part, B>],
+    crowd: Crowd,
     watch: &Watch,
 )
     ensures own { KeepManagers B.seat sessions.old sessions.new }
@@ -105,19 +171,20 @@ fn lock_side_by_side<B: Board<Part> + Send, R: Abort + Threads + Wait + Sync>(
         rt,
         sessions,
         threads,
-        &|_, session| lock_often(rt, session, watch),
+        &|_, session| lock_often(rt, session, crowd, watch),
     );
 }
 
 /// Has each of `sessions` lock and unlock in a thread of its own, and shows to the watchdog that all is over.
-fn lock_until_over<B: Board<Part> + Send, R: Abort + Threads + Wait + Sync>(
+fn lock_until_over<B: Board<Part> + Send, R: Abort + Clock + Threads + Wait + Sync>(
     rt: &R,
     sessions: &mut [OwnSession<Part, B>],
+    crowd: Crowd,
     watch: &Watch,
 )
     ensures own { KeepManagers B.seat sessions.old sessions.new }
 {
-    lock_side_by_side(rt, sessions, watch);
+    lock_side_by_side(rt, sessions, crowd, watch);
     watch.is_over.store(true, Ordering::SeqCst);
 }
 
@@ -125,13 +192,14 @@ fn lock_until_over<B: Board<Part> + Send, R: Abort + Threads + Wait + Sync>(
 fn lock_watched<B: Board<Part> + Send, R: Abort + Clock + Threads + Wait + Sync>(
     rt: &R,
     sessions: &mut [OwnSession<Part, B>],
+    crowd: Crowd,
     watch: &Watch,
 )
     ensures own { KeepManagers B.seat sessions.old sessions.new }
 {
     join_mut(
         rt,
-        &mut || lock_until_over(rt, sessions, watch),
+        &mut || lock_until_over(rt, sessions, crowd, watch),
         &mut || guard(rt, watch),
     );
 }
@@ -153,37 +221,38 @@ pub fn guard<R: Abort + Clock + Wait>(rt: &R, watch: &Watch) {
         };
         seen = rounds;
         if in_vain >= LOOKS {
-            let asleep = !watch.ended.load(Ordering::SeqCst);
-            panic!(rt; "nobody goes on after {rounds} rounds; asleep are the sessions {asleep:#x}");
+            let asleep = watch.asleep();
+            panic!(rt; "nobody goes on after {rounds} rounds; asleep are the sessions {asleep:?}");
         }
     }
     unreachable!()
 }
 
-/// Has all of `sessions`, as many as there can be, lock and unlock on one partition.
-pub fn crowd<B: Board<Part> + Send, R: Abort + Clock + Threads + Wait + Sync>(
+/// Has all of `sessions`, as many as `crowd` says, lock and unlock what it says.
+pub fn act<B: Board<Part> + Send, R: Abort + Clock + Threads + Wait + Sync>(
     rt: &R,
     sessions: &mut [OwnSession<Part, B>],
+    crowd: Crowd,
 )
     ensures own { KeepManagers B.seat sessions.old sessions.new }
 {
     let watch = Watch::new();
-    lock_watched(rt, sessions, &watch);
+    lock_watched(rt, sessions, crowd, &watch);
     let rounds = watch.rounds.load(Ordering::SeqCst);
-    assert_eq!(rt; rounds, ALL);
+    assert_eq!(rt; rounds, crowd.all());
 }
 
-/// Has as many sessions of `desk` as there can be lock and unlock on one partition.
+/// Has as many sessions of `desk` as `crowd` says lock and unlock what it says.
 pub fn crowd_at<
     B: Board<Part> + Send,
     D: Desk<OwnSession<Part, B>>,
     R: Abort + Clock + Threads + Wait + Sync,
->(rt: &R, alloc: Global, desk: &mut D)
+>(rt: &R, alloc: Global, desk: &mut D, crowd: Crowd)
     requires seats { SeatsAre B.seat D.seat }
     ensures manager { D.manager desk.new ≡ D.manager desk.old }
     ensures live { D.live desk.new ≡ D.live desk.old }
 {
-    let mut sessions = open_many(rt, alloc, desk, SESSIONS);
-    crowd(rt, sessions.as_mut_slice());
+    let mut sessions = open_many(rt, alloc, desk, crowd.sessions);
+    act(rt, sessions.as_mut_slice(), crowd);
     close_counted(rt, desk, sessions);
 }

@@ -4,6 +4,8 @@ use std::process::Abort;
 use std::sync::Wait;
 use std::sync::atomic::{AtomicU64, Ordering};
 use std::thread;
+use std::thread::sleep;
+use std::time::{Clock, Duration};
 
 /// How often a thread looks whether the others have come before it leaves its processor to them: soon where they
 /// only have to come, and late where all are to go on at the same moment, since who is given a processor again
@@ -40,6 +42,18 @@ impl Gate {
     /// Comes to the gate, and goes on once `many` have come that meet here each time.
     pub fn come<R: Wait>(&self, rt: &R, many: u64) {
         self.wait(rt, many, SOON);
+    }
+
+    /// Comes to the gate, and goes on once `many` have come, which are too many to look all the time: sleeps for a
+    /// millisecond between two looks.
+    pub fn come_asleep<R: Clock + Wait>(&self, rt: &R, many: u64) {
+        self.come.fetch_add(1, Ordering::SeqCst);
+        for _ in rt.forever() {
+            if self.come_so_far() >= many {
+                return;
+            }
+            sleep(rt, Duration::from_millis(1));
+        }
     }
 
     /// Comes to the gate, and goes on once `many` have come, with `patience` looks before the processor is left to

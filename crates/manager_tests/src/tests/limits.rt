@@ -100,7 +100,7 @@ fn open_all<T: PartTable, B: Board<T>, D: Desk<OwnSession<T, B>>, R: Abort + Wai
 }
 
 /// Lists with the last of `sessions` what all have, which is to be `expected`.
-fn list_all<T: PartTable, B: Board<T>, D: Desk<OwnSession<T, B>>, R: Abort + Wait>(
+pub fn list_all<T: PartTable, B: Board<T>, D: Desk<OwnSession<T, B>>, R: Abort + Wait>(
     rt: &R,
     desk: &D,
     sessions: &mut Vec<OwnSession<T, B>>,

@@ -1,6 +1,6 @@
 //! Connections that come and go: each of them has the one number that there is, in a life of its own.
 
-ghost use Rattle.std.specs.Prelude.{◌≡◌, ◌+◌, ◌<◌, length};
+ghost use Rattle.std.specs.Prelude.{◌≡◌, ◌≤◌, ◌+◌, length};
 ghost use Rattle.lock_manager.specs.Crews.{AreOf, SeatsAre};
 
 use super::answers::expect_granted;
@@ -57,9 +57,8 @@ fn live_once<T: PartTable, B: Board<T>, D: Desk<OwnSession<T, B>>, R: Abort + Wa
 )
     requires seats { SeatsAre B.seat D.seat }
     requires free { AreOf B.seat (D.manager desk.old) pool.old.free }
-    requires few { length pool.old.free < 2 }
+    requires few { length pool.old.free ≤ D.live desk.old }
     ensures free { AreOf B.seat (D.manager desk.old) pool.new.free }
-    ensures few { length pool.new.free < 2 }
     ensures manager { D.manager desk.new ≡ D.manager desk.old }
     ensures live { D.live desk.new + length pool.old.free ≡ D.live desk.old + length pool.new.free }
 {
@@ -77,9 +76,8 @@ fn ask_the_last_one<T: PartTable, B: Board<T>, D: Desk<OwnSession<T, B>>, R: Abo
 )
     requires seats { SeatsAre B.seat D.seat }
     requires free { AreOf B.seat (D.manager desk.old) pool.old.free }
-    requires few { length pool.old.free < 2 }
+    requires few { length pool.old.free ≤ D.live desk.old }
     ensures free { AreOf B.seat (D.manager desk.old) pool.new.free }
-    ensures few { length pool.new.free < 2 }
     ensures manager { D.manager desk.new ≡ D.manager desk.old }
     ensures live { D.live desk.new + length pool.old.free ≡ D.live desk.old + length pool.new.free }
 {

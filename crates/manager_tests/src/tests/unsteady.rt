@@ -216,7 +216,7 @@ fn act<B: Board<Part> + Send, R: Abort + Clock + Threads + Wait + Sync + Print>(
     match crew {
         Crew::Asked(rounds) => asked::race_three(rt, sessions, rounds),
         Crew::Watch => watches::list_beside(rt, sessions),
-        Crew::Crowd => crowds::crowd(rt, sessions),
+        Crew::Crowd => crowds::act(rt, sessions, crowds::USUAL),
     }
 }
 
