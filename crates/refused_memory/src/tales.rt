@@ -15,8 +15,10 @@ pub struct Tale {
     pub others: [Option<Hold>; 3],
     /// How many objects the asking session has, each in a mode that no waiter asks for.
     pub own: u32,
-    /// How many further sessions wait for an object of the asking session, each for another one.
+    /// How many further sessions wait for an object of the asking session, each for another one, or all for `awaited`.
     pub waiters: u32,
+    /// The one object that these wait for, where it is one.
+    pub awaited: Option<Tag>,
     pub call: Call,
     pub answer: Answer,
     /// How many growths the call takes.
@@ -72,7 +74,7 @@ const ONE: [Option<Hold>; 3] = [Some((OBJECT, Exclusive)), None, None];
 const ONE_OF_MANY: [Option<Hold>; 3] = [Some((MANY, Exclusive)), None, None];
 
 /// The tales that are run with sessions.
-pub static TALES: [Tale; 15] = [
+pub static TALES: [Tale; 16] = [
     // Five in a partition that has had nothing yet: a lock record, a holder record, a queue record, a queue, and a name among those
     // woken.
     Tale {
@@ -80,6 +82,7 @@ pub static TALES: [Tale; 15] = [
         others: NOBODY,
         own: 0,
         waiters: 0,
+        awaited: None,
         call: Call::Try(OBJECT, Exclusive),
         answer: Answer::Granted,
         growths: 5,
@@ -90,6 +93,7 @@ pub static TALES: [Tale; 15] = [
         others: NOBODY,
         own: 16,
         waiters: 0,
+        awaited: None,
         call: Call::Try(OBJECT, Exclusive),
         answer: Answer::Granted,
         growths: 9,
@@ -101,6 +105,7 @@ pub static TALES: [Tale; 15] = [
         others: NOBODY,
         own: 16,
         waiters: 0,
+        awaited: None,
         call: Call::Try(MANY, Exclusive),
         answer: Answer::Granted,
         growths: 8,
@@ -110,6 +115,7 @@ pub static TALES: [Tale; 15] = [
         others: NOBODY,
         own: 16,
         waiters: 0,
+        awaited: None,
         call: Call::Try(TABLE, AccessShare),
         answer: Answer::Granted,
         growths: 4,
@@ -122,6 +128,7 @@ pub static TALES: [Tale; 15] = [
         others: READERS,
         own: 0,
         waiters: 0,
+        awaited: None,
         call: Call::Try(TABLE, AccessExclusive),
         answer: Answer::Conflict(0, AccessShare),
         growths: 5,
@@ -131,6 +138,7 @@ pub static TALES: [Tale; 15] = [
         others: READERS,
         own: 1,
         waiters: 0,
+        awaited: None,
         call: Call::Try(TABLE, AccessExclusive),
         answer: Answer::Conflict(0, AccessShare),
         growths: 1,
@@ -140,6 +148,7 @@ pub static TALES: [Tale; 15] = [
         others: READERS,
         own: 2,
         waiters: 0,
+        awaited: None,
         call: Call::Try(TABLE, AccessExclusive),
         answer: Answer::Conflict(0, AccessShare),
         growths: 1,
@@ -149,6 +158,7 @@ pub static TALES: [Tale; 15] = [
         others: READERS,
         own: 3,
         waiters: 0,
+        awaited: None,
         call: Call::Try(TABLE, AccessExclusive),
         answer: Answer::Conflict(0, AccessShare),
         growths: 2,
@@ -158,6 +168,7 @@ pub static TALES: [Tale; 15] = [
         others: NOBODY,
         own: 16,
         waiters: 0,
+        awaited: None,
         call: Call::Fast(TABLE, RowExclusive),
         answer: Answer::Granted,
         growths: 4,
@@ -167,6 +178,7 @@ pub static TALES: [Tale; 15] = [
         others: NOBODY,
         own: 0,
         waiters: 0,
+        awaited: None,
         call: Call::Start(OBJECT, Share),
         answer: Answer::Granted,
         growths: 5,
@@ -177,6 +189,7 @@ pub static TALES: [Tale; 15] = [
         others: ONE_OF_MANY,
         own: 3,
         waiters: 0,
+        awaited: None,
         call: Call::Start(MANY, Share),
         answer: Answer::Queued,
         growths: 2,
@@ -188,15 +201,29 @@ pub static TALES: [Tale; 15] = [
         others: ONE_OF_MANY,
         own: 4,
         waiters: 4,
+        awaited: None,
         call: Call::Start(MANY, Share),
         answer: Answer::Queued,
         growths: 3,
+    },
+    // There is room for the lock record, a holder record and a spare queue. The queue has room for four waits, and the list of
+    // those woken for four names: both grow.
+    Tale {
+        name: "start, queued, behind four for the same object",
+        others: ONE_OF_MANY,
+        own: 0,
+        waiters: 4,
+        awaited: Some(MANY),
+        call: Call::Start(MANY, Share),
+        answer: Answer::Queued,
+        growths: 2,
     },
     Tale {
         name: "lock, granted",
         others: NOBODY,
         own: 16,
         waiters: 0,
+        awaited: None,
         call: Call::Lock(OBJECT, Share),
         answer: Answer::Granted,
         growths: 9,
@@ -206,6 +233,7 @@ pub static TALES: [Tale; 15] = [
         others: ONE,
         own: 0,
         waiters: 0,
+        awaited: None,
         call: Call::Try(OBJECT, Share),
         answer: Answer::Conflict(0, Exclusive),
         growths: 0,
@@ -216,6 +244,7 @@ pub static TALES: [Tale; 15] = [
         others: READERS,
         own: 16,
         waiters: 0,
+        awaited: None,
         call: Call::List,
         answer: Answer::Rows { fast: 3, table: 16 },
         growths: 4,

@@ -109,7 +109,7 @@ fn ask<T: PartTable, B: Board<T>, R: Wait>(
 }
 
 /// Opens at `desk` `waiters` sessions, each of which waits for an object that `session`, the asking one of `tale`,
-/// has. Once all of them do, `session` asks, with the growth numbered `growth` refused.
+/// has, or for the one that `tale` says. Once all of them do, `session` asks, with the growth numbered `growth` refused.
 fn with_waiters<T: PartTable, B: Board<T>, D: Desk<OwnSession<T, B>>, R: Wait>(
     rt: &R,
     alloc: Global,
@@ -129,7 +129,8 @@ fn with_waiters<T: PartTable, B: Board<T>, D: Desk<OwnSession<T, B>>, R: Wait>(
     let Ok(waiter) = desk.open(DATABASE) else {
         return (session, Told::Otherwise);
     };
-    match queue(rt, waiter, object(waiters - 1)) {
+    let awaited = tale.awaited.unwrap_or(object(waiters - 1));
+    match queue(rt, waiter, awaited) {
         Ok(waiting) => {
             let answered = with_waiters(rt, alloc, desk, session, tale, waiters - 1, growth);
             desk.close(rt, end_wait(rt, waiting));
