@@ -4,13 +4,14 @@ use clap::{Arg, ArgAction, ArgMatches, Command, Error, value_parser};
 use std::alloc::{AllocError, Global};
 
 /// The names of the pages, as the command line has them.
-static PAGES: [&str; 7] = [
+static PAGES: [&str; 8] = [
     "local",
     "manager",
     "fast",
     "threads",
     "handover",
     "contended",
+    "sessions",
     "workloads",
 ];
 
@@ -40,6 +41,9 @@ const EACH_PAGE: &str = "Pages, all of which are printed where none is named:
   handover   an exclusive lock that two threads pass back and forth
   contended  up to 64 threads on one object, on one partition, and at listings,
              and the same work under a mutex
+  sessions   managers of 8, 64, 256 and 1024 sessions: their memory, what it takes
+             to make one, and what is done with them on one thread; and 1024
+             threads on one object and on one partition
   workloads  each workload beside its atomic steps and the same work on a map
              in a mutex, and a table of them all
 
@@ -59,6 +63,7 @@ pub enum Page {
     Threads,
     Handover,
     Contended,
+    Sessions,
     Workloads,
 }
 
@@ -72,6 +77,7 @@ impl Page {
             Page::Threads => "threads",
             Page::Handover => "handover",
             Page::Contended => "contended",
+            Page::Sessions => "sessions",
             Page::Workloads => "workloads",
         }
     }

@@ -60,6 +60,9 @@ const CHECKED: u32 = 640;
 /// How many rounds there are, of which the one in the middle is printed.
 const ROUNDS: usize = 5;
 
+/// The cases that as many sessions as there can be run.
+static OF_ALL_SESSIONS: [Case; 2] = [Case::OneObject, Case::OnePartition];
+
 /// For how long, and how often, something is held in `case`.
 fn work_of(case: Case) -> &'static [Work] {
     match case {
@@ -90,7 +93,7 @@ fn job(case: Case, work: Work, asked: Asked, threads: u32) -> Job {
         owner: asked.owner,
         threads,
         work: work.nanos,
-        laps: acquires / threads.max(1),
+        laps: acquires.max(threads) / threads.max(1),
     }
 }
 
@@ -325,17 +328,43 @@ fn print_sessions<R: Threads + Wait + Clock + CpuClock + AllocGlobal + Print + S
     threads: u32,
 ) -> Result<()> {
     let jobs = jobs(rt.alloc(), OF_SESSIONS.as_slice(), asked, threads)?;
+    print_jobs_of(rt, jobs.as_slice(), asked, threads, MOST_THREADS)
+}
+
+/// Prints, as `asked` for, the figures of `jobs`, which `threads` threads do with sessions of a manager of `sessions`.
+fn print_jobs_of<R: Threads + Wait + Clock + CpuClock + AllocGlobal + Print + Sync>(
+    rt: &R,
+    jobs: &[Job],
+    asked: Asked,
+    threads: u32,
+    sessions: u32,
+) -> Result<()> {
     let config = Config {
-        sessions: MOST_THREADS,
+        sessions,
         max_local: 1_024,
         slot_groups: 1,
     };
-    let (manager, opener) = Manager::new(rt.alloc(), config)?;
+    let (manager, opener) = Manager::for_server(rt.alloc(), config)?;
     let mut desk = ManagerDesk::new(&manager, opener);
-    let printed = print_at_desk(rt, &mut desk, jobs.as_slice(), asked, threads);
+    let printed = print_at_desk(rt, &mut desk, jobs, asked, threads);
     let opener = desk.into_opener();
     manager.finish(opener);
     printed
+}
+
+/// Prints, as `asked` for, what `threads` threads do that hold nothing for long, with all the sessions of a manager: at
+/// one object, and on one partition.
+pub fn print_all_at_once<R: Threads + Wait + Clock + CpuClock + AllocGlobal + Print + Sync>(
+    rt: &R,
+    asked: Asked,
+    threads: u32,
+) -> Result<()> {
+    println!(rt; "threads: {threads}")?;
+    let mut jobs = Vec::new(rt.alloc());
+    for case in &OF_ALL_SESSIONS {
+        jobs.push(job(*case, WORK[0], asked, threads))?;
+    }
+    print_jobs_of(rt, jobs.as_slice(), asked, threads, threads)
 }
 
 /// Prints, as `asked` for, what `threads` threads do: with sessions, and under a mutex.

@@ -14,7 +14,7 @@ use std::sync::{Mutex, Wait};
 use std::thread::{Threads, for_each_mut};
 use std::time::{Clock, CpuClock};
 
-/// How many threads there are at most.
+/// How many threads there are at most, but for the page of sessions.
 pub const MOST_THREADS: u32 = 64;
 
 /// How many holds a listing finds.

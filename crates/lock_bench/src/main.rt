@@ -17,6 +17,7 @@ mod session_bed;
 mod session_doors;
 mod session_loops;
 mod session_page;
+mod sessions_page;
 mod threads_page;
 mod turns;
 mod workloads;
@@ -169,6 +170,10 @@ fn print_in_threads<R: Threads + Wait + Clock + CpuClock + AllocGlobal + Print +
     if wanted.has(Page::Contended) {
         progress.note(rt, "many threads on one lock");
         contended_page::print(rt, asked)?;
+    }
+    if wanted.has(Page::Sessions) {
+        progress.note(rt, "managers of up to 1024 sessions");
+        sessions_page::print(rt, asked)?;
     }
     Ok(())
 }

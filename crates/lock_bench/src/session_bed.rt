@@ -5,7 +5,8 @@ ghost use Rattle.std.specs.Prelude.{◌≡◌};
 use crate::pair::Pair;
 use crate::session_doors::commit;
 use crate::session_loops::{
-    count_refused, count_strong_counted, lock_all, lock_and_commit, lock_and_end, lock_pairs,
+    count_listed, count_refused, count_strong_counted, lock_all, lock_and_commit, lock_and_end,
+    lock_pairs,
 };
 use anyhow::Result;
 use bench_base::{
@@ -42,6 +43,8 @@ pub enum Work {
     TakeAndCommit,
     /// The key is locked. After all keys comes a commit, which alone is timed, by two readings of the clock.
     Commit,
+    /// All is listed, once for each key. Nothing is held.
+    List,
     /// Two readings of the clock for all of them.
     TwoReadings,
     /// The key is counted in the map once more and once less.
@@ -133,6 +136,7 @@ impl Bed {
             Work::Refused | Work::RefusedRelation => return Ok(count_refused(
                 rt, session, keys, owner, laps,
             )),
+            Work::List => return Ok(count_listed(rt, session, keys, laps)?),
             Work::RefusedBySlot => return Ok(count_strong_counted(session, keys, owner, laps)),
             Work::MapLookUp => return Ok(count_held(rt, &self.map, keys, laps)),
             Work::MapPair => map_pairs(rt, &self.map, keys, laps)?,

@@ -66,6 +66,25 @@ pub fn count_refused<T: PartTable, B: Board<T>, R: Wait>(
     refused
 }
 
+/// Goes `laps` times over `keys`, and lists all with `session` for each. Answers how many holds were listed.
+pub fn count_listed<T: PartTable, B: Board<T>, R: Wait>(
+    rt: &R,
+    session: &mut OwnSession<T, B>,
+    keys: &[Key],
+    laps: u32,
+) -> Result<u64, Refusal>
+    ensures seat { B.seat session.new.board ≡ B.seat session.old.board }
+{
+    let mut listed = 0u64;
+    'laps: for _ in 0..laps {
+        'keys: for _ in keys {
+            let found = session.list(rt)?;
+            listed = listed.wrapping_add(found.table.len() as u64);
+        }
+    }
+    Ok(listed)
+}
+
 /// Goes `laps` times over `keys`, and asks for each by a slot of `session` alone, for `owner`. Answers how often a
 /// strong lock was counted.
 pub fn count_strong_counted<T: PartTable, B: Board<T>>(

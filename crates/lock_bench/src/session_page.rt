@@ -107,7 +107,7 @@ pub fn run_lines<R: Wait + CpuClock + AllocGlobal + Print>(
         max_local: 65536,
         slot_groups: size.groups,
     };
-    let (manager, mut opener) = Manager::new(rt.alloc(), config)?;
+    let (manager, mut opener) = Manager::for_server(rt.alloc(), config)?;
     let mut pair = Pair::open(rt, &manager, &mut opener, asked.database)?;
     let done = run_pair(rt, &mut pair, asked, size, lines);
     pair.close(rt, &mut opener);
