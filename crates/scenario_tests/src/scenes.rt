@@ -1,6 +1,7 @@
 //! Scripts of as many sessions as there can be, and what is left when a script has ended.
-ghost use Rattle.std.specs.Prelude.{◌≡◌};
+ghost use Rattle.std.specs.Prelude.{◌≡◌, ◌≤◌};
 ghost use Rattle.lock_manager.specs.Crews.{SeatsAre};
+ghost use Rattle.modes_core.specs.Sessions.{usual_sessions};
 
 use crate::scripts::{ALL_SESSIONS, expect_run};
 use lock_manager::{Desk, Manager, ManagerDesk, OwnSession};
@@ -72,6 +73,7 @@ fn play_in_turn<T: PartTable, B: Board<T>, D: Desk<OwnSession<T, B>> + Drop, R: 
     requires seats { SeatsAre B.seat D.seat }
     requires none_issued { D.issued desk ≡ 0 }
     requires none_live { D.live desk ≡ 0 }
+    requires few { (D.manager desk).limit ≤ usual_sessions }
 {
     let mut scene = Scene::new(alloc, OnceDesk { desk }, Output::new(output))?;
     'turns: for turn in &IN_TURN {
