@@ -7,7 +7,7 @@ ghost use Rattle.lock_script.specs.Names.{IsFree};
 use crate::command::parse;
 use crate::commands::{WordKind, command_row};
 use crate::faults::Defect;
-use crate::names::{USUAL_SESSIONS, Name};
+use crate::names::{Name, USUAL_SESSIONS};
 use crate::objects::ObjectNames;
 use crate::sessions::{ByName, OpenSessions};
 use crate::words::{parse_name, split_words};

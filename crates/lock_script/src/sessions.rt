@@ -5,7 +5,7 @@ ghost use Rattle.std.specs.List.{HoldsAt};
 ghost use Rattle.lock_script.specs.Names.{IsByName, IsCalled, IsFree, NotAfter, PutsIn};
 ghost use Rattle.modes_core.specs.Sessions.{usual_sessions};
 
-use crate::names::{USUAL_SESSIONS, Name};
+use crate::names::{Name, USUAL_SESSIONS};
 use std::alloc::{AllocError, Global};
 use std::marker::Model;
 
