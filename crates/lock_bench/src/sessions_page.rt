@@ -217,7 +217,7 @@ pub fn print<R: Threads + Wait + Clock + CpuClock + AllocGlobal + Print + Sync>(
     let page = Page {
         name: "managers of more and more sessions, on one thread",
         rows: rows.as_slice(),
-        beside: "to nothing",
+        beside: "no ratios on this page",
         asked,
     };
     let [few, usual, more, most] = SESSIONS;
