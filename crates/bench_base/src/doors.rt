@@ -7,10 +7,10 @@ use modes_core::{Mode, Owner, Tag};
 use std::alloc::AllocError;
 use std::collections::HashMap;
 
-/// What a local table was indexed by before: the library's hash map with the derived key.
+/// What a local lock table was indexed by before, with which it is compared: the library's hash map with the derived key.
 pub type KeyMap = HashMap<(Tag, Mode), u32>;
 
-/// Counts what `tag`, `mode` and `owner` come to in `passed`, unless that is what no key comes to.
+/// A call that only looks at `tag`, `mode` and `owner`: answers `passed` plus one, unless the three are those of no key.
 #[inline(never)]
 pub fn pass(passed: u64, tag: &Tag, mode: Mode, owner: Owner) -> u64 {
     if *tag != Tag::relation(0, 0) || mode != Mode::Share || owner != Owner::Session {
@@ -19,16 +19,16 @@ pub fn pass(passed: u64, tag: &Tag, mode: Mode, owner: Owner) -> u64 {
     passed
 }
 
-/// Acquires `tag` in `mode` for `owner` in `table`, and answers whether that was done: in a register, as the map's
-/// doors answer.
+/// Acquires `tag` in `mode` for `owner` in `table`, and answers whether that was done. The answer is in a register, as are those of the functions for the
+/// map.
 #[inline(never)]
 pub fn acquire(table: &mut LocalTable, tag: &Tag, mode: Mode, owner: Owner) -> bool {
     let known = table.add_at_once(tag, mode, owner);
     known == AtOnce::AlreadyHeld || acquire_further(table, tag, mode, owner, known)
 }
 
-/// Acquires `tag` in `mode` for `owner` in `table` where a first look, `known`, says that it isn't held, or not
-/// whether it is. A call of its own, so that `acquire` goes without what this one needs.
+/// Acquires `tag` in `mode` for `owner` in `table` where `known`, the answer of a first look, is that the lock isn't held, or leaves open whether it is. A
+/// call of its own, so that `acquire` goes without what this function needs.
 #[inline(never)]
 fn acquire_further(
     table: &mut LocalTable,
@@ -49,7 +49,7 @@ fn acquire_further(
     true
 }
 
-/// Acquires `tag` in `mode` for `owner` in `table` where it takes a whole look to say whether it is held.
+/// Acquires `tag` in `mode` for `owner` in `table` where only a whole look-up shows whether the lock is held.
 #[cold]
 #[inline(never)]
 fn acquire_looked_up(table: &mut LocalTable, tag: &Tag, mode: Mode, owner: Owner) -> bool {
@@ -79,7 +79,7 @@ pub fn release(table: &mut LocalTable, tag: &Tag, mode: Mode, owner: Owner) -> b
     table.drop_at_once(tag, mode, owner).is_some() || release_looked_up(table, tag, mode, owner)
 }
 
-/// Releases `tag` in `mode` for `owner` in `table` where it takes a look to say whether it is held.
+/// Releases `tag` in `mode` for `owner` in `table` where only a look-up shows whether the lock is held.
 #[cold]
 #[inline(never)]
 fn release_looked_up(table: &mut LocalTable, tag: &Tag, mode: Mode, owner: Owner) -> bool {
@@ -107,7 +107,7 @@ pub fn insert(map: &mut KeyMap, tag: &Tag, mode: Mode, place: u32) -> Result<(),
     Ok(())
 }
 
-/// Removes `tag` in `mode` from `map`, not inlined, and answers whether it was there.
+/// Removes `tag` in `mode` from `map`, not inlined, and answers whether `map` had the key.
 #[inline(never)]
 pub fn remove(map: &mut KeyMap, tag: &Tag, mode: Mode) -> bool {
     map.remove(&(*tag, mode)).is_some()

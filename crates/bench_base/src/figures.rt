@@ -8,7 +8,7 @@ use std::{fmt, io};
 /// How many columns the names of the workloads take.
 const WIDTH: usize = 44;
 
-/// How wide the longest bar of a workload is in the picture, in its units.
+/// How wide the longest bar of a workload is, in units of the picture.
 const LONGEST: u64 = 400;
 
 /// A nanosecond, in the tenths that times are kept in.
@@ -17,7 +17,7 @@ const NANOSECOND: u64 = 10;
 /// How high a workload is in the picture, with its name and its three bars.
 const HEIGHT: usize = 64;
 
-/// How high the heading is above them.
+/// How high the heading of the picture is, above the workloads.
 const HEADING: usize = 32;
 
 /// What a table shows for no ratio.
@@ -26,12 +26,12 @@ const UNTOLD: &str = "-";
 /// What is written for no ratio among values with commas between them.
 const NO_VALUE: &str = "";
 
-/// What a workload took, its bare atomic steps, and the same work on a map in a mutex.
+/// What a workload took, with what its bare atomic steps took, and what its work took on a map in a mutex.
 #[derive(Clone, Copy)]
 pub struct Figures {
     pub name: &'static str,
     pub sessions: u32,
-    /// How many other objects are held in the partition.
+    /// How many other objects are held in the workload's partition.
     pub crowd: u32,
     pub time: Spread,
     pub floor: Spread,
@@ -40,7 +40,7 @@ pub struct Figures {
     pub instructions: Option<u64>,
 }
 
-/// Tenths of a nanosecond, as nanoseconds.
+/// A time in tenths of a nanosecond, which is written in nanoseconds.
 #[derive(Clone, Copy)]
 struct Nanos(u64);
 
@@ -50,12 +50,12 @@ impl fmt::Display for Nanos {
     }
 }
 
-/// How many times the whole one time is; there is no telling where the whole is less than a nanosecond.
+/// How many times `whole` the time `part` is. The ratio isn't known where `whole` is less than a nanosecond.
 #[derive(Clone, Copy)]
 struct Ratio {
     part: u64,
     whole: u64,
-    /// What is written in its place then.
+    /// What is written where the ratio isn't known.
     untold: &'static str,
 }
 
@@ -71,7 +71,7 @@ impl fmt::Display for Ratio {
 }
 
 impl Figures {
-    /// How many times the time of its floor the row took, by the medians; where there is no floor, `untold` is written.
+    /// How many times the time of its floor the workload took, by the medians. Where there is no floor, `untold` is written.
     fn to_floor(&self, untold: &'static str) -> Ratio {
         Ratio {
             part: self.time.median,
@@ -80,7 +80,7 @@ impl Figures {
         }
     }
 
-    /// How many times the map it took, by the medians; where there is no map, `untold` is written.
+    /// How many times the time of the map the workload took, by the medians. Where there is no map, `untold` is written.
     fn to_map(&self, untold: &'static str) -> Ratio {
         Ratio {
             part: self.time.median,
@@ -89,7 +89,7 @@ impl Figures {
         }
     }
 
-    /// The longest of the three times: of the row, of its floor and of the map, by the medians.
+    /// The longest of three times, by the medians: that of the workload, of its floor and of the map.
     fn longest(&self) -> u64 {
         self.time
             .median
@@ -128,8 +128,8 @@ fn print_figures<R: Print>(rt: &R, it: &Figures) -> io::Result<()> {
     }
 }
 
-/// Writes `figures` as lines of values with commas between them, the first of which names them. Instructions are the
-/// last of a line, where they are known.
+/// Writes `figures` as lines of values with commas between them. The first line names the values. Instructions are the last value of a line, where they are
+/// known.
 pub fn csv(alloc: Global, figures: &[Figures]) -> Result<String, AllocError> {
     let mut text = String::new(alloc);
     text.push_str(
@@ -144,7 +144,7 @@ pub fn csv(alloc: Global, figures: &[Figures]) -> Result<String, AllocError> {
     Ok(text)
 }
 
-/// The values of the workload `it`. Its name is in quotation marks, since it may have commas.
+/// A line with the values of the workload `it`. The workload's name is in quotation marks, since it may have commas.
 fn values_of(alloc: Global, it: &Figures) -> Result<String, AllocError> {
     let mut values = format!(in alloc;
         "\"{}\",{},{},{},{},{},{},{},{},{}",
@@ -181,8 +181,7 @@ pub fn svg(alloc: Global, figures: &[Figures]) -> Result<String, AllocError> {
     Ok(text)
 }
 
-/// The head of a picture of `workloads` workloads, and what it says above them. The ground is white, also where the
-/// page is dark.
+/// The head of a picture of `workloads` workloads, and the text above the workloads. The ground is white, also where the page is dark.
 fn heading_of(alloc: Global, workloads: usize) -> Result<String, AllocError> {
     let height = workloads
         .saturating_mul(HEIGHT)
@@ -211,8 +210,8 @@ fn group_of(alloc: Global, it: &Figures, top: usize) -> Result<String, AllocErro
     Ok(text)
 }
 
-/// A bar at the height `at` in the color `color`, `tenths` long where the longest is `longest`, with `what` it is of
-/// and how long that took.
+/// A bar at the height `at` in the color `color` for the time `tenths`, where the longest time is `longest`. Written with the bar are `what` it is of and how
+/// long that took.
 fn bar_of(
     alloc: Global,
     what: &str,

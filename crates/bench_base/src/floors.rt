@@ -4,10 +4,10 @@ use std::alloc::{AllocError, Global};
 use std::array;
 use std::sync::atomic::{AtomicU64, Ordering};
 
-/// What an exclusive holder adds to the word of a lock.
+/// What an exclusive holder adds to the word of a lightweight lock.
 const TAKEN: u64 = 16_777_216;
 
-/// A session's words: the lock of its slots, its database, and the slots.
+/// A session's words: the lightweight lock of its fast-path slots, its database, and the slots.
 #[derive(Drop)]
 struct SessionWords {
     fast: AtomicU64,
@@ -15,7 +15,7 @@ struct SessionWords {
     slots: [AtomicU64; 16],
 }
 
-/// A counter, a partition, and the words of as many sessions as there can be, 128 bytes apart at least.
+/// The words of a strong lock counter, of a partition, and of as many sessions as there can be, 128 bytes apart at least.
 #[derive(Drop)]
 pub struct Words {
     counter: CachePadded<AtomicU64>,
@@ -24,7 +24,7 @@ pub struct Words {
     sessions: Vec<CachePadded<SessionWords>>,
 }
 
-/// Takes the lock whose word is `word`, as far as it is free.
+/// Takes the lightweight lock whose word is `word`, by one try.
 fn take(word: &AtomicU64) {
     let shown = word.load(Ordering::SeqCst);
     let _ = word.compare_exchange(
@@ -35,7 +35,7 @@ fn take(word: &AtomicU64) {
     );
 }
 
-/// Puts the lock whose word is `word` back.
+/// Gives the lightweight lock whose word is `word` back.
 fn put(word: &AtomicU64) {
     word.fetch_sub(TAKEN, Ordering::SeqCst);
 }
@@ -80,7 +80,7 @@ impl Words {
         Ok(words)
     }
 
-    /// Makes the steps of a weak mode that is taken by a slot, whose word is `number` then.
+    /// Makes the atomic steps of a weak mode that is taken by a fast-path slot, whose word becomes `number`.
     #[inline(never)]
     fn take_by_slot(&self, number: u64) {
         take(&self.own.fast);
@@ -89,7 +89,7 @@ impl Words {
         put(&self.own.fast);
     }
 
-    /// Makes the steps of a weak mode that is given back out of its slot.
+    /// Makes the atomic steps of a weak mode that is given back out of its fast-path slot.
     #[inline(never)]
     fn give_by_slot(&self) {
         take(&self.own.fast);
@@ -97,7 +97,7 @@ impl Words {
         put(&self.own.fast);
     }
 
-    /// A try of a slot that finds a strong lock counted.
+    /// Makes the atomic steps of a try of a fast-path slot that finds a strong lock counted.
     #[inline(never)]
     fn find_counted(&self) {
         take(&self.own.fast);
@@ -105,7 +105,7 @@ impl Words {
         put(&self.own.fast);
     }
 
-    /// A strong mode, past every session.
+    /// Makes the atomic steps of a strong mode that is taken, past every session.
     #[inline(never)]
     fn take_strong(&self) {
         self.counter.fetch_add(1, Ordering::SeqCst);
@@ -118,7 +118,7 @@ impl Words {
         put(&self.partition);
     }
 
-    /// Makes the steps of a strong mode that is given back.
+    /// Makes the atomic steps of a strong mode that is given back.
     #[inline(never)]
     fn give_strong(&self) {
         take(&self.partition);
@@ -126,14 +126,14 @@ impl Words {
         self.counter.fetch_sub(1, Ordering::SeqCst);
     }
 
-    /// A partition taken and put once.
+    /// Takes the lightweight lock of a partition and gives it back, once.
     #[inline(never)]
     fn pass_partition(&self) {
         take(&self.partition);
         put(&self.partition);
     }
 
-    /// A weak mode that the slots have no way for, and the partition refuses.
+    /// Makes the atomic steps of a weak mode that finds a strong lock counted, so that no fast-path slot may have it, and that the partition refuses.
     #[inline(never)]
     fn find_counted_and_pass(&self) {
         take(&self.own.fast);
@@ -143,7 +143,7 @@ impl Words {
         put(&self.partition);
     }
 
-    /// Makes the steps of `steps` modes in the table, each taken and given back.
+    /// Makes the atomic steps of `steps` modes in the lock table, each taken and given back.
     pub fn table_pairs(&self, steps: u64) {
         for _ in 0..steps {
             self.pass_partition();
@@ -151,21 +151,21 @@ impl Words {
         }
     }
 
-    /// Makes the steps of `steps` attempts on an object that are refused.
+    /// Makes the atomic steps of `steps` attempts on an object that are refused.
     pub fn refused_objects(&self, steps: u64) {
         for _ in 0..steps {
             self.pass_partition();
         }
     }
 
-    /// Makes the steps of `steps` attempts on a relation that are refused.
+    /// Makes the atomic steps of `steps` attempts on a relation that are refused.
     pub fn refused_relations(&self, steps: u64) {
         for _ in 0..steps {
             self.find_counted_and_pass();
         }
     }
 
-    /// Makes the steps of `steps` weak modes, each taken and given back.
+    /// Makes the atomic steps of `steps` weak modes, each taken by a fast-path slot and given back.
     pub fn weak_pairs(&self, steps: u64) {
         for step in 0..steps {
             self.take_by_slot(step);
@@ -173,14 +173,14 @@ impl Words {
         }
     }
 
-    /// Makes the steps of `steps` tries that are refused.
+    /// Makes the atomic steps of `steps` tries of a fast-path slot that are refused.
     pub fn refusals(&self, steps: u64) {
         for _ in 0..steps {
             self.find_counted();
         }
     }
 
-    /// Makes the steps of `steps` strong modes, each taken and given back.
+    /// Makes the atomic steps of `steps` strong modes, each taken and given back.
     pub fn strong_pairs(&self, steps: u64) {
         for _ in 0..steps {
             self.take_strong();

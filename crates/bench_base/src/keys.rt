@@ -5,13 +5,13 @@ use std::alloc::{AllocError, Global};
 /// An object and a mode that a row asks for.
 pub type Key = (Tag, Mode);
 
-/// How many keys a list has that nobody holds.
+/// How many keys a list of keys has that nobody holds.
 const NEW_KEYS: u32 = 1_000;
 
 /// How many locks a commit ends.
 const COMMITTED: u32 = 10;
 
-/// How many relations are locked by slots where a session has eight groups of these.
+/// How many relations a session locks by fast-path slots where it has eight groups of slots.
 const ALL_SLOTS: u32 = 128;
 
 /// What the keys of a row are: relations or other objects, and their modes.
@@ -19,16 +19,16 @@ const ALL_SLOTS: u32 = 128;
 pub enum Kind {
     /// Relations, each in this mode.
     Relations(Mode),
-    /// Other objects of a catalogue, each in this mode.
+    /// Objects of a catalogue that are no relations, each in this mode.
     Objects(Mode),
     /// Objects of one partition, each in this mode.
     OnePartition(Mode),
-    /// Each relation in all eight modes.
+    /// Relations, each in all eight modes.
     Modes,
 }
 
-/// How many sessions there can be, with how many groups of slots each, how many keys are held from the start, how
-/// many objects of one partition, and how many a few relations are.
+/// How many sessions there can be, with how many groups of fast-path slots each, how many keys are held from the start, how many objects of one partition are
+/// held, and how many keys the lists have that go through a few.
 #[derive(Clone, Copy)]
 pub struct Size {
     pub sessions: u32,
@@ -39,7 +39,7 @@ pub struct Size {
 }
 
 impl Size {
-    /// The size for `sessions` sessions with one group of slots each, where a few relations are `few`, and nothing is held.
+    /// The size for `sessions` sessions with one group of fast-path slots each, where lists of a few keys have `few` of them, and nothing is held.
     pub fn of(sessions: u32, few: u32) -> Self {
         Size {
             sessions,
@@ -54,11 +54,11 @@ impl Size {
 /// The keys that a row goes through.
 #[derive(Clone, Copy)]
 pub enum KeyList {
-    /// The relations that the local table holds, each in AccessShareLock.
+    /// The relations that the local lock table holds, each in AccessShareLock.
     Held,
-    /// Relations that it doesn't hold, each in AccessShareLock.
+    /// Relations that the local lock table doesn't hold, each in AccessShareLock.
     New,
-    /// Relations that it doesn't hold, each in all modes.
+    /// Relations that the local lock table doesn't hold, each in all modes.
     Modes,
     /// Objects that nobody has, each in AccessShareLock.
     Objects,
@@ -66,23 +66,23 @@ pub enum KeyList {
     Weak,
     /// Relations that no session has, each in AccessExclusiveLock: those of `Weak`.
     Strong,
-    /// A few other relations, each in AccessShareLock.
+    /// A few relations that are none of `Weak`, each in AccessShareLock.
     Few,
-    /// A few other relations, each in AccessExclusiveLock: those of `Few`.
+    /// The relations of `Few`, each in AccessExclusiveLock.
     FewStrong,
-    /// Ten other relations, each in AccessShareLock.
+    /// Ten relations that are none of `Weak` and `Few`, each in AccessShareLock.
     Ten,
-    /// A hundred other relations, each in AccessShareLock.
+    /// A hundred relations that are none of `Weak` and `Few`, each in AccessShareLock.
     Hundred,
-    /// Other relations, as many as a session's fast-path slots in eight groups, each in AccessShareLock.
+    /// Relations that are none of `Weak` and `Few`, as many as a session's fast-path slots in eight groups, each in AccessShareLock.
     AllSlots,
-    /// The objects that the other session has, each in AccessShareLock.
+    /// The objects that another session has, each in AccessShareLock.
     Refused,
-    /// The objects that the other session has, each in AccessExclusiveLock, as it has them.
+    /// The objects that another session has, each in AccessExclusiveLock, as that session has them.
     OfOther,
     /// Objects of one partition that nobody has, each in AccessShareLock.
     InPartition,
-    /// Objects of one partition that the other session has, each in AccessExclusiveLock.
+    /// Objects of one partition that another session has, each in AccessExclusiveLock.
     Crowd,
     /// A few of the objects of `Crowd`, each in AccessShareLock.
     RefusedInCrowd,
@@ -91,7 +91,7 @@ pub enum KeyList {
 }
 
 impl KeyList {
-    /// The keys of the list, of `size` in `database`.
+    /// The keys of this list in `database`, as many as `size` says.
     pub fn keys(self, alloc: Global, database: u32, size: Size) -> Result<Vec<Key>, AllocError> {
         let relations = Kind::Relations(Mode::AccessShare);
         let objects = Kind::Objects(Mode::AccessShare);

@@ -10,7 +10,7 @@ use modes_core::Owner;
 use std::alloc::Global;
 use std::time::CpuClock;
 
-/// How many entries the first level has.
+/// How many entries the first level of the local lock table has, in each part of the page.
 static SIZES: [u32; 3] = [10, 100, 1_000];
 
 /// How many savepoints a round has.
@@ -22,7 +22,7 @@ const CHECKED_SAVEPOINTS: u32 = 10;
 /// How many columns the names of the rows take.
 const WIDTH: usize = 40;
 
-/// What is done with ten locks.
+/// What a row does with its locks at each savepoint.
 #[derive(Clone, Copy)]
 enum Work {
     /// The locks are acquired and released in the first level.
@@ -33,7 +33,7 @@ enum Work {
     SubAbort,
 }
 
-/// The rows of the table: the name of each, its keys and its work.
+/// The rows of the table of times: the name of each, its keys and its work.
 static ROWS: [(&str, KeyList, Work); 4] = [
     ("ten new pairs, in level 1", KeyList::Ten, Work::Pairs),
     (
@@ -49,7 +49,7 @@ static ROWS: [(&str, KeyList, Work); 4] = [
     ),
 ];
 
-/// Prints the table of times, at `database`, or with `check` what fewer of the same steps leave.
+/// Prints the table of times of savepoints, with locks of `database`. With `check` fewer steps are made and not timed, and what they leave is printed.
 pub fn print<R: CpuClock + AllocGlobal + Print>(rt: &R, database: u32, check: bool) -> Result<()> {
     if !check {
         print_header(
@@ -64,8 +64,8 @@ pub fn print<R: CpuClock + AllocGlobal + Print>(rt: &R, database: u32, check: bo
     Ok(())
 }
 
-/// Prints the rows for `held` entries in the first level, at `database`, or with `check` what fewer of the same steps
-/// leave.
+/// Prints the rows for `held` entries in the first level, with locks of `database`. With `check` fewer steps are made and not timed, and what they leave is
+/// printed.
 fn print_size<R: CpuClock + AllocGlobal + Print>(
     rt: &R,
     database: u32,

@@ -18,9 +18,9 @@ const REFUSED: &str = "a call of the local table was refused";
 /// What a row does with each key of its list.
 #[derive(Clone, Copy)]
 pub enum Work {
-    /// A call that does nothing.
+    /// One call that does nothing is made for the key.
     OneEmptyCall,
-    /// Two calls that do nothing.
+    /// Two calls that do nothing are made for the key.
     TwoEmptyCalls,
     /// The key is acquired and released.
     Pair,
@@ -36,7 +36,7 @@ pub enum Work {
     MapPair,
 }
 
-/// A table and a map that hold the same keys.
+/// What the rows of a page are run on: a local lock table and a map that hold the keys `held`.
 #[derive(Drop)]
 pub struct Bed {
     pub held: Vec<Key>,
@@ -45,7 +45,7 @@ pub struct Bed {
     owner: Owner,
 }
 
-/// A table that holds `keys` for `owner`.
+/// A local lock table that holds `keys` for `owner`.
 pub fn table_with(alloc: Global, keys: &[Key], owner: Owner) -> Result<LocalTable> {
     let mut table = LocalTable::new(alloc, 65536)?;
     let done = acquire_all(&mut table, keys, owner);
@@ -63,7 +63,7 @@ fn map_with(alloc: Global, keys: &[Key]) -> Result<KeyMap, AllocError> {
 }
 
 impl Bed {
-    /// A bed with as many keys of `database` held for `owner` as `size` says.
+    /// A bed whose table and map hold as many keys of `database` as `size` says, the table for `owner`.
     pub fn new(alloc: Global, database: u32, owner: Owner, size: Size) -> Result<Self> {
         let held = KeyList::Held.keys(alloc, database, size)?;
         let table = table_with(alloc, held.as_slice(), owner)?;
@@ -75,7 +75,7 @@ impl Bed {
         })
     }
 
-    /// Runs a round of the row `line`, and answers what it counts.
+    /// Runs a round of the row `line`, and answers what the row counts.
     pub fn run(&mut self, line: &Line<Work>) -> Result<u64> {
         let (owner, laps) = (self.owner, line.laps);
         let keys = line.keys.as_slice();
@@ -96,7 +96,7 @@ impl Bed {
         Ok(0)
     }
 
-    /// How many entries the table has.
+    /// How many entries the bed's local lock table has.
     pub fn entries(&self) -> usize {
         let mut count = 0usize;
         for _ in self.table.entries() {

@@ -11,10 +11,10 @@ use std::alloc::Global;
 use std::io;
 use std::time::CpuClock;
 
-/// How many local entries the table holds in each part of the page.
+/// How many entries the local lock table has from the start, in each part of the page.
 static SIZES: [u32; 4] = [10, 100, 1_000, 10_000];
 
-/// How many entries are held where nothing is timed.
+/// How many entries the local lock table has from the start, in each part of the page, where nothing is timed.
 static CHECKED_SIZES: [u32; 2] = [10, 100];
 
 /// How many entries a round of commits takes away, at least.
@@ -35,7 +35,7 @@ const MAP_LOOK_UP: &str = "hash map: look-up";
 
 const MAP_PAIR: &str = "hash map: insert and removal";
 
-/// The rows of the table.
+/// The rows of the table of times of a local lock table.
 fn rows() -> [Row<Work>; 11] {
     [
         Row::new(ONE_CALL, Work::OneEmptyCall, KeyList::Held),
@@ -67,7 +67,8 @@ fn rows() -> [Row<Work>; 11] {
     ]
 }
 
-/// Prints the table of times, at `database` for `owner`, or with `check` what fewer of the same steps leave.
+/// Prints the table of times of a local lock table, with locks of `database` for `owner`. With `check` fewer steps are made and not timed, and what they
+/// leave is printed.
 pub fn print<R: CpuClock + AllocGlobal + Print>(
     rt: &R,
     database: u32,
@@ -91,7 +92,7 @@ pub fn print<R: CpuClock + AllocGlobal + Print>(
     Ok(())
 }
 
-/// Prints the rows for `held` entries, at `database` for `owner`, or with `check` what fewer of the same steps leave.
+/// Prints the rows for `held` entries, with locks of `database` for `owner`. With `check` fewer steps are made and not timed, and what they leave is printed.
 fn print_size<R: CpuClock + AllocGlobal + Print>(
     rt: &R,
     database: u32,
@@ -144,7 +145,7 @@ fn time_row<R: CpuClock>(rt: &R, bed: &mut Bed, line: &Line<Work>) -> Result<u64
     Ok(to.saturating_sub(from))
 }
 
-/// `count` tables that hold `keys`.
+/// `count` local lock tables, each of which holds `keys`.
 fn filled(alloc: Global, keys: &[Key], count: u32) -> Result<Vec<LocalTable>> {
     let mut tables = Vec::new(alloc);
     for _ in 0..count {
@@ -162,7 +163,7 @@ fn commit_all(tables: &mut [LocalTable]) -> u64 {
     ended
 }
 
-/// Times a commit of tables that hold `held`, for each entry that it takes away.
+/// The time of a commit in a local lock table that holds `held`, for each entry that the commit takes away.
 fn time_commit<R: CpuClock + AllocGlobal>(rt: &R, held: &[Key]) -> Result<Spread> {
     let count = laps_of(held, COMMITTED);
     let mut times = Times::new();
@@ -176,8 +177,7 @@ fn time_commit<R: CpuClock + AllocGlobal>(rt: &R, held: &[Key]) -> Result<Spread
     Ok(times.spread())
 }
 
-/// Prints what each of `lines` and a commit take, the latter `commit`, with `held` entries, and how much that is of
-/// what the map takes.
+/// Prints the time of each of `lines`, and `commit`, that of a commit, with `held` entries, and how much of the map's time some of them are.
 fn print_rows<R: Print>(rt: &R, lines: &[Line<Work>], commit: Spread, held: u32) -> Result<()> {
     println!(rt; "{held} held")?;
     print_times(rt, WIDTH, lines)?;
@@ -197,7 +197,7 @@ fn print_rows<R: Print>(rt: &R, lines: &[Line<Work>], commit: Spread, held: u32)
     Ok(())
 }
 
-/// Makes the steps of all `lines` with `bed` once, and two commits, and prints what they leave.
+/// Makes the steps of all `lines` with `bed` once, and two commits, and prints what these steps and commits leave.
 fn check_rows<R: AllocGlobal + Print>(rt: &R, bed: &mut Bed, lines: &[Line<Work>]) -> Result<()> {
     let before = bed.entries();
     for line in lines {

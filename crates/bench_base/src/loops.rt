@@ -103,7 +103,7 @@ pub fn refusals(table: &mut LocalTable, keys: &[Key], owner: Owner, laps: u32) -
     refused
 }
 
-/// Goes through `end` in `table`, and answers how many entries it took away.
+/// Ends in `table` what `end` says, entry by entry, and answers how many entries that took away.
 #[inline(never)]
 pub fn end_all(table: &mut LocalTable, end: End) -> u32
     requires { end ≢ End.Inner }

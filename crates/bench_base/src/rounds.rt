@@ -47,7 +47,7 @@ impl Times {
         }
     }
 
-    /// The median, the smallest and the largest.
+    /// The median of the times, with the smallest and the largest.
     pub fn spread(mut self) -> Spread {
         self.tenths.sort_unstable();
         Spread {
@@ -58,7 +58,7 @@ impl Times {
     }
 }
 
-/// The median of several rounds, with the smallest and the largest beside it.
+/// The median time of several rounds, with the smallest and the largest.
 #[derive(Clone, Copy, Default)]
 pub struct Spread {
     pub median: u64,
@@ -67,7 +67,7 @@ pub struct Spread {
 }
 
 impl Spread {
-    /// The times with those of the empty loop, `empty`, taken off.
+    /// This spread of times with that of the empty loop, `empty`, taken off.
     pub fn above(self, empty: Spread) -> Spread {
         Spread {
             median: self.median.saturating_sub(empty.median),
@@ -102,12 +102,12 @@ impl fmt::Display for Spread {
     }
 }
 
-/// Prints `what` is timed on a page, and how it is `measured`.
+/// Prints the head of a page: `what` is timed, and how the times are `measured`.
 pub fn print_header<R: Print>(rt: &R, what: &str, measured: &str) -> io::Result<()> {
     println!(rt; "{what}: nanoseconds {measured}, median of {ROUNDS} rounds (smallest to largest)")
 }
 
-/// Prints `time`, after `what` took it in `width` columns.
+/// Prints the name `what` in `width` columns, and after the name the time `time`.
 pub fn print_time<R: Print>(rt: &R, width: usize, what: &str, time: Spread) -> io::Result<()> {
     println!(rt; "        {what:<width$} {time}")
 }

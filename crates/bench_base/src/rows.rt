@@ -7,7 +7,7 @@ use std::io;
 /// How many steps a round of a row has, at least.
 pub const STEPS: u32 = 100_000;
 
-/// Of how many steps of a round one is made where nothing is timed.
+/// By what the number of steps of a round is divided where nothing is timed.
 const STEPS_FOR_CHECKED: u32 = 100;
 
 /// A row of a table of times.
@@ -20,15 +20,14 @@ pub struct Row<W> {
     pub list: KeyList,
     /// How many steps a round has, at least.
     pub steps: u32,
-    /// The name of the row whose time is taken off.
+    /// The name of the row whose time is taken off this row's.
     pub empty: Option<&'static str>,
-    /// The name of the row that it is compared with.
+    /// The name of the row that this row is compared with.
     pub beside: Option<&'static str>,
 }
 
 impl<W> Row<W> {
-    /// The row `name`, which does `work` with each key of `list`. Nothing is taken off, and it is compared with no
-    /// other.
+    /// The row `name`, which does `work` with each key of `list`. No other row's time is taken off, and the row is compared with no other.
     pub fn new(name: &'static str, work: W, list: KeyList) -> Self {
         Row {
             name,
@@ -76,8 +75,8 @@ pub struct Line<W> {
 }
 
 impl<W: Copy> Line<W> {
-    /// The line of `row` with its keys at `database` in a bed of `size`, for rounds of as many steps as it says, or
-    /// of fewer where `check` says that nothing is timed.
+    /// The line of `row` with its keys at `database` in a bed of `size`, for rounds of as many steps as `row` says, or of fewer where `check` says that
+    /// nothing is timed.
     fn new(
         alloc: Global,
         row: &Row<W>,
@@ -148,7 +147,7 @@ fn spread_of<W>(lines: &[Line<W>], name: &str) -> Spread {
     Spread::default()
 }
 
-/// The times of the line of `lines` called `name`, with those of its empty line taken off.
+/// The times of the line of `lines` called `name`, with the time of its empty line taken off, if it has one.
 pub fn time_of<W>(lines: &[Line<W>], name: &str) -> Spread {
     for line in lines {
         if line.name == name {
@@ -170,7 +169,7 @@ pub fn print_times<W, R: Print>(rt: &R, width: usize, lines: &[Line<W>]) -> io::
     Ok(())
 }
 
-/// Prints the ratio of each of `lines` to the one that it is compared with.
+/// Prints, for each of `lines` that is compared with another line, the ratio of its time to that of the other line.
 pub fn print_ratios<W, R: Print>(rt: &R, lines: &[Line<W>]) -> io::Result<()> {
     for line in lines {
         if let Some(whole) = line.beside {

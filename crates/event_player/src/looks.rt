@@ -7,7 +7,7 @@ use lock_world::Word;
 use lw_word::LwWaiter;
 use modes_core::SessionId;
 
-/// Whether what `words` say of `plain` is so, or `None` where they say nothing.
+/// Whether `plain` is as the look in `words` says, or `None` where `words` are no look.
 pub fn look(plain: &Plain, words: &mut Words) -> Option<bool> {
     match words.next()? {
         "word" => {
@@ -32,7 +32,8 @@ pub fn look(plain: &Plain, words: &mut Words) -> Option<bool> {
     }
 }
 
-/// Whether in `plain` the words of one kind, from a first number to a last one, all show what `words` say.
+/// Whether in `plain` the words of one kind, from a first number to a last one, all show one value: `words` name the
+/// kind, both numbers and the value.
 fn words_show(plain: &Plain, words: &mut Words) -> Option<bool> {
     let kind = words.next()?;
     let first = index(words)?;
@@ -57,7 +58,8 @@ fn numbered_word(kind: &str, number: u16) -> Option<Word> {
     }
 }
 
-/// Whether in `plain` the strong lock counters, from a first index to a last one, all show what `words` say.
+/// Whether in `plain` the strong lock counters, from a first index to a last one, all show one value: `words` name
+/// both indexes and the value.
 fn counters_show(plain: &Plain, words: &mut Words) -> Option<bool> {
     let first = index(words)?;
     let last = index(words)?;
@@ -79,7 +81,7 @@ fn holds_in_table(plain: &Plain) -> u64 {
         .count() as u64
 }
 
-/// Whether the hold of `plain` at a place is the one that `words` say.
+/// Whether the hold of `plain` at a place is the one that `words` say: they name the place and the hold.
 fn hold_is(plain: &Plain, words: &mut Words) -> Option<bool> {
     let place = usize::from(small_number(words)?);
     let expected = Hold {
@@ -100,7 +102,7 @@ fn spot(words: &mut Words) -> Option<Spot> {
     }
 }
 
-/// Whether the wait of `plain` at a place is the one that `words` say.
+/// Whether the wait of `plain` at a place is the one that `words` say: they name the place and the wait.
 fn wait_is(plain: &Plain, words: &mut Words) -> Option<bool> {
     let place = usize::from(small_number(words)?);
     let session = session(words)?;
@@ -112,7 +114,8 @@ fn wait_is(plain: &Plain, words: &mut Words) -> Option<bool> {
     }
 }
 
-/// Whether the mask of the modes that a session held when it joined a queue of `plain` is the one that `words` say.
+/// Whether in `plain` the wait at a place has the mask that `words` say, of the modes that its session held when it
+/// joined the queue.
 fn wait_held_is(plain: &Plain, words: &mut Words) -> Option<bool> {
     let place = usize::from(small_number(words)?);
     let mask = index(words)?;
@@ -122,7 +125,7 @@ fn wait_held_is(plain: &Plain, words: &mut Words) -> Option<bool> {
     }
 }
 
-/// Whether the sleeper of `plain` at a place is the one that `words` say.
+/// Whether the sleeper of `plain` at a place is the one that `words` say: they name the place and the sleeper.
 fn sleeper_is(plain: &Plain, words: &mut Words) -> Option<bool> {
     let place = usize::from(small_number(words)?);
     let lock = index(words)?;

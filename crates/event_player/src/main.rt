@@ -13,8 +13,8 @@ use play::play_script;
 use std::process::ExitCode;
 use std::{env, fs};
 
-/// Plays by `rt` the scripts that the command line names, and the long run. The status is that of a failure where one
-/// of them shows something else than it says.
+/// Plays by `rt` the scripts that the command line names, and the long run. The status is that of a failure where a
+/// script or the long run shows something else than it should.
 fn main(rt: HostRuntime) -> Result<ExitCode> {
     let names: Vec<String> = env::args(&rt)?.collect(rt.alloc())?;
     let mut is_right = true;

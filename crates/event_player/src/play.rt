@@ -21,7 +21,7 @@ struct Test {
     groups: u8,
     /// The events that all cases begin with.
     given: Vec<Event>,
-    /// The events of the case, after the given ones.
+    /// The events of the case that is played, after those that all cases begin with.
     events: Vec<Event>,
 }
 
@@ -35,7 +35,7 @@ enum Played {
 }
 
 /// Plays `script`, and prints the names of its tests, and the lines that are wrong or cannot be read. The answer is
-/// whether there are none.
+/// whether there are no such lines.
 pub fn play_script(rt: &(impl AllocGlobal + Print), script: &str) -> Result<bool> {
     let alloc = rt.alloc();
     let mut test = Test {
@@ -112,7 +112,8 @@ fn add_events(events: &mut Vec<Event>, text: &str) -> Result<Played> {
     Ok(Played::Well)
 }
 
-/// Adds the event that `words` name to `events`, or those of a walk, and answers whether there are such.
+/// Adds the event that `words` name to `events`, or the events of a walk, and answers whether `words` name an event
+/// or a walk.
 fn add_event(events: &mut Vec<Event>, words: &mut Words) -> Result<bool> {
     let (Some(session), Some(verb)) = (session(words), words.next()) else {
         return Ok(false);
@@ -133,8 +134,8 @@ pub fn add(events: &mut Vec<Event>, session: SessionId, step: Step) -> Result<()
     Ok(())
 }
 
-/// Adds to `events` those by which the session `whose` goes past the others that `words` name: it takes the lock of
-/// each one's slots, and puts it passing.
+/// Adds to `events` those by which the session `whose` goes past the others that `words` name: for each of these
+/// sessions, `whose` takes the lock of its slots, and puts it passing.
 fn add_walk(events: &mut Vec<Event>, whose: SessionId, words: &mut Words) -> Result<bool> {
     let Some((first, last, tag, mode)) = parse_walk(words) else {
         return Ok(false);
@@ -159,7 +160,7 @@ fn parse_walk(words: &mut Words) -> Option<(u16, u16, Tag, Mode)> {
     Some((first, last, tag, mode))
 }
 
-/// Runs `events` with `groups` groups of slots, and looks at what `text` names.
+/// Runs `events` with `groups` groups of slots, and looks whether what they lead to is as `text` says.
 fn see(alloc: Global, groups: u8, events: &[Event], text: &str) -> Result<Played> {
     if !(1..=8).contains(&groups) {
         return Ok(Played::Unread);

@@ -6,7 +6,7 @@ use crate::words::{
 use lock_world::Step;
 use lw_word::LwMode;
 
-/// The step of `verb` and the `words` after it, or `None` where there is no such step.
+/// The step of `verb` and the `words` after it, or `None` where a script has no such step.
 pub fn parse_step(verb: &str, words: &mut Words) -> Option<Step> {
     match verb {
         "opens" | "closes" | "is_kept_by" => seat_step(verb, words),
@@ -185,7 +185,7 @@ fn list_step(verb: &str, words: &mut Words) -> Option<Step> {
     }
 }
 
-/// How a lightweight lock is taken, by the next of `words`.
+/// The lock mode of a lightweight lock, by the next of `words`.
 pub fn list_mode(words: &mut Words) -> Option<LwMode> {
     match words.next()? {
         "exclusive" => Some(LwMode::Exclusive),

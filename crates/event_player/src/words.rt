@@ -6,7 +6,7 @@ use lock_world::Word;
 use modes_core::{Mode, SessionId, Tag};
 use std::str::SplitWhitespace;
 
-/// The words of a line that are left.
+/// The words of a script's line that are not yet read.
 pub type Words<'a> = SplitWhitespace<'a>;
 
 /// A number up to 255, by the next of `words`.
@@ -43,7 +43,7 @@ pub fn shown(words: &mut Words) -> Option<u64> {
     Some(sum)
 }
 
-/// What `part` adds to what a word shows: a number, or a name of bits.
+/// What `part` adds to the value that a word shows: a number, or a name of bits.
 fn part_of_shown(part: &str) -> Option<u64> {
     match part {
         "free" => Some(0x2000_0000),
@@ -58,7 +58,7 @@ fn part_of_shown(part: &str) -> Option<u64> {
     }
 }
 
-/// Whether the next of `words` is `yes`; `None` where it is neither that nor `no`.
+/// Whether the next of `words` is `yes`; `None` where it is neither `yes` nor `no`.
 pub fn answer(words: &mut Words) -> Option<bool> {
     match words.next()? {
         "yes" => Some(true),

@@ -54,7 +54,7 @@ IsFull groups uses tag = count_in uses (group_of_tag groups tag) ≡ group_size
 abbrev pub HasRoom : ℕ → UseCounts → Tag → Type 0
 HasRoom groups uses tag = count_in uses (group_of_tag groups tag) ≢ group_size
 
--- Where it is no step is made.
+-- Where all sixteen slots of the relation's group are in use no step is made, and nothing is changed.
 pub record FindsFull (groups : ℕ) (a : Account) (uses : UseCounts) (tag : Tag) (b : Account) (left : UseCounts) :
     Type 0 where
   pub full : IsFull groups uses tag
@@ -74,11 +74,11 @@ pub record HasOwnSlots (groups number : ℕ) (a : Account) (uses : UseCounts) : 
   pub enough : AreCounted slots.word (count_in uses)
   pub within : AreUseCounts (count_in uses)
 
--- the account without it
+-- the account once its own slots' lock is no more in hand
 abbrev pub without_slots : Account → Account
 without_slots a = record a { fast = record (a.fast) { slots = λ _. None } }
 
--- What the rest of a grant does from there on, by its answer.
+-- What the rest of a grant does, once the lock of its own slots is in hand, by its answer.
 abbrev pub GrantsHeld :
     ℕ → ℕ → Account → UseCounts → Tag → Mode → Result (Unit {0}) Refusal → Account → UseCounts → Type 0
 GrantsHeld groups number a uses tag mode (Ok done) b left =

@@ -24,7 +24,7 @@ pub record ClearsSlot (groups number : ℕ) (a : Account) (uses : UseCounts) (ta
   pub recomputed : count_in left ≡ counting uses (group_of_tag groups tag)
       (used_in (group_of_tag groups tag) (set_at word slot (word_without (word slot) mode)))
 
--- All slots of the relation's group are loaded, and no slot has it.
+-- All slots of the relation's group are loaded, and no slot has the mode on the object.
 pub record FindsNoSlot (groups number : ℕ) (a : Account) (uses : UseCounts) (tag : Tag) (mode : Mode) (b : Account)
     (left : UseCounts) : Type 0 where
   pub word : ℕ → ℕ

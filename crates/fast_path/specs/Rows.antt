@@ -54,7 +54,7 @@ abbrev pub times_shown : List SlotRow → ℕ → Tag → Mode → ℕ
 times_shown rows session tag mode =
     count_by (λ row. (row.session == session) && (tag_eq row.tag tag && mode_eq row.mode mode)) rows
 
--- the loads by which that is found: of each session below the limit the database, and then the words of its groups' slots
+-- the loads by which all rows are found: of each session below the limit the database, and then the words of its groups' slots
 unfoldable pub loads_of_all : ℕ → ℕ → (ℕ → ℕ) → (ℕ → ℕ → ℕ) → List TraceEntry
 loads_of_all groups zero database word = []
 loads_of_all groups (suc session) database word =

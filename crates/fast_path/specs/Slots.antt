@@ -72,11 +72,11 @@ slot_loads owner which word (suc k) =
 abbrev pub slot_from_top : ℕ → ℕ → ℕ
 slot_from_top group step = place_in_group group (group_size - 1 - step)
 
--- the loads of this number of a group's slots from there down,
+-- the loads of this number of a group's slots, from the highest-numbered one down
 abbrev pub top_loads : ℕ → ℕ → (ℕ → ℕ) → ℕ → List TraceEntry
 top_loads owner group word seen = slot_loads owner (slot_from_top group) word seen
 
--- the loads of all slots of a group,
+-- the loads of all slots of a group
 abbrev pub group_loads : ℕ → ℕ → (ℕ → ℕ) → List TraceEntry
 group_loads owner group word = slot_loads owner (place_in_group group) word group_size
 
@@ -96,7 +96,7 @@ count_in uses group = slice_index_or uses.counts group 0
 abbrev pub counting : UseCounts → ℕ → ℕ → ℕ → ℕ
 counting uses group count = set_at (count_in uses) group count
 
--- one more in this group
+-- the use counts with one more in this group
 abbrev pub one_more_in : UseCounts → ℕ → ℕ → ℕ
 one_more_in uses group = counting uses group (count_in uses group + 1)
 

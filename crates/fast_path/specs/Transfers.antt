@@ -76,7 +76,7 @@ AreTurns groups (suc owner) tag steps =
     (before : List TraceEntry) × (turn : List TraceEntry) × AreTurns groups owner tag before × IsTurn groups owner tag turn
     × (steps ≡ before ++ turn)
 
--- The last turn is cut short.
+-- The turns of some sessions, in rising order, the last of which is cut short.
 pub record CutsShort (groups limit : ℕ) (tag : Tag) (steps : List TraceEntry) : Type 0 where
   pub owner : ℕ
   pub exists : owner < limit

@@ -43,7 +43,7 @@ pub record Looks (groups : ℕ) (a : Account) (owner shown : ℕ) (b : Account) 
   pub holds : slots.holds ≡ slot_holds shown slots.word
   pub account : b ≡ account_holding a owner slots remembered (Loaded (Database owner) shown ∷ [])
 
--- So a turn begins that goes past a session of the tag's database.
+-- The beginning of a turn that goes past a session of the tag's database: the lock of its slots was taken, and its database was loaded.
 pub record BeginsTurn (groups : ℕ) (a : Account) (owner : ℕ) (tag : Tag) (b : Account) : Type 0 where
   pub unlocked : IsUnlocked a
   pub looked : Looks groups a owner (database_of tag) b

@@ -15,25 +15,25 @@ use shared_rule::Board;
 /// `FP_LOCK_SLOTS_PER_GROUP`).
 pub const SLOTS: u8 = 16;
 
-/// A slot's number, and the word that it shows.
+/// A fast-path slot that was loaded: its number, and the word that it showed.
 #[derive(Clone, Copy)]
 pub(crate) struct SeenSlot {
     pub(crate) number: u8,
     pub(crate) word: SlotWord,
 }
 
-/// What one look through all of a group's slots finds for a relation.
+/// What one look through all fast-path slots of a group finds for a relation.
 #[derive(Clone, Copy)]
 pub(crate) struct Sighting {
-    /// The slot in use for the relation, if one is.
+    /// The fast-path slot that is in use for the relation looked for, if one is.
     pub(crate) of_relation: Option<SeenSlot>,
-    /// How many slots are in use.
+    /// How many fast-path slots of the group are in use.
     pub(crate) used_count: u8,
 }
 
-/// Loads the words of the slots of `owner` in `group`, the lock of whose slots is in hand, and keeps of them only what a release
-/// or a transfer of a lock on `relation` asks for. Where a session has one group of slots this is a walk of its own, in which
-/// the compiler knows where each slot stands, whatever the number of sessions.
+/// Loads the words of the fast-path slots of `owner` in `group`, whose lock the session has, and answers what a release or a transfer of a lock on `relation`
+/// asks for. Where sessions have one group of slots each the call makes a separate walk, in which the compiler knows the index of each slot, whatever the
+/// number of sessions.
 #[inline(always)]
 pub(crate) fn look_through<T: PartTable, B: Board<T>>(
     board: &mut B,
@@ -97,17 +97,17 @@ fn look_at_each<T: PartTable, B: Board<T>>(
     }
 }
 
-/// What the look of a grant finds for a relation.
+/// What the look of a grant through the fast-path slots of a group finds for a relation.
 #[derive(Clone, Copy)]
 pub(crate) struct SightingForGrant {
-    /// The slot in use for the relation, if one is.
+    /// The fast-path slot that is in use for the relation looked for, if one is.
     pub(crate) of_relation: Option<SeenSlot>,
-    /// The highest-numbered slot that is not in use, if one was seen.
+    /// The highest-numbered fast-path slot of the group that is not in use, if one was seen.
     pub(crate) highest_unused: Option<SeenSlot>,
 }
 
-/// What a grant on `relation` looks for in the slots of `owner` in `group`, by `look_from_top`. Where a session has
-/// one group of slots this is a walk of its own, in which the compiler knows where each slot stands.
+/// What a grant on `relation` looks for in the fast-path slots of `owner` in `group`, found by `look_from_top`. Where sessions have one group of slots each
+/// the call makes a separate walk, in which the compiler knows the index of each slot.
 #[inline(always)]
 pub(crate) fn look_for_grant<T: PartTable, B: Board<T>>(
     board: &mut B,
@@ -135,10 +135,9 @@ pub(crate) fn look_for_grant<T: PartTable, B: Board<T>>(
     look_from_top(board, owner, group, relation, use_count)
 }
 
-/// Loads the words of the slots of `owner` in `group`, the lock of whose slots is in hand, from the highest-numbered
-/// one down, as far as a grant asks for: as far as the slot in use for `relation` (where the loop of
-/// `FastPathGrantRelationLock` in lock.c stops too), or as one not in use above which as many are in use as
-/// `use_count` says, since no other one is in use then.
+/// Loads the words of the fast-path slots of `owner` in `group`, whose lock the session has, from the highest-numbered slot down, as far as a grant asks for:
+/// down to the slot in use for `relation` (where the loop of `FastPathGrantRelationLock` in lock.c stops too), or to a slot not in use above which
+/// `use_count` slots are in use, since no slot below that one is in use then.
 #[inline(always)]
 fn look_from_top<T: PartTable, B: Board<T>>(
     board: &mut B,

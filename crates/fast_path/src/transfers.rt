@@ -21,11 +21,10 @@ use modes_core::{Mode, SessionId, Tag};
 use shared_rule::Board;
 use std::sync::Wait;
 
-/// Counts a strong lock, `mode` on `tag`, and goes past every session there can be, issued or not and its own too,
-/// once its locks on the object are out of its slots and in the lock table (`BeginStrongLockAcquire` and
-/// `FastPathTransferRelationLocks` in lock.c). Where memory for the lock table is missing it is counted no more;
-/// what was moved until then stays moved. The cost is two atomic steps and a load for each session, and sixteen
-/// loads more, of the slots of the relation's group, for each of the object's database.
+/// Counts a strong lock, `mode` on `tag`, and goes past every session that there can be, whether its number is issued or not, the caller's too: past each one
+/// once that session's locks on `tag` are out of its fast-path slots and in the lock table (`BeginStrongLockAcquire` and `FastPathTransferRelationLocks` in
+/// lock.c). Where memory for the lock table runs out the strong lock is counted no more; what was moved until then stays moved. The cost is two atomic steps
+/// and a load for each session, and sixteen loads more, of the slots of the relation's group, for each session of the database of `tag`.
 pub fn transfer<T: PartTable, B: Board<T>, R: Wait>(
     rt: &R,
     board: &mut B,
@@ -60,8 +59,8 @@ pub fn transfer<T: PartTable, B: Board<T>, R: Wait>(
     Ok(())
 }
 
-/// Goes past `owner` (a turn of the loop of `FastPathTransferRelationLocks` in lock.c) for `mode` on `tag`. Sessions
-/// of other databases, and those not issued, are gone past without a look at their slots.
+/// Goes past the session `owner` with the strong lock of `mode` on `tag` (a turn of the loop of `FastPathTransferRelationLocks` in lock.c). Where `owner` is
+/// a session of another database, or not issued, its fast-path slots are not looked at.
 fn pass<T: PartTable, B: Board<T>, R: Wait>(
     rt: &R,
     board: &mut B,
@@ -87,8 +86,8 @@ fn pass<T: PartTable, B: Board<T>, R: Wait>(
     pass_in_database(rt, board, owner, tag, mode)
 }
 
-/// Goes past `owner`, a session of the tag's database the lock of whose slots is in hand, once its modes on `tag`
-/// are out of its slot. A function of its own, so that going past other sessions takes no stack for it.
+/// Goes past `owner`, a session of the tag's database, whose slot lock the caller has, once the modes of `owner` on `tag` are out of its fast-path slot. This
+/// is a separate function, so that going past sessions of other databases takes no stack for it.
 #[inline(never)]
 fn pass_in_database<T: PartTable, B: Board<T>, R: Wait>(
     rt: &R,
@@ -134,23 +133,23 @@ fn pass_in_database<T: PartTable, B: Board<T>, R: Wait>(
     }
 }
 
-/// What a turn of a transfer found: a slot of another session that has the relation of the object.
+/// What a turn of a transfer found: a fast-path slot, of the session that it goes past, that is in use for the relation of the strong lock.
 #[derive(Clone, Copy)]
 struct Turn<'a> {
-    /// The session whose fast-path slot this is.
+    /// The session whose fast-path slot the turn found.
     owner: SessionId,
     /// The number of the fast-path slot among those of `owner`.
     slot: u8,
     /// The word that the fast-path slot shows.
     word: SlotWord,
-    /// The object of the strong lock: the relation that the slot has.
+    /// The object of the strong lock: the relation for which the fast-path slot is in use.
     tag: &'a Tag,
     /// The mode of the strong lock on `tag` that the transferring session counted.
     strong: Mode,
 }
 
-/// Moves the modes that `turn` found, one after another in rising order, into the partition of its object (the inner loop
-/// of `FastPathTransferRelationLocks` in lock.c).
+/// Moves the modes that `turn` found, one after another in rising order, from the fast-path slot into the partition of the slot's relation (the inner loop of
+/// `FastPathTransferRelationLocks` in lock.c).
 fn adopt<T: PartTable, B: Board<T>, R: Wait>(
     rt: &R,
     board: &mut B,
@@ -174,7 +173,7 @@ fn adopt<T: PartTable, B: Board<T>, R: Wait>(
     moved
 }
 
-/// Moves the modes that `turn` found with the partition of its object in hand, whose content is `content`, one per step.
+/// Moves the modes that `turn` found, one per step, to `content`, that of the partition of the slot's relation, which is in hand.
 fn move_modes<T: PartTable, B: Board<T>>(
     board: &mut B,
     content: &mut T,

@@ -4,7 +4,7 @@ ghost use Rattle.std.specs.Prelude.{◌≡◌, ℕ, ◌<◌};
 ghost use Rattle.lock_world.specs.SlotHolds.{most_groups, group_of_relation};
 ghost use Rattle.fast_path.specs.Slots.{count_in, counting};
 
-/// How many slots of each of a session's groups are in use, or no fewer (`FastPathLocalUseCount` in lock.c, in
+/// The use count of each of a session's groups of fast-path slots: how many slots of the group are in use, or more (`FastPathLocalUseCount` in lock.c, in
 /// version 18 `FastPathLocalUseCounts`).
 #[derive(Clone, Copy)]
 pub struct UseCounts {
@@ -12,14 +12,14 @@ pub struct UseCounts {
 }
 
 impl UseCounts {
-    /// The use counts of a session that has no slot in use.
+    /// The use counts of a session that has no fast-path slot in use: 0 for each group.
     pub fn new() -> Self
         ensures none { (group : ℕ) → count_in result group ≡ 0 }
     {
         UseCounts { counts: [0; 8] }
     }
 
-    /// The use count of `group`.
+    /// The use count of `group`: how many of its fast-path slots are in use at most.
     pub(crate) fn of(&self, group: u8) -> u8
         requires exists { group < most_groups }
         ensures { result ≡ count_in self.now group }
@@ -36,8 +36,8 @@ impl UseCounts {
     }
 }
 
-/// The group of `relation`, of `groups` (`FAST_PATH_REL_GROUP` in lock.c of version 18, which multiplies the number
-/// first).
+/// The group of fast-path slots that a lock on `relation` goes to, where a session has `groups` of them (`FAST_PATH_REL_GROUP` in lock.c of version 18, which
+/// multiplies the number first).
 pub(crate) fn group_of(relation: u32, groups: u8) -> u8
     requires some { 0 < groups }
     ensures value { result ≡ group_of_relation groups relation }

@@ -35,7 +35,7 @@ fn modes_have_their_numbers_names_and_conflicts(rt: HostRuntime) {
     }
 }
 
-/// The number of the mode called `name`, and whether the mode prints so.
+/// The number of the mode called `name`, and whether the mode prints as `name`.
 fn named(alloc: Global, name: &str) -> Result<Option<(u8, bool)>, AllocError> {
     let Some(mode) = Mode::from_name(name) else {
         return Ok(None);
@@ -110,7 +110,7 @@ const TAGS: [(Tag, u32, u8, u16, &str); 6] = [
     (ADVISORY, 144398250, 10, 938, "adv/5/0/42/1"),
 ];
 
-/// What an application names by a key of 64 bits.
+/// The tag of what an application locks by a key of 64 bits.
 const ADVISORY: Tag = Tag::Advisory {
     database: 5,
     key1: 0,
@@ -118,7 +118,7 @@ const ADVISORY: Tag = Tag::Advisory {
     sub: 1,
 };
 
-/// A relation of no one database.
+/// The tag of a shared relation, which belongs to no one database.
 const SHARED_RELATION: Tag = Tag::Relation {
     database: 0,
     relation: 1262,
@@ -188,7 +188,7 @@ fn tags_are_ordered_by_their_numbers(rt: HostRuntime) {
     }
 }
 
-/// A session's database, an object and a mode, and whether that may go by the fast path.
+/// A session's database, an object and a mode, and whether a lock in the mode on the object may go by the fast path.
 const ELIGIBLE: [(u32, Tag, Mode, bool); 6] = [
     (5, OBJECT, Mode::RowExclusive, true),
     (5, OBJECT, Mode::ShareUpdateExclusive, false),
@@ -198,7 +198,7 @@ const ELIGIBLE: [(u32, Tag, Mode, bool); 6] = [
     (5, ADVISORY, Mode::AccessShare, false),
 ];
 
-/// An object and a mode, and whether that is counted as strong.
+/// An object and a mode, and whether a lock in the mode on the object is counted as strong.
 const STRONG: [(Tag, Mode, bool); 4] = [
     (OBJECT, Mode::Share, true),
     (OBJECT, Mode::ShareUpdateExclusive, false),

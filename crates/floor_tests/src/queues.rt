@@ -16,13 +16,15 @@ use wait_queue::{Decision, Kind, awaited_in_conflict, decide, remove_waiter, tak
 /// What the session of a number does, and what that leads to.
 #[derive(Clone, Copy)]
 enum Step {
-    /// The session asks, and is answered this.
+    /// The session with this number asks for this mode, by a request of this kind, and gets this answer.
     Asks(u16, Mode, Kind, Told),
-    /// The session releases a hold, which wakes these, in this order.
+    /// The session with this number releases its hold in this mode, which wakes these sessions with these modes, in
+    /// this order.
     Releases(u16, Mode, &'static [(u16, Mode)]),
-    /// The session's wait is taken out; whether it had been granted, and whom that wakes.
+    /// The wait of the session with this number is taken out: whether it was granted before, and whom that wakes with
+    /// which modes, in this order.
     Leaves(u16, bool, &'static [(u16, Mode)]),
-    /// Whether somebody waits for a mode in conflict with this one.
+    /// Whether somebody waits for a mode in conflict with the given mode.
     Awaited(Mode, bool),
 }
 
@@ -104,7 +106,8 @@ const A_WAITER_THAT_LEAVES_LETS_OTHERS_GO: [Step; 5] = [
     Step::Leaves(2, true, &[]),
 ];
 
-/// What a request of `session` in `part` for `mode`, of kind `kind`, which may be made, is answered.
+/// The answer to a request of `session` in `part` for `mode`, of kind `kind`. Where the request may not be made, the
+/// test ends by `rt`.
 fn asked_once<P: PartTable>(
     rt: &impl Abort,
     part: &mut P,
@@ -119,8 +122,8 @@ fn asked_once<P: PartTable>(
     decide(part, session, &OBJECT, mode, kind)
 }
 
-/// What a request of `session` in `part` for `mode`, of kind `kind`, is answered, at the second attempt where there
-/// was no memory: all is as before then.
+/// The answer to a request of `session` in `part` for `mode`, of kind `kind`. Where memory is refused, nothing
+/// changes and a second attempt is made.
 fn asked<P: PartTable>(
     rt: &impl Abort,
     part: &mut P,
@@ -176,7 +179,7 @@ fn wakes<P: PartTable>(
     are_woken(part.woken(), expected)
 }
 
-/// Makes `step` in `part`, and answers whether it leads to what it says.
+/// Makes `step` in `part`, and answers whether that leads to what `step` says.
 fn make<P: PartTable>(rt: &impl Abort, part: &mut P, step: Step) -> bool
     requires { P.begun part.old ≡ None }
     ensures { P.begun part.new ≡ None }
@@ -209,7 +212,7 @@ fn play<P: PartTable>(rt: &impl Abort, part: &mut P, steps: &[Step])
     }
 }
 
-/// Plays `steps` on a part of their own.
+/// Plays `steps`, in order, on a new and empty part.
 fn run(rt: &impl Abort, alloc: Global, steps: &[Step]) -> Result<(), Fail> {
     let mut part = new_part(alloc)?;
     play(rt, &mut part, steps);

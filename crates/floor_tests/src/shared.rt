@@ -82,7 +82,7 @@ fn each_further_group_of_slots_has_a_block_for_each_session(rt: HostRuntime) -> 
     Ok(())
 }
 
-/// Whether the word at `later` stands 128 bytes after the word at `earlier` at least: 16 words of 8 bytes.
+/// Whether the word at `later` is at least 128 bytes after the word at `earlier`: 16 words of 8 bytes.
 fn is_apart(earlier: usize, later: usize) -> bool {
     later.saturating_sub(earlier) >= 16
 }
@@ -122,13 +122,14 @@ fn each_content_has_eight_shelves_to_itself(rt: HostRuntime) -> Result<(), Fail>
     Ok(())
 }
 
-/// Two sessions with one group of slots each.
+/// The sizes of a table for two sessions with one group of slots each.
 const SIZES: TableSizes = TableSizes {
     sessions: 2,
     groups: 1,
 };
 
-/// Sixteen empty partitions, which grow by `alloc`, each on its shelf of a table for two sessions, and the wait lists of these.
+/// Sixteen empty partitions, which grow by `alloc`, each on its shelf of a table for two sessions, and the wait lists
+/// of the partitions' locks.
 fn empty_shelves(alloc: Global) -> Result<Vec<Kept<PlainPart>>, Fail>
     ensures new { let T = ⟦<PlainPart as PartTable>⟧ in IfOk result (λ shelves. AreNew T.content T.begun 2 shelves.items) }
 {

@@ -164,7 +164,7 @@ const HOLDERS_WHO_WAIT: [Step; 4] = [
     Step::Waits(1, OBJECT, AccessShare, 0),
 ];
 
-/// The rows of `part`, at the second attempt where there was no memory: no row is there then.
+/// The rows of `part`. Where memory is refused, no row is listed and a second attempt is made.
 fn rows_of<P: PartTable>(
     rt: &impl Abort,
     alloc: Global,
@@ -178,8 +178,8 @@ fn rows_of<P: PartTable>(
     Ok(rows)
 }
 
-/// Whether `rows` are those of the `expected` sessions, in this order, on the one object, in these modes, granted or
-/// awaited.
+/// Whether `rows` are those of the `expected` sessions, in this order, on `OBJECT`, in these modes, granted (`true`)
+/// or awaited.
 fn are_rows(rows: &[TableRow], expected: &[(u16, Mode, bool)]) -> bool {
     if rows.len() != expected.len() {
         return false;
@@ -228,7 +228,8 @@ fn are_alike(part: &PlainPart, other: &PlainPart) -> bool {
     part.holds() == other.holds() && part.waits() == other.waits()
 }
 
-/// A copy, at first like `part`, after `steps`.
+/// A copy of `part`, once `steps` were played on the copy. The test ends by `rt` where the copy isn't like `part` at
+/// first.
 fn copy_after(rt: &impl Abort, part: &PlainPart, steps: &[Step]) -> Result<PlainPart, Fail>
     requires { part.now.begun ≡ None }
 {
@@ -238,7 +239,7 @@ fn copy_after(rt: &impl Abort, part: &PlainPart, steps: &[Step]) -> Result<Plain
     Ok(copy)
 }
 
-/// Whether sessions 0 and 1 hold anything in `part`.
+/// Whether session 0 holds anything in `part`, and whether session 1 does.
 fn holders(rt: &impl Abort, part: &PlainPart) -> (bool, bool) {
     let (a, b) = (session(rt, 0), session(rt, 1));
     (part.has_hold_of(a), part.has_hold_of(b))

@@ -22,8 +22,8 @@ fn word(rt: &impl Abort, number: u64) -> LwWord
     LwWord::from_number(number).expect(rt, "a lightweight word")
 }
 
-/// A number, and what its word says: how many share it, whether it is held exclusively, whether its list is locked, and
-/// the flags release-ok and has-waiters.
+/// The number of a lightweight lock's word, and what the word says: how many share the lock, whether it is held
+/// exclusively, and whether its wait list is locked, release-ok is set and has-waiters is set.
 type Bits = (u64, u64, bool, [bool; 3]);
 
 const BITS: [Bits; 14] = [
@@ -68,7 +68,8 @@ fn words_have_no_other_bits(rt: HostRuntime) {
     }
 }
 
-/// A word, how it is attempted, and the word that comes of it, if it is free.
+/// A word, the mode in which its lock is attempted, and the word that comes of the attempt, if the lock is free for
+/// it.
 const ATTEMPTS: [(u64, LwMode, Option<u64>); 6] = [
     (0, Exclusive, Some(0x0100_0000)),
     (0x0100_0000, Exclusive, None),
@@ -78,14 +79,15 @@ const ATTEMPTS: [(u64, LwMode, Option<u64>); 6] = [
     (0x60FF_FFFE, Shared, Some(0x60FF_FFFF)),
 ];
 
-/// A word, how it is given up, and the word that comes of it.
+/// A word, the mode in which its lock is released, and the word that comes of the release.
 const RELEASES: [(u64, LwMode, u64); 3] = [
     (3, Shared, 2),
     (0x6100_0000, Exclusive, 0x6000_0000),
     (0x4100_0000, Exclusive, 0x4000_0000),
 ];
 
-/// The number that comes of an attempt in `mode` at the word `number`, by the word and by the number alone.
+/// The number that comes of an attempt in `mode` at the word `number`, as `LwWord` says it and as it follows from the
+/// number alone.
 fn attempted(rt: &impl Abort, number: u64, mode: LwMode) -> (Option<u64>, Option<u64>) {
     let word = word(rt, number);
     assert!(rt; word.shared() < 0xFF_FFFF);
@@ -132,7 +134,7 @@ fn a_held_word_is_given_up(rt: HostRuntime) {
     }
 }
 
-/// What a release found, how the lock was held, and whether the session must wake.
+/// The word that a release found, how the lock was held, and whether the session that releases must wake waiters.
 const FOUND: [(u64, LwMode, bool); 10] = [
     (0x6100_0000, Exclusive, true),
     (0x7100_0000, Exclusive, true),
@@ -163,8 +165,8 @@ fn words_open_with_release_ok_and_count_by_mode(rt: HostRuntime) {
     assert!(rt; numbers == (0x2000_0000, 0x0100_0000, 1));
 }
 
-/// The flags has-waiters and release-ok as a list is unlocked, what is set for them, what is kept, and the word
-/// that comes of 0x3100_0000.
+/// The flags has-waiters and release-ok that are to remain as a wait list is unlocked, the bits that are set for
+/// them, the bits that are kept, and the word that comes of unlocking 0x3100_0000.
 const UNLOCKS: [(bool, bool, u64, u64, u64); 4] = [
     (true, true, 0x6000_0000, 0xFFFF_FFFF_EFFF_FFFF, 0x6100_0000),
     (true, false, 0x4000_0000, 0xFFFF_FFFF_CFFF_FFFF, 0x4100_0000),
@@ -177,8 +179,8 @@ fn locked(rt: &impl Abort, number: u64) -> Option<u64> {
     Some(word(rt, number).lock_list()?.number())
 }
 
-/// What is set and what is kept for the flags `waiters` and `release_ok` in the word `number`, and the word that
-/// comes of them.
+/// The bits that are set and those that are kept for the flags `waiters` and `release_ok`, and the word that comes of
+/// unlocking the wait list of the word `number` with these flags.
 fn unlocked(rt: &impl Abort, number: u64, waiters: bool, release_ok: bool) -> (u64, u64, u64) {
     (
         LwWord::flag_bits(waiters, release_ok),
@@ -196,7 +198,7 @@ fn flagged(rt: &impl Abort, number: u64) -> (u64, u64) {
     )
 }
 
-/// A word, and those that come of setting has-waiters and of setting release-ok.
+/// A word, the word that comes of setting has-waiters in it, and the word that comes of setting release-ok in it.
 const FLAGS: [(u64, u64, u64); 4] = [
     (5, 0x4000_0005, 0x2000_0005),
     (0x1100_0000, 0x5100_0000, 0x3100_0000),
@@ -227,7 +229,7 @@ fn a_flag_is_set_alone(rt: HostRuntime) {
     }
 }
 
-/// Sessions by their numbers, and how they wait.
+/// Sessions by their numbers, and the mode in which each wants a lightweight lock.
 type Waiters = &'static [(u16, LwMode)];
 
 /// Who waits in a wait list, whom a wakeup takes off, whom it leaves, and whether release-ok is to be set.
@@ -318,9 +320,8 @@ fn all_sessions(rt: &impl Abort, alloc: Global, mode: LwMode) -> Result<WaitList
     Ok(list)
 }
 
-/// As many sharers as there can be sessions are no more than go at a time, and so nobody is left. Sharers beyond those,
-/// who are left and go with the next wakeup, can't be made up while there can be no more sessions: this test stands for
-/// that one until then.
+/// A wakeup takes off at most 64 sharers at a time, as many as there can be sessions, and so nobody is left. A test
+/// in which sharers are left for the next wakeup needs more sessions than there can be.
 #[test]
 fn sixty_four_sharers_go_together(rt: HostRuntime) -> Result<(), Fail> {
     let mut list = all_sessions(&rt, rt.alloc(), Shared)?;
@@ -330,7 +331,7 @@ fn sixty_four_sharers_go_together(rt: HostRuntime) -> Result<(), Fail> {
     Ok(())
 }
 
-/// Whether `session` was in `list`, and whether it is there once it left.
+/// Whether `session` was in `list`, and whether it still is once it left.
 fn left(list: &mut WaitList, session: SessionId) -> (bool, bool) {
     (list.leave(session), list.has(session))
 }

@@ -35,7 +35,7 @@ level_count_in row zero entry = 0
 level_count_in row (suc zero) entry = had_in row 0 entry.transaction
 level_count_in row (suc (suc level)) entry = had_in row (suc level) entry.transaction - had_in row level entry.transaction
 
--- what the slot with this list tells of the transaction when a level began
+-- what the slot with this list shows of the transaction when a level began
 abbrev pub told : ℕ → List ℕ → Option Entry → List Entry
 told level row None = []
 told level row (Some entry) =
@@ -52,8 +52,8 @@ abbrev pub outer_of : ℕ → Slots → (ℕ → List ℕ) → List (List Entry)
 outer_of zero slots rows = []
 outer_of (suc level) slots rows = outer_of level slots rows ++ had level slots rows ∷ []
 
--- What is so of the lists where this many inner levels have begun. Before the place `touched` the innermost of them has counted
--- nothing.
+-- What holds of the lists where this many inner levels have begun. Before the place `touched` the innermost of these levels has
+-- counted nothing.
 pub record IsLeveled (slots : Slots) (rows : Rows) (depth touched : ℕ) : Type 0 where
   pub few : depth ≤ 15
   pub within : (place : ℕ) → length (row_at rows place) ≤ depth

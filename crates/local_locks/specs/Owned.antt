@@ -73,7 +73,7 @@ has_entry entries tag mode = is_some (entry_for entries tag mode)
 abbrev pub owner_count_of : List Entry → Tag → Mode → Owner → ℕ
 owner_count_of entries tag mode owner = option_map_or (count_for owner) (entry_for entries tag mode) 0
 
--- how often both owners together have it, in all levels
+-- how often both owners together have the object in the mode, in all levels
 abbrev pub total_of : List Entry → Tag → Mode → ℕ
 total_of entries tag mode = option_map_or count_in_all (entry_for entries tag mode) 0
 
@@ -97,12 +97,12 @@ abbrev pub count_up_to : Owned → ℕ → Tag → Mode → ℕ
 count_up_to owned zero tag mode = 0
 count_up_to owned (suc level) tag mode = owner_count_of (slice_index_or owned.outer level owned.entries) tag mode Transaction
 
--- how often one level has it
+-- how often one level has an object and mode
 abbrev pub level_count_of : Owned → Tag → Mode → ℕ → ℕ
 level_count_of owned tag mode zero = 0
 level_count_of owned tag mode (suc level) = count_up_to owned (suc level) tag mode - count_up_to owned level tag mode
 
--- How often an owner can give it back: the session what it has, and the transaction what its innermost level has.
+-- How often an owner can give an object and mode back: the session what it has, and the transaction what its innermost level has.
 abbrev pub own_count_of : Owned → Tag → Mode → Owner → ℕ
 own_count_of owned tag mode Session = owner_count_of owned.entries tag mode Session
 own_count_of owned tag mode Transaction = level_count_of owned tag mode (level_of owned)

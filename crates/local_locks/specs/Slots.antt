@@ -87,7 +87,7 @@ pub record IsIndexed (slots : Slots) (index : Notes) : Type 0 where
 abbrev pub entry_at : List Entry → ℕ → Entry
 entry_at slots place = slice_index_or slots place (record { tag = Relation 0 0; mode = AccessShare; transaction = 0; session = 0 })
 
--- whether it is of this object and mode and has a count
+-- whether the slot at a place is of this object and mode and has a count
 abbrev pub is_held_as : Tag → Mode → Entry → Bool
 is_held_as tag mode slot = is_of tag mode slot && not (count_in_all slot == 0)
 

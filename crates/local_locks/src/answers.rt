@@ -1,13 +1,13 @@
 /// How a lock was acquired (`LockAcquireResult` in lock.h).
 #[derive(Clone, Copy, Debug, PartialEq, Eq)]
 pub enum Acquired {
-    /// The session has the mode newly.
+    /// The session didn't have the mode on the object before, and has it now.
     Granted,
     /// The session had the mode before, and has it once more.
     AlreadyHeld,
 }
 
-/// What a release left to the session of the mode that it released.
+/// What a release left to the session of the lock mode that was released.
 #[derive(Clone, Copy, Debug, PartialEq, Eq)]
 pub enum Unlocked {
     /// The last count was released: the session no longer has the mode.
@@ -16,13 +16,13 @@ pub enum Unlocked {
     StillHeld,
 }
 
-/// What is known at once of an acquire.
+/// The answer to an acquire that makes only a short look at the local lock table.
 #[derive(Clone, Copy, Debug, PartialEq, Eq)]
 pub enum AtOnce {
     /// The session had the mode before, and has it once more.
     AlreadyHeld,
-    /// The session hasn't the mode.
+    /// The session doesn't have the mode on the object, and nothing was counted.
     NotHeld,
-    /// Only a whole look can say.
+    /// Only a whole look at the local lock table can say whether the session has the mode on the object.
     Unknown,
 }

@@ -11,10 +11,10 @@ pub enum End {
     /// An abort drops the transaction's counts, and in the default lock method the session's too. In the user
     /// method it keeps the session's: an advisory lock that the session owns survives a failed transaction.
     Abort,
-    /// The close of the session drops both.
+    /// The close of the session drops the transaction's counts and the session's.
     Close,
-    /// The end of the innermost level of a transaction, whose counts go; those of the levels outside it and of the
-    /// session stay (`LockReleaseCurrentOwner` in lock.c).
+    /// The end of the innermost level of a transaction drops this level's counts and keeps those of the outer levels
+    /// and of the session (`LockReleaseCurrentOwner` in lock.c).
     Inner,
 }
 
@@ -22,7 +22,7 @@ impl End {
     ghost use Rattle.local_locks.specs.Owned.{after_end};
     ghost use Rattle.local_locks.specs.Slots.{number_of_end};
 
-    /// A number of its own for each.
+    /// A number of the end, by which two kinds of end are compared.
     #[inline(always)]
     fn number(self) -> u8
         ensures { result ≡ number_of_end self }
@@ -46,7 +46,8 @@ impl End {
     }
 }
 
-/// How far the end has come that took the last step: before that slot it has nothing to do.
+/// The end that took the last step, and the place of the slot that this end has come to: before that slot it has
+/// nothing to do.
 #[derive(Clone, Copy, Debug)]
 pub(crate) struct Progress {
     end: End,
@@ -56,7 +57,7 @@ pub(crate) struct Progress {
 impl Progress {
     ghost use Rattle.local_locks.specs.Slots.{reached, came_to, back_to, at_start};
 
-    /// No end has come past the first slot.
+    /// The progress at first: no end has come past the first slot.
     pub(crate) fn start() -> Self
         ensures { result ≡ at_start }
     {
@@ -75,7 +76,7 @@ impl Progress {
         self.place = place;
     }
 
-    /// The slot at which `end` goes on: the first one unless it has begun.
+    /// The place of the slot at which `end` goes on: 0 unless `end` took the last step.
     pub(crate) fn reached(self, end: End) -> usize
         ensures { result ≡ reached end self }
     {

@@ -4,7 +4,8 @@ ghost use Rattle.std.specs.Iterator.{YieldsFirst, item_count};
 use crate::Entry;
 use std::marker::Model;
 
-/// The entries of a table that are left to give, in the order of making. Contracts see their list.
+/// An iterator over the entries of a local table, in the order of making. Contracts see the list of those that are
+/// left to give.
 #[derive(Drop)]
 pub struct Entries<'a> {
     slots: &'a [Entry],
@@ -23,7 +24,7 @@ impl<'a> Model for Entries<'a> {
 impl<'a> Entries<'a> {
     ghost use Rattle.local_locks.specs.Slots.{opened, present};
 
-    /// The local entries that stand in `slots`, the slots of a local table, without the empty ones.
+    /// An iterator over the entries in `slots`, the slots of a local table, without the empty slots.
     pub(crate) fn of(slots: &'a [Entry]) -> Self
         ensures { result ≡ present (opened slots.now) }
     {

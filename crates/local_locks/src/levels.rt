@@ -12,14 +12,14 @@ use std::alloc::AllocError;
 use std::marker::Model;
 use std::mem::replace;
 
-/// How many levels a transaction may have at most, the first one and those within it.
+/// How many levels a transaction may have at most: the first one and those that are begun within it.
 pub const MOST_LEVELS: u8 = 16;
 
 /// How many levels of a transaction may be within the first one.
 pub(crate) const MOST_INNER: u8 = MOST_LEVELS - 1;
 
-/// What the transaction had of an entry when each inner level began, the first one first, up to the last that has
-/// counted the entry. Contracts see the list.
+/// The transaction's count of an entry when each inner level began, for the first inner level first, up to the last
+/// one that has counted the entry. Contracts see the list of counts.
 #[derive(Debug, Drop)]
 pub(crate) struct OuterCounts {
     len: u8,
@@ -37,7 +37,7 @@ impl Model for OuterCounts {
 }
 
 impl OuterCounts {
-    /// No inner level has counted the entry.
+    /// The empty list, of an entry that no inner level has counted.
     pub(crate) fn none() -> Self
         ensures { result ≡ [] }
     {
@@ -47,7 +47,8 @@ impl OuterCounts {
         }
     }
 
-    /// What the transaction had when `level` began, where it has `now`.
+    /// The transaction's count of the entry when the inner level `level` began, counted from 0. `now` is its count
+    /// now, and the answer where no inner level from `level` on has counted the entry.
     pub(crate) fn at(&self, level: u8, now: u16) -> u16
         ensures { result ≡ had_in self.now level now }
     {
@@ -58,7 +59,8 @@ impl OuterCounts {
         }
     }
 
-    /// Keeps `now`, what the transaction has, for each of `depth` inner levels that has not counted the entry yet.
+    /// Adds `now`, the transaction's count of the entry, for each of the first `depth` inner levels that is not yet
+    /// in the list.
     pub(crate) fn fill(&mut self, depth: u8, now: u16)
         requires fits { depth ≤ 15 }
         requires within { length self.old ≤ depth }
@@ -71,7 +73,7 @@ impl OuterCounts {
         self.len = depth;
     }
 
-    /// Forgets all but `depth` inner levels.
+    /// Forgets the counts of all inner levels but the first `depth`.
     pub(crate) fn cut(&mut self, depth: u8)
         ensures { self.new ≡ take depth self.old }
     {
@@ -79,9 +81,9 @@ impl OuterCounts {
     }
 }
 
-/// How often `owner` can give `entry` back, where `depth` inner levels have begun: for the transaction, what the
-/// innermost level has. `outer` has the lists of levels, that of the entry at `place`. In a transaction with one
-/// level they are not read.
+/// How often `owner` can give `entry` back, where `depth` inner levels have begun: for the transaction, how often the
+/// innermost level has `entry`. The entry's list of counts is at `place` in `outer`, which is not read in a
+/// transaction with one level.
 #[inline(always)]
 pub(crate) fn own_count(
     entry: &Entry,
@@ -100,9 +102,9 @@ pub(crate) fn own_count(
     now.saturating_sub(outer[place].at(depth - 1, now))
 }
 
-/// Keeps in the list of `outer` at `place`, for each of `depth` inner levels that has not counted the entry there
-/// yet, that the transaction has it `now` times, before the innermost level counts it. `touched` becomes `place`
-/// where it was later.
+/// Prepares the list of `outer` at `place` for a change by the innermost of `depth` inner levels: adds `now`, the
+/// transaction's count of the entry, for each inner level that has not counted the entry yet. `touched` becomes
+/// `place` where `touched` was later.
 #[inline(always)]
 pub(crate) fn keep(
     outer: &mut Vec<OuterCounts>,
@@ -127,9 +129,8 @@ pub(crate) fn keep(
     }
 }
 
-/// Does the work of `keep`, with its `outer`, `touched`, `depth`, `place` and `now`, in a level that is not the
-/// first: a call of its own, so that an acquire in the first level remains short. No list of `outer` before `touched`
-/// has anything.
+/// Does the work of `keep` for `outer`, `touched`, `depth`, `place` and `now` in a level that is not the first: a
+/// call of its own, so that an acquire in the first level remains short.
 #[cold]
 #[inline(never)]
 fn keep_inner(outer: &mut Vec<OuterCounts>, touched: &mut usize, depth: u8, place: usize, now: u16)
@@ -150,7 +151,8 @@ fn keep_inner(outer: &mut Vec<OuterCounts>, touched: &mut usize, depth: u8, plac
     }
 }
 
-/// Forgets all inner levels in the lists of `outer` from `from` up to `to`, where `depth` of them have begun.
+/// Empties the lists of `outer` from `from` up to `to`, which is left out, where `depth` inner levels have begun:
+/// with none, all lists are empty already.
 #[inline(always)]
 pub(crate) fn forget(outer: &mut Vec<OuterCounts>, depth: u8, from: usize, to: usize)
     requires exists { to ≤ length outer.old.items }
@@ -165,7 +167,8 @@ pub(crate) fn forget(outer: &mut Vec<OuterCounts>, depth: u8, from: usize, to: u
     }
 }
 
-/// Forgets all but `depth` inner levels in the lists of `outer` from `from` up to `to`.
+/// Forgets the counts of all inner levels but the first `depth` in the lists of `outer` from `from` up to `to`, which
+/// is left out.
 #[cold]
 #[inline(never)]
 pub(crate) fn cut_all(outer: &mut Vec<OuterCounts>, from: usize, to: usize, depth: u8)
@@ -180,7 +183,8 @@ pub(crate) fn cut_all(outer: &mut Vec<OuterCounts>, from: usize, to: usize, dept
     }
 }
 
-/// Moves the list at `place` of `outer` down to `to` with its entry, and leaves an empty one.
+/// Moves the list at `place` of `outer` down to `to`, as the entry is moved that the list belongs to, and leaves an
+/// empty list at `place`.
 pub(crate) fn move_row(outer: &mut Vec<OuterCounts>, place: usize, to: usize)
     requires exists { place < length outer.old.items }
     requires down { to ≤ place }
@@ -193,7 +197,7 @@ pub(crate) fn move_row(outer: &mut Vec<OuterCounts>, place: usize, to: usize)
     outer[to] = row;
 }
 
-/// How often `level` has `entry`, whose list of levels is `row`.
+/// How often the level `level` of the transaction, counted from 1, has `entry`. `row` is the entry's list of counts.
 pub(crate) fn level_count(entry: &Entry, row: &OuterCounts, level: u8) -> u16
     requires { 1 ≤ level }
     ensures { result ≡ level_count_in row.now level entry.now }
@@ -206,7 +210,7 @@ pub(crate) fn level_count(entry: &Entry, row: &OuterCounts, level: u8) -> u16
     up_to.saturating_sub(row.at(level - 2, now))
 }
 
-/// Makes `outer` as long as `number`, if it is shorter.
+/// Adds empty lists to `outer` until there are `number`, if there are fewer.
 pub(crate) fn lengthen(outer: &mut Vec<OuterCounts>, number: usize) -> Result<(), AllocError>
     ensures ok { OnOk result (number ≤ length outer.new.items) }
     ensures longer { length outer.old.items ≤ length outer.new.items }
@@ -218,8 +222,8 @@ pub(crate) fn lengthen(outer: &mut Vec<OuterCounts>, number: usize) -> Result<()
     Ok(())
 }
 
-/// Keeps `place` as `hint`, where an entry is looked for first. In an inner level (`depth` above 0) there is no such
-/// place, so that what is usual in the first level asks for no level.
+/// Keeps `place` in `hint`, the place where an entry is looked for first. In an inner level (`depth` above 0) `hint`
+/// is not set: it is no place there, so that the usual way in the first level needs no check of the level.
 #[inline(always)]
 pub(crate) fn set_hint(hint: &mut usize, depth: u8, place: usize)
     ensures first { depth ≡ 0 → hint.new ≡ place }
@@ -230,7 +234,8 @@ pub(crate) fn set_hint(hint: &mut usize, depth: u8, place: usize)
     }
 }
 
-/// Up to which count an acquire is counted at once, where `depth` inner levels have begun.
+/// The count below which an owner's count is raised at once, without a look at the levels, where `depth` inner levels
+/// have begun: the largest count in the first level, and 0 in an inner one.
 pub(crate) fn most_at_once(depth: u8) -> u16
     ensures { ((depth ≡ 0) × (result ≡ max_count)) ⊎ ((depth ≢ 0) × (result ≡ 0)) }
 {

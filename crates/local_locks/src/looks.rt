@@ -6,23 +6,24 @@ use crate::Entry;
 use modes_core::{Mode, Tag};
 use place_index::PlaceIndex;
 
-/// What a key is multiplied by. Its lower half is 2^32 by the golden ratio, so that relations numbered in equal
-/// steps lie apart as evenly as can be; its upper half is 2^32 by the square root of two, less one, so that modes
-/// do, and none with those.
+/// The number by which an object and mode in 64 bits are multiplied for their hash. Its lower half is 2^32 divided by
+/// the golden ratio, so that the hashes of relations numbered in equal steps lie apart as evenly as can be. Its upper
+/// half is 2^32 times the square root of two less one, so that the hashes of modes lie apart, too, and away from
+/// those of relations.
 const MULTIPLIER: u64 = 0x6A09_E667_9E37_79B9;
 
-/// What a glance at an index says of an object and mode.
+/// What the first place that an index has for an object and mode shows of them.
 pub(crate) enum Glance {
     /// The index has no entry for the object and mode.
     Nothing,
-    /// The slot of the object and mode is at this place, which may be empty.
+    /// The slot of the object and mode is at this place. The slot may be empty.
     Place(u32),
-    /// Only a whole look says.
+    /// Only a whole look through the index can say whether there is an entry for the object and mode.
     Unknown,
 }
 
-/// `database`, and `number` in it, as one number, the first in the lower half, which is their order in a tag: so they
-/// are read and compared at once.
+/// `database` in the lower half and `number` in the upper half of one number. A tag has them in this order, so that
+/// both are read and compared at once.
 #[inline(always)]
 pub(crate) fn pair_bits(database: u32, number: u32) -> u64
     ensures { result ≡ pair_bits database number }
@@ -43,7 +44,7 @@ pub(crate) fn is_same_pair(
     pair_bits(database, number) == pair_bits(other_database, other_number)
 }
 
-/// The object of `tag` in 64 bits.
+/// The object of `tag` in 64 bits, for a hash.
 #[inline(always)]
 fn object_bits(tag: &Tag) -> u64
     ensures { result ≡ object_bits tag.now }
@@ -73,8 +74,8 @@ fn object_bits(tag: &Tag) -> u64
     }
 }
 
-/// The hash of an object in 64 bits, `object`, and of `mode`: the upper half of a product, whose highest bits depend
-/// on all of them.
+/// The hash of `object`, an object in 64 bits, and of `mode`: the upper half of a product, whose highest bits depend
+/// on all bits of both.
 #[inline(always)]
 pub(crate) fn hash_of(object: u64, mode: Mode) -> u32
     ensures { result ≡ hash_of object mode }
@@ -91,7 +92,7 @@ pub(crate) fn key_hash(tag: &Tag, mode: Mode) -> u32
     hash_of(object_bits(tag), mode)
 }
 
-/// What the first place that `index` has for `tag` and `mode` shows: that they aren't held, or the place of their
+/// What the first place that `index` has for `tag` and `mode` shows: that they have no entry, or the place of their
 /// slot in `slots`, which may be empty.
 #[inline(always)]
 pub(crate) fn glance_at(slots: &[Entry], index: &PlaceIndex, tag: &Tag, mode: Mode) -> Glance
@@ -124,8 +125,8 @@ pub(crate) fn look_up(slots: &[Entry], index: &PlaceIndex, tag: &Tag, mode: Mode
     }
 }
 
-/// The place in `slots` of the entry of `relation` in `database` and `mode`, looked for through `index`: most objects
-/// are relations.
+/// The place in `slots` of the entry of the relation `relation` of `database` and of `mode`, looked for through
+/// `index`: most objects are relations.
 #[inline(always)]
 fn look_up_relation(
     slots: &[Entry],
@@ -187,8 +188,8 @@ pub(crate) fn look(
     look_elsewhere(slots, index, tag, mode)
 }
 
-/// The place in `slots` of the entry of `tag` and `mode`, looked for through `index` where the first look didn't find
-/// it: a call of its own, so that a look that does find it remains short.
+/// The place in `slots` of the entry of `tag` and `mode`, looked for through `index`: a call of its own, so that
+/// `look` remains short where it finds the entry without `index`.
 #[inline(never)]
 fn look_elsewhere(slots: &[Entry], index: &PlaceIndex, tag: &Tag, mode: Mode) -> Option<usize>
     requires { IsIndexed (opened slots.now) index.now }

@@ -3,15 +3,14 @@ ghost use Rattle.std.specs.Prelude.{◌≡◌, ◌≢◌, ◌↔◌, ◌+◌, �
 use crate::looks::is_same_pair;
 use modes_core::{Mode, Owner, Tag};
 
-/// An object and a mode that the session has, and how often it has it for each owner (`LOCALLOCK` in
-/// lock.h).
+/// An object and a lock mode in which the session has it, and how often for each owner (`LOCALLOCK` in lock.h).
 #[derive(Clone, Copy, Debug, PartialEq, Eq)]
 pub struct Entry {
     pub tag: Tag,
     pub mode: Mode,
-    /// How often the session has the mode for its transaction.
+    /// How often the session has the entry's object and mode for its transaction.
     pub transaction: u16,
-    /// How often the session has the mode for itself.
+    /// How often the session has the entry's object and mode for itself.
     pub session: u16,
 }
 
@@ -45,7 +44,7 @@ impl Entry {
         }
     }
 
-    /// How often both owners together have it (`nLocks` of `LOCALLOCK`).
+    /// How often both owners together have the entry (`nLocks` of `LOCALLOCK` in lock.h).
     #[inline(always)]
     pub fn total(&self) -> u32
         ensures { result ≡ count_in_all self.now }
@@ -82,7 +81,8 @@ impl Entry {
         }
     }
 
-    /// Whether the entry is of `relation` in `database` and of `mode`. A relation is compared as one number.
+    /// Whether the entry is of the relation `relation` of `database` and of `mode`. `database` and `relation` are
+    /// compared as one number.
     #[inline(always)]
     pub(crate) fn is_of_relation(&self, database: u32, relation: u32, mode: Mode) -> bool
         ensures { result ≡ is_of (Relation database relation) mode self.now }

@@ -25,7 +25,7 @@ pub(crate) fn raise(slots: &mut Vec<Entry>, place: usize, owner: Owner)
     slots[place].raise(owner);
 }
 
-/// Lowers the count of `owner` in the entry at `place` of `slots`, which keeps a count.
+/// Lowers the count of `owner` in the entry at `place` of `slots`. A count of the entry is left.
 #[inline(always)]
 pub(crate) fn lower(slots: &mut Vec<Entry>, place: usize, owner: Owner)
     requires within { place < length slots.old.items }
@@ -40,8 +40,8 @@ pub(crate) fn lower(slots: &mut Vec<Entry>, place: usize, owner: Owner)
     slots[place].lower(owner);
 }
 
-/// Raises the count of `owner` in the entry at `place` of `slots` where that is above 0 and below `most`, and
-/// answers whether it did. Each owner has code of its own, so that none is chosen twice.
+/// Raises the count of `owner` in the entry at `place` of `slots` where the count is above 0 and below `most`, and
+/// answers whether the count was raised. There is code for each owner, so that `owner` is looked at only once.
 #[inline(always)]
 pub(crate) fn raise_held(slots: &mut Vec<Entry>, place: usize, owner: Owner, most: u16) -> bool
     requires { place < length slots.old.items }
@@ -81,8 +81,8 @@ fn raise_if_held(slots: &mut Vec<Entry>, place: usize, owner: Owner, most: u16) 
     true
 }
 
-/// Lowers the count of `owner` in the entry at `place` of `slots` where that is above 1, and answers whether it did.
-/// Each owner has code of its own here, too.
+/// Lowers the count of `owner` in the entry at `place` of `slots` where the count is above 1, and answers whether the
+/// count was lowered. There is code for each owner, so that `owner` is looked at only once.
 #[inline(always)]
 pub(crate) fn lower_held(slots: &mut Vec<Entry>, place: usize, owner: Owner) -> bool
     requires { place < length slots.old.items }
@@ -119,7 +119,8 @@ fn lower_if_held(slots: &mut Vec<Entry>, place: usize, owner: Owner) -> bool
     true
 }
 
-/// Makes a last slot of `slots` with `entry`, for which there is room, and notes its place in `index` under `hash`.
+/// Adds `entry` in a new last slot of `slots`, for which there is room, and notes the slot's place in `index` under
+/// `hash`.
 #[inline(always)]
 pub(crate) fn push_entry(slots: &mut Vec<Entry>, index: &mut PlaceIndex, hash: u32, entry: Entry)
     requires indexed { IsIndexed (opened slots.old.items) index.old }
@@ -140,8 +141,8 @@ pub(crate) fn push_entry(slots: &mut Vec<Entry>, index: &mut PlaceIndex, hash: u
     index.insert_last(hash, place as u32);
 }
 
-/// How many of `slots` slots stay where the entry at `place` goes and `notes` notes are left: none with the only
-/// entry, otherwise all but the last one where that was its slot.
+/// How many of `slots` slots are kept where the entry at `place` goes and `notes` notes are left in the index: none
+/// where no note is left, otherwise all but the last slot if that is the one at `place`, or all.
 #[inline(always)]
 fn slots_left(slots: usize, notes: usize, place: usize) -> usize
     requires { place < slots }
@@ -156,8 +157,8 @@ fn slots_left(slots: usize, notes: usize, place: usize) -> usize
     slots
 }
 
-/// Takes the entry at `place` out of its slot and its place out of `index`, and the slot away if it is the last one;
-/// with the only entry all slots go. `hash` is that of the entry's object and mode.
+/// Takes the entry at `place` out of its slot in `slots` and `place` out of `index`. The slot itself goes if it is
+/// the last one, and all slots go with the last note of `index`. `hash` is that of the entry's object and mode.
 #[inline(never)]
 pub(crate) fn take_out(slots: &mut Vec<Entry>, index: &mut PlaceIndex, place: usize, hash: u32)
     requires indexed { IsIndexed (opened slots.old.items) index.old }
@@ -177,9 +178,8 @@ pub(crate) fn take_out(slots: &mut Vec<Entry>, index: &mut PlaceIndex, place: us
     slots.truncate(used);
 }
 
-/// Takes the entry of the last slot, at `place`, out of `slots` and `index`, with neither a loop nor a call: that
-/// slot alone goes, and empty ones before it stay until the entries are moved together, or until the last one goes
-/// by `take_out`.
+/// Takes the last slot, at `place`, with its entry out of `slots` and `index`, with neither a loop nor a call. Empty
+/// slots before it are kept until the entries are moved together, or until `take_out` takes the last entry.
 #[inline(always)]
 pub(crate) fn take_last(slots: &mut Vec<Entry>, index: &mut PlaceIndex, place: usize)
     requires indexed { IsIndexed (opened slots.old.items) index.old }
@@ -198,10 +198,10 @@ pub(crate) fn take_last(slots: &mut Vec<Entry>, index: &mut PlaceIndex, place: u
     index.remove_last(place as u32);
 }
 
-/// Takes the entry at `place`, which an end takes away, out of its slot, where there are `len` entries. Its place
-/// stays in `index` where others have stayed, or where half of the slots are still to be gone through and the index
-/// is not much larger than what it has: then `tidy` takes them out at once, in time in proportion to the slots that
-/// the end goes through.
+/// Takes the entry at `place`, which an end takes away, out of its slot in `slots`, where there are `len` entries.
+/// `index` keeps `place` where it has places of empty slots already, or where the end is still to go through half of
+/// the slots and `index` is not much larger than the number of its notes. `tidy` takes such places out all together,
+/// in time in proportion to the slots that the end goes through.
 #[inline(always)]
 pub(crate) fn take_ended(slots: &mut Vec<Entry>, index: &mut PlaceIndex, len: usize, place: usize)
     requires indexed { IsIndexed (opened slots.old.items) index.old }
@@ -224,8 +224,8 @@ pub(crate) fn take_ended(slots: &mut Vec<Entry>, index: &mut PlaceIndex, len: us
     take_out(slots, index, place, hash);
 }
 
-/// Goes on with `end` from the slot at `from` of `slots`: leaves each entry the counts that outlive it, up to the
-/// first entry that has none, and gives the place of that one, or the number of slots.
+/// Goes on with `end` from the slot at `from` of `slots`: leaves each entry the counts that outlive `end`, up to the
+/// first entry of which no count does, and answers the place of that entry, or the number of slots.
 pub(crate) fn settle(slots: &mut [Entry], end: End, from: usize) -> usize
     requires within { from ≤ length slots.old }
     requires past { IsPast end (opened slots.old) from }
@@ -251,9 +251,9 @@ pub(crate) fn settle(slots: &mut [Entry], end: End, from: usize) -> usize
     slots.len()
 }
 
-/// Goes on with the end of the innermost of `depth` inner levels from the slot at `from` of `slots`: takes from each
-/// entry what this level has by its list in `outer`, up to the first entry that has nothing else, and gives the place
-/// of that one, or the number of slots. An end of that level has nothing to do before it any more.
+/// Goes on with the end of the innermost of `depth` inner levels from the slot at `from` of `slots`: takes the
+/// level's count, by the entry's list in `outer`, from each entry, up to the first entry that has no other count, and
+/// answers the place of that entry, or the number of slots. Before the answered place the end has nothing left to do.
 pub(crate) fn settle_inner(
     slots: &mut Vec<Entry>,
     outer: &mut Vec<OuterCounts>,
@@ -286,7 +286,8 @@ pub(crate) fn settle_inner(
     slots.len()
 }
 
-/// Moves `entry` from the slot at `place` of `slots` down to the one at `to`, over empty slots.
+/// Moves `entry` from the slot at `place` of `slots` down to the slot at `to`. From `to` up to `place` all slots are
+/// empty.
 fn move_down(slots: &mut Vec<Entry>, place: usize, to: usize, entry: Entry)
     requires there { slot_at (opened slots.old.items) place ≡ Some entry }
     requires down { to ≤ place }
@@ -306,7 +307,7 @@ fn move_down(slots: &mut Vec<Entry>, place: usize, to: usize, entry: Entry)
     slots[to] = entry;
 }
 
-/// Moves the entries of `slots` together, so that no slot is empty, and each one's list of `outer` with it.
+/// Moves the entries of `slots` together, so that no slot is empty, and each entry's list in `outer` with the entry.
 fn gather(slots: &mut Vec<Entry>, outer: &mut Vec<OuterCounts>)
     requires few { length slots.old.items ≤ no_place }
     requires lists { length slots.old.items ≤ length outer.old.items }
@@ -346,8 +347,8 @@ fn note_all(slots: &[Entry], index: &mut PlaceIndex)
     }
 }
 
-/// Moves the entries of `slots` together with their lists in `outer`, so that no slot is empty, and notes their new
-/// places alone in `index`.
+/// Moves the entries of `slots` down over the empty slots, so that no slot is empty, and their lists in `outer` with
+/// them. `index` has the entries' new places then, and no others.
 #[cold]
 #[inline(never)]
 pub(crate) fn compact(slots: &mut Vec<Entry>, index: &mut PlaceIndex, outer: &mut Vec<OuterCounts>)
@@ -369,8 +370,9 @@ pub(crate) fn compact(slots: &mut Vec<Entry>, index: &mut PlaceIndex, outer: &mu
     note_all(slots.as_slice(), index);
 }
 
-/// Ends an end that may have left places of empty slots in `index`, beside those of `len` entries: then the entries
-/// of `slots` are moved together with their lists in `outer`, and no slot is empty. Else nothing is done, in no time.
+/// Takes the places of empty slots out of `index` that an end may have left beside the places of the `len` entries:
+/// if there are some, the entries of `slots` are moved down over the empty slots, with their lists in `outer`, and no
+/// slot is empty. Otherwise nothing is done.
 #[inline(always)]
 pub(crate) fn tidy(
     slots: &mut Vec<Entry>,

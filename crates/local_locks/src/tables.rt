@@ -19,19 +19,20 @@ use place_index::PlaceIndex;
 use std::alloc::Global;
 use std::marker::Model;
 
-/// How many slots there are room for at first, as `LockMethodLocalHash` of lock.c has. Fewer would let the tables
-/// of two sessions share a cache line, which each of them writes in every call.
+/// For how many slots a local table has room at first, as `LockMethodLocalHash` in lock.c has. With fewer the tables
+/// of two sessions could share a cache line, which both sessions would write in every call.
 const FIRST_SLOTS: usize = 16;
 
 /// How many entries a local table may have at most.
 pub const MOST_LOCAL: u32 = 65_536;
 
-/// How many slots there may be, so that the place of each can be noted.
+/// How many slots a local table may have at most, so that the place of each can be noted in the index.
 const MAX_SLOTS: usize = u32::MAX as usize - 1;
 
-/// What a session holds, how often and for which owner (the hash table `LockMethodLocalHash` in
-/// lock.c). Contracts see the entries in the order of making, how many more can be made with no growth,
-/// for how many there are slots, and how many there may be.
+/// The local lock table of a session: what the session holds, how often and for which owner (the hash table
+/// `LockMethodLocalHash` in lock.c). Contracts see the entries in the order of making, what the outer levels of the
+/// transaction have, how many more entries can be made with no growth, for how many there are slots, and how many
+/// there may be.
 #[derive(Drop)]
 pub struct LocalTable {
     slots: Vec<Entry>,
@@ -74,8 +75,8 @@ impl Model for LocalTable {
 }
 
 impl LocalTable {
-    /// An empty table with room for its first entries, which takes `max_local` entries at most and grows by `alloc`.
-    /// Refused only where memory ran out.
+    /// An empty local table with room for its first entries, which takes `max_local` entries at most and grows by
+    /// `alloc`. Refused only where memory ran out.
     pub fn new(alloc: Global, max_local: u32) -> Result<Self, Refusal>
         requires from { 1 ≤ max_local }
         requires to { max_local ≤ 65536 }
@@ -121,8 +122,8 @@ impl LocalTable {
         }
     }
 
-    /// How often `owner` has `tag` in `mode` and can give it back: the session, or the innermost level of the
-    /// transaction.
+    /// How often `owner` has `tag` in `mode` and can give it back: for the transaction, how often its innermost level
+    /// has it.
     pub fn owner_count(&self, tag: Tag, mode: Mode, owner: Owner) -> u16
         ensures count { result ≡ own_count_of self.now tag mode owner }
         ensures well_owned { IsWellOwned self.now }
@@ -133,7 +134,7 @@ impl LocalTable {
         }
     }
 
-    /// The entries, in the order of making.
+    /// The entries of the local table, in the order of making.
     pub fn entries(&self) -> Entries<'_>
         ensures entries { result ≡ self.now.entries }
         ensures well_owned { IsWellOwned self.now }
@@ -141,7 +142,8 @@ impl LocalTable {
         Entries::of(&self.slots)
     }
 
-    /// The level of the transaction: 1, and one more for each that was begun within it.
+    /// The innermost level of the transaction: 1, and one more for each level that was begun within another and has
+    /// not ended.
     pub fn level(&self) -> u8
         ensures level { result ≡ level_of self.now }
         ensures well_owned { IsWellOwned self.now }
@@ -149,7 +151,7 @@ impl LocalTable {
         self.depth + 1
     }
 
-    /// How often `level` has `tag` in `mode`.
+    /// How often the level `level` of the transaction has `tag` in `mode`.
     pub fn level_count(&self, tag: Tag, mode: Mode, level: u8) -> u16
         requires from { 1 ≤ level }
         requires to { level ≤ level_of self.now }
@@ -162,8 +164,8 @@ impl LocalTable {
         }
     }
 
-    /// Begins a level within the innermost one, which has nothing yet, and answers the new level (`PushTransaction` in
-    /// xact.c). It takes no memory, and looks at no entry.
+    /// Begins a level of the transaction within the innermost one and answers its number (`PushTransaction` in
+    /// xact.c). The new level has nothing yet. This takes no memory, and looks at no entry.
     pub fn begin_nested(&mut self) -> Result<u8, Refusal>
         ensures too_deep { IsErrOf result Refusal.TooDeep ↔ (level_of self.old ≡ max_level) }
         ensures no_other { IsOkUnless result Refusal.TooDeep }
@@ -186,8 +188,8 @@ impl LocalTable {
         Ok(self.depth + 1)
     }
 
-    /// Ends the innermost level, gives what it has to the one that it was begun in, and answers the new level
-    /// (`LockReassignCurrentOwner` in lock.c). It takes no memory.
+    /// Ends the innermost level of the transaction, gives what this level has to the level in which it was begun, and
+    /// answers the number of that one (`LockReassignCurrentOwner` in lock.c). This takes no memory.
     pub fn hand_up(&mut self) -> Result<u8, Refusal>
         ensures no_nested { IsErrOf result Refusal.NoNested ↔ (level_of self.old ≡ 1) }
         ensures no_other { IsOkUnless result Refusal.NoNested }

@@ -32,7 +32,7 @@ static WORKLOADS: [&str; 10] = [
 /// How many steps of a workload there are at most where it is made alone.
 const MOST_STEPS: u32 = 1_000_000_000;
 
-/// What `--help` shows of the pages.
+/// The list of the pages that `--help` shows.
 const EACH_PAGE: &str = "Pages, all of which are printed where none is named:
   local      the local table
   manager    the lock manager on one thread
@@ -88,9 +88,9 @@ impl Page {
 pub struct Wanted<'a> {
     /// Whether only a small fixed run is made, whose output has no times.
     pub check: bool,
-    /// The one page that is named.
+    /// The name of the only page that is asked for, if a page is named.
     page: Option<&'a str>,
-    /// The files that the figures of the workloads are written to.
+    /// The file that the figures of the workloads are written to as CSV, if it is named. The one for a chart of them is `svg`.
     pub csv: Option<&'a str>,
     pub svg: Option<&'a str>,
     /// The file with the instructions of each workload.
@@ -108,8 +108,8 @@ pub struct Alone<'a> {
 }
 
 impl Wanted<'_> {
-    /// Whether `page` is printed: no page is named, or this one is. That of the workloads is printed too where a file
-    /// is to have its figures, or has its instructions.
+    /// Whether `page` is printed: no page is named, or `page` is. The page of the workloads is printed too where a file is to have its figures, or
+    /// has its instructions.
     pub fn has(&self, page: Page) -> bool {
         let is_for_file = self.csv.is_some() || self.svg.is_some() || self.counts.is_some();
         match self.page {

@@ -25,14 +25,14 @@ static OF_MUTEX: [Case; 1] = [Case::Mutex];
 /// How many threads contend, by the parts of the page.
 static THREADS: [u32; 4] = [2, 4, 16, 64];
 
-/// For how long something is held, and how often that is taken in a round by all threads together.
+/// For how long something is held, and how often something is taken in a round by all threads together.
 #[derive(Clone, Copy)]
 struct Work {
     nanos: u64,
     acquires: u32,
 }
 
-/// For how long something is held in most cases, and how often.
+/// The lengths of work in most cases: for how long something is held, and how often something is taken.
 static WORK: [Work; 3] = [
     Work {
         nanos: 0,
@@ -48,7 +48,7 @@ static WORK: [Work; 3] = [
     },
 ];
 
-/// A listing has no work beside it.
+/// The length of work in the case of a listing: none beside the listing itself.
 static LISTINGS: [Work; 1] = [Work {
     nanos: 0,
     acquires: 4_800,
@@ -57,13 +57,13 @@ static LISTINGS: [Work; 1] = [Work {
 /// How often all threads together take something in a round where nothing is timed.
 const CHECKED: u32 = 640;
 
-/// How many rounds there are, of which the one in the middle is printed.
+/// How many rounds of a job there are, of which the one in the middle is printed.
 const ROUNDS: usize = 5;
 
-/// The cases that as many sessions as there can be run.
+/// The cases that are run with as many sessions as a manager can have.
 static OF_ALL_SESSIONS: [Case; 2] = [Case::OneObject, Case::OnePartition];
 
-/// For how long, and how often, something is held in `case`.
+/// The lengths of work in `case`: for how long, and how often, something is held.
 fn work_of(case: Case) -> &'static [Work] {
     match case {
         Case::Listing => LISTINGS.as_slice(),
@@ -97,7 +97,7 @@ fn job(case: Case, work: Work, asked: Asked, threads: u32) -> Job {
     }
 }
 
-/// The times by the clock on the wall of several rounds, their longest waits and their processor times, in nanoseconds.
+/// The figures of several rounds, in nanoseconds: their times by the clock on the wall, their longest waits and their processor times.
 #[derive(Clone, Copy)]
 struct Figures {
     wall: [u64; ROUNDS],
@@ -106,7 +106,7 @@ struct Figures {
 }
 
 impl Figures {
-    /// The figures of rounds of which none was made yet.
+    /// The figures of a job of which no round was made yet.
     fn new() -> Self {
         Figures {
             wall: [0; ROUNDS],
@@ -125,7 +125,7 @@ impl Figures {
     }
 }
 
-/// The figure in the middle of `figures`, once they are sorted.
+/// The figure that is in the middle of `figures`, once they are sorted.
 fn middle(mut figures: [u64; ROUNDS]) -> u64 {
     figures.sort_unstable();
     figures[ROUNDS / 2]
@@ -264,8 +264,8 @@ fn print_mutex_jobs<R: Threads + Wait + Clock + CpuClock + Print + Sync>(
     Ok(())
 }
 
-/// Prints the figures of `jobs` by the sessions of `crew`, all of which `_desk` has open; with `check` how many
-/// requests of one round of each were granted.
+/// Prints the figures of `jobs` by the sessions of `crew`, all of which `_desk` has open; with `check` how many requests of one round of each job
+/// were granted.
 fn print_at_work<
     B: Board<Part> + Send,
     D: Desk<OwnSession<Part, B>>,
@@ -279,8 +279,7 @@ fn print_at_work<
     print_jobs(rt, crew, jobs, check)
 }
 
-/// Prints the figures of `jobs`, as `asked` for, by `threads` threads, each with a session from `desk`, which has
-/// none open before and after.
+/// Prints the figures of `jobs`, as `asked` for, by `threads` threads, each with a session from `desk`, which has no session open before and after.
 fn print_crew<
     B: Board<Part> + Send,
     D: Desk<OwnSession<Part, B>>,
@@ -305,8 +304,8 @@ fn print_crew<
     }
 }
 
-/// Prints the figures of `jobs`, as `asked` for, by `threads` threads with sessions from `desk`, that of a manager.
-/// Only this function names the board of the shared table: all that it calls is written over any board.
+/// Prints the figures of `jobs`, as `asked` for, by `threads` threads with sessions from `desk`, that of a manager. Only this function names the
+/// board of the shared lock table: all functions that it calls are written over any board.
 fn print_at_desk<R: Threads + Wait + Clock + CpuClock + AllocGlobal + Print + Sync>(
     rt: &R,
     desk: &mut ManagerDesk<'_>,
@@ -321,7 +320,7 @@ fn print_at_desk<R: Threads + Wait + Clock + CpuClock + AllocGlobal + Print + Sy
     print_crew(rt, desk, jobs, asked, threads)
 }
 
-/// Prints, as `asked` for, what `threads` threads do with sessions of a manager that is made for them.
+/// Prints, as `asked` for, what `threads` threads do with sessions of a manager that is made for these threads.
 fn print_sessions<R: Threads + Wait + Clock + CpuClock + AllocGlobal + Print + Sync>(
     rt: &R,
     asked: Asked,

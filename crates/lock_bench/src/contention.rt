@@ -23,17 +23,16 @@ const LISTED: u32 = 250;
 /// How often the clock is read at most while a lock is held.
 const READINGS: u32 = 1_000_000;
 
-/// What each thread does, over and over.
+/// What each thread of a round does, over and over.
 #[derive(Clone, Copy)]
 pub enum Case {
-    /// Takes one object of all in ExclusiveLock, works, and releases it.
+    /// Takes the one object that all threads share in ExclusiveLock, works, and releases it.
     OneObject,
-    /// Takes an object of its own in ExclusiveLock, works, and releases it. All these objects are of one partition.
+    /// Takes an object of the thread's own in ExclusiveLock, works, and releases it. The objects of all threads are of one partition.
     OnePartition,
-    /// Lists all holds, for which it locks every partition at once. The first thread has what is found, until all have
-    /// ended.
+    /// Lists all holds, for which every partition is locked at once. The first thread has the holds that are found, until all threads have ended.
     Listing,
-    /// Takes a standard mutex, works, and releases it. It needs no session.
+    /// Takes a standard mutex, works, and releases it. No session is needed.
     Mutex,
 }
 
@@ -56,20 +55,19 @@ pub struct Job {
     pub database: u32,
     pub owner: Owner,
     pub threads: u32,
-    /// For how many nanoseconds each thread works while it has what it took.
+    /// For how many nanoseconds each thread of the job works while it has what it took.
     pub work: u64,
-    /// How often each thread takes what the case says.
+    /// How often each thread of the job takes what the job's case says.
     pub laps: u32,
 }
 
 impl Job {
-    /// How often all threads together take something in a round.
+    /// How often all threads of the job together take something in a round.
     pub fn acquires(self) -> u64 {
         u64::from(self.threads).saturating_mul(u64::from(self.laps))
     }
 
-    /// The object that the thread with the number `thread` takes. Numbers that are sixteen apart belong to one
-    /// partition.
+    /// The object that the thread with the number `thread` takes. Those of two threads belong to one partition where their numbers are sixteen apart.
     fn object(self, thread: usize) -> Tag {
         let own = match self.case {
             Case::OnePartition => u32::try_from(thread).unwrap_or(0).wrapping_mul(16),
@@ -89,8 +87,8 @@ fn work(rt: &impl Clock, nanos: u64) {
     }
 }
 
-/// Takes the object `tag` by `session`, works as long as `job` says, and releases it. Answers how long the request
-/// waited, and whether it was granted.
+/// Takes the object `tag` by `session`, works as long as `job` says, and releases the object. Answers how long the request waited, and whether it was
+/// granted.
 fn hold<B: Board<Part>, R: Wait + Clock>(
     rt: &R,
     session: &mut OwnSession<Part, B>,
@@ -109,7 +107,7 @@ fn hold<B: Board<Part>, R: Wait + Clock>(
     (waited, is_granted)
 }
 
-/// Lists all holds by `session`. Answers how long that took, and whether all that the first thread has were found.
+/// Lists all holds by `session`. Answers how long that took, and whether all holds of the first thread were found.
 fn list<B: Board<Part>, R: Wait + Clock>(rt: &R, session: &mut OwnSession<Part, B>) -> (u64, bool)
     ensures seat { KeepsSeat B.seat session.old session.new }
 {
@@ -222,7 +220,7 @@ fn run_crew<B: Board<Part> + Send, R: Threads + Wait + Clock + CpuClock + Sync>(
     run_sessions(rt, crew.as_mut_slice(), round);
 }
 
-/// Takes `lock`, works as long as `job` says, and releases it. Answers how long it waited.
+/// Takes `lock`, works as long as `job` says, and releases `lock`. Answers how long the request waited.
 fn hold_mutex<R: Wait + Clock>(rt: &R, lock: &Mutex<u64>, job: Job) -> u64 {
     let from = now(rt);
     let mut held = lock.lock(rt);

@@ -4,7 +4,7 @@
 use anyhow::{Result, anyhow};
 use std::fs::{self, Files};
 
-/// The text of a file of counts, with the file's name.
+/// The text of a file with the instructions of each workload, and the file's name.
 #[derive(Drop)]
 pub struct Counts<'a> {
     name: &'a str,

@@ -12,15 +12,15 @@ use shared_rule::{Board, SeatBoard};
 use std::sync::Wait;
 use std::thread::{Threads, join, join_mut};
 
-/// What each thread takes and releases, over and over.
+/// What each thread of a crew takes and releases, over and over.
 #[derive(Drop)]
 pub struct Job {
     pub name: &'static str,
-    /// The keys of each thread, of all as many.
+    /// The keys of each thread, the same number for each.
     pub keys: Vec<Vec<Key>>,
     pub owner: Owner,
     pub laps: u32,
-    /// How long the job takes in one thread, once that was timed.
+    /// How long the job takes in one thread, once a round in one thread was timed.
     pub alone: Option<Spread>,
 }
 
@@ -48,8 +48,7 @@ pub struct Crew<B: Board<Part>> {
 }
 
 impl<'a> Crew<SeatBoard<'a, Part>> {
-    /// Opens by `opener` four sessions of `manager`, which work in `database`. Where one of them is refused none of
-    /// them is open.
+    /// Opens by `opener` four sessions of `manager`, which work in `database`. Where one session is refused none is open.
     pub fn open<R: Wait>(
         rt: &R,
         manager: &'a Manager,
@@ -98,8 +97,8 @@ impl<'a> Crew<SeatBoard<'a, Part>> {
 }
 
 impl<B: Board<Part> + Send> Crew<B> {
-    /// Does the work of `job` by as many of the sessions as `threads` says: by one in this thread, by two in two, or by
-    /// all in four. Answers whether nothing was refused.
+    /// Does the work of `job` by as many sessions as `threads` says: by one in this thread, by two in two threads, or by all in four. Answers whether
+    /// nothing was refused.
     pub fn work<R: Threads + Wait + Sync>(&mut self, rt: &R, job: &Job, threads: u32) -> bool
         ensures first { B.seat self.new.left.first.board ≡ B.seat self.old.left.first.board }
         ensures second { B.seat self.new.left.second.board ≡ B.seat self.old.left.second.board }

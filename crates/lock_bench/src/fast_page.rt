@@ -20,8 +20,8 @@ const REFUSED_FLOOR: &str = "floor: atomic steps of a refused try";
 
 const STRONG_FLOOR: &str = "floor: atomic steps of a strong pair";
 
-/// The rows for managers with one and with eight groups of slots. With eight groups all of these relations are locked by
-/// slots, with one group the first sixteen.
+/// The rows for managers with one and with eight groups of fast-path slots. With eight groups all relations of a row are locked by slots, with one
+/// group the first sixteen.
 fn rows_of_groups() -> [Row<Work>; 6] {
     [
         Row::new(ONE_CALL, Work::OneEmptyCall, KeyList::Weak),
@@ -51,8 +51,8 @@ fn rows_of_groups() -> [Row<Work>; 6] {
     ]
 }
 
-/// The rows for managers with one group of slots. Each is compared with its atomic steps. A held pair has none, and is
-/// compared with those of a new one.
+/// The rows for managers with one group of fast-path slots. Each row is compared with its atomic steps. That of a held pair has none, and is compared
+/// with the steps of a new pair.
 fn rows() -> [Row<Work>; 10] {
     [
         Row::new(ONE_CALL, Work::OneEmptyCall, KeyList::Weak),

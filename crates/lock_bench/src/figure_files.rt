@@ -28,7 +28,7 @@ fn open_file<R: Files>(rt: &R, name: &str) -> Result<()> {
     }
 }
 
-/// Writes `figures` to the files that `wanted` names. Where one of them can't be written the other one is.
+/// Writes `figures` to the files that `wanted` names. Where one file can't be written the other is written all the same.
 pub fn write_files<R: AllocGlobal + Files>(
     rt: &R,
     wanted: &Wanted<'_>,
@@ -53,7 +53,7 @@ fn write_made<R: Files>(
     }
 }
 
-/// Writes `text` to the file `name` in place of what is there. An error says whether that is lost.
+/// Writes `text` to the file `name` in place of the file's content. An error says whether that content is lost.
 fn write_file<R: Files>(rt: &R, name: &str, text: &str) -> Result<()> {
     let mut file = match File::create(rt, name) {
         Ok(file) => file,

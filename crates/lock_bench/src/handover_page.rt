@@ -24,7 +24,7 @@ const LOCK: &str = "an exclusive lock";
 
 const TURN: &str = "a turn, by mutex and condition variable";
 
-/// What a round of turns came to.
+/// What a round of handovers came to.
 #[derive(Clone, Copy)]
 struct Round {
     nanos: u64,
@@ -55,8 +55,8 @@ fn play<R: Threads + Wait + Clock + AllocGlobal + Sync>(
     })
 }
 
-/// Has both sessions of `pair` take the turns of `plan`. Answers with the sessions how many were granted, and the
-/// nanoseconds that they took.
+/// Has both sessions of `pair` take the turns of `plan`. Answers with the sessions how many turns were granted, and the nanoseconds that the turns
+/// took.
 fn time_lock<B: Board<Part> + Send, R: Threads + Wait + Clock + Sync>(
     rt: &R,
     pair: Pair<Part, B>,
@@ -105,7 +105,7 @@ fn time_turns<R: Threads + Wait + Clock + Sync>(rt: &R, turns: u32) -> Result<u6
     Ok(to.saturating_sub(from))
 }
 
-/// Prints `of_lock`, `of_turn`, and the ratio of these.
+/// Prints the times of a handover, `of_lock`, and of a turn under a mutex, `of_turn`, and their ratio.
 fn print_times<R: Print>(rt: &R, of_lock: Spread, of_turn: Spread) -> io::Result<()> {
     print_time(rt, WIDTH, LOCK, of_lock)?;
     print_time(rt, WIDTH, TURN, of_turn)?;

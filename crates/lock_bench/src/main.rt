@@ -65,8 +65,7 @@ fn read_words(rt: &HostRuntime) -> io::Result<Vec<String>> {
     Ok(env::args(rt)?.collect(rt.alloc())?)
 }
 
-/// Prints what `words` ask for, and answers the status. What is wrong with them is written to `errors`. The progress
-/// is shown where `is_terminal`.
+/// Prints what `words` ask for, and answers the status. What is wrong with `words` is written to `errors`. The progress is shown where `is_terminal`.
 fn run<
     R: Threads + Wait + Clock + CpuClock + AllocGlobal + Print + Eprint + Files + Sync,
     E: Write,
@@ -104,7 +103,7 @@ fn asked_of(has_no_words: bool, check: bool) -> Asked {
     }
 }
 
-/// Prints the pages that are `wanted`, as `asked` for, with `progress`, and writes the files that have their figures.
+/// Prints the pages that are `wanted`, as `asked` for, with `progress`, and writes the files of figures that are `wanted`.
 fn print_pages<R: Threads + Wait + Clock + CpuClock + AllocGlobal + Print + Eprint + Files + Sync>(
     rt: &R,
     wanted: &Wanted<'_>,

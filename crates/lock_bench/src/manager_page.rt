@@ -7,7 +7,7 @@ use bench_base::{KeyList, Row, STEPS, Size};
 use std::sync::Wait;
 use std::time::CpuClock;
 
-/// How many relations the session has that takes held ones again.
+/// How many relations a session has that takes held ones again.
 const HELD: u32 = 16;
 
 const ONE_CALL: &str = "empty loop of one call";
@@ -24,7 +24,7 @@ const MAP_LOOK_UP: &str = "map in a mutex: look-up";
 
 const MAP_COMMIT: &str = "map in a mutex: ten taken out, for each";
 
-/// The rows of the table. Each is compared with its work on the map.
+/// The rows of the page. Each row is compared with its work on the map.
 fn rows() -> [Row<Work>; 13] {
     [
         Row::new(ONE_CALL, Work::OneEmptyCall, KeyList::Objects),

@@ -15,7 +15,7 @@ pub struct Pair<T: PartTable, B: Board<T>> {
 }
 
 impl<T: PartTable, B: Board<T>> Pair<T, B> {
-    /// How many holds the shared table has, by a listing of the first session with `rt`.
+    /// How many holds there are in the manager of the pair, by a listing of the first session with `rt`.
     pub fn holds<R: Wait>(&mut self, rt: &R) -> Result<usize, Refusal>
         ensures first { B.seat self.new.first.board ≡ B.seat self.old.first.board }
         ensures second { self.new.second ≡ self.old.second }
@@ -25,8 +25,7 @@ impl<T: PartTable, B: Board<T>> Pair<T, B> {
 }
 
 impl<'a> Pair<Part, SeatBoard<'a, Part>> {
-    /// Opens by `opener` two sessions of `manager`, which work in `database`. Where one of them is refused none of
-    /// them is open.
+    /// Opens by `opener` two sessions of `manager`, which work in `database`. Where one session is refused none is open.
     pub fn open<R: Wait>(
         rt: &R,
         manager: &'a Manager,

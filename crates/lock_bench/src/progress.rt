@@ -1,13 +1,13 @@
 //! What a run writes to standard error while it goes on.
 
-/// Whether a run writes what is timed: it does where a terminal shows it.
+/// Whether a run writes what it times at the moment, for somebody at a terminal.
 #[derive(Clone, Copy)]
 pub struct Progress {
     is_shown: bool,
 }
 
 impl Progress {
-    /// A run that writes what is timed if `is_shown`.
+    /// The progress of a run, which writes what it times where `is_shown`.
     pub fn new(is_shown: bool) -> Self {
         Progress { is_shown }
     }

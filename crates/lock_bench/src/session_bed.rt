@@ -43,21 +43,21 @@ pub enum Work {
     TakeAndCommit,
     /// The key is locked. After all keys comes a commit, which alone is timed, by two readings of the clock.
     Commit,
-    /// All is listed, once for each key. Nothing is held.
+    /// All holds are listed, once for each key. Nothing is held for that.
     List,
-    /// Two readings of the clock for all of them.
+    /// Two readings of the clock, once for all keys.
     TwoReadings,
     /// The key is counted in the map once more and once less.
     MapPair,
     /// The key is looked up in the map.
     MapLookUp,
-    /// The key is counted in the map. After all keys each is counted once less, which alone is timed.
+    /// The key is counted in the map. After all keys each key is counted once less, which alone is timed.
     MapCommit,
     /// The atomic steps of a pair by a slot.
     PairFloor,
-    /// The atomic steps of a try of a slot that is refused.
+    /// The atomic steps of an acquire by a fast-path slot that is refused.
     RefusedFloor,
-    /// The atomic steps of a strong pair.
+    /// The atomic steps of a strong relation lock and its release.
     StrongFloor,
     /// The atomic steps of a pair in the table.
     TableFloor,
@@ -67,7 +67,8 @@ pub enum Work {
     RefusedRelationFloor,
 }
 
-/// A map in a mutex, the words of the floors, and what the other session has where a slot is to be refused.
+/// What a row is timed with beside the sessions: a map in a mutex, the words of the atomic steps, and what the other session has where a slot is to
+/// be refused.
 #[derive(Drop)]
 pub struct Bed {
     map: SharedMap,
@@ -119,7 +120,7 @@ impl Bed {
         })
     }
 
-    /// Makes the steps of `line`, a row that is timed as a whole, by `session`. Answers what they count.
+    /// Makes the steps of `line`, a row that is timed as a whole, by `session`. Answers what the steps count.
     fn run<T: PartTable, B: Board<T>, R: Wait>(
         &self,
         rt: &R,
@@ -152,8 +153,8 @@ impl Bed {
         Ok(0)
     }
 
-    /// Makes a round of the row `line` by the first session of `pair`. Answers its nanoseconds, and what it counted.
-    /// Before and after it the first session holds nothing, and the other one what it holds throughout.
+    /// Makes a round of the row `line` by the first session of `pair`. Answers the round's nanoseconds, and what it counted. Before and after the
+    /// round the first session holds nothing, and the other one what it holds throughout.
     pub fn time<T: PartTable, B: Board<T>, R: Wait + CpuClock>(
         &self,
         rt: &R,
@@ -173,8 +174,7 @@ impl Bed {
         Ok((nanos, 0))
     }
 
-    /// Makes a round of `line`, a row that is timed as a whole, by the first session of `pair`. Answers its
-    /// nanoseconds, and what it counted.
+    /// Makes a round of `line`, a row that is timed as a whole, by the first session of `pair`. Answers the round's nanoseconds, and what it counted.
     fn time_whole<T: PartTable, B: Board<T>, R: Wait + CpuClock>(
         &self,
         rt: &R,
@@ -218,7 +218,7 @@ impl Bed {
     }
 }
 
-/// The nanoseconds between two readings of the clock that follow each other at once, summed over `laps` of them.
+/// The nanoseconds between two readings of the clock that follow each other at once, summed over `laps` such pairs.
 fn readings<R: CpuClock>(rt: &R, laps: u32) -> Result<u64> {
     let mut taken = 0u64;
     for _ in 0..laps {

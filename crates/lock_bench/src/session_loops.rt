@@ -66,7 +66,7 @@ pub fn count_refused<T: PartTable, B: Board<T>, R: Wait>(
     refused
 }
 
-/// Goes `laps` times over `keys`, and lists all with `session` for each. Answers how many holds were listed.
+/// Goes `laps` times over `keys`, and lists all holds with `session` for each key. Answers how many holds were listed.
 pub fn count_listed<T: PartTable, B: Board<T>, R: Wait>(
     rt: &R,
     session: &mut OwnSession<T, B>,
@@ -85,8 +85,7 @@ pub fn count_listed<T: PartTable, B: Board<T>, R: Wait>(
     Ok(listed)
 }
 
-/// Goes `laps` times over `keys`, and asks for each by a slot of `session` alone, for `owner`. Answers how often a
-/// strong lock was counted.
+/// Goes `laps` times over `keys`, and asks for each by a fast-path slot of `session` alone, for `owner`. Answers how often a strong lock was counted.
 pub fn count_strong_counted<T: PartTable, B: Board<T>>(
     session: &mut OwnSession<T, B>,
     keys: &[Key],

@@ -17,21 +17,21 @@ use std::io;
 use std::sync::Wait;
 use std::time::CpuClock;
 
-/// How a page is asked for.
+/// How a page is asked for: with which database and owner, and whether for a check.
 #[derive(Clone, Copy)]
 pub struct Asked {
     pub database: u32,
     pub owner: Owner,
-    /// Whether only one round is made, whose output has no times.
+    /// Whether only one round of a page is made, whose output has no times.
     pub check: bool,
 }
 
-/// The rows of a page, and how it is asked for.
+/// A page: its name and rows, and how it is asked for.
 #[derive(Clone, Copy)]
 pub struct Page<'a> {
     pub name: &'a str,
     pub rows: &'a [Row<Work>],
-    /// What is said above the ratios.
+    /// The words above the ratios of the page.
     pub beside: &'a str,
     pub asked: Asked,
 }
@@ -61,7 +61,7 @@ pub fn print_heading<R: Print>(rt: &R, name: &str, asked: Asked) -> io::Result<(
     )
 }
 
-/// Prints the rows of `page` for a manager of `size`.
+/// Prints the rows of `page` for a manager of the size `size`.
 fn print_size<R: Wait + CpuClock + AllocGlobal + Print>(
     rt: &R,
     page: &Page<'_>,
@@ -94,8 +94,7 @@ fn print_size_header<R: Print>(rt: &R, size: Size) -> io::Result<()> {
     }
 }
 
-/// Makes all rounds of `lines` with a manager of `size`. Where `asked` is for a check, only one is made, and what it
-/// leaves is printed.
+/// Makes all rounds of `lines` with a manager of `size`. Where `asked` is for a check, only one round is made, and what it leaves is printed.
 pub fn run_lines<R: Wait + CpuClock + AllocGlobal + Print>(
     rt: &R,
     asked: Asked,
@@ -115,8 +114,8 @@ pub fn run_lines<R: Wait + CpuClock + AllocGlobal + Print>(
     done
 }
 
-/// Makes all rounds of `lines` with the sessions of `pair`, whose manager is of `size`. Where `asked` is for a check,
-/// only one is made, and what it leaves is printed.
+/// Makes all rounds of `lines` with the sessions of `pair`, whose manager is of `size`. Where `asked` is for a check, only one round is made, and
+/// what it leaves is printed.
 fn run_pair<T: PartTable, B: Board<T>, R: Wait + CpuClock + AllocGlobal + Print>(
     rt: &R,
     pair: &mut Pair<T, B>,
@@ -198,7 +197,7 @@ fn time_round<T: PartTable, B: Board<T>, R: Wait + CpuClock>(
     Ok(())
 }
 
-/// Prints what each of `lines` took, and below the words `beside` its ratio to the row that it is compared with.
+/// Prints what each of `lines` took, and, below the words `beside`, its ratio to the row that it is compared with.
 fn print_rows<R: Print>(rt: &R, lines: &[Line<Work>], beside: &str) -> Result<()> {
     print_times(rt, WIDTH, lines)?;
     println!(rt; "    {beside}")?;

@@ -18,40 +18,40 @@ use std::sync::Wait;
 use std::thread::Threads;
 use std::time::{Clock, CpuClock};
 
-/// How many sessions the managers have.
+/// How many sessions the managers of the page have, by its tables.
 static SESSIONS: [u32; 4] = [8, 64, 256, MOST_SESSIONS];
 
 /// How many locks a commit ends, how many the session has that takes held ones again, and how many are refused.
 const FEW: u32 = 10;
 
-/// How many managers are made, and how often the blockers of a waiter are asked for, in a round.
+/// How many managers are made in a round. `LOOKS` is how often the blockers of a waiter are asked for in a round.
 const MADE: u32 = 50;
 
 const LOOKS: u32 = 1_000;
 
-/// How many rounds there are, of which the shortest is printed.
+/// How many rounds of a figure there are, of which the shortest is printed.
 const ROUNDS: u32 = 5;
 
-/// How many bytes a word of the table has, a shelf, and a wait in a wait list.
+/// How many bytes a word of the shared lock table has. A shelf has `SHELF`, and a wait in a wait list `WAIT`.
 const WORD: usize = 8;
 
 const SHELF: usize = 16;
 
 const WAIT: usize = 4;
 
-/// How many shelves come first, for contents, and how far apart the wait lists lie on those after them.
+/// How many shelves of the shared lock table come first, for contents. On those after them the wait lists lie `LIST_GAP` apart.
 const CONTENT_SHELVES: usize = 128;
 
 const LIST_GAP: usize = 8;
 
-/// How many steps the row of a strong pair has, and that of a listing: they take longer the more sessions there are.
+/// How many steps the row of a strong pair has, and that of a listing: these steps take longer the more sessions there are.
 const STEPS: u32 = 2_000;
 
 const ONE_CALL: &str = "empty loop of one call";
 
 const TWO_CALLS: &str = "empty loop of two calls";
 
-/// The rows for a manager of each size.
+/// The rows of the page for a manager of each size.
 fn rows() -> [Row<Work>; 9] {
     [
         Row::new(ONE_CALL, Work::OneEmptyCall, KeyList::Weak),
@@ -87,7 +87,7 @@ fn config_of(sessions: u32) -> Config {
     }
 }
 
-/// Makes a manager of `config` and ends it, over and over, and answers the nanoseconds of the shortest round, for each.
+/// Makes a manager of `config` and ends it, over and over. Answers the nanoseconds for each manager in the shortest round.
 fn time_making<R: CpuClock + AllocGlobal>(rt: &R, config: Config) -> Result<u64> {
     let mut least = u64::MAX;
     for _ in 0..ROUNDS {
@@ -101,7 +101,7 @@ fn time_making<R: CpuClock + AllocGlobal>(rt: &R, config: Config) -> Result<u64>
     Ok(least / u64::from(MADE))
 }
 
-/// Asks over and over who is in the way of `waiting`, and answers the nanoseconds of the shortest round, for each look.
+/// Asks over and over who is in the way of `waiting`. Answers the nanoseconds for each look in the shortest round.
 fn time_looks<T: PartTable, B: Board<T>, R: Wait + CpuClock>(
     rt: &R,
     waiting: &mut OwnWaiting<T, B>,
@@ -164,8 +164,8 @@ fn blockers_of<R: Wait + CpuClock + AllocGlobal>(
     looked
 }
 
-/// Prints how many words and shelves the table of a manager of `sessions` has, and how many wait lists lie on the
-/// shelves, each with room for all sessions; and how many bytes all these have.
+/// Prints how many words and shelves the shared lock table of a manager of `sessions` has, how many wait lists are on the shelves, each with room for
+/// all sessions, and how many bytes all these have.
 fn print_memory<R: Print>(rt: &R, sessions: u32) -> io::Result<()> {
     let number = sessions.min(MOST_SESSIONS) as u16;
     let words = table_words(TableSizes {

@@ -26,7 +26,7 @@ enum Case {
     OneRelation,
 }
 
-/// The cases in the order of the table.
+/// The cases of the page in the order of its table.
 static CASES: [Case; 4] = [
     Case::OneObject,
     Case::OnePartition,
@@ -43,7 +43,7 @@ const OWN_KEYS: usize = 16;
 /// How many steps a thread has in a round.
 const STEPS: u32 = 100_000;
 
-/// How many steps a thread has where nothing is timed.
+/// How many steps a thread has in a round of a check, where nothing is timed.
 const CHECKED_STEPS: u32 = 1_600;
 
 impl Case {
@@ -57,7 +57,7 @@ impl Case {
         }
     }
 
-    /// What the thread with the number `thread` takes, at `database`, in a list that grows by `alloc`.
+    /// The objects that the thread with the number `thread` takes, at `database`, in a list that grows by `alloc`.
     fn keys(self, alloc: Global, database: u32, thread: u8) -> Result<Vec<Key>, AllocError> {
         let from = u32::from(thread) * 10_000;
         match self {
@@ -100,7 +100,7 @@ impl Case {
     }
 }
 
-/// The work of all cases, at `database` for `owner`: with `check` fewer steps.
+/// The work of all cases, at `database` for `owner`, with fewer steps where `check`.
 fn jobs(alloc: Global, database: u32, owner: Owner, check: bool) -> Result<Vec<Job>, AllocError> {
     let steps = if check { CHECKED_STEPS } else { STEPS };
     let mut jobs = Vec::new(alloc);
@@ -155,8 +155,8 @@ fn time_round<B: Board<Part> + Send, R: Threads + Wait + Clock + Sync>(
     Ok((between.saturating_sub(from), to.saturating_sub(between)))
 }
 
-/// Prints the times `of_crew` and `of_map` of the job `name`, and where `alone` has the time of one thread, how many
-/// times its throughput that is.
+/// Prints the times `of_crew` and `of_map` of the job `name`, and, where `alone` has the time of one thread, the ratio of the throughput to that of
+/// one thread.
 fn print_job<R: Print>(
     rt: &R,
     name: &str,
@@ -229,8 +229,7 @@ fn print_jobs<B: Board<Part> + Send, R: Threads + Wait + Clock + AllocGlobal + P
     Ok(())
 }
 
-/// Prints the times of `jobs` in one, two and four threads, with the sessions of `crew`, or with `check` what one
-/// round of each leaves.
+/// Prints the times of `jobs` in one, two and four threads, with the sessions of `crew`, or with `check` what one round of each job leaves.
 fn print_crew<B: Board<Part> + Send, R: Threads + Wait + Clock + AllocGlobal + Print + Sync>(
     rt: &R,
     crew: &mut Crew<B>,
@@ -269,8 +268,7 @@ pub fn print<R: Threads + Wait + Clock + AllocGlobal + Print + Sync>(
     print_with_crew(rt, database, jobs.as_mut_slice(), check)
 }
 
-/// Prints the times of `jobs` by four sessions, at `database`, of a manager of their own, or with `check` what one
-/// round of each leaves.
+/// Prints the times of `jobs` by four sessions, at `database`, of a manager of their own, or with `check` what one round of each job leaves.
 fn print_with_crew<R: Threads + Wait + Clock + AllocGlobal + Print + Sync>(
     rt: &R,
     database: u32,

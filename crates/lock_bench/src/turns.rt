@@ -13,7 +13,7 @@ use std::sync::atomic::{AtomicU64, Ordering};
 use std::sync::{Condvar, Mutex, Wait};
 use std::thread::{Threads, join, join_mut};
 
-/// What the two take, and how often each.
+/// What two sessions take in turns, and how often each.
 #[derive(Clone, Copy)]
 pub struct Plan {
     pub key: Key,
@@ -21,7 +21,7 @@ pub struct Plan {
     pub turns: u32,
 }
 
-/// Locks the key of `plan` by `session`, and waits for it where it must. Answers whether the session has it.
+/// Locks the key of `plan` by `session`, and waits for the lock where it must. Answers whether the session has the lock.
 #[inline(never)]
 fn lock<T: PartTable, B: Board<T>, R: Wait>(
     rt: &R,
@@ -34,8 +34,7 @@ fn lock<T: PartTable, B: Board<T>, R: Wait>(
     session.acquire(rt, tag, mode, plan.owner).is_ok()
 }
 
-/// Looks by `session` whether the other session awaits the key of `plan`, until it does or no more than one of them is
-/// `playing`.
+/// Looks by `session` whether the other session awaits the key of `plan`, until it does, or until `playing` shows that at most one thread plays.
 fn see_other<T: PartTable, B: Board<T>, R: Wait>(
     rt: &R,
     session: &mut OwnSession<T, B>,
@@ -56,8 +55,8 @@ fn see_other<T: PartTable, B: Board<T>, R: Wait>(
     unreachable!()
 }
 
-/// Takes the turns of `plan` by `session` while `playing` shows that both threads play: locks, and unlocks as soon as
-/// the other session awaits the lock. Answers how many times it was granted.
+/// Takes the turns of `plan` by `session` while `playing` shows that both threads play: locks, and unlocks as soon as the other session awaits the
+/// lock. Answers how many times the lock was granted.
 fn take_turns<T: PartTable, B: Board<T>, R: Wait>(
     rt: &R,
     session: &mut OwnSession<T, B>,
@@ -79,8 +78,8 @@ fn take_turns<T: PartTable, B: Board<T>, R: Wait>(
     granted
 }
 
-/// Has the sessions `first` and `second`, which are lent, take the turns of `plan`, each in a thread. Answers how many
-/// of each were granted.
+/// Has the sessions `first` and `second`, which are lent, take the turns of `plan`, each in a thread. Answers how many turns of each session were
+/// granted.
 fn pass_on_loan<B: Board<Part> + Send, R: Threads + Wait + Sync>(
     rt: &R,
     first: &mut OwnSession<Part, B>,
@@ -116,8 +115,7 @@ pub fn pass_lock<B: Board<Part> + Send, R: Threads + Wait + Sync>(
     (Pair { first, second }, granted.wrapping_add(its_granted))
 }
 
-/// Waits `turns` times on `passed` until `turn` is `number`, and makes it the other thread's. It is the other one's
-/// at the end.
+/// Waits `turns` times on `passed` until `turn` is `number`, and each time makes `turn` the other thread's number, which it is at the end.
 fn pass_on<R: Wait>(rt: &R, turn: &Mutex<u64>, passed: &Condvar, number: u64, turns: u32) {
     for _ in 0..turns {
         let mut whose = passed.wait_while(rt, turn.lock(rt), |whose| *whose != number);

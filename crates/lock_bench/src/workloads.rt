@@ -21,7 +21,7 @@ const MAP: &str = "map in a mutex: the same work";
 /// How many locks a commit ends, and how many the session has that takes held ones again.
 const FEW: u32 = 10;
 
-/// What is timed with a manager of its own.
+/// A workload that is timed with a manager of its own.
 #[derive(Clone, Copy)]
 struct Workload {
     /// The word that names the workload where it is made alone.
@@ -29,14 +29,14 @@ struct Workload {
     name: &'static str,
     work: Work,
     list: KeyList,
-    /// The loop that is taken off: of one call or of two.
+    /// The empty loop whose time is taken off the workload's: of one call or of two.
     empty: Work,
     floor: Work,
-    /// What is done on the map, with which keys.
+    /// What is done on the map for the workload; `map_list` has the keys.
     map: Work,
     map_list: KeyList,
     sessions: u32,
-    /// How many objects of one partition the other session has.
+    /// How many objects of one partition the other session has in the workload.
     crowd: u32,
 }
 
@@ -91,7 +91,7 @@ fn workloads() -> [Workload; 9] {
     ]
 }
 
-/// A strong lock where there can be few sessions: it is made alone, and no page has it.
+/// The workload of a strong lock where there can be few sessions: it is made alone, and no page has it.
 fn strong_of_few() -> Workload {
     Workload::pair(
         "strong-of-8",
@@ -102,8 +102,8 @@ fn strong_of_few() -> Workload {
 }
 
 impl Workload {
-    /// The workload `name`, asked for by `word`: a lock of each key of `list` with its release, among 8 sessions,
-    /// beside the atomic steps of `floor`.
+    /// The workload `name`, asked for by `word`: a lock of each key of `list` with its release, in a manager of 8 sessions, beside the atomic steps
+    /// of `floor`.
     fn pair(word: &'static str, name: &'static str, list: KeyList, floor: Work) -> Self {
         Workload {
             word,
@@ -153,7 +153,7 @@ impl Workload {
         }
     }
 
-    /// The rows that are timed for it.
+    /// The rows that are timed for the workload.
     fn rows(&self) -> [Row<Work>; 4] {
         [
             Row::new(EMPTY, self.empty, self.list),
@@ -171,7 +171,7 @@ impl Workload {
         }
     }
 
-    /// What the rows of `lines` took, with the number of `instructions` that a step takes.
+    /// The figures of the workload: what the rows of `lines` took, with the number `instructions` that a step takes.
     fn figures(&self, lines: &[Line<Work>], instructions: Option<u64>) -> Figures {
         Figures {
             name: self.name,
@@ -185,7 +185,7 @@ impl Workload {
     }
 }
 
-/// Refuses `counts` where a workload has none in that file, so that nothing is timed in vain.
+/// Refuses `counts` where a workload has no instructions in that file, so that nothing is timed in vain.
 pub fn see_counts(counts: Option<&Counts<'_>>) -> Result<()> {
     let workloads = workloads();
     for workload in &workloads {
@@ -194,9 +194,8 @@ pub fn see_counts(counts: Option<&Counts<'_>>) -> Result<()> {
     Ok(())
 }
 
-/// Prints the times of each workload and a table of them all, with the instructions of `counts`, and answers the
-/// figures; meanwhile `progress` is shown. Where `asked` is for a check, it prints what fewer of the same steps
-/// leave, and answers no figures.
+/// Prints the times of each workload and a table of them all, with the instructions of `counts`, and answers the figures; meanwhile `progress` is
+/// shown. Where `asked` is for a check, the output is what fewer of the steps leave, and there are no figures.
 pub fn print<R: Wait + CpuClock + AllocGlobal + Print + Eprint>(
     rt: &R,
     asked: Asked,

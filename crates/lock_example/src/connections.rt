@@ -24,8 +24,9 @@ impl<B: Board<Part>> Connection<B> {
         }
     }
 
-    /// Reads the accounts. Both fields are lent to the statement. The check covers no such loan of a
-    /// `&mut Connection`, so the connection goes in by value, is taken apart, and is put together again.
+    /// Reads the accounts with the connection. Its session and its count are lent to the statement. The check covers no
+    /// such loan out of a `&mut Connection`, so the connection goes in by value, is taken apart, and is put together
+    /// again.
     pub fn read<R: Wait>(self, rt: &R) -> (Self, Result<(), Refusal>)
         ensures { KeepsSeat B.seat self.session result.0.session }
     {
@@ -41,7 +42,7 @@ impl<B: Board<Part>> Connection<B> {
         (connection, answer)
     }
 
-    /// The session, where the connection ends.
+    /// Ends the connection, and answers its session.
     pub fn into_session(self) -> OwnSession<Part, B>
         ensures { result ≡ self.session }
     {

@@ -18,10 +18,10 @@ use std::sync::Wait;
 use std::thread::Threads;
 use std::time::Clock;
 
-/// How many shifts are worked to their end.
+/// How many shifts of a day are worked to their end.
 const SHIFTS: u32 = 10;
 
-/// What there is to do in each of them.
+/// What there is to do in each shift that is worked to its end.
 const SHIFT: Shift = Shift {
     transfers: 20,
     alterations: 1,
@@ -53,7 +53,7 @@ pub fn live_through<R: Threads + Wait + Clock + Sync>(
     Ok(report)
 }
 
-/// Plays the day at `desk`. The board of the shared table is named here alone: all that this calls is over any
+/// Plays the day at `desk`. This function alone names the board of the shared table: all that it calls is over any
 /// board.
 fn at_the_desk<R: Threads + Wait + Clock + Sync>(
     rt: &R,
@@ -106,7 +106,7 @@ fn with_pool<B: Board<Part> + Send, D: Desk<OwnSession<Part, B>>, R: Threads + W
     })
 }
 
-/// Works all shifts of `bank` but the last one. The staff of each has sessions from `pool`, and gives them back.
+/// Works all shifts of `bank` but the last one. The staff of each shift has sessions from `pool`, and gives them back.
 fn work_shifts<
     B: Board<Part> + Send,
     D: Desk<OwnSession<Part, B>>,

@@ -21,7 +21,7 @@ pub fn break_circle<B: Board<Part>, R: Wait>(rt: &R, session: &mut OwnSession<Pa
     }
 }
 
-/// Of `waits` the one who waits for itself in the end, with the highest number.
+/// The session that waits in a circle of `waits`, so in the end for itself. Of several the one with the highest number.
 fn victim_of(waits: &Vec<Blocked>) -> Option<SessionId> {
     let mut behind = [[false; NUMBERS]; NUMBERS];
     'waits: for wait in waits {

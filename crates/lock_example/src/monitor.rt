@@ -41,7 +41,8 @@ pub fn keep_logging<B: Board<Part>, R: Wait + Clock + Print>(
     Ok(())
 }
 
-/// Logs those who wait and are not among `logged`, those who waited at the look before.
+/// Logs by `monitor` each session that waits and isn't among `logged`, the ones that waited at the look before. Puts
+/// those that wait now into `logged`.
 fn log_waits<B: Board<Part>, R: Wait + Print>(
     rt: &R,
     monitor: &mut OwnSession<Part, B>,
@@ -65,8 +66,8 @@ fn log_waits<B: Board<Part>, R: Wait + Print>(
     Ok(())
 }
 
-/// Logs by `monitor` the wait of `row`: those in its way, and the queue that it is in. Nobody is in its way where it
-/// has ended since the listing.
+/// Logs by `monitor` the wait of `row`: who is in its way, and the queue in which it is. Nobody is in its way where the
+/// wait has ended since the listing.
 fn log_wait<B: Board<Part>, R: Wait + Print>(
     rt: &R,
     monitor: &mut OwnSession<Part, B>,
@@ -104,10 +105,10 @@ fn print_wait<R: Print>(
     println!(rt;)
 }
 
-/// The modes that are asked for after the reader has its own, in their order: an ALTER, a read and a write.
+/// The modes that are asked for after the reader has the accounts, in their order: an ALTER, a read and a write.
 static COMING: [Mode; 3] = [Mode::AccessExclusive, Mode::AccessShare, Mode::RowExclusive];
 
-/// Has sessions wait for one that reads, and a monitor log them.
+/// Has sessions wait for one that reads, and a monitor log the waits.
 pub fn show<R: Threads + Wait + Clock + Print + Sync>(rt: &R, alloc: Global) -> anyhow::Result<()> {
     let config = Config {
         sessions: 5,
@@ -122,7 +123,8 @@ pub fn show<R: Threads + Wait + Clock + Print + Sync>(rt: &R, alloc: Global) -> 
     logged
 }
 
-/// Has sessions of `desk` wait for one that reads, and a monitor log them. The board of the shared table is named here.
+/// Has sessions of `desk` wait for one that reads, and a monitor log the waits. This function names the board of the
+/// shared table.
 fn at_the_desk<R: Threads + Wait + Clock + Print + Sync>(
     rt: &R,
     desk: &mut ManagerDesk<'_>,
@@ -133,7 +135,7 @@ fn at_the_desk<R: Threads + Wait + Clock + Print + Sync>(
     read_and_watch(rt, desk)
 }
 
-/// Has a session of `desk` read the accounts, and another one watch those that come after it.
+/// Has a session of `desk` read the accounts, and another session watch those that come after the reader.
 fn read_and_watch<
     B: Board<Part> + Send,
     D: Desk<OwnSession<Part, B>>,
@@ -151,7 +153,7 @@ fn read_and_watch<
     watched
 }
 
-/// Opens the session of `desk` that watches.
+/// Opens the monitor's session at `desk`, has it log the sessions that come, and closes it.
 fn watch<
     B: Board<Part> + Send,
     D: Desk<OwnSession<Part, B>>,
@@ -225,7 +227,8 @@ fn log_beside<B: Board<Part> + Send, R: Threads + Wait + Clock + Print + Sync>(
     logged
 }
 
-/// Goes on as the server does until the monitor is to end: here for some of its looks. Then `is_over` is set.
+/// Goes on as a server does while its monitor looks, for as long as some of its looks take, and sets `is_over`, which
+/// ends the monitor.
 fn go_on<R: Wait + Clock>(rt: &R, is_over: &AtomicBool) {
     thread::sleep(rt, Duration::from_millis(4 * PAUSE));
     is_over.store(true, Ordering::SeqCst);

@@ -9,18 +9,19 @@ use std::sync::Wait;
 use std::thread::Threads;
 use std::time::Clock;
 
-/// What the accounts had, and what the connections met.
+/// What the bank's accounts had, and what the connections met.
 #[derive(Drop)]
 pub struct Report {
-    /// What the accounts had in all at first, and at the end.
+    /// What all accounts had together when the bank opened. `sum` is what they had at the end.
     pub opened_with: u64,
     pub sum: u64,
-    /// How the connection was refused that came when all sessions were out, and which session it had at last.
+    /// How the connection was refused that came when all sessions were lent. `handed_on` is the session that it had at
+    /// last.
     pub turned_away: Option<Refusal>,
     pub handed_on: SessionId,
-    /// Whose session the last of those connections had that came one after another.
+    /// The session of the last of the connections that came one after another, with the life that the session had.
     pub served: SessionLife,
-    /// How many threads worked as the bank shut down, and have stopped since.
+    /// How many threads still worked when the bank shut down, and have stopped since.
     pub stopped: u64,
     /// How many sessions were open when the bank closed.
     pub live: u32,

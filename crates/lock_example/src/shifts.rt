@@ -13,10 +13,10 @@ use std::sync::Wait;
 use std::thread::{Threads, for_each_mut, join_mut};
 use std::time::Clock;
 
-/// How many threads make transfers.
+/// How many threads of a shift make transfers.
 const TELLERS: u32 = 4;
 
-/// How many have a session: the tellers, the watchdog, and the migration.
+/// How many sessions a shift works with: one for each teller, one for the watchdog, and one for the migration.
 const STAFF: u32 = TELLERS + 2;
 
 /// What there is to do in a shift.
@@ -26,12 +26,13 @@ pub struct Shift {
     pub transfers: u32,
     /// How many times the migration alters the table.
     pub alterations: u32,
-    /// After how many looks of the watchdog the bank shuts down, even while some work. `None` where it doesn't.
+    /// After how many looks of the watchdog the bank shuts down, even while threads of the shift work. `None` where it
+    /// doesn't shut down in the shift.
     pub closes_after: Option<u32>,
 }
 
-/// Takes `number` sessions from `pool` at `desk`, and puts them at the end of `staff`. Where not all could be had,
-/// those that were are there all the same.
+/// Takes `number` sessions from `pool` at `desk`, and puts them at the end of `staff`. Where not all could be had, the
+/// ones that could are in `staff` all the same.
 pub fn hire<B: Board<Part>, D: Desk<OwnSession<Part, B>>, R: Wait>(
     rt: &R,
     desk: &mut D,
@@ -104,8 +105,8 @@ pub fn work<B: Board<Part> + Send, D: Desk<OwnSession<Part, B>>, R: Threads + Wa
     hired
 }
 
-/// Has `staff` do the work of `shift`, however many of it were hired. One session is the migration's, and goes back to
-/// `pool`.
+/// Has `staff` do the work of `shift`, however many sessions were hired. One session is the migration's, and goes back
+/// to `pool`.
 fn work_if_any<
     B: Board<Part> + Send,
     D: Desk<OwnSession<Part, B>>,

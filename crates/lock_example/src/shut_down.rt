@@ -9,7 +9,7 @@ use std::sync::Wait;
 use std::thread;
 use std::time::{Clock, Duration};
 
-/// How many milliseconds there are between two times that all are asked.
+/// How many milliseconds a shut-down sleeps between two times that it asks all who wait to cancel.
 const PAUSE: u64 = 1;
 
 /// Shuts down as a server does, with `session`: by `watch` nobody begins another transaction from then on, and all who

@@ -12,10 +12,10 @@ use std::sync::Wait;
 use std::thread;
 use std::time::{Clock, Duration};
 
-/// How often a transaction is tried that was refused a lock.
+/// How many times a teller tries a transfer at most, as long as it is refused a lock.
 const ATTEMPTS: u32 = 1_000;
 
-/// How many milliseconds the migration waits before it gives up for this time.
+/// How many milliseconds the migration waits for the table before it gives up and tries later.
 const PATIENCE: u64 = 20;
 
 /// Between which accounts a transfer goes, and how much of it.
@@ -29,8 +29,8 @@ struct Transfer {
 }
 
 impl Transfer {
-    /// The transfer of `round`. Its two accounts differ, and those of two rounds may be the same ones the other way
-    /// round.
+    /// The transfer of `round`. Its two accounts differ. Two rounds may have one pair of accounts in opposite
+    /// directions.
     fn of(round: u32) -> Transfer {
         let from = (round % 8) as usize;
         let step = 1 + (round / 8 % 7) as usize;
@@ -68,7 +68,7 @@ pub fn serve<B: Board<Part>, R: Wait>(
     watch.leave();
 }
 
-/// Makes `transfer`, which is tried again where it was refused a lock, unless the bank shuts down.
+/// Makes `transfer`, which is tried again where the session was refused a lock, unless the bank shuts down.
 fn transfer_at_last<B: Board<Part>, R: Wait>(
     rt: &R,
     bank: &Bank,
@@ -86,8 +86,8 @@ fn transfer_at_last<B: Board<Part>, R: Wait>(
     }
 }
 
-/// Makes `transfer` in one transaction of `session`, and answers whether it was made: it commits where all locks
-/// were had, otherwise it aborts, and nothing was paid.
+/// Makes `transfer` in one transaction of `session`, and answers whether it was made: the transaction commits where all
+/// locks were had, otherwise it aborts, and nothing was paid.
 fn has_transferred<B: Board<Part>, R: Wait>(
     rt: &R,
     bank: &Bank,
@@ -120,7 +120,8 @@ fn lock_for<B: Board<Part>, R: Wait>(
     take(rt, watch, session, account(transfer.to), Mode::Exclusive)
 }
 
-/// Takes `mode` on `tag` for the transaction of `session`, and waits where something is in the way.
+/// Takes `mode` on `tag` for the transaction of `session`, and waits where something is in the way, which `watch`
+/// shows.
 fn take<B: Board<Part>, R: Wait>(
     rt: &R,
     watch: &Watch,
@@ -140,7 +141,7 @@ fn take<B: Board<Part>, R: Wait>(
     }
 }
 
-/// Ends the transaction of `session`: it commits where `is_good`, otherwise it aborts.
+/// Ends the transaction of `session`: the transaction commits where `is_good`, otherwise it aborts.
 fn end<B: Board<Part>, R: Wait>(rt: &R, session: &mut OwnSession<Part, B>, is_good: bool)
     ensures seat { KeepsSeat B.seat session.old session.new }
 {
@@ -151,9 +152,9 @@ fn end<B: Board<Part>, R: Wait>(rt: &R, session: &mut OwnSession<Part, B>, is_go
     }
 }
 
-/// Alters the table with `session` as often as `alterations` says, unless the bank shuts down before. Others that
-/// want to read or write meanwhile wait until it is done, so it doesn't insist: where it doesn't get the table in
-/// time, it lets them go on, and tries again.
+/// Alters the table with `session` as often as `alterations` says, unless the bank shuts down before. Others that want
+/// to read or write wait behind its request meanwhile. So where the table isn't had in time, the request is given up,
+/// the others go on, and the migration tries later.
 pub fn migrate<B: Board<Part>, R: Wait + Clock>(
     rt: &R,
     bank: &Bank,
@@ -179,7 +180,7 @@ pub fn migrate<B: Board<Part>, R: Wait + Clock>(
     session
 }
 
-/// Alters the table with `session`, where it is had in time.
+/// Alters the table with `session` if the table is had in time, and answers whether it was.
 fn try_to_alter<B: Board<Part>, R: Wait + Clock>(
     rt: &R,
     bank: &Bank,

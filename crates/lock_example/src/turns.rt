@@ -8,7 +8,7 @@ use std::io;
 use std::sync::Wait;
 use std::thread::{Threads, join_mut};
 
-/// Two tables of database 5.
+/// A table of database 5, as `BRANCHES` is.
 const ACCOUNTS: Tag = Tag::Relation {
     database: 5,
     relation: 16_384,
@@ -19,7 +19,7 @@ const BRANCHES: Tag = Tag::Relation {
     relation: 16_385,
 };
 
-/// What a request is answered.
+/// What a request for a lock is answered.
 type Answer = Result<Acquired, Refusal>;
 
 /// What the two threads were answered, turn by turn, and what the manager still had at its end.
@@ -32,7 +32,7 @@ struct Story {
     stood: Final,
 }
 
-/// Plays the three turns, and prints what the two threads were answered.
+/// Has two threads play three turns, and prints what both were answered.
 pub fn show<R: Threads + Wait + Sync + Print>(rt: &R, alloc: Global) -> anyhow::Result<()> {
     let story = tell(rt, alloc)?;
     print_story(rt, story)?;
@@ -124,7 +124,7 @@ fn commit<R: Wait>(rt: &R, session: &mut Session<'_>)
 }
 
 /// Ends the transaction of `session`, and asks for `table` in `mode` on behalf of the next one. Where somebody is in
-/// the way it waits.
+/// the way the session waits.
 fn commit_and_wait<R: Wait>(rt: &R, session: &mut Session<'_>, table: Tag, mode: Mode) -> Answer
     ensures same_manager { KeepsManager session.old session.new }
 {

@@ -21,13 +21,13 @@ const NUMBERS: usize = USUAL_SESSIONS as usize;
 /// What the threads of a day show the watchdog.
 #[derive(Drop)]
 pub struct Watch {
-    /// For each session how many waits it has begun and ended: where the number is odd, it is in one.
+    /// For each session how many times it has begun or ended a wait: where the number is odd, the session is in a wait.
     waits: [AtomicU64; NUMBERS],
-    /// How many threads work yet.
+    /// How many threads of the bank still work.
     working: AtomicU64,
     /// Whether the bank shuts down.
     closed: AtomicBool,
-    /// How many threads have stopped working since.
+    /// How many threads have stopped working since the bank began to shut down.
     stopped: AtomicU64,
 }
 
@@ -54,7 +54,7 @@ impl Watch {
         }
     }
 
-    /// A thread has done its work, or the bank shuts down.
+    /// Notes that a thread works no more, since its work is done or the bank shuts down.
     pub fn leave(&self) {
         if self.is_closed() {
             self.stopped.fetch_add(1, Ordering::SeqCst);
@@ -62,7 +62,7 @@ impl Watch {
         self.working.fetch_sub(1, Ordering::SeqCst);
     }
 
-    /// Whether all threads have done their work.
+    /// Whether all threads have stopped working.
     pub fn is_over(&self) -> bool {
         self.working.load(Ordering::SeqCst) == 0
     }
@@ -77,13 +77,13 @@ impl Watch {
         self.closed.load(Ordering::SeqCst)
     }
 
-    /// How many threads have stopped working since.
+    /// How many threads have stopped working since the bank began to shut down.
     pub fn stopped(&self) -> u64 {
         self.stopped.load(Ordering::SeqCst)
     }
 
-    /// Whether the session numbered `place` was in the wait in which it is at the last look too, by `seen`, which
-    /// has what is seen now for the next look.
+    /// Whether the session numbered `place` is in a wait in which it was at the look before too, by `seen`, which keeps
+    /// what is seen now for the next look.
     fn waits_too_long(&self, place: usize, seen: &mut [u64; NUMBERS]) -> bool
         requires { place < 64 }
     {
@@ -94,8 +94,9 @@ impl Watch {
     }
 }
 
-/// Looks again and again at who waits, with `session`, until no thread of `watch` works any more: who waits in a
-/// circle, and who too long. After as many looks as `closes_after` says, if it says so, it shuts the bank down.
+/// Looks again and again at who waits, with `session`, until no thread of `watch` works any more. Asks those who wait
+/// in a circle, or too long, to cancel. After as many looks as `closes_after` says, if it says a number, shuts the bank
+/// down.
 pub fn keep_watch<B: Board<Part>, R: Wait + Clock>(
     rt: &R,
     watch: &Watch,

@@ -18,16 +18,16 @@ use std::io::Write;
 use std::sync::Wait;
 use std::thread::Threads;
 
-/// How many local entries a session may have.
+/// How many entries the local lock table of each session of a hammer may have.
 const MAX_LOCAL: u32 = 16;
 
 /// Has `sessions` sessions of a lock manager of its own play `rounds` rounds, each in a thread of its own, once `gate`
-/// lets it pass. In round `r` session `s` asks relation `5/(16384 + r % 4)` for the mode with number
-/// `1 + (s + r) % 8`, and unlocks what it is granted; every sixteenth time it waits, and else it is refused where
-/// something is in the way. When all threads have ended, each session takes AccessShareLock on `5/16384`, the first
-/// one ShareLock on `5/16385`, and two lines go to `writer`: what an audit counts, and, when all sessions are closed,
-/// what the manager has then. Where a gate answered no, or memory ran out, it ends with `GateHeld` or `NoMemory`
-/// when all threads have ended and all sessions are closed.
+/// lets it pass. In round `r` session `s` asks relation `5/(16384 + r % 4)` for the mode with number `1 + (s + r) % 8`,
+/// and unlocks what it is granted; every sixteenth time it waits, and else it is refused where something is in the way.
+/// When all threads have ended, each session takes AccessShareLock on `5/16384`, the first one ShareLock on `5/16385`,
+/// and two lines go to `writer`: what an audit counts, and, when all sessions are closed, what the manager still has.
+/// Where a gate answered no, or memory ran out, the hammer ends with `GateHeld` or `NoMemory` when all threads have
+/// ended and all sessions are closed.
 pub fn run_hammer<H: AllocGlobal + Threads + Wait + Sync, G: Gate + Sync, W: Write + Drop>(
     rt: &H,
     gate: &G,
@@ -41,9 +41,9 @@ pub fn run_hammer<H: AllocGlobal + Threads + Wait + Sync, G: Gate + Sync, W: Wri
     run_watched_hammer(rt, gate, &Unwatched, writer, Hammer { sessions, rounds })
 }
 
-/// Has the sessions of a hammer of `size` play in the threads of `gate`, and prints on `writer` what is left. On the
-/// way each worker calls `progress` for each round that it has played, and it is called once all have ended, before
-/// anything is written.
+/// Has the sessions of a hammer of `size` play, each in a thread of its own, once `gate` lets it pass. Prints on
+/// `writer` what an audit counts at the end, and what the manager has once all sessions are closed. Each worker counts
+/// its rounds with `progress`, which ends once all workers have ended, before anything is written.
 pub fn run_watched_hammer<
     H: AllocGlobal + Threads + Wait + Sync,
     G: Gate + Sync,
@@ -70,9 +70,9 @@ pub fn run_watched_hammer<
     print_final(&mut writer, last)
 }
 
-/// Opens the sessions of a hammer of `size` with `desk`, has them play in the threads of `gate`, and closes them. They
-/// report to `reports`, and `writer` gets what is left. The board of the shared table is named above alone: this is
-/// over any board.
+/// Opens the sessions of a hammer of `size` at `desk`, has them play, each once `gate` lets it pass, and closes them.
+/// The workers report to `reports`, and `writer` gets what an audit counts before the close. Works over any board of
+/// the shared table.
 fn hammer<
     B: Board<Part> + Send,
     D: Desk<OwnSession<Part, B>>,
@@ -104,8 +104,8 @@ fn hammer<
     hammered
 }
 
-/// Has the sessions of `crew` play `rounds` rounds in the threads of `gate` and take their last locks, and counts what
-/// they have by `desk`. They report to `reports`, and `writer` gets the counts.
+/// Has the sessions of `crew` play `rounds` rounds, each once `gate` lets it pass, and take their last locks, and has
+/// `desk` count what they have. The workers report to `reports`, and `writer` gets the counts.
 fn play<
     B: Board<Part> + Send,
     D: Desk<OwnSession<Part, B>>,
@@ -151,7 +151,7 @@ fn print_audit<W: Write>(writer: &mut W, audit: Audit) -> Result<(), Fault> {
     written.map_err(|_| Fault::WriteFailed)
 }
 
-/// Prints on `writer` what was in the manager at its end, by `last`.
+/// Prints on `writer` what `last` says was in the manager at its end.
 fn print_final<W: Write>(writer: &mut W, last: Final) -> Result<(), Fault> {
     let Final {
         fast,

@@ -5,22 +5,22 @@ use std::sync::Mutex;
 use std::sync::atomic::{AtomicU64, Ordering};
 use std::time::{Clock, Duration, Instant};
 
-/// After how many rounds of all workers together the clock is read.
+/// After how many rounds of all workers together a progress line reads the clock.
 const ROUNDS_A_LOOK: u64 = 64;
 
-/// After how many milliseconds, at the soonest, the line is written anew.
+/// After how many milliseconds, at the soonest, a progress line is written anew.
 const PAUSE: u128 = 250;
 
 /// What the workers of a hammer call while they play.
 pub trait Progress {
-    /// A worker has played a round.
+    /// A worker of the hammer has played a round.
     fn count_round(&self);
 
-    /// Is called once no worker plays any more.
+    /// No worker of the hammer plays any more.
     fn end(&self);
 }
 
-/// Nobody looks how far a hammer is.
+/// The progress of a hammer that nobody watches.
 #[derive(Drop)]
 pub struct Unwatched;
 
@@ -30,9 +30,9 @@ impl Progress for Unwatched {
     fn end(&self) {}
 }
 
-/// One line on a terminal, written anew a few times a second: how many rounds of all are played, and how many that
-/// is a second. A hammer that ends before the line's time has come writes none. Nothing of it is in the lock
-/// manager's table.
+/// One line on a terminal, written anew a few times a second, that shows how many of all rounds of a hammer are played,
+/// and how many that is a second. A hammer that ends before the time of its line has come writes none. The line uses
+/// nothing of the lock manager.
 #[derive(Drop)]
 pub struct ProgressLine<'a, C, E> {
     clock: &'a C,
@@ -42,7 +42,8 @@ pub struct ProgressLine<'a, C, E> {
 }
 
 impl<'a, C: Clock, E: Write> ProgressLine<'a, C, E> {
-    /// A line on `writer` of `all` rounds, which begin now by `clock`. The error is the clock's.
+    /// A line on `writer` for a hammer of `all` rounds, which begin now by `clock`. The error is one of reading the
+    /// clock.
     pub fn new(clock: &'a C, writer: &'a mut E, all: u64) -> io::Result<Self> {
         let begun = Instant::now(clock)?;
         let line = Line {
@@ -86,19 +87,19 @@ impl<'a, C: Clock, E: Write> Progress for ProgressLine<'a, C, E> {
     }
 }
 
-/// The line itself, which one worker writes at a time.
+/// The line of a `ProgressLine` on its writer, which one worker writes at a time.
 #[derive(Drop)]
 struct Line<'a, E> {
     writer: &'a mut E,
-    /// The moment when the rounds began.
+    /// The moment when the rounds of the hammer began.
     begun: Instant,
-    /// The moment when the line was written last, or else the rounds began.
+    /// The moment when the progress line was last written, or when the rounds began, if the line never was.
     written: Instant,
     is_written: bool,
 }
 
 impl<'a, E: Write> Line<'a, E> {
-    /// Writes the line anew at the time `now`, if its time has come: `played` of `all` rounds.
+    /// Writes the progress line anew at the time `now`, if its time has come, with `played` of `all` rounds.
     fn renew(&mut self, now: Instant, played: u64, all: u64) {
         if now.duration_since(self.written).as_millis() >= PAUSE {
             self.written = now;
@@ -107,7 +108,8 @@ impl<'a, E: Write> Line<'a, E> {
         }
     }
 
-    /// Writes the line for the last time at the time `now`, `played` of `all` rounds, and ends it, if there is one.
+    /// Ends the progress line, if one was written: writes it for the last time, at the time `now`, with `played` of
+    /// `all` rounds.
     fn end(&mut self, now: Instant, played: u64, all: u64) {
         if self.is_written {
             self.write(now, played, all);
@@ -116,8 +118,8 @@ impl<'a, E: Write> Line<'a, E> {
         }
     }
 
-    /// Writes at the time `now` that `played` of `all` rounds are played, over what is there, and erases what comes
-    /// after it.
+    /// Writes at the time `now` that `played` of `all` rounds are played, over the old text of the progress line, and
+    /// erases what is left of that.
     fn write(&mut self, now: Instant, played: u64, all: u64) {
         let rate = rounds_a_second(played, now.duration_since(self.begun));
         // Where the line can't be written, the hammer goes on all the same.
@@ -129,7 +131,7 @@ impl<'a, E: Write> Line<'a, E> {
     }
 }
 
-/// How many rounds `played` rounds since `since` are in a second.
+/// How many rounds a second it is where `played` rounds were played within `since`.
 fn rounds_a_second(played: u64, since: Duration) -> u128 {
     u128::from(played) * 1000 / since.as_millis().max(1)
 }

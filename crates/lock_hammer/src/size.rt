@@ -3,8 +3,8 @@
 /// How many sessions a hammer has, and how long they play.
 #[derive(Clone, Copy, Debug, PartialEq, Eq)]
 pub struct Hammer {
-    /// How many sessions, each in a thread of its own.
+    /// How many sessions the hammer has, each in a thread of its own.
     pub sessions: u32,
-    /// How many rounds each worker plays.
+    /// How many rounds each session of the hammer plays.
     pub rounds: u32,
 }

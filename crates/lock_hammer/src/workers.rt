@@ -11,15 +11,17 @@ use std::sync::Wait;
 use std::sync::atomic::{AtomicBool, Ordering};
 use std::thread::{Threads, for_each_mut};
 
-/// The database of all sessions.
+/// The database of all sessions of a hammer.
 pub const DATABASE: u32 = 5;
 
-/// The first of the relations that they lock, and how many there are.
+/// The number of the first relation that the sessions of a hammer lock. They lock `RELATIONS` relations with numbers in
+/// a row.
 const FIRST_RELATION: u32 = 16_384;
 
 const RELATIONS: u32 = 4;
 
-/// Of how many rounds one is such that a worker waits for its lock, where it would else be refused.
+/// Out of how many rounds a worker waits for its lock in one. In the others it is refused where something is in the
+/// way.
 const PATIENCE: u32 = 16;
 
 /// What a worker of a hammer passes before its first round.
@@ -28,7 +30,7 @@ pub trait Gate {
     fn pass(&self, worker: u32) -> bool;
 }
 
-/// A gate that lets everyone pass.
+/// A gate that lets every worker pass.
 #[derive(Drop)]
 pub struct OpenGate;
 
@@ -38,19 +40,19 @@ impl Gate for OpenGate {
     }
 }
 
-/// What the workers report of themselves.
+/// What the workers of a hammer report.
 #[derive(Drop)]
 pub struct Reports<'a, P> {
-    /// A gate didn't let one of the workers pass.
+    /// Whether a gate didn't let one of the workers pass.
     is_held: AtomicBool,
-    /// A call of one of the workers was refused memory.
+    /// Whether a call of one of the workers was refused memory.
     is_short: AtomicBool,
     /// What counts the rounds that the workers have played.
     progress: &'a P,
 }
 
 impl<'a, P: Progress> Reports<'a, P> {
-    /// Reports of nothing yet, which count each round with `progress`.
+    /// Reports to which no worker has reported yet, and which count each round with `progress`.
     pub fn new(progress: &'a P) -> Self {
         Reports {
             is_held: AtomicBool::new(false),
@@ -108,7 +110,7 @@ fn relation(round: u32) -> Tag {
     Tag::relation(DATABASE, FIRST_RELATION + round % RELATIONS)
 }
 
-/// Has all of `sessions` do `act`, in the threads of `gate`, and report to `reports`.
+/// Has all of `sessions` do `act`, which starts rounds only where `gate` lets the worker pass, and report to `reports`.
 pub fn all_act<B: Board<Part> + Send, G: Gate + Sync, P: Progress + Sync, R: Threads + Wait + Sync>(
     rt: &R,
     gate: &G,
@@ -122,8 +124,8 @@ pub fn all_act<B: Board<Part> + Send, G: Gate + Sync, P: Progress + Sync, R: Thr
     each_acts(rt, gate, reports, act, sessions.as_mut_slice());
 }
 
-/// Has each of `sessions`, a slice, do `act` and report to `reports`. Rounds are played in as many threads of `gate` as
-/// there are sessions, and all else in one, in the order of the sessions.
+/// Has each of `sessions` do `act` and report to `reports`. Rounds are played in as many threads as there are sessions,
+/// each once `gate` lets the worker pass. All else is done in one thread, in the order of the sessions.
 fn each_acts<B: Board<Part> + Send, G: Gate + Sync, P: Progress + Sync, R: Threads + Wait + Sync>(
     rt: &R,
     gate: &G,
@@ -145,7 +147,8 @@ fn each_acts<B: Board<Part> + Send, G: Gate + Sync, P: Progress + Sync, R: Threa
     );
 }
 
-/// Has `session`, the one at `place`, do its part of `act` through `gate`, and report to `reports`.
+/// Has `session`, at `place` among the sessions of the hammer, do its part of `act` and report to `reports`. It plays
+/// rounds only if `gate` lets it pass.
 fn play_part<B: Board<Part>, G: Gate, P: Progress, R: Wait>(
     rt: &R,
     gate: &G,
@@ -214,7 +217,7 @@ fn play_round<B: Board<Part>, R: Wait>(
 }
 
 /// Has `session` ask for `mode` on `tag` in `round`: in the last of every sixteen rounds it waits where something is in
-/// the way.
+/// the way, and in the others it is refused then.
 fn ask<B: Board<Part>, R: Wait>(
     rt: &R,
     round: u32,

@@ -57,8 +57,8 @@ abbrev pub IsOwnAnswer : {A : Type 0} → A → Result A Refusal → Type 0
 IsOwnAnswer already (Ok answer) = answer ≡ already
 IsOwnAnswer already (Err refusal) = IsOwnRefusal refusal
 
--- One by the fast path is answered so too where all slots of the relation's group are in use, which its use counts tell, and
--- where memory runs out, which is for the session's own entry then.
+-- An acquire by the fast path is answered by what the session has of its own alone also where all slots of the relation's group are in use, which its use
+-- counts tell, and where memory runs out, which is for the session's own entry then.
 abbrev pub IsOwnAnswerBySlot : Result Acquired Refusal → Type 0
 IsOwnAnswerBySlot (Ok answer) = answer ≡ acquired.AlreadyHeld
 IsOwnAnswerBySlot (Err SlotsFull) = Unit {0}
@@ -73,7 +73,7 @@ IsRefusedForMemory view kind seat owned uses tag mode old new left =
     ((owned.room ≡ 0) × (new ≡ old))
     ⊎ Requests kind seat (view old) uses tag mode (Err NoMemory) (view new) left
 
--- the entries once it has begun
+-- the entries once an acquire has begun
 abbrev pub entries_begun : Begun → List Entry → Tag → Mode → Owner → List Entry
 entries_begun Granted entries tag mode owner = with_one_more entries tag mode owner
 entries_begun AlreadyHeld entries tag mode owner = with_one_more entries tag mode owner

@@ -18,7 +18,7 @@ kept_by_unlock_all User count = 0
 abbrev pub after_unlock_all : Entry → Entry
 after_unlock_all entry = record entry { session = kept_by_unlock_all (method_of entry.tag) entry.session }
 
--- whether nothing is left of it then
+-- whether nothing is left of the entry once the session's count of an advisory lock is gone
 abbrev pub is_unlocked : Entry → Bool
 is_unlocked entry = count_in_all (after_unlock_all entry) == 0
 
@@ -30,6 +30,6 @@ unlocked_by_all entries = map (λ entry. (entry.tag, entry.mode)) (filter is_unl
 abbrev pub left_by_unlock_all : List Entry → List Entry
 left_by_unlock_all entries = map after_unlock_all (filter (λ entry. not (is_unlocked entry)) entries)
 
--- whether it is an advisory lock that the session owns: something of its count goes
+-- whether the entry is of an advisory lock that the session owns: something of its count goes
 abbrev pub is_owned_advisory : Entry → Bool
 is_owned_advisory entry = not (kept_by_unlock_all (method_of entry.tag) entry.session == entry.session)

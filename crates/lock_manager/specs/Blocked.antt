@@ -42,7 +42,7 @@ pub record ListsBlocked (number : ℕ) (a : Account) (result : Result (Vec Block
   pub trace : b.trace ≡ a.trace ++ listing_steps 0 contents
   pub waits : IfOk result (λ found. AreBlockedIn contents found.items)
 
--- ---- as they are made out
+-- ---- how all waits are found, partition by partition
 
 -- The list has the content's waits behind what it had.
 pub record AppendsBlocked (content : Content) (old new : List Blocked) : Type 0 where

@@ -17,7 +17,7 @@ module _ {B : Type 0} (seat : B → Seated) where
   abbrev pub IsOf : ManagerView → SessionView B → Type 0
   IsOf manager session = (seat session.board).table ≡ manager.table
 
-  -- Each session of a list is.
+  -- Each session of a list is this manager's.
   abbrev pub AreOf : ManagerView → List (SessionView B) → Type 0
   AreOf manager sessions = All (λ (session : SessionView B). (seat session.board).table ≡ manager.table) sessions
 

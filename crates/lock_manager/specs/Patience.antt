@@ -57,8 +57,8 @@ module _ {K : Type 0} (Says : K → Bool → K → Type 0) where
     pub starts : Begins Waiting seat owned a uses tag mode (Ok begun.Queued) queued left
     pub waits : WaitsWhile keep seat.number queued.trace tag mode result b.trace
 
-  -- What joins its trace, by its answer: it is answered at once as one that may wait, and the caller is asked nothing, or
-  -- after its wait.
+  -- What joins the trace of an acquire that waits for as long as its caller says, by its answer: it is answered at once as one that may wait, and the caller
+  -- is asked nothing, or after its wait.
   abbrev pub LocksWhile :
       K → Seated → Owned → Account → UseCounts → Tag → Mode → Result Acquired Refusal → Account → UseCounts → Type 0
   LocksWhile keep seat owned a uses tag mode (Ok acquired.AlreadyHeld) b left =

@@ -44,13 +44,13 @@ pub data QuietOfRequest (seat : Seated) (a : Account) (uses : UseCounts) (tag : 
       → QuietOfRequest seat a uses tag mode before after
   OfTable : QuietOfTable seat.groups a uses tag mode before after → QuietOfRequest seat a uses tag mode before after
 
--- An acquire makes none, or those of its request.
+-- An acquire makes no quiet steps, or those of its request.
 pub data QuietOfAcquire (seat : Seated) (a : Account) (uses : UseCounts) (tag : Tag) (mode : Mode) (before after : List Quiet) :
     Type 0 where
   MakesNone : after ≡ before → QuietOfAcquire seat a uses tag mode before after
   OfRequest : QuietOfRequest seat a uses tag mode before after → QuietOfAcquire seat a uses tag mode before after
 
--- One by the fast path alone makes those of its try, or none.
+-- An acquire by the fast path alone makes the quiet steps of its try, or none.
 abbrev pub QuietOfAcquireBySlot : ℕ → Tag → Mode → List Quiet → List Quiet → Type 0
 QuietOfAcquireBySlot number tag mode before after = (after ≡ before) ⊎ QuietOfTry number tag mode before after
 

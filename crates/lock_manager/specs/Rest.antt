@@ -18,9 +18,8 @@ counted_for limit entries =
     map (λ entry. record { tag = entry.tag; mode = entry.mode; position = limit })
     (filter (λ entry. is_strong_on entry.tag entry.mode) entries)
 
--- The account of a session of this database that has these entries and is in no call: it holds what it has entries
--- for, in its slots or in the table, has counted the strong locks of these, remembers its slots so, waits for
--- nothing, and has no word in hand.
+-- The account of a session of this database that has these entries and is in no call: it holds what it has entries for, in its slots or in the table, has
+-- counted the strong locks of these, remembers its slots as showing these words, waits for nothing, and has no word in hand.
 abbrev pub account_at_rest : ℕ → ℕ → (ℕ → ℕ) → List Entry → List TraceEntry → Account
 account_at_rest limit database remembered entries trace = record {
   own = has_entry entries;
@@ -47,15 +46,15 @@ pub record IsUseCount (groups : ℕ) (a : Account) (uses : UseCounts) : Type 0 w
   pub enough : AreCounted a.fast.remembered (count_in uses)
   pub within : AreUseCounts (count_in uses)
 
--- Nor has it a partition to put, or anybody to wake.
+-- By its account the session is in no call, and it has no partition to put and nobody to wake.
 pub record IsAtRest (groups limit database : ℕ) (uses : UseCounts) (a : Account) (stack : Stack)
     (entries : List Entry) : Type 0 where
   pub account : a ≡ account_at_rest limit database a.fast.remembered entries a.trace
   pub use_count : IsUseCount groups a uses
   pub nothing_left : stack ≡ nothing_due
 
--- What of it a step in the middle of a call may count on: it has no word in hand, shares none of slots, owes nobody a
--- wake, has read no counter as 0, and has no wait.
+-- What a step in the middle of a call of a session that doesn't wait may count on: the session has no word in hand, shares none of slots, owes nobody a wake,
+-- has read no counter as 0, and has no wait.
 pub record IsIdle (a : Account) (stack : Stack) : Type 0 where
   pub no_wait : a.awaited ≡ None
   pub no_content : a.hand ≡ (λ _. None)

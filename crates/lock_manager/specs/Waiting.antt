@@ -60,8 +60,7 @@ pub record HasLooked (groups limit database : ℕ) (uses : UseCounts) (a : Accou
   pub no_entry : has_entry entries tag mode ≡ false
   pub nothing_left : stack ≡ nothing_due
 
--- What of it a step in the middle of a call may count on: it has this wait, has not seen it granted, and has no word
--- in hand.
+-- What a step in the middle of a call of a session that waits may count on: the session has this wait, has not seen it granted, and has no word in hand.
 pub record IsInWait (a : Account) (stack : Stack) (tag : Tag) (mode : Mode) : Type 0 where
   pub held : Mode → Bool
   pub waits : a.awaited ≡ Some (record { tag = tag; mode = mode; held = held })
@@ -77,27 +76,26 @@ pub record Asks (a : Account) (other : ℕ) (answer : Asked) (b : Account) : Typ
   pub answered : (answer ≡ asked.Waiting) ↔ (wait_state shown ≡ 1)
   pub account : b ≡ account_tracing a (AskedToCancel other shown)
 
--- The session asks another so that has a number below this one. Of a number that none of them has it says that it doesn't wait, and
--- makes no step.
+-- The session asks the session `other` to cancel its wait, where that number is below the limit. Where it is not, no session has that number: the answer is
+-- that it doesn't wait, and no step is made.
 pub record AsksOneOf (limit : ℕ) (a : Account) (other : ℕ) (answer : Asked) (b : Account) : Type 0 where
   pub one : other < limit → Asks a other answer b
   pub none : limit ≤ other → (answer ≡ asked.NotWaiting) × (b ≡ a)
 
--- One episode in the object's partition, which leaves the content as it was taken, tells whether somebody awaits a
--- mode in conflict with this one.
+-- One episode in the object's partition, which leaves the content as it was taken, shows whether somebody awaits a mode in conflict with this one.
 pub record LooksForWaiters (before : List TraceEntry) (tag : Tag) (mode : Mode) (is_awaited : Bool)
     (after : List TraceEntry) : Type 0 where
   pub taken : Content
   pub answer : is_awaited ≡ some_awaits_conflict (taken.waits tag) mode
   pub trace : after ≡ before ++ Took (partition_of tag) taken ∷ Episode (partition_of tag) taken taken ∷ []
 
--- what a wait word tells its session
+-- what a session that loads its own wait word finds, by what the word shows
 abbrev pub polled_as : ℕ → Looked
 polled_as shown =
     if wait_state shown == 2 then looked.Granted
     else (if is_asked shown then looked.CancelAsked else looked.Still)
 
--- One load of its own wait word gives the answer.
+-- One load of the session's own wait word gives the answer.
 pub record Polls (number : ℕ) (before : List TraceEntry) (answer : Looked) (after : List TraceEntry) : Type 0 where
   pub shown : ℕ
   pub answered : answer ≡ polled_as shown

@@ -85,7 +85,7 @@ UnlessQueued (started.AlreadyHeld session) P = P session
 UnlessQueued (started.Queued waiting) P = Unit {0}
 UnlessQueued (started.Refused session refusal) P = P session
 
--- P of it where it waits
+-- P of the session that comes back, where it waits
 abbrev pub IfQueued : {S W : Type 0} → Started S W → (W → Type 0) → Type 0
 IfQueued (started.Granted session) P = Unit {0}
 IfQueued (started.AlreadyHeld session) P = Unit {0}
@@ -117,7 +117,7 @@ IfGranted (polled.Granted session) P = P session
 IfGranted (polled.Still waiting) P = Unit {0}
 IfGranted (polled.CancelAsked waiting) P = Unit {0}
 
--- P of it where it still waits
+-- P of the session that comes back, where it still waits
 abbrev pub UnlessGranted : {S W : Type 0} → Polled S W → (W → Type 0) → Type 0
 UnlessGranted (polled.Granted session) P = Unit {0}
 UnlessGranted (polled.Still waiting) P = P waiting
@@ -175,7 +175,7 @@ pub record QueuesAndWaits (seat : Seated) (owned : Owned) (a : Account) (uses : 
   pub starts : Begins Waiting seat owned a uses tag mode (Ok begun.Queued) queued left
   pub waits : Waits seat.number queued.trace tag mode result b.trace
 
--- What joins its trace, by its answer: it is answered at once as one that may wait, or after its wait.
+-- What joins the trace of an acquire that waits as long as it must, by its answer: it is answered at once as one that may wait, or after its wait.
 abbrev pub Locks :
     Seated → Owned → Account → UseCounts → Tag → Mode → Result Acquired Refusal → Account → UseCounts → Type 0
 Locks seat owned a uses tag mode (Ok acquired.AlreadyHeld) b left =

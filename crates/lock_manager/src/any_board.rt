@@ -43,8 +43,7 @@ impl<T: PartTable, B: Board<T>> OwnSession<T, B> {
         }
     }
 
-    /// Ends a session over a board for tests: all that it holds is released, in the order of making, and its board
-    /// comes back.
+    /// Ends a session over a board for tests: all that the session holds is released, in the order of making, and its board comes back.
     pub fn into_board<R: Wait>(self, rt: &R) -> B
         ensures seat { B.seat result ≡ B.seat self.board }
         ensures stack { B.stack result ≡ nothing_due }

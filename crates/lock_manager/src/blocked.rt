@@ -14,7 +14,7 @@ use std::alloc::Global;
 use std::sync::Wait;
 use wait_queue::{Blocker, blockers_of};
 
-/// A session that waits, with all who are in its way.
+/// A session that waits, with all sessions that are in its way.
 #[derive(Debug, Drop)]
 pub struct Blocked {
     /// The session that waits.
@@ -23,12 +23,11 @@ pub struct Blocked {
     pub tag: Tag,
     /// The mode that `session` waits for.
     pub mode: Mode,
-    /// Who is in the way of `session`, as `blockers` says.
+    /// The sessions in the way of the wait of `session`, as `OwnSession::blockers` has them.
     pub blockers: Vec<Blocker>,
 }
 
-/// Appends to `found` the waits in `content`, each with those in its way. Refused only where memory for them, by
-/// `alloc`, ran out.
+/// Appends to `found` the waits in `content`, each with the sessions in its way. Refused only where memory, by `alloc`, runs out.
 fn append_blocked<T: PartTable>(
     alloc: Global,
     content: &T,
@@ -52,8 +51,8 @@ fn append_blocked<T: PartTable>(
     Ok(())
 }
 
-/// Appends to `found` the waits of the partitions from `part` on, which are all taken before the first of them is put
-/// back, also where memory, by `alloc`, runs out.
+/// Appends to `found` the waits in the partitions from `part` on, each with the sessions in its way. All these partitions are taken before the first one is
+/// put back, and all are put back, also where memory, by `alloc`, runs out.
 fn blocked_from<T: PartTable, B: Board<T>, R: Wait>(
     rt: &R,
     board: &mut B,
@@ -83,7 +82,7 @@ fn blocked_from<T: PartTable, B: Board<T>, R: Wait>(
     others
 }
 
-/// All waits at one moment, as the session on `board` sees them, whose `own` this is: each with those in its way.
+/// All waits at one moment, as the session on `board`, which owns `own`, sees them: each with the sessions in its way.
 fn list_blocked<T: PartTable, B: Board<T>, R: Wait>(
     rt: &R,
     board: &mut B,
@@ -107,10 +106,9 @@ fn list_blocked<T: PartTable, B: Board<T>, R: Wait>(
 }
 
 impl<T: PartTable, B: Board<T>> OwnSession<T, B> {
-    /// All sessions that wait, at one moment, at which the session has all partitions in hand, each with all who are
-    /// in its way (`GetLockStatusData` and `GetBlockerStatusData` in lock.c, at once): by partition, and then in the
-    /// order of a listing. So who waits for whom, over all objects, is one picture, in which a cycle is a deadlock.
-    /// Only the lists of the answer take memory; refused where that runs out.
+    /// All sessions that wait, at one moment, at which the session has all partitions in hand, each with all sessions that are in its way
+    /// (`GetLockStatusData` and `GetBlockerStatusData` in lock.c in one): by partition, and within a partition in the order of a listing. The answer shows
+    /// who waits for whom, over all objects; a cycle in it is a deadlock. Only the lists of the answer take memory; refused where that runs out.
     pub fn waits<R: Wait>(&mut self, rt: &R) -> Result<Vec<Blocked>, Refusal>
         // What the call answers.
         ensures listed { ListsBlocked (B.seat self.old.board).number (B.view self.old.board)

@@ -3,25 +3,23 @@ ghost use Rattle.lock_manager.specs.Managers.{is_in_range, is_in_server_range, i
 
 use local_locks::MOST_LOCAL;
 
-/// How many sessions a manager of `Manager::new` may open over its life at most.
+/// The most sessions that a manager made by `Manager::new` may open over its life.
 pub const USUAL_SESSIONS: u32 = modes_core::USUAL_SESSIONS as u32;
 
-/// How many sessions a manager of `Manager::for_server` may open over its life at most.
+/// The most sessions that a manager made by `Manager::for_server` may open over its life.
 pub const MOST_SESSIONS: u32 = modes_core::MOST_SESSIONS as u32;
 
 /// How many groups of fast-path slots a session may have at most.
 pub const MOST_GROUPS: u32 = 8;
 
-/// How large a manager is.
+/// The sizes of a lock manager.
 #[derive(Clone, Copy, Debug, PartialEq, Eq)]
 pub struct Config {
-    /// How many sessions the manager may open over its life, 1 to 64, of a server's manager 1 to 1,024
-    /// (`max_connections`).
+    /// How many sessions the manager may open over its life: 1 to 64, or 1 to 1,024 for a manager made by `Manager::for_server` (`max_connections`).
     pub sessions: u32,
-    /// How many local entries each may have, 1 to 65,536.
+    /// How many local entries (a mode on an object, in the local lock table) each session may have, 1 to 65,536.
     pub max_local: u32,
-    /// How many groups of sixteen fast-path slots each has, 1 to 8 (`FastPathLockGroupsPerBackend` in proc.h of
-    /// version 18; version 16 has one).
+    /// How many groups of sixteen fast-path slots each session has, 1 to 8 (`FastPathLockGroupsPerBackend` in proc.h of version 18; version 16 has one).
     pub slot_groups: u32,
 }
 
@@ -41,22 +39,21 @@ impl Default for Config {
 }
 
 impl Config {
-    /// Whether all numbers are in their ranges, so that `Manager::new` doesn't refuse with `BadConfig`.
+    /// Whether all numbers of the configuration are in their ranges, so that `Manager::new` doesn't refuse with `BadConfig`.
     pub fn is_in_range(self) -> bool
         ensures { result ≡ is_in_range self }
     {
         self.is_within(USUAL_SESSIONS)
     }
 
-    /// Whether all numbers are in the ranges of a server's manager, so that `Manager::for_server` doesn't refuse with
-    /// `BadConfig`.
+    /// Whether all numbers of the configuration are in the ranges of a server's manager, so that `Manager::for_server` doesn't refuse with `BadConfig`.
     pub fn is_in_server_range(self) -> bool
         ensures { result ≡ is_in_server_range self }
     {
         self.is_within(MOST_SESSIONS)
     }
 
-    /// Whether the manager has 1 to `sessions` sessions, and the other numbers are in their ranges.
+    /// Whether the configuration asks for 1 to `sessions` sessions, and its other numbers are in their ranges.
     fn is_within(self, sessions: u32) -> bool
         ensures { result ≡ is_within sessions self }
     {

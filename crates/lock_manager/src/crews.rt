@@ -11,9 +11,8 @@ use shared_rule::Board;
 use std::alloc::AllocFailed;
 use std::sync::Wait;
 
-/// Opens `number` sessions of `database` at `desk`, in the order of their numbers, behind those of `crew`. Where all
-/// numbers are given out, or memory runs out, the call ends with that refusal: then fewer are open, each of which is
-/// in the list.
+/// Opens `number` sessions of `database` at `desk`, in the order of their numbers, and appends them to `crew`. Where all session numbers are given out, or
+/// memory runs out, the call ends with that refusal: the sessions opened until then are open, and in `crew`.
 pub fn open_sessions<T: PartTable, B: Board<T>, D: Desk<OwnSession<T, B>>, R: Wait>(
     rt: &R,
     desk: &mut D,
@@ -66,8 +65,8 @@ fn open_behind<T: PartTable, B: Board<T>, D: Desk<OwnSession<T, B>>, R: Wait>(
     }
 }
 
-/// Puts `session` behind the others of `list`. Where memory runs out it comes back, and the list is as before: a
-/// session can't be let go, and `Vec::push` hands what it has no room for to the caller that takes its error apart.
+/// Appends `session` to `list`. Where memory runs out `session` comes back, and `list` is as before: a session can't be dropped, and `Vec::push` hands back,
+/// in its error, what it has no room for.
 pub fn append_session<S>(list: &mut Vec<S>, session: S) -> Result<(), S>
     ensures { MatchResult result (λ _. list.new.items ≡ list.old.items ++ session ∷ [])
         (λ back. (back ≡ session) × (list.new.items ≡ list.old.items)) }
@@ -78,7 +77,7 @@ pub fn append_session<S>(list: &mut Vec<S>, session: S) -> Result<(), S>
     }
 }
 
-/// Closes all of `crew` at `desk`, the last one first. What they still hold is released.
+/// Closes all of `crew` at `desk`, the last one first. What these sessions still hold is released.
 pub fn close_sessions<T: PartTable, B: Board<T>, D: Desk<OwnSession<T, B>>, R: Wait>(
     rt: &R,
     desk: &mut D,

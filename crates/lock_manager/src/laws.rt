@@ -36,9 +36,9 @@ ghost use Rattle.lock_world.specs.Counted.{is_counted};
 
 use lock_table::PartTable;
 
-/// A conditional request that is refused with a conflict, as `steps` of `try_lock` says it then, names another session.
-/// In the content that was taken for it that session holds the object in the mode that is named, or awaits it so, and
-/// that mode conflicts with the one asked for.
+/// A conditional request that is refused with a conflict, as the clause `steps` of `try_lock` describes it, names another session. In the content that was
+/// taken for the request that session holds the object in the mode that is named, or awaits the object in that mode, and the mode conflicts with the one
+/// asked for.
 pub fn a_conflict_names_another_session_in_the_way()
     ensures another { (seat : Seated) (a b : Account) (uses left : UseCounts)
         (tag : Tag) (mode its : Mode) (other : ℕ) (how : How) →
@@ -49,12 +49,11 @@ pub fn a_conflict_names_another_session_in_the_way()
         IsInTheWay decides.taken seat.number tag mode (record { session = other; mode = its; how = how }) }
 {}
 
-/// A refusal saw what it names. The rule of the table holds between any two steps of all threads; where it does, let a
-/// session's account have gone on from the one that `try_lock` left when it was refused with a conflict, as `steps` of
-/// `try_lock` says it then. Events lead from the opening World to the one that the table shows. In a World on their
-/// way, in which the session had made just the steps before the episode that decided, the content of the object's
-/// partition was the one that was taken. There the session named, another one, stood with the mode named on the object,
-/// or awaited it, and that mode conflicts with the one asked for.
+/// A refusal saw what it names. The rule of the table holds between any two steps of all threads; where it does, let a session's account have gone on from
+/// the one that `try_lock` left when it was refused with a conflict, as the clause `steps` of `try_lock` describes it. Events lead from the opening World to
+/// the one that the table shows. In a World on their way, in which the session had made just the steps before the episode that decided, the content of the
+/// object's partition was the one that was taken. In that content the session named, which is another one, held the object in the mode named, or awaited it
+/// in that mode, and the mode conflicts with the one asked for.
 pub fn a_refusal_saw_what_it_names<T: PartTable>()
     ensures { (sizes : TableSizes) (state : State (Kept T) (View T)) (rule : Ruled T.content T.begun sizes state)
         (at place : ℕ) (view : View T) (history : History T) → get_elem? state.views at ≡ some view →
@@ -68,10 +67,10 @@ pub fn a_refusal_saw_what_it_names<T: PartTable>()
         × NamesWhatIs world seat.number tag mode decides.taken (record { session = other; mode = its; how = how }) }
 {}
 
-/// The counts of the running table are exact. The rule of the table holds between any two steps of all threads; where
-/// it does, a partition that nobody has in hand has its part at home, with the content that the World has there. What
-/// `RecordPart::counts` says of an object of that part is how many sessions hold it in each mode in that content, and
-/// how many hold or await it so; where it has no counts, nobody does.
+/// The counts of the running table are exact. The rule of the table holds between any two steps of all threads; where it does, a partition that nobody has in
+/// hand has its part at home, with the content that the World has in that partition. What `RecordPart::counts` says of an object of that part is how many
+/// sessions hold it in each mode in that content, and how many hold or await it in each mode; where the part has no counts of the object, nobody holds or
+/// awaits it.
 pub fn the_counts_of_the_table_are_exact()
     ensures { (sizes : TableSizes) (state : State (Kept RecordView) (View RecordView))
         (rule : Ruled content_of (λ part. part.begun) sizes state) (partition : ℕ) → partition < 16 →

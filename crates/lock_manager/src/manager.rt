@@ -19,8 +19,7 @@ use shared_rule::{
 use std::alloc::Global;
 use std::marker::Model;
 
-/// What stood in the lock manager as it was finished: holds in fast-path slots, holds in the table, and the sum of the
-/// strong lock counters.
+/// What was in the lock manager as it was finished: the numbers of holds in fast-path slots and in the lock table, and the sum of the strong lock counters.
 #[derive(Clone, Copy, Debug, PartialEq, Eq)]
 pub struct Final {
     pub fast: u32,
@@ -28,9 +27,8 @@ pub struct Final {
     pub strong: u32,
 }
 
-/// The lock manager: what all sessions share (the shared memory that `InitLocks` in lock.c sets up). Its sessions
-/// borrow it. Contracts see its table, how many sessions it may open, and how many groups of fast-path slots and
-/// how many local entries each may have.
+/// The lock manager: what all sessions share (the shared memory that `InitLocks` in lock.c sets up). Its sessions borrow the manager. Contracts see its
+/// table, how many sessions it may open, and how many groups of fast-path slots and how many local entries each may have.
 #[derive(Drop)]
 pub struct Manager {
     pub(crate) table: SharedTable<Part>,
@@ -56,8 +54,8 @@ impl Model for Manager {
         × (manager.max_local ≤ 65536) };
 }
 
-/// Gives the sessions of a manager out and takes them back. Contracts see at which table, how many sessions it has
-/// given out and may give out, how many of them are open, and the histories of those that have closed.
+/// Gives the sessions of a manager out and takes them back. Contracts see at which table the opener is, how many sessions it has given out and may give out,
+/// how many of these are open, and the histories of those that have closed.
 #[derive(Drop)]
 pub struct Opener {
     pub(crate) numbers: NumberOpener<Part>,
@@ -87,9 +85,8 @@ impl Model for Opener {
 }
 
 impl Manager {
-    /// A manager as `config` says, with no session yet, and its opener (`InitLocks` in lock.c with `InitProcGlobal`
-    /// in proc.c). Refused where a number of the configuration is out of its range, which is 1 to 64 for the sessions, and then
-    /// where memory, by `alloc`, runs out.
+    /// A manager as `config` says, with no session yet, and its opener (`InitLocks` in lock.c with `InitProcGlobal` in proc.c). Refused where a number of the
+    /// configuration is out of its range, which is 1 to 64 for the sessions, and otherwise where memory, by `alloc`, runs out.
     pub fn new(alloc: Global, config: Config) -> Result<(Manager, Opener), Refusal>
         ensures ok { IfOk result (λ made. IsNew made.0 made.1 config) }
         ensures bad_config { IsErrOf result Refusal.BadConfig ↔ (is_in_range config ≡ false) }
@@ -101,9 +98,9 @@ impl Manager {
         Manager::of_size(alloc, config)
     }
 
-    /// A server's manager as `config` says, which may have up to 1,024 sessions, with none yet, and its opener. What the table, a strong
-    /// lock of a relation and a listing cost grows with the sessions that are asked for. Refused where a number of the configuration is out
-    /// of its range, and then where memory, by `alloc`, runs out.
+    /// A server's manager as `config` says, which may have up to 1,024 sessions, with no session yet, and its opener. The memory of the table, and the steps
+    /// of a strong lock of a relation and of a listing, grow with the number of sessions that `config` asks for. Refused where a number of the configuration
+    /// is out of its range, and otherwise where memory, by `alloc`, runs out.
     pub fn for_server(alloc: Global, config: Config) -> Result<(Manager, Opener), Refusal>
         ensures ok { IfOk result (λ made. IsNew made.0 made.1 config) }
         ensures bad_config { IsErrOf result Refusal.BadConfig ↔ (is_in_server_range config ≡ false) }
@@ -149,8 +146,8 @@ impl Manager {
         Ok((manager, opener))
     }
 
-    /// Ends the manager, all of whose sessions are closed, with its `opener`. Nothing is held then, by what each of
-    /// them had to show as it was closed: the three numbers are 0, and nobody counts again.
+    /// Ends the manager, all of whose sessions are closed, with its `opener`. Nothing is held any more, since each session showed so as it was closed: the
+    /// three numbers of the answer are 0 without a count.
     pub fn finish(self, opener: Opener) -> Final
         requires own { IsOpenerOf opener self }
         requires none_live { opener.live ≡ 0 }
@@ -165,7 +162,7 @@ impl Manager {
 }
 
 impl Opener {
-    /// How many sessions are open: given out and not closed.
+    /// How many sessions of the opener are open: given out and not closed.
     pub fn live(&self) -> u32
         ensures live { result ≡ self.now.live }
         ensures open { result + length self.now.closed ≡ self.now.issued }
@@ -173,9 +170,9 @@ impl Opener {
         u32::from(self.live)
     }
 
-    /// A new session of `manager` for `database`, with room for its first local entries (`InitProcess` in proc.c,
-    /// with `databaseId` stored as `InitPostgres` in postinit.c does). Numbers are given in rising order and never
-    /// again. Refused where all are given out, and then where memory runs out; the opener is then as before.
+    /// A new session of `manager` for `database`, with room for its first local entries (`InitProcess` in proc.c, with `databaseId` stored as `InitPostgres`
+    /// in postinit.c does). Session numbers are given out in rising order, each once. Refused where all are given out, and otherwise where memory runs out;
+    /// after a refusal the opener is as before.
     pub fn session<'a>(
         &mut self,
         manager: &'a Manager,

@@ -11,7 +11,7 @@ use local_locks::Acquired;
 use modes_core::Refusal;
 
 impl<S, W> Started<S, W> {
-    /// The session, and what its acquire is answered; or the session that waits.
+    /// The session, with what its acquire is answered, or, as an error, the session that waits.
     pub fn into_parts(self) -> Result<(S, Result<Acquired, Refusal>), W>
         ensures parts { result ≡ parts_started self }
     {
@@ -25,7 +25,7 @@ impl<S, W> Started<S, W> {
 }
 
 impl<S, W> Polled<S, W> {
-    /// The session whose wait was granted; or the one that waits still, and whether it was asked to cancel.
+    /// The session whose wait was granted, or, as an error, the session that waits still, with whether it was asked to cancel.
     pub fn into_parts(self) -> Result<S, (W, bool)>
         ensures parts { result ≡ parts_polled self }
     {
@@ -38,7 +38,7 @@ impl<S, W> Polled<S, W> {
 }
 
 impl<S> Locked<S> {
-    /// The session, and what its acquire is answered.
+    /// The session, with what its acquire is answered.
     pub fn into_parts(self) -> (S, Result<Acquired, Refusal>)
         ensures session { result.0 ≡ session_locked self }
         ensures answer { result.1 ≡ answer_locked self }
@@ -52,7 +52,7 @@ impl<S> Locked<S> {
 }
 
 impl<S> Waited<S> {
-    /// The session, and what the acquire is answered for which it waited.
+    /// The session, with what the acquire for which it waited is answered.
     pub fn into_parts(self) -> (S, Result<Acquired, Refusal>)
         ensures session { result.0 ≡ session_waited self }
         ensures answer { result.1 ≡ acquired_after (answer_waited self) }
@@ -65,7 +65,7 @@ impl<S> Waited<S> {
 }
 
 impl<S> Cancelled<S> {
-    /// The session, and what the acquire is answered whose wait it cancelled: granted, where the grant was first.
+    /// The session, with what the acquire whose wait it cancelled is answered: `Cancelled`, or granted where the grant was first.
     pub fn into_parts(self) -> (S, Result<Acquired, Refusal>)
         ensures session { result.0 ≡ session_cancelled self }
         ensures answer { result.1 ≡ acquired_despite (was_granted self) }

@@ -92,9 +92,8 @@ impl Own {
     }
 }
 
-/// A session, over any board and any keeper of the partitions. Contracts see its board, its database, its use counts
-/// of its fast-path slots, and what it owns. It ends by `close` alone: the compiler refuses code that lets one go,
-/// which would leave its holds and its number taken for ever.
+/// A session, over any board and any keeper of the partitions. Contracts see its board, its database, its use counts of its fast-path slots, and what it
+/// owns. A session ends by `close` alone: the compiler refuses code that drops one, which would leave its holds and its number taken for ever.
 pub struct OwnSession<T: PartTable, B: Board<T>> {
     pub(crate) board: B,
     pub(crate) own: Box<Own>,
@@ -169,20 +168,18 @@ impl<T: PartTable, B: Board<T>> OwnSession<T, B> {
         modes_held(&self.own.locals, tag)
     }
 
-    /// How often `owner` has `tag` in `mode` and can give it back (`LOCALLOCKOWNER` in lock.h): the session, or the
-    /// innermost level of its transaction.
+    /// How often `owner`, which is the session or the innermost level of its transaction, has `tag` in `mode` and can give it back (`LOCALLOCKOWNER` in
+    /// lock.h).
     pub fn owner_count(&self, tag: Tag, mode: Mode, owner: Owner) -> u16
         ensures { result ≡ own_count_of self.now.owned tag mode owner }
     {
         self.own.locals.owner_count(tag, mode, owner)
     }
 
-    /// Takes `tag` in `mode` for `owner`, or refuses at once where it clashes (`LockAcquire` in lock.c with
-    /// `dontWait`). What the session has already is counted once more, with no step on shared state. A weak mode on
-    /// a relation of the session's database is granted in one of its fast-path slots, unless all of the relation's
-    /// group are in use or a strong lock is counted. Refused, in this order, where the owner's count is full, the
-    /// local table is full, memory runs out, or the request conflicts with a hold or wait of another session. After
-    /// a refusal the session holds what it held.
+    /// Takes `tag` in `mode` for `owner`, or refuses at once where the request conflicts (`LockAcquire` in lock.c with `dontWait`). What the session has
+    /// already is counted once more, with no step on shared state. A weak mode on a relation of the session's database is granted in one of its fast-path
+    /// slots, unless all slots of the relation's group are in use or a strong lock is counted. Refused, in this order, where the owner's count is full, the
+    /// local table is full, memory runs out, or the request conflicts with a hold or wait of another session. After a refusal the session holds what it held.
     #[inline(always)]
     pub fn try_lock<R: Wait>(
         &mut self,
@@ -227,12 +224,11 @@ impl<T: PartTable, B: Board<T>> OwnSession<T, B> {
         }
     }
 
-    /// Takes `tag` in `mode` for `owner` in one of the session's fast-path slots, or refuses, and waits for nobody
-    /// (`FastPathGrantRelationLock` in lock.c, where the lock of its own slots is free). What the session has
-    /// already is counted once more, wherever it stands, unless the owner's count is full. Refused, in this order,
-    /// where the mode on the object may not go by a slot, the local table is full, memory runs out, all sixteen
-    /// slots of the relation's group are in use, somebody has the lock of its own slots, or a strong lock is
-    /// counted. After a refusal the session holds what it held.
+    /// Takes `tag` in `mode` for `owner` in one of the session's fast-path slots, or refuses, and waits for nobody (`FastPathGrantRelationLock` in lock.c,
+    /// where the lock of the session's own slots is free). What the session has already is counted once more, in a slot or in the table, unless the owner's
+    /// count is full. Refused, in this order, where the mode on the object may not go by a slot, the local table is full, memory runs out, all sixteen slots
+    /// of the relation's group are in use, somebody has the lock of the session's own slots, or a strong lock is counted. After a refusal the session holds
+    /// what it held.
     pub fn try_fast(&mut self, tag: Tag, mode: Mode, owner: Owner) -> Result<Acquired, Refusal>
         // What the call answers.
         ensures answers { AnswersByOwned self.old.owned tag mode owner Acquired.AlreadyHeld
@@ -256,8 +252,8 @@ impl<T: PartTable, B: Board<T>> OwnSession<T, B> {
         acquire_by_slot(&mut self.board, &mut self.own, tag, mode, owner)
     }
 
-    /// Gives one count of `owner` on `tag` in `mode` back, and with the last one the hold (`LockRelease` in lock.c).
-    /// Refused where the owner has no count; nothing has changed then.
+    /// Gives one count of `owner` on `tag` in `mode` back, and with the session's last count the hold (`LockRelease` in lock.c). Refused where `owner` has no
+    /// count; nothing has changed after a refusal.
     #[inline(always)]
     pub fn unlock<R: Wait>(
         &mut self,
@@ -298,8 +294,8 @@ impl<T: PartTable, B: Board<T>> OwnSession<T, B> {
         }
     }
 
-    /// Ends a transaction that succeeded, with all its levels: what it owns goes, and what the session owns stays
-    /// (`LockReleaseAll` in lock.c without `allLocks`). Holds are released in the order of making.
+    /// Ends a transaction that succeeded, with all its levels: what the transaction owns goes, and what the session owns stays (`LockReleaseAll` in lock.c
+    /// without `allLocks`). Holds are released in the order of making.
     pub fn commit<R: Wait>(&mut self, rt: &R)
         ensures entries { self.new.owned.entries ≡ left_by End.Commit self.old.owned.entries }
         ensures none_ended { ended_by End.Commit self.old.owned.entries ≡ [] → self.new.board ≡ self.old.board }
@@ -314,9 +310,8 @@ impl<T: PartTable, B: Board<T>> OwnSession<T, B> {
         end_all(rt, &mut self.board, &mut self.own, End::Commit);
     }
 
-    /// Ends a transaction that failed, with all its levels: all that it and the session own goes, but for the
-    /// session's advisory locks, which stay (`LockReleaseAll` in lock.c, with `allLocks` for the default lock
-    /// method and without for the user method).
+    /// Ends a transaction that failed, with all its levels: all that the transaction and the session own goes, but for the session's advisory locks, which
+    /// stay (`LockReleaseAll` in lock.c, with `allLocks` for the default lock method and without for the user method).
     pub fn abort<R: Wait>(&mut self, rt: &R)
         ensures entries { self.new.owned.entries ≡ left_by End.Abort self.old.owned.entries }
         ensures none_ended { ended_by End.Abort self.old.owned.entries ≡ [] → self.new.board ≡ self.old.board }
@@ -331,8 +326,7 @@ impl<T: PartTable, B: Board<T>> OwnSession<T, B> {
         end_all(rt, &mut self.board, &mut self.own, End::Abort);
     }
 
-    /// What the strong lock counter at `index` shows, by one load: how many strong locks are counted there
-    /// (`FastPathStrongRelationLocks` in lock.c).
+    /// What the strong lock counter at `index` shows, by one load: how many strong locks are counted at that index (`FastPathStrongRelationLocks` in lock.c).
     pub fn strong_count(&mut self, index: u16) -> u64
         requires exists { index < 1024 }
         ensures loaded { (B.view self.new.board).trace
@@ -347,8 +341,8 @@ impl<T: PartTable, B: Board<T>> OwnSession<T, B> {
 }
 
 impl<'a> OwnSession<Part, SeatBoard<'a, Part>> {
-    /// Meets `other`, a session of the same manager, which comes back: no hold of the one conflicts with a hold of
-    /// the other on an object. Both are as before.
+    /// Has the session meet `other`, a session of the same manager, which comes back: no hold of the one conflicts with a hold of the other on an object.
+    /// Both sessions are as before.
     pub fn meet(&mut self, other: Session<'a>) -> Session<'a>
         requires same_manager { let B = ⟦<SeatBoard<'a, Part> as Board<Part>>⟧ in
             (B.seat other.board).table ≡ (B.seat self.old.board).table }

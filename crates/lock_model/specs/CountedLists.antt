@@ -12,17 +12,17 @@ use Rattle.lock_model.specs.declared.machine.state.Machine.{Machine}
 use Rattle.lock_model.specs.Shows.{counted_from, makes_steps, awaits}
 use Rattle.lock_model.specs.SlotLooks.{slots_hold}
 
--- The list of all that is counted, of whichever session, and what the machine looks at before a step on counters.
+-- The list of all strong locks that sessions have counted, and what the machine looks at before a step on counters.
 
--- whether it is the session's lock of the mode on the object
+-- whether a counted strong lock is the session's, for the mode on the object
 abbrev pub is_by : ℕ → Tag → Mode → CountedBy → Bool
 is_by session tag mode c = (c.session == session) && is_of tag mode (counted_from c)
 
--- whether it is, and at this position
+-- whether a counted strong lock is the session's, for the mode on the object, and at this position
 abbrev pub is_by_at : ℕ → ℕ → Tag → Mode → CountedBy → Bool
 is_by_at session position tag mode c = (c.session == session) && (is_of tag mode (counted_from c) && (c.position == position))
 
--- one past the owner, if it is the session's lock and the owner is next
+-- a counted strong lock once it is past the owner too, if it is the session's and the owner is next
 abbrev pub passed_by : ℕ → ℕ → Tag → Mode → CountedBy → CountedBy
 passed_by session owner tag mode c = if is_by_at session owner tag mode c then record c { position = owner + 1 } else c
 
@@ -51,7 +51,7 @@ has_or_awaits machine session tag mode =
     || (contents_in machine.contents.parts.items (partition_of tag)).holds session tag mode)
     || slots_hold machine session tag mode
 
--- whether the session may count it no more
+-- whether the session may take back its counted lock of the mode on the object
 abbrev pub may_uncount : Machine → ℕ → Tag → Mode → Bool
 may_uncount machine session tag mode =
     (makes_steps machine session && list_any (is_by session tag mode) machine.counted.items) && not (has_or_awaits machine session tag mode)
@@ -67,11 +67,11 @@ may_pass machine session owner tag mode =
     ((makes_steps machine session && holds_fast machine session owner) && list_any (is_by_at session owner tag mode) machine.counted.items)
     && not (slots_show machine owner tag)
 
--- whether the counter may be loaded and shows this
+-- whether the session may load the strong lock counter, which shows this
 abbrev pub may_load_counter : Machine → ℕ → ℕ → ℕ → Bool
 may_load_counter machine session index shown = (makes_steps machine session && nat_lt index 1024) && (shown == counter machine index)
 
--- whether the session reads it as 0, and may set slots then
+-- whether the session reads the strong lock counter as 0, and may set slots by that
 abbrev pub reads_zero : Machine → ℕ → ℕ → ℕ → Bool
 reads_zero machine session index shown =
     (may_load_counter machine session index shown && (shown == 0)) && holds_fast machine session session

@@ -9,11 +9,11 @@ use Rattle.lock_model.specs.Shows.{makes_steps, is_number}
 abbrev pub may_lock_list : Machine → ℕ → Bool
 may_lock_list machine session = makes_steps machine session && is_none (slice_index_or machine.lists.has_list session None)
 
--- whether the session makes steps, and has the wait list of this lock in hand
+-- whether the session makes steps, and has locked the wait list of this lock
 abbrev pub has_list : Machine → ℕ → ℕ → Bool
 has_list machine session lock = makes_steps machine session && is_number lock (slice_index_or machine.lists.has_list session None)
 
--- what the word says once its wait list is unlocked: of the flags those are gone that were not to stay
+-- what the word says once its wait list is unlocked: has-waiters and release-ok remain set only where they are to
 abbrev pub unlocked_in : LockState → Bool → Bool → LockState
 unlocked_in state has_waiters release_ok =
     record state { list_locked = false; has_waiters = has_waiters && state.has_waiters; release_ok = release_ok && state.release_ok }

@@ -37,7 +37,7 @@ use Rattle.lock_world.specs.Happens.Waits.{HappensMarkingIn}
 use Rattle.lock_table.specs.Queue.{waits_there}
 use Rattle.lock_world.specs.SafeWorld.{SafeWorld}
 
--- whether it is the hold of this session on this object in this mode
+-- whether a hold is that of this session on this object in this mode
 abbrev pub is_hold : ℕ → Tag → Mode → Hold → Bool
 is_hold session tag mode hold = (hold.session == session) && (tag_eq hold.tag tag && mode_eq hold.mode mode)
 
@@ -155,8 +155,8 @@ pub record ShowsWaits (shown : OwnWaits) (wait : ℕ → Option OwnWait) (has_se
 abbrev pub waiters_of : ℕ → List Sleeper → List LwWaiter
 waiters_of lock list = map (λ (sleeper : Sleeper). sleeper.waiter) (filter (λ (sleeper : Sleeper). sleeper.lock == lock) list)
 
--- The wait lists and the sleep words are the World's, and so is what each session knows of lists: the one in hand, the one that
--- it is in, and whom it took off.
+-- The wait lists and the sleep words are the World's, and so is what each session knows of lists: the one that it has locked, the one
+-- that it is in, and whom it took off.
 pub record ShowsLists (shown : Lists) (words : ℕ → ℕ) (lists : ℕ → List LwWaiter)
     (have stand : ℕ → Option ℕ) (taken : ℕ → ℕ → Bool) : Type 0 where
   pub sixty_four : length shown.sleep ≡ 64
@@ -187,7 +187,7 @@ abbrev pub makes_steps : Machine → ℕ → Bool
 makes_steps machine session =
     slice_index_or machine.numbers.live session false && is_none (slice_index_or machine.numbers.kept_by session None)
 
--- whether the session has no wait list in hand and is in none
+-- whether the session has locked no wait list and is in none
 abbrev pub has_no_list : Machine → ℕ → Bool
 has_no_list machine session =
     is_none (slice_index_or machine.lists.has_list session None) && is_none (slice_index_or machine.lists.stands session None)
@@ -200,12 +200,12 @@ owes_a_telling machine session = list_any (λ untold. untold) (slice_index_or ma
 abbrev pub has_a_mark : ℕ → List (List Bool) → Bool
 has_a_mark session marks = list_any (λ of_lock. slice_index_or of_lock session false) marks
 
--- whether it is this session's number
+-- whether there is a number, and it is this one
 abbrev pub is_number : ℕ → Option ℕ → Bool
 is_number session None = false
 is_number session (Some other) = other == session
 
--- whether it is this session's hand
+-- whether a hand is this session's
 abbrev pub is_holder : ℕ → Option InHand → Bool
 is_holder session None = false
 is_holder session (Some hand) = hand.holder == session

@@ -22,7 +22,7 @@ pub record AreCountsOf (content : Content) (tag : Tag) (counts : Counts) : Type 
   pub grant_mask : (mode : Mode) → set_has counts.grant_mask mode ≡ not (granted_of content.holds tag mode == 0)
   pub wait_mask : (mode : Mode) → set_has counts.wait_mask mode ≡ not (awaited_of (content.waits tag) mode == 0)
 
--- The counts are how many sessions hold the object in the mode, and how many hold it so or await it so.
+-- The counts are how many sessions hold the object in the mode, and how many hold or await it in the mode.
 pub record CountSessions (content : Content) (tag : Tag) (counts : Counts) : Type 0 where
   pub granted : (mode : Mode) → slice_index counts.granted (number_of mode) ≡ sessions_below most_sessions (λ session. content.holds session tag mode)
   pub requested :

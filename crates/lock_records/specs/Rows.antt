@@ -14,7 +14,7 @@ pub record AppendsRows (old new : List TableRow) (times : TableRow → ℕ) : Ty
   pub behind : new ≡ old ++ added
   pub counted : (row : TableRow) → count_by (row_eq row) added ≡ times row
 
--- The list has some rows behind what it had.
+-- The list has the rows that it had, and some more after them.
 pub record HasMoreRows (old new : List TableRow) : Type 0 where
   pub added : List TableRow
   pub behind : new ≡ old ++ added
@@ -41,7 +41,7 @@ abbrev pub awaited_at : TableRow → Option QueueRecord → ℕ
 awaited_at row None = 0
 awaited_at row (Some queue) = awaited_in queue.tag queue.waiters.items row
 
--- how often the places below a number show it
+-- how often the places with a queue below a number show a row
 unfoldable pub awaited_below : List (Option QueueRecord) → ℕ → TableRow → ℕ
 awaited_below slots zero row = 0
 awaited_below slots (suc n) row = awaited_below slots n row + awaited_at row (queue_at slots n)

@@ -9,8 +9,8 @@ use crate::locks::LockRecord;
 use modes_core::ModeSet;
 
 /// How often an object is held and requested (`nGranted`, `granted`, `nRequested` and `requested` of `LOCK` in
-/// lock.h), by the number of the mode and together, and the masks of the modes with a hold and with a wait. Place 0
-/// of the lists is unused.
+/// lock.h): in each lock mode, by the mode's number, and in all modes together; and the masks of the modes with a
+/// hold and with a wait. Place 0 of the lists is unused.
 #[derive(Clone, Copy, Debug, PartialEq, Eq)]
 pub struct Counts {
     pub requested: [u16; 9],
@@ -21,7 +21,7 @@ pub struct Counts {
     pub wait_mask: ModeSet,
 }
 
-/// The counts that `lock` keeps.
+/// The counts of holds and requests of the object of `lock`, by its tallies.
 pub(crate) fn counts_of(lock: &LockRecord) -> Counts
     ensures granted { (mode : Mode) → slice_index result.granted (number_of mode) ≡ counts_in lock.now.granted mode }
     ensures requested { (mode : Mode) → slice_index result.requested (number_of mode)

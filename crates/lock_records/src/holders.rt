@@ -11,8 +11,8 @@ use crate::sets::has_some;
 use modes_core::{Mode, ModeSet, SessionId, Tag};
 use slab::Slab;
 
-/// What a session holds of an object (`PROCLOCK` in lock.h, with its `holdMask`), and the place of the next holder
-/// record of the object.
+/// The lock modes in which a session holds an object (`PROCLOCK` in lock.h, with its `holdMask`), and the place of
+/// the object's next holder record.
 #[derive(Clone, Copy, Debug)]
 pub struct HolderRecord {
     pub tag: Tag,
@@ -21,15 +21,16 @@ pub struct HolderRecord {
     pub session: SessionId,
 }
 
-/// The holder records of an object: how many they are, and where the first one stands (`procLocks` of `LOCK` in
-/// lock.h).
+/// The chain of an object's holder records: how many there are, and the place of the first one (`procLocks` of `LOCK`
+/// in lock.h).
 #[derive(Clone, Copy, Debug)]
 pub struct Holders {
     pub first: usize,
     pub count: u16,
 }
 
-/// Where the record of `session` on `tag` stands in `slots`, in the chain `holders`.
+/// The place in `slots` of the holder record of `session` on `tag`, looked for in the chain `holders`, if there is
+/// one.
 #[inline(always)]
 pub(crate) fn find_holder(
     slots: &Slab<HolderRecord>,
@@ -52,7 +53,7 @@ pub(crate) fn find_holder(
     None
 }
 
-/// The lowest number above those of all sessions that have a record of `tag` in `slots`, in the chain `holders`.
+/// A number above those of all sessions that have a holder record of `tag` in `slots`, in the chain `holders`.
 pub(crate) fn above_holders(slots: &Slab<HolderRecord>, holders: Holders, tag: &Tag) -> u16
     requires chain { IsHolderChain slots.now.slots tag.now holders.first holders.count }
     requires are { AreHolders slots.now.slots tag.now }
@@ -70,7 +71,8 @@ pub(crate) fn above_holders(slots: &Slab<HolderRecord>, holders: Holders, tag: &
     above
 }
 
-/// Adds `mode`, which `session` doesn't hold, to its record of `tag`, which is made where there is none.
+/// Adds `mode`, in which `session` doesn't hold `tag`, to the session's holder record of `tag` in `slots`. Where
+/// there is none, one is made, at the head of the chain `holders`.
 #[inline(always)]
 pub(crate) fn raise_holder(
     slots: &mut Slab<HolderRecord>,
@@ -97,7 +99,8 @@ pub(crate) fn raise_holder(
     }
 }
 
-/// Makes the first record of `session` on `tag`, at the head of the chain, with `mode`.
+/// Makes the holder record of `session` on `tag`, which has none, with `mode`, at the head of the chain `holders` in
+/// `slots`.
 #[inline(always)]
 fn put_holder(
     slots: &mut Slab<HolderRecord>,
@@ -126,7 +129,8 @@ fn put_holder(
     holders.count += 1;
 }
 
-/// Takes `mode` out of the record of `session` on `tag`, and the record with the last mode.
+/// Takes `mode` out of the holder record of `session` on `tag` in `slots`; with its last mode the record goes out of
+/// the chain `holders`.
 #[inline(always)]
 pub(crate) fn lower_holder(
     slots: &mut Slab<HolderRecord>,
@@ -154,8 +158,8 @@ pub(crate) fn lower_holder(
     }
 }
 
-/// Takes the record of `session` on `tag`, at `place`, out of the chain: the head of the chain goes, and what it
-/// says goes into the gap.
+/// Takes the holder record of `session` on `tag`, at `place` of `slots`, out of the chain `holders`: the slot at the
+/// head of the chain becomes empty, and its session and modes are moved to `place`.
 #[inline(always)]
 fn take_holder(
     slots: &mut Slab<HolderRecord>,
@@ -185,7 +189,7 @@ fn take_holder(
 }
 
 /// The session with the lowest number, other than `session`, that holds `tag` in one of the modes of `set`, with all
-/// the modes that it holds.
+/// the modes in which that session holds `tag`. Its holder record in `slots` is looked for in the chain `holders`.
 #[inline(always)]
 pub(crate) fn lowest_holder(
     slots: &Slab<HolderRecord>,
@@ -208,7 +212,8 @@ pub(crate) fn lowest_holder(
     lowest
 }
 
-/// The lowest session so far, `lowest`, with the record `holder` considered.
+/// The session with the lower number: that of `lowest`, found so far, or that of `holder`, where this is another one
+/// than `session` and holds a mode of `set`; with its modes.
 #[inline(always)]
 fn considered(
     lowest: Option<(SessionId, ModeSet)>,

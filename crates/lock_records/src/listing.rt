@@ -9,7 +9,7 @@ use lock_table::{NoMemory, TableRow, Waiter};
 use modes_core::{Mode, Tag};
 use slab::Slab;
 
-/// Appends to `rows` a row for each mode of `holder`.
+/// Appends to `rows` a row for each mode of `holder`, granted.
 fn push_modes(holder: &HolderRecord, rows: &mut Vec<TableRow>) -> Result<(), NoMemory>
     ensures ok { OnOk result (AppendsRows rows.old.items rows.new.items (shown_by (Some holder.now))) }
     ensures err { OnErr result (HasMoreRows rows.old.items rows.new.items) }
@@ -32,7 +32,8 @@ fn push_modes(holder: &HolderRecord, rows: &mut Vec<TableRow>) -> Result<(), NoM
     Ok(())
 }
 
-/// Appends to `rows` a row for each hold that `holders` show.
+/// Appends to `rows` a row for each hold in the holder records `holders`. After a refusal some rows may have been
+/// added.
 pub(crate) fn push_holds(
     holders: &Slab<HolderRecord>,
     rows: &mut Vec<TableRow>,
@@ -51,7 +52,7 @@ pub(crate) fn push_holds(
     Ok(())
 }
 
-/// Appends to `rows` a row for each of `waiters`, waits on `tag`.
+/// Appends to `rows` a row for each of `waiters`, the waits for `tag`. After a refusal some rows may have been added.
 pub(crate) fn push_waits(
     tag: &Tag,
     waiters: &[Waiter],

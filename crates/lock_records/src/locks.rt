@@ -12,20 +12,20 @@ use modes_core::{Mode, Tag, conflicts};
 use place_index::PlaceIndex;
 use slab::Slab;
 
-/// What the table has of an object that is held or awaited (`LOCK` in lock.h): its holder records, how many holds
-/// there are of each mode, and how many waits.
+/// What a partition keeps of an object that is held or awaited (`LOCK` in lock.h): the chain of its holder records,
+/// how many holds there are in each lock mode, and how many waits for each.
 #[derive(Debug, Drop)]
 pub struct LockRecord {
     pub tag: Tag,
     pub holders: Holders,
     pub granted: Tally,
     pub awaited: Tally,
-    /// The place of the object's queue record, while somebody awaits the object.
+    /// The place of the lock record's queue record, while somebody awaits the object.
     pub queue: usize,
 }
 
 impl LockRecord {
-    /// A record of `tag`, which nobody holds or awaits.
+    /// A new lock record of `tag`, which nobody holds or awaits.
     fn new(tag: Tag) -> Self
         ensures { IsNewLock result tag }
     {
@@ -73,8 +73,8 @@ impl LockRecord {
     }
 }
 
-/// The key under which the index has `tag`. The lowest bits of a tag's hash are those of its partition, and the index
-/// picks chains by the highest: the multiplication mixes them.
+/// The key under which the index of lock records has `tag`. The lowest bits of a tag's hash are those of its
+/// partition, and the index picks chains by the highest bits of the key: the multiplication mixes the bits.
 #[inline(always)]
 fn key_of(tag: &Tag) -> u32
     ensures { result ≡ key_of tag.now }
@@ -82,8 +82,8 @@ fn key_of(tag: &Tag) -> u32
     tag.hash().wrapping_mul(2_654_435_761)
 }
 
-/// Whether `tag` is `other`. They are compared where they stand: a copy is stored field by field, and the comparison
-/// waits for that.
+/// Whether `tag` is `other`. Neither is copied: a copy is stored field by field, and the comparison would wait for
+/// that.
 #[inline(always)]
 fn is_same_tag(tag: &Tag, other: &Tag) -> bool
     ensures { result ≡ tag_eq tag.now other.now }
@@ -91,7 +91,7 @@ fn is_same_tag(tag: &Tag, other: &Tag) -> bool
     *tag == *other
 }
 
-/// Whether `locks` has a record of `tag` at `place`.
+/// Whether `locks` has a lock record of `tag` at `place`.
 #[inline(always)]
 fn is_lock_on(locks: &Slab<LockRecord>, place: usize, tag: &Tag) -> bool
     ensures { result ≡ is_on tag.now (lock_at locks.now.slots place) }
@@ -102,7 +102,8 @@ fn is_lock_on(locks: &Slab<LockRecord>, place: usize, tag: &Tag) -> bool
     }
 }
 
-/// The place of the record of `tag` in `locks`. `hint`, the place where a record was found last, is looked at first.
+/// The place of the lock record of `tag` in `locks`, if there is one: `hint`, where a record was found last, is
+/// looked at before `index` is asked.
 #[inline(always)]
 pub(crate) fn find_lock(
     locks: &Slab<LockRecord>,
@@ -120,8 +121,9 @@ pub(crate) fn find_lock(
     find_lock_by_index(locks, index, tag)
 }
 
-/// The place of the record of `tag` in `locks`, for a call that mostly follows one on the same object: another way
-/// than by `hint` is a function of its own, so that this one stays short.
+/// The place of the lock record of `tag` in `locks`, if there is one, for a call that mostly follows one on the same
+/// object: the look through `index`, where the record is not at `hint`, is a function of its own, so that this one
+/// remains short.
 #[inline(always)]
 pub(crate) fn find_hinted_lock(
     locks: &Slab<LockRecord>,
@@ -139,7 +141,8 @@ pub(crate) fn find_hinted_lock(
     Some(hint)
 }
 
-/// The record of `tag`, for a call that mostly follows one on the same object, whose place is `hint`.
+/// The lock record of `tag` in `locks`, if there is one, for a call that mostly follows one on the same object:
+/// `hint` is looked at before `index` is asked.
 #[inline(always)]
 pub(crate) fn hinted_lock<'a>(
     locks: &'a Slab<LockRecord>,
@@ -162,7 +165,8 @@ pub(crate) fn hinted_lock<'a>(
     }
 }
 
-/// The place of the record of `tag` in `locks`, by the index: a function of its own, called seldom.
+/// The place of the lock record of `tag` in `locks`, looked for through `index`: a function of its own, called
+/// seldom.
 #[cold]
 #[inline(never)]
 fn find_lock_cold(locks: &Slab<LockRecord>, index: &PlaceIndex, tag: &Tag) -> Option<usize>
@@ -173,7 +177,7 @@ fn find_lock_cold(locks: &Slab<LockRecord>, index: &PlaceIndex, tag: &Tag) -> Op
     find_lock_by_index(locks, index, tag)
 }
 
-/// The place of the record of `tag` in `locks`, looked for through `index` alone.
+/// The place of the lock record of `tag` in `locks`, looked for through `index` alone, if there is one.
 #[inline(always)]
 fn find_lock_by_index(locks: &Slab<LockRecord>, index: &PlaceIndex, tag: &Tag) -> Option<usize>
     requires { AreNoted locks.now.slots index.now }
@@ -189,8 +193,8 @@ fn find_lock_by_index(locks: &Slab<LockRecord>, index: &PlaceIndex, tag: &Tag) -
     }
 }
 
-/// The place of the record of `tag` in `locks`, which is made where there is none. `absent` says that the caller
-/// knows that there is none.
+/// The place of the lock record of `tag` in `locks`, which is made where there is none. `absent` says that the caller
+/// knows that there is none; otherwise `hint` is looked at before `index` is asked.
 #[inline(always)]
 pub(crate) fn find_or_make_lock(
     locks: &mut Slab<LockRecord>,
@@ -215,7 +219,7 @@ pub(crate) fn find_or_make_lock(
     }
 }
 
-/// Makes a record of `tag`, which has none.
+/// Makes a lock record of `tag`, which has none, in `locks` and `index`, and answers its place.
 #[inline(always)]
 fn make_lock(locks: &mut Slab<LockRecord>, index: &mut PlaceIndex, tag: &Tag) -> usize
     requires noted { AreNoted locks.old.slots index.old }
@@ -231,7 +235,8 @@ fn make_lock(locks: &mut Slab<LockRecord>, index: &mut PlaceIndex, tag: &Tag) ->
     place
 }
 
-/// Takes the record of `tag`, at `place`, out where nobody holds or awaits the object any more.
+/// Takes the lock record of `tag`, at `place`, out of `locks` and `index` where nobody holds or awaits the object any
+/// more.
 #[inline(always)]
 pub(crate) fn drop_empty(
     locks: &mut Slab<LockRecord>,
@@ -251,7 +256,7 @@ pub(crate) fn drop_empty(
     }
 }
 
-/// Takes the record of `tag`, at `place`, out.
+/// Takes the lock record of `tag`, at `place`, out of `locks` and `index`.
 fn drop_lock(locks: &mut Slab<LockRecord>, index: &mut PlaceIndex, tag: &Tag, place: usize)
     requires noted { AreNoted locks.old.slots index.old }
     requires there { IsLockAt locks.old.slots tag.now place }

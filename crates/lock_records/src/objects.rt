@@ -21,9 +21,9 @@ use modes_core::{Mode, SessionId, Tag, conflicts};
 use place_index::PlaceIndex;
 use slab::Slab;
 
-/// Makes room for a request: in `index` for one lock record more, in `locks` for that record, in `holders` for the
-/// hold that it and each wait becomes, in `queues` for a queue record more with a wait in it, and in `woken` for the names
-/// of all who wait then. No record changes.
+/// Makes room for a request: in `index` and `locks` for one more lock record, in `holders` for the holds that the
+/// request and each wait become, in `queues` for one more queue record with a wait in it, and in `woken` for one
+/// entry more than there are waits. No record changes.
 #[inline(always)]
 pub(crate) fn make_room(
     locks: &mut Slab<LockRecord>,
@@ -69,8 +69,8 @@ pub(crate) fn make_room(
     Ok(())
 }
 
-/// Makes room for one more wait in the queue of `tag`, whose lock record is at `found`, if somebody awaits the object.
-/// Mostly nobody waits in the whole partition.
+/// Makes room for one more wait in the wait queue of `tag`, whose lock record is at `found`, if somebody awaits the
+/// object. Mostly nobody waits in the whole partition, and nothing is done.
 #[inline(always)]
 pub(crate) fn make_room_to_wait(
     locks: &Slab<LockRecord>,
@@ -89,7 +89,8 @@ pub(crate) fn make_room_to_wait(
     make_room_in_queue(locks, queues, found, tag)
 }
 
-/// Makes room for one more wait in the queue of `tag`, whose lock record is at `found`, if somebody awaits the object.
+/// Makes room for one more wait in the wait queue of `tag`, whose lock record is at `found`, if somebody awaits the
+/// object: the seldom part of `make_room_to_wait`.
 #[cold]
 #[inline(never)]
 fn make_room_in_queue(
@@ -112,7 +113,8 @@ fn make_room_in_queue(
     }
 }
 
-/// Makes room in `woken`, which has too little, for `most` names. The names that are there are forgotten.
+/// Makes room in `woken`, which has too little, for `most` sessions with their modes. Those that `woken` has are
+/// forgotten.
 #[cold]
 #[inline(never)]
 fn grow_woken(woken: &mut Vec<(SessionId, Mode)>, most: usize) -> Result<(), NoMemory>
@@ -124,7 +126,8 @@ fn grow_woken(woken: &mut Vec<(SessionId, Mode)>, most: usize) -> Result<(), NoM
     Ok(())
 }
 
-/// Adds the hold of `session` on `tag` in `mode`, which is not there, to the lock record at `place`.
+/// Adds the hold of `session` on `tag` in `mode`, which `session` hasn't yet, to `holders` and to the lock record at
+/// `place` of `locks`.
 #[inline(always)]
 pub(crate) fn add_hold(
     locks: &mut Slab<LockRecord>,
@@ -154,7 +157,7 @@ pub(crate) fn add_hold(
     lock.granted.raise(mode);
 }
 
-/// Takes the hold of `session` on `tag` in `mode` out, by the lock record at `place`.
+/// Takes the hold of `session` on `tag` in `mode` out of `holders` and of the lock record at `place` of `locks`.
 #[inline(always)]
 pub(crate) fn remove_hold(
     locks: &mut Slab<LockRecord>,
@@ -184,7 +187,8 @@ pub(crate) fn remove_hold(
 }
 
 /// The lowest-numbered session other than `session` that holds `tag`, the object of `lock`, in a mode in conflict
-/// with `mode`, with its lowest such mode. Where nobody holds one, the mask says so.
+/// with `mode`, with its lowest such mode. Where nobody holds such a mode, the mask of `lock` shows that, and no
+/// holder record is read.
 #[inline(always)]
 pub(crate) fn holder_in_the_way(
     lock: &LockRecord,
@@ -207,7 +211,8 @@ pub(crate) fn holder_in_the_way(
     }
 }
 
-/// Where the queue record of `tag` is in `queues`, which `lock` notes; there is none where nobody awaits the object.
+/// The place in `queues` of the queue record of `tag`, looked for first where `lock` notes it. `None` where nobody
+/// awaits the object.
 #[inline(always)]
 pub(crate) fn queue_place(lock: &LockRecord, queues: &WaitQueues, tag: &Tag) -> Option<usize>
     requires { (mode : Mode) → counts_in lock.now.awaited mode ≡ awaited_of (queue_on queues.now.slots tag.now) mode }
@@ -242,7 +247,7 @@ pub(crate) fn raise_awaited(
     lock.awaited.raise(mode);
 }
 
-/// Counts a wait less for `mode` in the lock record of `tag` at `place`.
+/// Counts one wait less for `mode` in the lock record of `tag` at `place`.
 pub(crate) fn lower_awaited(locks: &mut Slab<LockRecord>, place: usize, tag: &Tag, mode: Mode)
     requires there { IsLockAt locks.old.slots tag.now place }
     requires some { (i : IsLockAt locks.old.slots tag.now place) → 0 < counts_in i.lock.awaited mode }

@@ -7,7 +7,7 @@ ghost use Rattle.lock_table.specs.declared.request.Request.{Request};
 use lock_table::Request;
 use std::marker::Model;
 
-/// A request, or none, which clauses read as `request`.
+/// A request, or none, which contracts read as `request`. The program itself keeps nothing of the request.
 #[derive(Drop)]
 pub(crate) struct Pending {
     pub(crate) ghost request: { Option Request },
@@ -21,7 +21,7 @@ impl Model for Pending {
 unsafe impl Send for Pending {}
 
 impl Pending {
-    /// No request: clauses read `request` as none.
+    /// No request: contracts read `request` as none.
     #[inline(always)]
     pub(crate) fn nothing() -> Pending
         ensures { result.request ≡ None }
@@ -29,7 +29,7 @@ impl Pending {
         Pending {}
     }
 
-    /// The request `_request`, which clauses read as `request`.
+    /// The request `_request`, which contracts read as `request`.
     #[inline(always)]
     pub(crate) fn of(_request: &Request) -> Pending
         ensures { result.request ≡ Some _request.now }

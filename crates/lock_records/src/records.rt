@@ -26,18 +26,19 @@ pub struct Records {
     holders: Slab<HolderRecord>,
     queues: WaitQueues,
     index: PlaceIndex,
-    /// The request that is begun.
+    /// The request that is begun in the partition, if one is.
     begun: Pending,
-    /// The request that room was made for last.
+    /// The request for which the partition made room last.
     prepared: Pending,
-    /// Where a lock record was found last: the call that follows mostly wants the same one.
+    /// The place where a lock record was found last: the next call mostly wants the same record.
     hint: usize,
-    /// Whether the object of the begun request has no lock record. Nobody makes one before the request is granted or
-    /// joins.
+    /// Whether the object of the begun request is known to have no lock record. Nobody makes one before the request
+    /// is granted or joins the wait queue.
     absent: bool,
-    /// Whether that object's lock record stands at `hint`.
+    /// Whether the lock record of the begun request's object is known to be at `hint`.
     known: bool,
-    /// Whose waits the last wakeup granted. There is room for the name of each who waits.
+    /// The sessions whose waits the last wakeup granted, each with the mode. There is room for all sessions that wait
+    /// in the partition.
     woken: Vec<(SessionId, Mode)>,
 }
 
@@ -59,7 +60,7 @@ impl Records {
     ghost use Rattle.lock_records.specs.View.{content_of};
     ghost use Rattle.lock_records.specs.Counts.{AreCountsOf, IsUntouched};
 
-    /// A part with nothing in it, which grows by `alloc`.
+    /// The records of a partition with no record in it, which grow by `alloc`.
     pub fn new(alloc: Global) -> Result<Self, NoMemory>
         ensures content { IfOk result (λ part. content_of part ≡ empty_content) }
         ensures begun { IfOk result (λ part. part.begun ≡ None) }
@@ -79,8 +80,8 @@ impl Records {
         })
     }
 
-    /// The counts of `tag`, or that nobody holds or awaits it. No record is kept of such an object: there is
-    /// something to count wherever there are counts.
+    /// The counts of `tag`, or `None` where nobody holds or awaits the object: no lock record is kept of it then, so
+    /// that counts are never all 0.
     pub fn counts(&self, tag: &Tag) -> Option<Counts>
         ensures found { IfSome result (AreCountsOf (content_of self.now) tag.now) }
         ensures used { IfSome result (λ counts. 0 < counts.requested_total) }

@@ -7,9 +7,9 @@ use crate::sets::has_some;
 use modes_core::{Mode, ModeSet};
 use std::marker::Model;
 
-/// How many there are of each mode, with their total and the mask of the modes of which there is one: what lock.h
-/// keeps for a lock in `granted`, `nGranted` and `grantMask`, and in `requested`, `nRequested` and `waitMask`.
-/// Contracts see the numbers by mode, of which the first stands for no mode.
+/// How many holds or waits there are of each lock mode, with their total and the mask of the modes of which there is
+/// one: what lock.h keeps for a lock in `granted`, `nGranted` and `grantMask`, and in `requested`, `nRequested` and
+/// `waitMask`. Contracts see the list of numbers, by the mode's number; place 0 is unused.
 #[derive(Debug, Drop)]
 pub struct Tally {
     by_mode: [u16; 9],
@@ -40,14 +40,15 @@ impl Tally {
         }
     }
 
-    /// How many there are of `mode`.
+    /// How many of `mode` the tally has counted.
     pub fn count(&self, mode: Mode) -> u16
         ensures { result ≡ counts_in self.now mode }
     {
         self.by_mode[usize::from(mode.number())]
     }
 
-    /// How many there are of each mode, at the number of the mode.
+    /// How many of each lock mode the tally has counted, at the number of the mode; 9 numbers, of which the first is
+    /// unused.
     pub fn by_mode(&self) -> [u16; 9]
         ensures value { result ≡ self.now }
         ensures nine { length result ≡ 9 }
@@ -56,7 +57,7 @@ impl Tally {
         self.by_mode
     }
 
-    /// How many there are of all modes together.
+    /// How many of all lock modes together the tally has counted.
     pub fn total(&self) -> u16
         ensures value { result ≡ total_of (counts_in self.now) }
         ensures few { result ≤ 9 * most_tallied }
@@ -64,7 +65,7 @@ impl Tally {
         self.total
     }
 
-    /// The modes of which there is one.
+    /// The lock modes of which the tally has counted at least one.
     #[inline(always)]
     pub fn mask(&self) -> ModeSet
         ensures { (mode : _) → set_has result mode ≡ not (counts_in self.now mode == 0) }
@@ -72,7 +73,7 @@ impl Tally {
         self.mask
     }
 
-    /// Whether there is one of `modes`.
+    /// Whether the tally has counted at least one of `modes`.
     #[inline(always)]
     pub fn meets(&self, modes: ModeSet) -> bool
         ensures some { result ≡ true → (mode : _) × (set_has modes mode ≡ true) × (0 < counts_in self.now mode) }
@@ -81,7 +82,7 @@ impl Tally {
         self.mask.meets(modes)
     }
 
-    /// Whether there is nothing of any mode.
+    /// Whether the tally has counted none of any lock mode.
     #[inline(always)]
     pub fn is_empty(&self) -> bool
         ensures nothing { result ≡ true → (mode : _) → counts_in self.now mode ≡ 0 }

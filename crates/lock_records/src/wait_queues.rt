@@ -19,20 +19,21 @@ use std::alloc::Global;
 use std::marker::Model;
 use std::mem::replace;
 
-/// The waits for an object (`waitProcs` of `LOCK` in lock.h), the first one first. Each session waits for it once at most.
+/// The wait queue of an object (`waitProcs` of `LOCK` in lock.h), the first wait first. Each session waits for the
+/// object once at most.
 #[derive(Drop)]
 pub struct QueueRecord {
     pub tag: Tag,
     pub waiters: Vec<Waiter>,
 }
 
-/// The queue records of a partition, and how many waits they have together. An object has one only while somebody
-/// awaits it. A wait takes no memory: there is room for it before it comes.
+/// The queue records of a partition, and how many waits they have together. An object has a queue record only while
+/// somebody awaits the object. To add a wait takes no memory: room is made before.
 #[derive(Drop)]
 pub struct WaitQueues {
     slots: Slab<QueueRecord>,
     waiting: usize,
-    /// The queue that the next new record takes: empty, with room.
+    /// The empty wait queue that the next new queue record takes, mostly with room for some waits.
     spare: Vec<Waiter>,
 }
 
@@ -53,7 +54,7 @@ impl Model for WaitQueues {
 }
 
 impl WaitQueues {
-    /// The queue records of a partition in which nobody waits. Later ones take memory by `alloc`.
+    /// The queue records of a partition in which nobody waits: none. Later records take memory by `alloc`.
     pub fn new(alloc: Global) -> Self
         ensures { result.slots ≡ [] }
     {
@@ -64,7 +65,7 @@ impl WaitQueues {
         }
     }
 
-    /// Makes room for one more queue, with a wait in it.
+    /// Makes room for one more queue record, and for a wait in it.
     #[inline(always)]
     pub(crate) fn reserve(&mut self) -> Result<(), NoMemory>
         ensures room { OnOk result (HasRoomForQueue self.new) }
@@ -79,7 +80,7 @@ impl WaitQueues {
         Ok(())
     }
 
-    /// Makes room for one more wait in the queue of `tag`, whose record is at `at`.
+    /// Makes room for one more wait in the wait queue of `tag`, whose queue record is at `at`.
     pub(crate) fn reserve_in(&mut self, at: usize, tag: &Tag) -> Result<(), NoMemory>
         requires { IsQueueAt self.old.slots tag.now at }
         ensures room { OnOk result (HasRoomInQueue self.new.slots tag.now) }
@@ -97,7 +98,7 @@ impl WaitQueues {
         self.waiting
     }
 
-    /// Whether the record of `tag` is at `place`.
+    /// Whether the queue record of `tag` is at `place`.
     #[inline(always)]
     fn is_at(&self, place: usize, tag: &Tag) -> bool
         ensures { result ≡ is_queue_of tag.now (queue_at self.now.slots place) }
@@ -108,8 +109,8 @@ impl WaitQueues {
         }
     }
 
-    /// Where the record of `tag` is. The place that its lock record notes, `noted`, is looked at, and the others
-    /// only where it isn't there.
+    /// The place of the queue record of `tag`, if it has one. `noted`, the place that the lock record of `tag` notes,
+    /// is looked at first, and other places only where the record isn't at `noted`.
     pub(crate) fn find(&self, noted: usize, tag: &Tag) -> Option<usize>
         ensures found { IfSome result (IsQueueAt self.now.slots tag.now) }
         ensures absent { IfNone result (queue_on self.now.slots tag.now ≡ []) }
@@ -125,7 +126,7 @@ impl WaitQueues {
         None
     }
 
-    /// The waits on `tag`, whose record is at `at`, the first one first.
+    /// The waits for `tag`, whose queue record is at `at`, the first one first.
     pub(crate) fn waiters(&self, at: usize, tag: &Tag) -> &[Waiter]
         requires { IsQueueAt self.now.slots tag.now at }
         ensures { map shown_wait result.now ≡ queue_on self.now.slots tag.now }
@@ -133,7 +134,8 @@ impl WaitQueues {
         self.slots[at].waiters.as_slice()
     }
 
-    /// The mode that `session` awaits on `tag`, whose record is at `at`, if it does.
+    /// The mode that `session` awaits on `tag`, whose queue record is at `at`, or `None` where `session` doesn't wait
+    /// for `tag`.
     pub(crate) fn awaited_mode(&self, at: usize, tag: &Tag, session: SessionId) -> Option<Mode>
         requires { IsQueueAt self.now.slots tag.now at }
         ensures { result ≡ option_map (λ wait. wait.mode) (wait_in (queue_on self.now.slots tag.now) session) }
@@ -141,7 +143,8 @@ impl WaitQueues {
         mode_of(self.waiters(at, tag), session)
     }
 
-    /// Puts a wait into the object's queue before the waiter with the index `place`. The queue's record is at `at`.
+    /// Puts `waiter` into the wait queue of `tag`, whose queue record is at `at`, before the wait at `place`, or at
+    /// the end where `place` is the length of the queue.
     pub(crate) fn insert(&mut self, at: usize, tag: &Tag, place: usize, waiter: Waiter)
         requires there { IsQueueAt self.old.slots tag.now at }
         requires room { HasRoomInQueue self.old.slots tag.now }
@@ -158,7 +161,8 @@ impl WaitQueues {
         self.waiting += 1;
     }
 
-    /// Makes the record of `tag`, which nobody awaits, with `waiter` in its queue, and answers where it is.
+    /// Makes the queue record of `tag`, which nobody awaits yet, with `waiter` in its wait queue, and answers the
+    /// record's place.
     #[inline(never)]
     pub(crate) fn start(&mut self, tag: &Tag, waiter: Waiter) -> usize
         requires none { queue_on self.old.slots tag.now ≡ [] }
@@ -176,8 +180,8 @@ impl WaitQueues {
             .insert_reserved(QueueRecord { tag: *tag, waiters })
     }
 
-    /// Takes the wait of `session` out of the queue of `tag`, whose record is at `at`, and the record with its last
-    /// wait: the larger one of its queue and of the spare one is the spare one then.
+    /// Takes the wait of `session` out of the wait queue of `tag`, whose queue record is at `at`. With its last wait
+    /// the record is taken out, and the larger one of its queue and the spare one is kept as the spare one.
     pub(crate) fn leave(&mut self, at: usize, tag: &Tag, session: SessionId)
         requires there { IsQueueAt self.old.slots tag.now at }
         requires waits { waits_there (queue_on self.old.slots tag.now) session ≡ true }
@@ -197,7 +201,7 @@ impl WaitQueues {
         }
     }
 
-    /// Appends to `rows` a row for each wait. After a refusal some may be there.
+    /// Appends to `rows` a row for each wait of the partition. After a refusal some rows may have been added.
     pub(crate) fn push_rows(&self, rows: &mut Vec<TableRow>) -> Result<(), NoMemory>
         ensures ok { OnOk result (AppendsRows rows.old.items rows.new.items
             (awaited_below self.now.slots (length self.now.slots))) }
@@ -225,7 +229,7 @@ fn grow_spare(spare: &mut Vec<Waiter>) -> Result<(), NoMemory>
     Ok(())
 }
 
-/// Lets the one of `spare` and `gone` that has room for more waits be `spare`, and the other go. Both are empty.
+/// Keeps in `spare` the one of `spare` and `gone` that has room for more waits, and drops the other. Both are empty.
 fn keep_larger(spare: &mut Vec<Waiter>, gone: Vec<Waiter>)
     requires spare { spare.old.items ≡ [] }
     requires gone { gone.items ≡ [] }
@@ -237,7 +241,8 @@ fn keep_larger(spare: &mut Vec<Waiter>, gone: Vec<Waiter>)
     }
 }
 
-/// Puts a wait into the object's queue before the waiter with the index `place`, and says where the queue record is.
+/// Puts `waiter` into the wait queue of `tag` before the wait at `place`, or at the end where `place` is the length
+/// of the queue, and answers the place of the queue record: `at`, or a new one where nobody awaits `tag` yet.
 pub(crate) fn queue_up(
     queues: &mut WaitQueues,
     at: Option<usize>,
@@ -264,7 +269,7 @@ pub(crate) fn queue_up(
     }
 }
 
-/// The mode for which `session` waits in the queue `waiters`, if it does.
+/// The mode for which `session` waits in the wait queue `waiters`, or `None` where `session` doesn't wait in it.
 fn mode_of(waiters: &[Waiter], session: SessionId) -> Option<Mode>
     ensures { result ≡ option_map (λ waiter. waiter.mode) (find (λ waiter. waiter.session == session) waiters.now) }
 {
@@ -274,7 +279,7 @@ fn mode_of(waiters: &[Waiter], session: SessionId) -> Option<Mode>
         .map(|waiter| waiter.mode)
 }
 
-/// Where the wait of `session` stands in the queue `waiters`.
+/// The index of the wait of `session` in the wait queue `waiters`, which has one.
 fn place_of(waiters: &[Waiter], session: SessionId) -> usize
     requires { list_any (λ waiter. waiter.session == session) waiters.now ≡ true }
     ensures within { result < length waiters.now }

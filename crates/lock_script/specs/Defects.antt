@@ -61,7 +61,7 @@ look_commands =
     ∷ (codes "hash", TagWord ∷ [])
     ∷ []
 
--- all of them
+-- all commands, each with the words behind it
 abbrev pub commands : List (List ℕ × List WordKind)
 commands = session_commands ++ lock_commands ++ look_commands
 
@@ -151,11 +151,11 @@ module _ {S W : Type 0} where
       ((defect ≡ WrongNumberOfWords) × (¬ AreAsMany kinds words))
       ⊎ (AreAsMany kinds words × IsFirstWrong sessions objects kinds words defect)
 
-  -- why they are not, whichever objects have names
+  -- why words are not of these kinds, whichever objects have names
   abbrev pub IsMisfitAnyway : OpenSessions S W → List WordKind → List (List ℕ) → Defect → Type 0
   IsMisfitAnyway sessions kinds words defect = (objects : List NamedObject) → IsMisfit sessions objects kinds words defect
 
-  -- why they don't stand behind a command, or that there is no such command
+  -- why words are not the ones of a command, or that there is no such command
   abbrev pub IsRefused : OpenSessions S W → List NamedObject → Option (List WordKind) → List (List ℕ) → Defect → Type 0
   IsRefused sessions objects None words defect = defect ≡ UnknownCommand
   IsRefused sessions objects (Some kinds) words defect = IsMisfit sessions objects kinds words defect

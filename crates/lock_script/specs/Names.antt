@@ -11,7 +11,7 @@ use Rattle.lock_script.specs.declared.sessions.Named.{Named}
 abbrev pub NotAfter : List ℕ → List ℕ → Type 0
 NotAfter name other = slice_cmp nat_cmp name other ≢ Greater
 
--- The sessions stand in the byte order of their names.
+-- The sessions are in the byte order of their names.
 abbrev pub IsByName : {S : Type 0} → List (Named S) → Type 0
 IsByName sessions = AllPairs (λ one other. NotAfter one.name.bytes other.name.bytes) sessions
 
@@ -19,7 +19,7 @@ IsByName sessions = AllPairs (λ one other. NotAfter one.name.bytes other.name.b
 abbrev pub IsCalled : {S : Type 0} → List (Named S) → List ℕ → ℕ → Type 0
 IsCalled sessions name place = (place < length sessions) × HoldsAt (λ one. one.name.bytes ≡ name) sessions place
 
--- None of them goes by this name.
+-- None of the sessions goes by this name.
 abbrev pub IsFree : {S : Type 0} → List (Named S) → List ℕ → Type 0
 IsFree sessions name = All (λ one. one.name.bytes ≢ name) sessions
 

@@ -14,16 +14,16 @@ use Rattle.lock_script.specs.declared.objects.NamedObject.{NamedObject}
 abbrev pub begins_name : ℕ → Bool
 begins_name b = (nat_le 97 b && nat_le b 122) || ((nat_le 65 b && nat_le b 90) || (b == 95))
 
--- one of these, a digit, a dollar sign or a full stop
+-- a letter, an underscore, a digit, a dollar sign or a full stop
 abbrev pub is_object_byte : ℕ → Bool
 is_object_byte b = begins_name b || ((nat_le 48 b && nat_le b 57) || ((b == 36) || (b == 46)))
 
--- a letter or an underscore, and others of these behind it
+-- a letter or an underscore, and after it letters, underscores, digits, dollar signs and full stops
 abbrev pub has_name_bytes : List ℕ → Bool
 has_name_bytes [] = false
 has_name_bytes (first ∷ others) = begins_name first && list_all is_object_byte others
 
--- no more than 63 of these
+-- such a text of no more than 63 characters
 abbrev pub is_object_name : List ℕ → Bool
 is_object_name word = nat_le (length word) 63 && has_name_bytes word
 

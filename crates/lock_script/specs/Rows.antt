@@ -10,7 +10,7 @@ abbrev pub kinds_in : List ℕ → List CommandRow → Option (List WordKind)
 kinds_in verb [] = None
 kinds_in verb (row ∷ rows) = if bytes_eq verb row.verb.now then Some row.kinds.now else kinds_in verb rows
 
--- whether that row says that the command only looks
+-- whether the first of these rows with this command's name says that the command only looks
 abbrev pub looks_in : List ℕ → List CommandRow → Option Bool
 looks_in verb [] = None
 looks_in verb (row ∷ rows) = if bytes_eq verb row.verb.now then Some row.looks else looks_in verb rows

@@ -24,7 +24,7 @@ words_of line = filter is_word (slice_split is_blank line)
 abbrev pub is_name_byte : ℕ → Bool
 is_name_byte b = (nat_le 97 b && nat_le b 122) || ((nat_le 48 b && nat_le b 57) || (b == 95))
 
--- 1 to 16 of these
+-- 1 to 16 small letters, digits and underscores
 abbrev pub is_name : List ℕ → Bool
 is_name word = nat_le 1 (length word) && (nat_le (length word) 16 && list_all is_name_byte word)
 

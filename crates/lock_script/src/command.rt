@@ -16,7 +16,7 @@ use crate::sessions::{Caller, OpenSessions, Opened, Place};
 use crate::words::{parse_name, parse_owner, parse_strong_index, split_words};
 use modes_core::{Mode, Owner, Tag};
 
-/// Which lock a line is about, and whose.
+/// Which lock a line is about, and of which session.
 #[derive(Clone, Copy, Debug, PartialEq, Eq)]
 pub struct Target {
     pub caller: Caller,
@@ -24,7 +24,7 @@ pub struct Target {
     pub mode: Mode,
 }
 
-/// What a line asks for.
+/// What a line of a script asks for.
 #[derive(Clone, Copy, Debug, PartialEq, Eq)]
 pub enum Command {
     /// `session NAME DB`
@@ -71,8 +71,8 @@ pub enum Command {
     Close(Caller),
 }
 
-/// What `line` asks for, by the names of `sessions` and `objects`, or `None` of a line with no word and of a comment.
-/// Its first six words say it, since no command has as many.
+/// What `line` asks for, by the names of `sessions` and `objects`, or `None` where `line` has no word or is a
+/// comment. Only the first six words are looked at, since no command has as many.
 pub fn parse<S, W>(
     line: &str,
     sessions: &OpenSessions<S, W>,
@@ -97,8 +97,9 @@ pub fn parse<S, W>(
     Ok(Some(command))
 }
 
-/// The command of the first word `verb` and of `words`, which come after it. Here are those that name an object, open
-/// or close a session, and begin or end a level of a transaction.
+/// The command of the first word `verb` and of `words`, which come after `verb`. This function itself reads the
+/// commands that name an object, open or close a session, and begin or end a transaction's levels; for others it
+/// calls `parse_lock_command`.
 fn parse_command<S, W>(
     verb: &str,
     words: &[&str],
@@ -128,7 +129,8 @@ fn parse_command<S, W>(
     }
 }
 
-/// The command of `verb` and `words` where it asks for a lock, gives one back, or ends a wait for one.
+/// The command of the first word `verb` and of `words`, which come after `verb`. This function itself reads the
+/// commands that ask for a lock, give one back, or end a wait for one; for others it calls `parse_look_command`.
 fn parse_lock_command<S, W>(
     verb: &str,
     words: &[&str],
@@ -165,7 +167,7 @@ fn parse_lock_command<S, W>(
     }
 }
 
-/// The command of `verb` and `words` where it only looks.
+/// The command of the first word `verb` and of `words`, which come after `verb`, where it only looks.
 fn parse_look_command<S, W>(
     verb: &str,
     words: &[&str],
@@ -197,8 +199,8 @@ fn parse_look_command<S, W>(
     }
 }
 
-/// Reads the `words` of `try`, `fast`, `lock` and `unlock`, by `sessions` and `objects`. Where there is no fourth one
-/// the owner is the transaction.
+/// Reads the `words` after `try`, `fast`, `lock` or `unlock`, by `sessions` and `objects`: which lock, and for which
+/// owner. Without a fourth word the owner is the transaction.
 fn parse_owned_target<S, W>(
     words: &[&str],
     sessions: &OpenSessions<S, W>,
@@ -222,7 +224,8 @@ fn parse_owned_target<S, W>(
     }
 }
 
-/// Reads the `words` of `owned` and `waiters`, by `sessions` and `objects`.
+/// Reads the `words` after `owned` or `waiters`, by `sessions` and `objects`: which lock the line is about, and of
+/// which session.
 fn parse_lone_target<S, W>(
     words: &[&str],
     sessions: &OpenSessions<S, W>,
@@ -238,7 +241,7 @@ fn parse_lone_target<S, W>(
     parse_target(name, tag, mode, sessions, objects)
 }
 
-/// Which lock the words `name`, `tag` and `mode` are about, and whose, by `sessions` and `objects`.
+/// Which lock the words `name`, `tag` and `mode` are about, and of which session, by `sessions` and `objects`.
 fn parse_target<S, W>(
     name: &str,
     tag: &str,
@@ -335,7 +338,8 @@ fn parse_count<S, W>(words: &[&str], sessions: &OpenSessions<S, W>) -> Result<(C
     Ok((caller, index))
 }
 
-/// Reads the `words` of a `cancel` line: which of `sessions` asks, and which one is asked. The second may wait.
+/// Reads the `words` of a `cancel` line: which of `sessions` asks, and the wait of which one is to be cancelled. The
+/// latter is found also where it waits.
 fn parse_cancel<S, W>(
     words: &[&str],
     sessions: &OpenSessions<S, W>,

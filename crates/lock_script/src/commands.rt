@@ -25,30 +25,30 @@ pub enum WordKind {
     TagWord,
     /// The name of a lock mode.
     ModeName,
-    /// The word `session`, which may be left out where it comes last.
+    /// The word `session`, for the session itself as the owner. It comes last, and may be left out.
     OwnerWord,
 }
 
-/// A command of the language.
+/// A command of the language of scripts.
 #[derive(Clone, Copy, Debug)]
 pub struct CommandRow {
-    /// The word with which its lines begin.
+    /// The word with which the command's lines begin.
     pub verb: &'static str,
-    /// What the words after that have to be.
+    /// What the words after the verb have to be.
     pub kinds: &'static [WordKind],
     /// The words after the verb, as a help names them.
     pub form: &'static str,
     /// What the command does, as a help says it.
     pub help: &'static str,
-    /// What stands of that on a line of its own, or nothing.
+    /// The second line of what the command does, as a help says it, or nothing.
     pub help_below: &'static str,
-    /// Whether the command only looks: all sessions and locks are as they were.
+    /// Whether the command only looks: no session and no lock changes.
     pub looks: bool,
-    /// Whether the session that calls it may come to wait.
+    /// Whether the command may make the session wait that calls it.
     pub may_wait: bool,
 }
 
-/// All commands, in the order of the help.
+/// All commands of the language of scripts, in the order of the help.
 static COMMANDS: [CommandRow; 21] = [
     CommandRow {
         verb: "session",
@@ -261,7 +261,7 @@ static COMMANDS: [CommandRow; 21] = [
     },
 ];
 
-/// All commands of the language, in the order of the help.
+/// All commands of the language of scripts, in the order of the help.
 pub fn command_rows() -> &'static [CommandRow]
     ensures words { map (λ command. kinds_in command.0 result.now) commands ≡ map (λ command. Some command.1) commands }
     ensures looks { map (λ command. looks_in command.0 result.now) commands
@@ -285,7 +285,8 @@ pub fn command_row(verb: &str) -> Option<&'static CommandRow>
 }
 
 impl CommandRow {
-    /// Where the first word of `kind` comes after the verb, counted from 1, if the command has one.
+    /// The place of the command's first word of `kind`, counted from 1 after the verb, if the command has such a
+    /// word.
     pub fn place_of(&self, kind: WordKind) -> Option<usize> {
         let place = self.kinds.iter().position(|other| *other == kind)?;
         Some(place + 1)

@@ -4,7 +4,7 @@ ghost use Rattle.lock_script.specs.Fault.{status_of};
 
 use thiserror::Error;
 
-/// What is wrong with a line of a script, in the order of the checks.
+/// What is wrong with a line of a script. The kinds are in the order of the checks.
 #[derive(Clone, Copy, Debug, PartialEq, Eq, Drop, Error)]
 pub enum Defect {
     #[error("too many lines")]
@@ -42,7 +42,7 @@ pub enum Defect {
 /// What ends a script early.
 #[derive(Clone, Copy, Debug, PartialEq, Eq, Drop, Error)]
 pub enum Fault {
-    /// A line is not in the script's language. Lines are counted from 1.
+    /// The line numbered `line`, counted from 1, is not in the language of scripts: `what` is wrong with it.
     #[error("line {line}: {what}")]
     BadLine { line: u32, what: Defect },
     /// The reader failed, or gave too few bytes at a time.
@@ -51,7 +51,7 @@ pub enum Fault {
     /// The writer of the answers failed.
     #[error("write failed")]
     WriteFailed,
-    /// A growth of the program's own, or in the making of the lock manager, was refused.
+    /// Memory ran out, for the program's own lists or in the making of the lock manager.
     #[error("no memory")]
     NoMemory,
     /// A gate did not let a worker pass.
@@ -60,7 +60,7 @@ pub enum Fault {
 }
 
 impl Fault {
-    /// The status that a program ends with: 3 for a bad line, 1 for any other fault.
+    /// The status with which a program ends after the fault: 3 for a bad line, 1 for any other.
     pub fn status(self) -> u8
         ensures { result ≡ status_of self }
     {

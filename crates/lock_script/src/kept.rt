@@ -15,25 +15,26 @@ use std::alloc::{AllocError, Global};
 use std::collections::VecDeque;
 use std::marker::Model;
 
-/// A line that waits with its session.
+/// A line that is kept while its session waits.
 #[derive(Drop)]
 pub struct KeptLine {
-    /// Which line of the script it is, counted from 1.
+    /// The number of the line in the script, counted from 1.
     pub number: u32,
     pub text: String,
 }
 
-/// The lines that wait with the session of this name, in their order.
+/// The lines that are kept while the session named `session` waits, in the order of reading.
 #[derive(Drop)]
 pub struct KeptQueue {
     pub session: Name,
     pub lines: VecDeque<KeptLine>,
-    /// Whether the session is open once they were run.
+    /// Whether the session is open once the lines of the queue were run.
     ends_open: bool,
 }
 
 impl KeptQueue {
-    /// Keeps `line` after the others. Where there is no memory it is refused, and is not kept.
+    /// Keeps `line` after the other lines of the queue. Refused only where memory ran out, and then `line` is not
+    /// kept.
     fn push(&mut self, line: KeptLine) -> Result<(), AllocError>
         ensures kept { OnOk result (self.new.lines.items ≡ self.old.lines.items ++ line ∷ []) }
         ensures refused { OnErr result (self.new.lines.items ≡ self.old.lines.items) }
@@ -47,7 +48,7 @@ impl KeptQueue {
         Ok(())
     }
 
-    /// Takes the first line out, if there is one.
+    /// Takes the first line out of the queue, if there is one.
     fn pop(&mut self) -> Option<KeptLine>
         ensures first { MatchOption result (self.new.lines.items ≡ self.old.lines.items)
             (λ line. self.old.lines.items ≡ line ∷ self.new.lines.items) }
@@ -57,12 +58,12 @@ impl KeptQueue {
     }
 }
 
-/// Lines that wait with their sessions. Contracts see them as a list of queues, of which a session's is the first one
-/// under its name (`lines_of`).
+/// Lines that are kept while their sessions wait. Contracts see a list of queues; a session's queue is the first one
+/// under the session's name (`lines_of`).
 #[derive(Drop)]
 pub struct KeptLines {
     alloc: Global,
-    /// The queues of kept lines: one for each session that ever had lines here, so as many as there are sessions at most.
+    /// The queues of kept lines: one for each session name under which lines were ever kept.
     queues: Vec<KeptQueue>,
 }
 
@@ -86,7 +87,7 @@ impl KeptLines {
         }
     }
 
-    /// How many lines all sessions have here together.
+    /// How many lines are kept of all sessions together.
     pub fn len(&self) -> usize {
         let mut lines: usize = 0;
         for queue in &self.queues {
@@ -95,8 +96,8 @@ impl KeptLines {
         lines
     }
 
-    /// Keeps `line` of the session of the name `session`, after its others. Where there is no memory it is refused, and
-    /// nothing is kept.
+    /// Keeps `line` of the session named `session`, after the session's other lines. Refused only where memory ran
+    /// out, and then `line` is not kept.
     pub fn keep(&mut self, session: Name, line: KeptLine) -> Result<(), AllocError>
         ensures kept { OnOk result (IsKeptOrder (lines_of self.new) (lines_of self.old) (line_of session.bytes line)) }
         ensures refused { OnErr result (IsKeptOrder (lines_of self.old) (λ _. []) (lines_of self.new)) }
@@ -107,7 +108,7 @@ impl KeptLines {
         }
     }
 
-    /// Keeps `line` as the first one of the session `session`.
+    /// Keeps `line` of the session named `session`, which has no queue yet.
     fn keep_first(&mut self, session: Name, line: KeptLine) -> Result<(), AllocError>
         requires { (k : ℕ) (d : KeptQueue) → k < length self.old →
             (slice_index_or self.old k d).session.bytes ≢ session.bytes }
@@ -124,9 +125,9 @@ impl KeptLines {
         Ok(())
     }
 
-    /// Takes out a line of a session that doesn't wait by `sessions`, if there is one: the first line of such a
-    /// session, and among these the one that was read first. Of each session, the line and those that are left are what
-    /// was kept, in their order.
+    /// Takes out the line to run next, with the name of its session, if there is one: of the first kept lines of all
+    /// sessions that don't wait by `sessions`, the one that was read first. Each session's other lines keep their
+    /// order.
     pub fn take_ready<S, W>(&mut self, sessions: &OpenSessions<S, W>) -> Option<(Name, KeptLine)>
         ensures order { IfSome result (λ it. IsKeptOrder (lines_of self.old) (line_of it.0.bytes it.1) (lines_of self.new)) }
         ensures rests { IfSome result (λ it. IsFree sessions.now.waiting it.0.bytes) }
@@ -137,7 +138,7 @@ impl KeptLines {
         Some((session, line))
     }
 
-    /// Takes out the first line of the session of the name `session`, if it has one.
+    /// Takes out the first line that is kept of the session named `session`, if there is one.
     fn pop(&mut self, session: &Name) -> Option<KeptLine>
         ensures order { IfSome result (λ line. IsKeptOrder (lines_of self.old) (line_of session.now.bytes line) (lines_of self.new)) }
         ensures none { IfNone result (IsKeptOrder (lines_of self.old) (λ _. []) (lines_of self.new)) }
@@ -148,7 +149,8 @@ impl KeptLines {
         }
     }
 
-    /// The session that doesn't wait by `sessions` and whose first line was read before those of the others.
+    /// The name of the session whose first kept line was read first, of the sessions that don't wait by `sessions`,
+    /// if lines are kept of one.
     fn first_ready<S, W>(&self, sessions: &OpenSessions<S, W>) -> Option<Name>
         ensures rests { IfSome result (λ name. IsFree sessions.now.waiting name.bytes) }
     {
@@ -166,8 +168,8 @@ impl KeptLines {
         found
     }
 
-    /// The session with which `line` is to wait: the one that it addresses, where that waits by `sessions` or has lines
-    /// here.
+    /// The name of the session that `line` addresses, where `line` has to be kept: the session waits by `sessions`,
+    /// or earlier lines of the session are kept.
     pub fn session_before<S, W>(&self, line: &str, sessions: &OpenSessions<S, W>) -> Option<Name> {
         let name = addressed(line)?;
         if is_called(&sessions.waiting, &name) || self.has_lines_of(&name) {
@@ -177,7 +179,7 @@ impl KeptLines {
         }
     }
 
-    /// Whether `session` has lines here.
+    /// Whether lines of the session named `session` are kept.
     fn has_lines_of(&self, session: &Name) -> bool {
         match place_of(self.queues.as_slice(), session) {
             Some(place) => !self.queues[place].lines.is_empty(),
@@ -185,8 +187,8 @@ impl KeptLines {
         }
     }
 
-    /// What is wrong with `line`, which is to be kept, by the names of `objects` and by those of `sessions` that are
-    /// open once the lines before it were run.
+    /// What is wrong with `line`, which is to be kept, if something is: by the names of `objects`, and by those of
+    /// `sessions` that are open once the kept lines were run.
     pub fn defect<S, W>(
         &self,
         alloc: Global,
@@ -204,7 +206,7 @@ impl KeptLines {
     }
 }
 
-/// Where `queues` has the lines of the session of the name `session`, if it ever had any.
+/// The place in `queues` of the queue of the session named `session`, if there is one.
 fn place_of(queues: &[KeptQueue], session: &Name) -> Option<usize>
     ensures within { IfSome result (λ place. place < length queues.now) }
     ensures called { IfSome result (λ place. (d : KeptQueue) →
@@ -230,7 +232,7 @@ fn is_called<S>(sessions: &ByName<S>, name: &Name) -> bool
     sessions.place_called(name).is_some()
 }
 
-/// The session that `line` addresses, if it addresses one.
+/// The name of the session that `line` addresses, if it addresses one.
 fn addressed(line: &str) -> Option<Name> {
     let words = split_words(line);
     let row = command_row(*words.as_slice().first()?)?;
@@ -240,21 +242,21 @@ fn addressed(line: &str) -> Option<Name> {
     }
 }
 
-/// Puts the names of `sessions` into `open`, as far as there is room.
+/// Puts the names of `sessions` into `open` as names of open sessions, as far as there is room.
 fn put_all<S>(open: &mut OpenSessions<(), ()>, sessions: &ByName<S>) {
     for place in 0..sessions.len() {
         put(open, sessions.at(place).name);
     }
 }
 
-/// Puts `name` into `open`, where there is room.
+/// Puts `name` into `open` as the name of an open session, where there is room.
 fn put(open: &mut OpenSessions<(), ()>, name: Name) {
     if open.resting.len() < USUAL_SESSIONS {
         open.resting.put(name, ());
     }
 }
 
-/// Leaves in `open` what the lines of `queue` leave of it: their session is closed, or is open still.
+/// Takes the session of `queue` out of `open` where the lines of `queue` close it.
 fn follow(open: &mut OpenSessions<(), ()>, queue: &KeptQueue) {
     if queue.lines.is_empty() || queue.ends_open {
         return;
@@ -264,7 +266,8 @@ fn follow(open: &mut OpenSessions<(), ()>, queue: &KeptQueue) {
     }
 }
 
-/// Whether a session is open after `line`, which addresses it, where `was_open` says whether it was so before.
+/// Whether a session is open after `line`, which addresses it. `was_open` says whether the session was open before
+/// `line`.
 fn ends_open(line: &str, was_open: bool) -> bool {
     let words = split_words(line);
     match words.as_slice().first() {

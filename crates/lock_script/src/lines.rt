@@ -15,10 +15,10 @@ use std::str;
 /// How many lines a script has at most.
 const MOST_LINES: u32 = 1_000_000;
 
-/// How many bytes a line has at most, without its line feed.
+/// How many bytes a line of a script has at most, without its line feed.
 const MOST_BYTES: usize = 1024;
 
-/// The text of a line: tabs and printable ASCII characters. Contracts see the bytes.
+/// The text of a line of a script: tabs and printable ASCII characters. Contracts see the bytes.
 #[derive(Drop)]
 pub struct Line {
     bytes: ArrayVec<u8, MOST_BYTES>,
@@ -48,10 +48,10 @@ impl Line {
     }
 }
 
-/// The lines of a reader, one after another.
+/// Reads the lines of a script from a reader, one after another.
 #[derive(Drop)]
 pub struct LineReader<R: Read> {
-    /// The bytes that are left.
+    /// The bytes of the script that are left to read.
     pub source: ByteSource<R>,
     /// How many lines of the script were read.
     pub number: u32,
@@ -59,7 +59,7 @@ pub struct LineReader<R: Read> {
 }
 
 impl<R: Read> LineReader<R> {
-    /// The lines of `reader`, of which none is read yet.
+    /// A line reader over `reader`, with no line read yet.
     pub fn new(reader: R) -> Self
         ensures unread { result.source.left ≡ R.remaining reader }
         ensures none_read { result.number ≡ 0 }
@@ -70,7 +70,7 @@ impl<R: Read> LineReader<R> {
         }
     }
 
-    /// The next line, or `None` at the end of the input. What comes after the last line feed is a line
+    /// The next line of the script, or `None` at the end of the input. What comes after the last line feed is a line
     /// only if it is not empty. After an error nothing more is to be read.
     pub fn next_line(&mut self) -> Result<Option<Line>, Fault>
         ensures reads { IfSome self.old.source.left (λ unread. Reads result self.old.number
@@ -96,7 +96,8 @@ impl<R: Read> LineReader<R> {
         Ok(Some(line))
     }
 
-    /// Whether the next line is at hand: nothing has to be read for it, and it is a line that can be one of a script.
+    /// Whether the next line can be had without a read from the reader: it is buffered with its line feed, it is
+    /// text, and it is neither too long nor one line too many.
     pub fn has_line(&self) -> bool {
         self.number < MOST_LINES && self.source.has_line(MOST_BYTES)
     }
@@ -113,7 +114,8 @@ fn bad_line(before: u32, what: Defect) -> Fault
     }
 }
 
-/// The line of `source` that begins with the byte `first`, without its line feed, or `None` where it is too long.
+/// The line of `source` that begins with the byte `first`, without its line feed, or `None` where the line is too
+/// long. `first` was read from `source` already.
 fn gather<R: Read>(
     source: &mut ByteSource<R>,
     first: u8,
@@ -142,8 +144,8 @@ fn gather<R: Read>(
     }
 }
 
-/// The text of a line of `bytes`, where all of them are tabs and printable ASCII characters. A carriage return at its
-/// end is dropped before.
+/// The line whose text is `bytes` without a carriage return at the end, or `None` where one of these bytes is neither
+/// a tab nor a printable ASCII character.
 fn text(mut bytes: ArrayVec<u8, MOST_BYTES>) -> Option<Line>
     ensures { MatchOption result (list_all is_text_byte (text_of bytes.items) ≡ false)
         (λ line. (line ≡ text_of bytes.items) × (list_all is_text_byte (text_of bytes.items) ≡ true)) }

@@ -8,13 +8,14 @@ use modes_core::SessionId;
 use std::alloc::Global;
 use std::marker::Model;
 
-/// How many sessions a script has open at a time at most.
+/// How many sessions a script may have open at a time at most.
 pub(crate) const USUAL_SESSIONS: usize = modes_core::USUAL_SESSIONS as usize;
 
 /// The name of a session, of up to 16 bytes.
 pub type Name = ArrayString<16>;
 
-/// The names of the sessions that were opened, by their numbers. Of a number that was given out again it is the last one.
+/// The names of the sessions that were opened, by the sessions' numbers. Where a number was given out again, the name
+/// is that of the last session with the number.
 #[derive(Drop)]
 pub struct SessionNames {
     issued: ArrayVec<Name, USUAL_SESSIONS>,
@@ -30,7 +31,7 @@ impl Model for SessionNames {
 }
 
 impl SessionNames {
-    /// The names of no session.
+    /// An empty list of names: no session was opened.
     pub fn new() -> Self
         ensures { result ≡ [] }
     {
@@ -39,7 +40,7 @@ impl SessionNames {
         }
     }
 
-    /// The name under which `session` was opened, if it was.
+    /// The name under which `session` was opened, if it was opened.
     pub fn name(&self, session: SessionId) -> Option<Name>
         ensures { result ≡ slice_get self.now session }
     {
@@ -49,7 +50,7 @@ impl SessionNames {
             .copied()
     }
 
-    /// Keeps `name` as that of the session that was opened last. The name of a closed session stays.
+    /// Keeps `name` as the name of the session with the next number. The name of a closed session is kept, too.
     pub fn push(&mut self, name: Name)
         requires { length self.old < usual_sessions }
         ensures { self.new ≡ self.old ++ name ∷ [] }
@@ -57,8 +58,8 @@ impl SessionNames {
         self.issued.push(name);
     }
 
-    /// Keeps `name` as that of `session`, which was opened just now: its number is the next one, or was given out again, and then the session that
-    /// had it before has no name any more.
+    /// Keeps `name` as the name of `session`, which was opened just now. The number of `session` is the next one, or
+    /// was given out again: then the name of the earlier session with the number is lost.
     pub fn put(&mut self, session: SessionId, name: Name)
         requires next_or_again { session ≤ length self.old }
         requires few { session < usual_sessions }
@@ -74,7 +75,7 @@ impl SessionNames {
     }
 }
 
-/// The names by which what a script prints is known: those of the sessions that were opened, and those that it gave
+/// The names that the answers to a script use: those of the sessions that were opened, and those that the script gave
 /// to objects.
 #[derive(Drop)]
 pub struct Names {
@@ -83,7 +84,7 @@ pub struct Names {
 }
 
 impl Names {
-    /// The names of no session and no object. Those of objects take memory by `alloc`.
+    /// Names of no session and no object. Later names of objects take memory by `alloc`.
     pub fn new(alloc: Global) -> Self
         ensures sessions { result.sessions ≡ [] }
         ensures objects { result.objects ≡ [] }

@@ -12,15 +12,15 @@ use std::marker::Model;
 /// An object's name: a letter or an underscore, and after it up to 62 letters, digits and `_`, `$` and `.`.
 pub type ObjectName = ArrayString<63>;
 
-/// An object under its name.
+/// An object with the name by which it goes.
 #[derive(Clone, Copy, Debug, PartialEq, Eq)]
 pub struct NamedObject {
     pub name: ObjectName,
     pub tag: Tag,
 }
 
-/// The objects that have names, in the order in which they were named. No two go by one name, and no object has
-/// two. Contracts see them as a list.
+/// The objects that have names, in the order in which they were named. No two objects have one name, and no object
+/// has two names. Contracts see the objects as a list.
 #[derive(Drop)]
 pub struct ObjectNames {
     objects: Vec<NamedObject>,
@@ -39,7 +39,7 @@ impl Model for ObjectNames {
 }
 
 impl ObjectNames {
-    /// Names of no object. Later ones take memory by `alloc`.
+    /// An empty list of named objects. Later names take memory by `alloc`.
     pub fn new(alloc: Global) -> Self
         ensures { result ≡ [] }
     {
@@ -55,7 +55,7 @@ impl ObjectNames {
         self.objects.as_slice()
     }
 
-    /// The object that goes by `name`, if one does. No other name of it is here.
+    /// The object that goes by `name`, if one does. The object has no other name.
     pub fn tag_called(&self, name: &str) -> Option<Tag>
         ensures called { result ≡ tag_called self.now name.now }
     {
@@ -65,7 +65,7 @@ impl ObjectNames {
             .map(|one| one.tag)
     }
 
-    /// The name by which the object `tag` goes, if it has one. Read back, the name is that object.
+    /// The name by which the object `tag` goes, if it has one. By `tag_called` that name is `tag`.
     pub fn name_of(&self, tag: Tag) -> Option<ObjectName>
         ensures given { result ≡ name_given self.now tag }
         ensures reads_back { IfSome result (λ name. tag_called self.now name.bytes ≡ Some tag) }
@@ -73,7 +73,7 @@ impl ObjectNames {
         self.find_name(tag)
     }
 
-    /// The first name here that is the object `tag`.
+    /// The first name in the list that is of the object `tag`, if there is one.
     fn find_name(&self, tag: Tag) -> Option<ObjectName>
         ensures given { result ≡ name_given self.now tag }
         ensures apart { AreApart self.now }
@@ -84,7 +84,7 @@ impl ObjectNames {
             .map(|one| one.name)
     }
 
-    /// Gives the object `tag` the name `name`. Where there is no memory this is refused, and nothing is named.
+    /// Gives the object `tag` the name `name`. Refused only where memory ran out, and then nothing is named.
     pub fn push(&mut self, name: ObjectName, tag: Tag) -> Result<(), AllocError>
         requires free { tag_called self.old name.bytes ≡ None }
         requires unnamed { name_given self.old tag ≡ None }
@@ -107,7 +107,7 @@ pub fn parse_object_name(word: &str) -> Option<ObjectName>
     ObjectName::from(word).ok()
 }
 
-/// Whether each character of `word` may be in an object's name at its place.
+/// Whether each character of `word` may be in an object's name at the character's place.
 fn has_name_bytes(word: &str) -> bool
     ensures { result ≡ has_name_bytes word.now }
 {
@@ -138,7 +138,8 @@ fn is_name_byte(byte: u8) -> bool
     begins_name(byte) || byte.is_ascii_digit() || byte == b'$' || byte == b'.'
 }
 
-/// The object that `word` means: one that it writes by its numbers, as a tag, or one of `objects` that goes by it.
+/// The object that `word` means: the lock tag that `word` is, written in numbers, or otherwise the one of `objects`
+/// that goes by `word`.
 pub fn parse_object(word: &str, objects: &ObjectNames) -> Option<Tag>
     ensures { result ≡ tag_in objects.now word.now }
 {

@@ -9,15 +9,15 @@ use crate::names::{Name, USUAL_SESSIONS};
 use std::alloc::{AllocError, Global};
 use std::marker::Model;
 
-/// A session under its name.
+/// A session with the name by which it goes.
 #[derive(Drop)]
 pub struct Named<S> {
     pub name: Name,
     pub session: S,
 }
 
-/// Sessions in the byte order of their names. Contracts see them as a list. It has room for as many as there can be,
-/// so that only its making takes memory.
+/// Sessions in the byte order of their names. Contracts see the sessions as a list. There is room for as many
+/// sessions as a script may have open, so that only the making of the list takes memory.
 #[derive(Drop)]
 pub struct ByName<S> {
     sessions: Vec<Named<S>>,
@@ -40,7 +40,7 @@ impl<S> ByName<S> {
     ghost use Rattle.lock_script.specs.declared.sessions.Named.{Named};
     ghost use Rattle.lock_script.specs.Lending.{LendsSession};
 
-    /// No session. It is refused where there is no memory.
+    /// A list of no session, which takes memory by `alloc`. Refused only where memory ran out.
     pub fn new(alloc: Global) -> Result<Self, AllocError>
         ensures { IfOk result (λ made. made ≡ []) }
     {
@@ -55,7 +55,7 @@ impl<S> ByName<S> {
         self.sessions.len()
     }
 
-    /// The place of the session of the name `name`, if it is one of these.
+    /// The place of the session named `name`, if it is in the list.
     pub fn place_called(&self, name: &Name) -> Option<usize>
         ensures called { IfSome result (IsCalled self.now name.now.bytes) }
         ensures free { IfNone result (IsFree self.now name.now.bytes) }
@@ -76,7 +76,7 @@ impl<S> ByName<S> {
         &self.sessions[place]
     }
 
-    /// The session at `place`, to make a call. Its name and the others stay as they are.
+    /// The session at `place`, for a call that changes it. The session's name and the other sessions don't change.
     pub fn session_mut(&mut self, place: usize) -> &mut S
         requires { place < length self.old }
         ensures* writes_back { sem 𝓛 (LendsSession S.row self.entry place result) }
@@ -85,7 +85,7 @@ impl<S> ByName<S> {
         &mut self.sessions[place].session
     }
 
-    /// Puts `session` in at the place of `name` in the order of the names.
+    /// Puts `session`, named `name`, into the list at the place that `name` has in the order of the names.
     pub fn put(&mut self, name: Name, session: S)
         requires { length self.old < usual_sessions }
         ensures { PutsIn self.old (record { name = name; session = session }) self.new }
@@ -94,7 +94,7 @@ impl<S> ByName<S> {
         self.put_at(place, name, session);
     }
 
-    /// Puts `session` in at `place`, where `name` keeps the order, as at the place that it was taken from.
+    /// Puts `session`, named `name`, into the list at `place`, where `name` keeps the order of the names.
     pub fn put_at(&mut self, place: usize, name: Name, session: S)
         requires room { length self.old < usual_sessions }
         requires within { place ≤ length self.old }
@@ -125,7 +125,7 @@ impl<S> ByName<S> {
         self.sessions.len()
     }
 
-    /// Takes out the session at `place`, with its name.
+    /// Takes the session at `place`, with its name, out of the list.
     pub fn take(&mut self, place: usize) -> Named<S>
         requires { place < length self.old }
         ensures taken { HoldsAt (λ one. result ≡ one) self.old place }
@@ -135,7 +135,7 @@ impl<S> ByName<S> {
         self.sessions.remove(place)
     }
 
-    /// Takes the one out whose name comes first, if there is any.
+    /// Takes the session whose name comes first, with its name, out of the list, if there is any.
     pub fn take_first(&mut self) -> Option<Named<S>>
         ensures first { MatchOption result (self.old ≡ []) (λ first. self.old ≡ first ∷ self.new) }
         ensures none { IfNone result (self.new ≡ []) }
@@ -147,7 +147,7 @@ impl<S> ByName<S> {
         Some(self.sessions.remove(0))
     }
 
-    /// The end of the list, once nobody is on it.
+    /// Ends the list, which has no session any more.
     pub fn finish(self)
         requires { self ≡ [] }
     {
@@ -156,7 +156,7 @@ impl<S> ByName<S> {
     }
 }
 
-/// The open sessions: those that don't wait, and those that do.
+/// The open sessions of a script: those that don't wait, and those that wait.
 #[derive(Drop)]
 pub struct OpenSessions<S, W> {
     pub resting: ByName<S>,
@@ -166,20 +166,20 @@ pub struct OpenSessions<S, W> {
 /// The place of an open session.
 #[derive(Clone, Copy, Debug, PartialEq, Eq)]
 pub enum Place {
-    /// At this place of those that don't wait.
+    /// At this place in the list of the sessions that don't wait.
     Resting(usize),
-    /// At this place of those that wait.
+    /// At this place in the list of the sessions that wait.
     Waiting(usize),
 }
 
-/// A session that doesn't wait: its name, and its place.
+/// An open session that doesn't wait: its name, and its place among the sessions that don't wait.
 #[derive(Clone, Copy, Debug, PartialEq, Eq)]
 pub struct Caller {
     pub name: Name,
     pub place: usize,
 }
 
-/// An open session: its name, and its place.
+/// An open session, which may wait: its name, and its place.
 #[derive(Clone, Copy, Debug, PartialEq, Eq)]
 pub struct Opened {
     pub name: Name,
@@ -189,7 +189,7 @@ pub struct Opened {
 impl<S, W> OpenSessions<S, W> {
     ghost use Rattle.lock_script.specs.Sessions.{IsAt, IsUnknown};
 
-    /// Nobody. It is refused where there is no memory.
+    /// No open session. Takes memory by `alloc` for all that may be opened, and is refused only where memory ran out.
     pub fn new(alloc: Global) -> Result<Self, AllocError>
         ensures resting { IfOk result (λ sessions. sessions.resting ≡ []) }
         ensures waiting { IfOk result (λ sessions. sessions.waiting ≡ []) }
@@ -204,7 +204,7 @@ impl<S, W> OpenSessions<S, W> {
         }
     }
 
-    /// The end, once no session is open.
+    /// Ends the lists of open sessions, in which no session is left.
     pub fn finish(self)
         requires resting { self.resting ≡ [] }
         requires waiting { self.waiting ≡ [] }
@@ -214,7 +214,7 @@ impl<S, W> OpenSessions<S, W> {
         waiting.finish();
     }
 
-    /// The place of the open session of the name `name`, if there is one.
+    /// The place of the open session named `name`, if there is one.
     pub fn place_called(&self, name: &Name) -> Option<Place>
         ensures called { IfSome result (IsAt self.now name.now.bytes) }
         ensures free { IfNone result (IsUnknown self.now name.now.bytes) }

@@ -8,7 +8,7 @@ use crate::names::Name;
 use arrayvec::ArrayVec;
 use modes_core::{Owner, STRONG_COUNTERS, Tag};
 
-/// The first six words of `line`: what is between spaces and tabs. No command has as many.
+/// The first six words of `line`, which are separated by spaces and tabs. No command has as many.
 pub fn split_words(line: &str) -> ArrayVec<&str, 6>
     ensures { map (λ word. word.now) result.items ≡ take 6 (words_of line.now) }
 {
@@ -22,7 +22,7 @@ pub fn split_words(line: &str) -> ArrayVec<&str, 6>
     words
 }
 
-/// Adds `part`, which is between two blanks, to `words`, where it is a word and there is room.
+/// Adds `part`, which is between two blanks, to `words`, where `part` is not empty and `words` has room.
 fn keep_word<'a>(words: &mut ArrayVec<&'a str, 6>, part: &'a str)
     ensures { map (λ word. word.now) words.new.items
         ≡ take 6 (map (λ word. word.now) words.old.items ++ filter is_word (part.now ∷ [])) }
@@ -58,7 +58,7 @@ fn first_blank(text: &str) -> Option<usize>
         .position(|byte| matches!(*byte, b' ' | b'\t'))
 }
 
-/// Reads `word` as a name: 1 to 16 characters of `a` to `z`, `0` to `9` and `_`.
+/// Reads `word` as the name of a session: 1 to 16 characters of `a` to `z`, `0` to `9` and `_`.
 pub fn parse_name(word: &str) -> Option<Name>
     ensures variant { is_some result ≡ is_name word.now }
     ensures value { IfSome result (λ name. name.bytes ≡ word.now) }
@@ -69,7 +69,7 @@ pub fn parse_name(word: &str) -> Option<Name>
     Name::from(word).ok()
 }
 
-/// Whether each character of `word` may be in a name.
+/// Whether each character of `word` may be in the name of a session.
 fn has_name_bytes(word: &str) -> bool
     ensures { result ≡ list_all is_name_byte word.now }
 {
@@ -109,8 +109,8 @@ fn has_digits(word: &str) -> bool
     word.as_bytes().iter().all(|byte| byte.is_ascii_digit())
 }
 
-/// Reads `word` as a tag: `DB/REL` is a relation, `DB/CLASS/OBJ/SUB` an object and `adv/DB/K1/K2/SUB` what an advisory
-/// lock is on. SUB is at most 65535.
+/// Reads `word` as a lock tag: `DB/REL` is a relation, `DB/CLASS/OBJ/SUB` another object and `adv/DB/K1/K2/SUB` that
+/// of an advisory lock. SUB is at most 65535.
 pub fn parse_tag(word: &str) -> Option<Tag>
     ensures { result ≡ tag_of word.now }
 {
@@ -124,7 +124,7 @@ pub fn parse_tag(word: &str) -> Option<Tag>
     }
 }
 
-/// Reads `numbers`, four with slashes between them, as what an advisory lock is on.
+/// Reads `numbers`, four with slashes between, as the lock tag of an advisory lock.
 fn parse_advisory(numbers: &str) -> Option<Tag>
     ensures { result ≡ advisory_of_numbers (map number_in (slice_split is_slash numbers.now)) }
 {
@@ -169,7 +169,7 @@ fn parse_catalogued(database: &str, rest: &str) -> Option<Tag>
     )
 }
 
-/// Reads `word` as an owner other than the transaction: it is `session`.
+/// Reads `word` as an owner: the word `session` is the session itself, and no other word is an owner.
 pub fn parse_owner(word: &str) -> Option<Owner>
     ensures { result ≡ owner_of word.now }
 {
@@ -188,7 +188,7 @@ fn cut_at_slash(word: &str) -> Option<(&str, &str)>
     word.split_once('/')
 }
 
-/// The relation `relation` of the database `database`.
+/// The lock tag of the relation `relation` of the database `database`, or `None` where one of these is.
 fn relation_tag(database: Option<u32>, relation: Option<u32>) -> Option<Tag>
     ensures { result ≡ tag_of_numbers (database ∷ relation ∷ []) }
 {
@@ -198,7 +198,8 @@ fn relation_tag(database: Option<u32>, relation: Option<u32>) -> Option<Tag>
     }
 }
 
-/// The advisory lock of `database` on the keys `key1`, `key2` and `sub`.
+/// The lock tag of the advisory lock of `database` on the keys `key1`, `key2` and `sub`, or `None` where one of these
+/// is, or `sub` is above 65535.
 fn advisory_tag(
     database: Option<u32>,
     key1: Option<u32>,
@@ -215,7 +216,8 @@ fn advisory_tag(
     }
 }
 
-/// The object `object` of the catalog `class` of `database`, with its part `sub_object`.
+/// The lock tag of the object `object` of the catalog `class` of `database`, with its part `sub_object`, or `None`
+/// where one of these is, or `sub_object` is above 65535.
 fn object_tag(
     database: Option<u32>,
     class: Option<u32>,

@@ -47,7 +47,7 @@ pub record IsListing (content : Content) (rows : List TableRow) : Type 0 where
   pub in_order : IsSorted row_cmp rows
   pub each_once : (row : TableRow) → count_by (row_eq row) rows ≡ (if has_row content row then 1 else 0)
 
--- The list has the content's listing behind what it had.
+-- The list has the content's listing after what it had.
 pub record AppendsListing (content : Content) (old new : List TableRow) : Type 0 where
   pub added : List TableRow
   pub behind : new ≡ old ++ added

@@ -14,7 +14,7 @@ move_eq (Leave tag) (Leave its_tag) = tag_eq tag its_tag
 move_eq (Adopt owner slot) (Adopt its_owner its_slot) = (owner == its_owner) && (slot == its_slot)
 move_eq _ _ = false
 
--- whether it is a leave
+-- whether the move is a leave
 abbrev pub is_leave : Move → Bool
 is_leave Keep = false
 is_leave (Grant tag mode) = false

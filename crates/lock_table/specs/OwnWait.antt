@@ -12,14 +12,14 @@ pub record OwnWait : Type 0 where
   pub mode : Mode
   pub held : Mode → Bool
 
--- How far a wait has come: it stands in its object's queue; it was granted, and its session hasn't taken the grant over; or
--- its session has taken it out of the queue, and has not closed it yet.
+-- How far a wait has come: it is in its object's queue; it was granted, and its session hasn't taken the grant over; or its
+-- session has taken it out of the queue, and has not closed it yet.
 pub data Stage : Type 0 where
   InQueue : Stage
   WasGranted : Stage
   HasLeft : Stage
 
--- the wait as it stands in a queue
+-- the wait as it is in a queue
 abbrev pub entry_of : ℕ → OwnWait → Wait
 entry_of session wait = record { session = session; mode = wait.mode; held = wait.held }
 

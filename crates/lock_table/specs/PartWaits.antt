@@ -11,7 +11,7 @@ use Rattle.lock_table.specs.Request.{is_request_of, is_request_on, is_in_the_way
 use Rattle.lock_table.specs.Content.{Wait}
 use Rattle.lock_table.specs.Waiter.{shown_wait}
 
--- One list has the waits of all objects. The queue of an object is the sub-list of its own.
+-- One list has the waits of all objects. The queue of an object is the sub-list of the waits on that object.
 
 -- the request that a wait is for
 abbrev pub request_of : PartWait → Request

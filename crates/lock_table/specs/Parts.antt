@@ -16,11 +16,11 @@ no_part = record { holds = []; waits = []; woken = []; begun = None; prepared = 
 abbrev pub part_at : List PartView → ℕ → PartView
 part_at parts p = slice_index_or parts p no_part
 
--- what stands in the partition with this number
+-- the content of the partition with this number
 abbrev pub contents_in : List PartView → ℕ → Content
 contents_in parts p = content_of (part_at parts p)
 
--- Each hold and each wait stands in the partition that its object lies in.
+-- Each hold and each wait is in the partition of its object.
 pub record AreAtHome (parts : List PartView) : Type 0 where
   pub holds : (p session : ℕ) (tag : Tag) (mode : Mode) → (contents_in parts p).holds session tag mode ≡ true → partition_of tag ≡ p
   pub waits : (p : ℕ) (tag : Tag) → partition_of tag ≢ p → (contents_in parts p).waits tag ≡ []

@@ -34,8 +34,8 @@ pub record IsFirstAgainst (set : Mode → Bool) (queue ahead : List Wait) (waite
   pub passed : list_any (λ wait. conflicts_with_some wait.mode set) ahead ≡ false
   pub met : conflicts_with_some waiter.mode set ≡ true
 
--- The answer to a request that meets this waiter, with these ahead of it: the waiter's own holds may stand in its way, or
--- nothing may, or else it goes before the waiter (the early insertion of ProcSleep in proc.c).
+-- The answer to a request that meets this waiter, with these ahead of it: the waiter's own holds may be in its way, or nothing
+-- may be, or else it goes before the waiter (the early insertion of ProcSleep in proc.c).
 abbrev pub AnswerAtWaiter : Holds → ℕ → Tag → Mode → List Wait → Wait → Answer → Type 0
 AnswerAtWaiter holds session tag mode ahead waiter (SimpleDeadlock other) =
     (conflicts_with_some mode waiter.held ≡ true) × (other ≡ waiter.session)
@@ -44,7 +44,7 @@ AnswerAtWaiter holds session tag mode ahead waiter Granted =
 AnswerAtWaiter holds session tag mode ahead waiter (Queued place) =
     (conflicts_with_some mode waiter.held ≡ false) × (IsFree holds session tag mode ahead → ⊥) × (place ≡ length ahead)
 
--- The answer to a request that something stands in the way of: behind all where no waiter's mode conflicts with one that its
+-- The answer to a request that something is in the way of: behind all where no waiter's mode conflicts with one that its
 -- session holds of the object, and else by the first such waiter.
 abbrev pub AnswerByPlace : Content → ℕ → Tag → Mode → Answer → Type 0
 AnswerByPlace content session tag mode answer =

@@ -8,6 +8,6 @@ use Rattle.lock_table.specs.Content.{Wait}
 abbrev pub shown_wait : Waiter → Wait
 shown_wait waiter = record { session = waiter.session; mode = waiter.mode; held = set_has waiter.held }
 
--- what a wakeup tells of a wait that it granted: whose it was, and for which mode
+-- what a wakeup notes of a wait that it granted: whose it was, and for which mode
 abbrev pub whose_and_mode : Wait → ℕ × Mode
 whose_and_mode wait = (wait.session, wait.mode)

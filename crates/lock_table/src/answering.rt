@@ -18,11 +18,11 @@ pub use walk::{first_against, is_against};
 /// What is in the way of a request: another session, with its mode.
 #[derive(Clone, Copy)]
 pub struct Clash {
-    /// The session in the way of the one that asks.
+    /// The session that is in the way of a request.
     pub session: SessionId,
-    /// The mode of `session` that conflicts with the one asked for.
+    /// The mode of the session in the way, which conflicts with the mode that the request asks for.
     pub mode: Mode,
-    /// Whether `session` holds that mode or waits for it.
+    /// Whether the session in the way holds the conflicting mode or waits for it.
     pub how: How,
 }
 
@@ -53,7 +53,7 @@ pub fn clash_with<P: PartTable>(
     })
 }
 
-/// What `clash_with` answers for the request of `session` for `tag` in `mode` that is begun in `part`.
+/// What the request of `session` for `tag` in `mode` that is begun in `part` clashes with, if anything: the answer of `clash_with`.
 #[inline(always)]
 pub fn clash_with_begun<P: PartTable>(
     part: &P,
@@ -80,7 +80,7 @@ pub fn clash_with_begun<P: PartTable>(
 }
 
 /// The first waiter in the queue of `tag` that awaits a mode in conflict with `mode`. Mostly nobody waits, which is asked
-/// first; and the queue is walked only where `PartTable::may_conflict` says that it may have one.
+/// first; and the queue is walked only where `PartTable::may_conflict` says that there may be a conflict.
 #[inline(always)]
 fn waiter_against<P: PartTable>(part: &P, tag: &Tag, mode: Mode) -> Option<Waiter>
     ensures { option_map shown_wait result ≡ first_waiter ((P.content part.now).waits tag.now) mode }
@@ -97,12 +97,12 @@ fn waiter_against<P: PartTable>(part: &P, tag: &Tag, mode: Mode) -> Option<Waite
 /// What a request that may wait is answered.
 #[derive(Clone, Copy, Debug, PartialEq, Eq)]
 pub enum Answer {
-    /// The session that asks is to have its hold.
+    /// The session that makes the request is to have its hold.
     Granted,
-    /// The session that asks is to wait before the waiter at this place of the queue, counted from the front, and after
-    /// all where the place is the number of waiters.
+    /// The session that makes the request is to wait before the waiter at the given place of the queue, counted from the front,
+    /// and after all waiters where the place is their number.
     Queued(usize),
-    /// The session that asks is refused: it and this session would wait for one another.
+    /// The request is refused: the session that makes it and the given session would wait for one another.
     SimpleDeadlock(SessionId),
 }
 

@@ -7,15 +7,15 @@ pub enum Move {
     Keep,
     /// The session adds a hold of its own (`GrantLock` in lock.c).
     Grant { tag: Tag, mode: Mode },
-    /// The session joins the object's wait queue at its place, with the modes of the object that it holds
-    /// (`JoinWaitQueue`, in version 16 a part of `ProcSleep` in proc.c).
+    /// The session joins the wait queue of `tag` at the place that its request is answered, with the modes of the object that
+    /// it holds (`JoinWaitQueue`, in version 16 a part of `ProcSleep` in proc.c).
     Join { tag: Tag, mode: Mode },
-    /// The session takes a hold of its own away, and wakes who may go then (`UnGrantLock` and `CleanUpLock` in lock.c).
+    /// The session takes a hold of its own away, and grants the waits that are then free to go (`UnGrantLock` and `CleanUpLock` in lock.c).
     Release { tag: Tag, mode: Mode },
-    /// The session takes its wait out of the object's queue, and wakes who may go then (`RemoveFromWaitQueue` in lock.c).
+    /// The session takes its wait out of the wait queue of `tag`, and grants the waits that are then free to go (`RemoveFromWaitQueue` in lock.c).
     Leave { tag: Tag },
-    /// The session adds holds of the session numbered `owner`, which may be itself, that stood in the fast-path slot
-    /// `slot` of that session. No single step does so: each step that moves a mode out of the slot adds one
+    /// The session adds holds of the session numbered `owner`, which may be itself, that stood in the fast-path slot `slot` of
+    /// that session. No single step makes this move: each step that moves a mode out of the slot adds one hold
     /// (`FastPathTransferRelationLocks` in lock.c).
     Adopt { owner: u16, slot: u8 },
 }
@@ -31,7 +31,7 @@ impl Move {
         self == other
     }
 
-    /// Whether this move is a leave.
+    /// Whether this move is a `Leave`.
     pub fn is_leave(self) -> bool
         ensures { result ≡ is_leave self }
     {

@@ -18,8 +18,8 @@ use modes_core::{MOST_SESSIONS, Mode, ModeSet, SessionId, Tag, conflicts};
 use std::alloc::{AllocError, Global};
 use std::marker::Model;
 
-/// A list of the holds of a partition, in no order, one of the waits of all its objects, and one of those whom the last
-/// wakeup granted. Most calls look through a whole list.
+/// Three lists of one partition: its holds, in no order, the waits on all its objects, and the waits that the last wakeup
+/// granted. Most calls look through a whole list.
 #[derive(Drop)]
 pub struct PartLists {
     holds: Vec<Request>,
@@ -45,7 +45,7 @@ impl PartLists {
     ghost use Rattle.lock_table.specs.PartWaits.{EachOnce};
     ghost use Rattle.std.specs.Prelude.{◌≡◌, [], None};
 
-    /// Lists with nothing in them, which grow by `alloc`.
+    /// A partition's lists with nothing in them, which grow by `alloc`.
     pub fn new(alloc: Global) -> Self
         ensures { result ≡ record { holds = []; waits = []; woken = []; begun = None; prepared = None } }
     {
@@ -58,7 +58,7 @@ impl PartLists {
         }
     }
 
-    /// The holds. Each request is held or awaited once at most.
+    /// The holds of the partition. Each request is held or awaited once at most.
     pub fn holds(&self) -> &[Request]
         ensures value { result.now ≡ self.now.holds }
         ensures each_once { EachOnce self.now.holds self.now.waits }
@@ -66,7 +66,7 @@ impl PartLists {
         self.holds.as_slice()
     }
 
-    /// The waits of all objects, those of one object in the order of its queue.
+    /// The waits on all objects of the partition, those on one object in the order of the object's queue.
     pub fn waits(&self) -> &[PartWait]
         ensures { result.now ≡ self.now.waits }
     {
@@ -74,7 +74,7 @@ impl PartLists {
     }
 }
 
-/// A copy of the lists in memory of its own, with room for what they have room for.
+/// A copy of a partition's lists in memory of its own, with room for as much as the lists have room for.
 impl Clone for PartLists {
     ghost is_clone = { λ lists theirs. theirs ≡ lists };
 
@@ -229,8 +229,8 @@ impl PartTable for PartLists {
     }
 }
 
-/// Where the hold of `session` on `tag` in `mode` stands in `holds`. The latest stand at the end, so the look begins
-/// there.
+/// The index in `holds` of the hold of `session` on `tag` in `mode`. The latest holds are at the end, so the search begins at
+/// the end.
 fn index_of_hold(holds: &[Request], session: SessionId, tag: &Tag, mode: Mode) -> usize
     requires { list_any (λ hold. is_request_of hold session tag.now mode) holds.now ≡ true }
     ensures within { result < length holds.now }
@@ -247,7 +247,7 @@ fn index_of_hold(holds: &[Request], session: SessionId, tag: &Tag, mode: Mode) -
     unreachable!()
 }
 
-/// The lower of the holder `lowest`, if there is one, and the hold of `session` in `mode`: by session and then by mode.
+/// The lower of the holder `lowest`, if there is one, and the holder `session` with `mode`: lower by the session's number, and then by the mode's.
 fn lower_holder(
     lowest: Option<(SessionId, Mode)>,
     session: SessionId,

@@ -18,7 +18,7 @@ use crate::rows::TableRow;
 use crate::waits::Waiter;
 use modes_core::{Mode, ModeSet, SessionId, Tag, conflicts};
 
-/// A wait of a partition: on which object, and what the object's queue has of it.
+/// A wait in a partition: on which object, and what the object's queue has of the wait.
 #[derive(Clone, Copy, Debug, PartialEq, Eq)]
 pub struct PartWait {
     /// The object that the wait is for.
@@ -28,7 +28,7 @@ pub struct PartWait {
 }
 
 impl PartWait {
-    /// The request that the wait is for, which becomes a hold.
+    /// The request that waits, which becomes a hold once this wait is granted.
     pub fn request(&self) -> Request
         ensures { result ≡ request_of self.now }
     {
@@ -39,7 +39,7 @@ impl PartWait {
         }
     }
 
-    /// What a wakeup notes of the wait: its session and mode.
+    /// What a wakeup that grants this wait notes of it: the session and the mode.
     pub fn whose(&self) -> (SessionId, Mode)
         ensures { result ≡ whose_and_mode (shown_wait self.now.waiter) }
     {
@@ -97,7 +97,7 @@ pub fn waiter_at(waits: &[PartWait], tag: &Tag, place: usize) -> Option<Waiter>
     None
 }
 
-/// The mode that `session` awaits on `tag`, if it waits there, by the list `waits`.
+/// The mode that `session` awaits on `tag`, if `session` waits on `tag`, by the list `waits`.
 pub fn awaited_mode(waits: &[PartWait], session: SessionId, tag: &Tag) -> Option<Mode>
     ensures { result ≡ option_map (λ wait. wait.waiter.mode)
         (find (λ wait. is_request_on (request_of wait) session tag.now) waits.now) }
@@ -155,7 +155,7 @@ pub(crate) fn is_awaited(waits: &[PartWait], tag: &Tag, modes: ModeSet) -> bool
     waits.iter().any(|wait| wait.awaits_one(&tag, modes))
 }
 
-/// Whether `wait` is on `tag` and free to go, beside `holds` and behind the waits `ahead`.
+/// Whether `wait` is on `tag` and free to go, beside `holds` and behind the waits `ahead` in the queue.
 fn goes(holds: &[Request], ahead: &[PartWait], wait: PartWait, tag: &Tag) -> bool
     ensures { result ≡ goes_now holds.now ahead.now wait tag.now }
 {
@@ -169,9 +169,9 @@ fn goes(holds: &[Request], ahead: &[PartWait], wait: PartWait, tag: &Tag) -> boo
     !is_awaited(ahead, tag, conflicting)
 }
 
-/// Makes holds of the waits on `tag` that are free to go, from the front, each beside those granted before it and
-/// behind those left before it, and writes into `woken` whose they were. `holds` and `waits` together keep their length,
-/// and no list grows.
+/// Makes holds of the waits on `tag` that are free to go, from the front, each beside those granted before it and behind those
+/// left before it, and writes into `woken` whose waits these were. `holds` and `waits` together keep their length, and no list
+/// grows.
 pub fn wake_queue(
     holds: &mut Vec<Request>,
     waits: &mut Vec<PartWait>,

@@ -10,9 +10,10 @@ use modes_core::{Mode, ModeSet, SessionId, Tag};
 use std::alloc::{AllocError, Global};
 use std::marker::Model;
 
-/// The plain keeper of a partition: a list of its holds, one of the waits of all its objects, and one of those whom its
-/// last wakeup granted. Most calls look through a whole list. The lists are on the heap, so that the part is one pointer
-/// wide: who takes a partition gets it by value, and puts it back so. The boxes of two parts share no cache line.
+/// The plain keeper of a partition: a list of its holds, a list of the waits on all its objects, and a list of the waits that
+/// its last wakeup granted. Most calls look through a whole list. The lists are on the heap, so that the part is one pointer
+/// wide: a session that takes a partition gets the part by value, and puts it back by value. The boxes of two parts share no
+/// cache line.
 #[derive(Drop)]
 pub struct PlainPart {
     lists: Box<CachePadded<PartLists>>,
@@ -36,7 +37,7 @@ impl PlainPart {
     ghost use Rattle.std.specs.List.{list_any};
     ghost use Rattle.lock_table.specs.Content.{empty_content};
 
-    /// A part with nothing in it, which grows by `alloc`. After `NoMemory` there is nothing.
+    /// A partition with nothing in it, which grows by `alloc`. `NoMemory` where there is no memory for it.
     pub fn new(alloc: Global) -> Result<Self, NoMemory>
         ensures content { IfOk result (λ part. content_of part ≡ empty_content) }
         ensures begun { IfOk result (λ part. part.begun ≡ None) }
@@ -59,7 +60,7 @@ impl PlainPart {
         awaited_mode(self.waits(), session, tag).is_some()
     }
 
-    /// The holds of the part. Each request is held or awaited once at most.
+    /// The holds of the partition. Each request is held or awaited once at most.
     pub fn holds(&self) -> &[Request]
         ensures value { result.now ≡ self.now.holds }
         ensures each_once { EachOnce self.now.holds self.now.waits }
@@ -67,7 +68,7 @@ impl PlainPart {
         self.lists.holds()
     }
 
-    /// The waits on all objects of the part, those on one object in the order of its queue.
+    /// The waits on all objects of the partition, those on one object in the order of the object's queue.
     pub fn waits(&self) -> &[PartWait]
         ensures { result.now ≡ self.now.waits }
     {
@@ -75,7 +76,7 @@ impl PlainPart {
     }
 }
 
-/// A copy of the part in memory of its own, with room for what the part has room for.
+/// A copy of the partition in memory of its own, with room for as much as the partition has room for.
 impl Clone for PlainPart {
     ghost use Rattle.std.specs.Prelude.{◌≡◌};
 

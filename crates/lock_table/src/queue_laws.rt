@@ -37,25 +37,25 @@ pub fn a_wakeup_makes_no_conflict()
         Wakes before tag granted after → NoConflictAmong before.holds → NoConflictAmong after.holds }
 {}
 
-/// After a wakeup nobody who was left is free to go.
+/// After a wakeup of an object's queue nobody who was left in it is free to go.
 pub fn whoever_is_left_is_not_free()
     ensures { (before after : Content) (tag : Tag) (granted : List Wait) →
         Wakes before tag granted after → NoneFree after tag }
 {}
 
-/// A wakeup splits the queue into those granted and those left, and both keep its order.
+/// A wakeup splits the queue into those granted and those left, and both keep the order of the queue.
 pub fn a_wakeup_splits_the_queue()
     ensures { (before after : Content) (tag : Tag) (granted : List Wait) →
         Wakes before tag granted after → IsSplitOf (before.waits tag) granted (after.waits tag) }
 {}
 
-/// A request that may wait has one answer alone.
+/// A request that may wait has exactly one answer.
 pub fn there_is_one_answer()
     ensures { (content : Content) (session : ℕ) (tag : Tag) (mode : Mode) (answer other : Answer) →
         WaitingAnswer content session tag mode answer → WaitingAnswer content session tag mode other → answer ≡ other }
 {}
 
-/// A queue has one wakeup alone.
+/// A wakeup of a queue has exactly one outcome.
 pub fn there_is_one_wakeup()
     ensures { (before after its : Content) (tag : Tag) (granted other : List Wait) →
         Wakes before tag granted after → Wakes before tag other its → (granted ≡ other) × (after ≡ its) }
@@ -67,7 +67,7 @@ pub fn waking_again_changes_nothing()
         Wakes before tag granted after → Wakes after tag more again → (more ≡ []) × (again ≡ after) }
 {}
 
-/// Where nobody in the queue is free to go, nobody is once a request has joined it at its place.
+/// Where nobody in the queue is free to go, nobody is free to go after a request has joined the queue at the place that it is answered.
 pub fn joining_leaves_none_free()
     ensures { (content : Content) (session : ℕ) (tag : Tag) (mode : Mode) (place : ℕ) →
         WaitingAnswer content session tag mode (Queued place) → NoneFree content tag →
@@ -76,7 +76,7 @@ pub fn joining_leaves_none_free()
         (content.waits tag)) }
 {}
 
-/// A release wakes no wait of the session that makes it: what was in its way is still there.
+/// A release wakes no wait of the session that makes it: what was in the way of that wait is still in the way.
 pub fn a_release_wakes_none_of_its_own()
     ensures { (before after : Content) (session : ℕ) (tag : Tag) (mode : Mode) (granted : List Wait) →
         NoneFree before tag → Wakes (remove_hold before session tag mode) tag granted after →

@@ -7,11 +7,11 @@ use modes_core::{Mode, ModeSet, SessionId, Tag};
 /// What a session asks for or holds: a mode on an object.
 #[derive(Clone, Copy, Debug, PartialEq, Eq)]
 pub struct Request {
-    /// The session that asks for it or has it.
+    /// The session that asks for a mode on an object or holds the object in that mode.
     pub session: SessionId,
-    /// The object of the request.
+    /// The object that the session asks for or holds.
     pub tag: Tag,
-    /// The mode of the request.
+    /// The mode that the session asks for or holds.
     pub mode: Mode,
 }
 

@@ -6,18 +6,18 @@ use modes_core::{Mode, SessionId, Tag};
 /// One row of a listing (`pg_locks`): a session holds an object in a mode, or awaits it.
 #[derive(Clone, Copy, Debug, PartialEq, Eq)]
 pub struct TableRow {
-    /// The session that holds the object or awaits it.
+    /// The session of the row, which holds the object or awaits it.
     pub session: SessionId,
-    /// The object that is held or awaited.
+    /// The object that the session of the row holds or awaits.
     pub tag: Tag,
-    /// The mode that is held or awaited.
+    /// The mode that the session of the row holds or awaits.
     pub mode: Mode,
-    /// Whether `session` holds the object, and doesn't await it.
+    /// Whether the session of the row holds the object in the mode; otherwise it awaits that.
     pub granted: bool,
 }
 
 impl TableRow {
-    /// The listing's order: by tag, then by session, granted before awaited, then by mode.
+    /// What a listing orders rows of the lock table by: by tag, then by session, granted before awaited, then by mode.
     pub fn order(&self) -> (Tag, SessionId, bool, u8)
         ensures { result ≡ row_key self.now }
     {
@@ -25,22 +25,22 @@ impl TableRow {
     }
 }
 
-/// One row of a listing that stands before the rows of the table: a session holds a relation in a fast-path
-/// slot (`pg_locks` with `fastpath`), numbered from 0.
+/// One row of a listing, before the rows of the lock table: a session holds a relation in a fast-path slot (`pg_locks` with
+/// `fastpath`).
 #[derive(Clone, Copy, Debug, PartialEq, Eq)]
 pub struct SlotRow {
-    /// The session whose fast-path slot it is.
+    /// The session whose fast-path slot the row shows.
     pub session: SessionId,
-    /// The number of the fast-path slot.
+    /// The number of the fast-path slot among its session's, from 0 on.
     pub slot: u8,
-    /// The relation that the slot has.
+    /// The relation that the fast-path slot has.
     pub tag: Tag,
-    /// The mode that is held in the slot.
+    /// The mode that the fast-path slot shows as held.
     pub mode: Mode,
 }
 
 impl SlotRow {
-    /// The listing's order: by session, then by slot, then by mode.
+    /// What a listing orders rows of fast-path slots by: by session, then by slot, then by mode.
     pub fn order(&self) -> (SessionId, u8, u8)
         ensures { result ≡ slot_row_key self.now }
     {

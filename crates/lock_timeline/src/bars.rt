@@ -4,43 +4,44 @@ ghost use Rattle.lock_timeline.specs.Bars.{bars_the_way, is_awaited, is_held};
 
 use modes_core::{Mode, ModeSet, Tag, conflicts};
 
-/// How many letters of a label fit between a step and the next one.
+/// How many letters of a bar's label fit between a step and the next one.
 const LETTERS_OF_A_STEP: usize = 6;
 
-/// A lock of a session, from the step in which it was asked for to the one in which it went.
+/// A bar of the timeline: a session's lock, from the step in which the session asked for it to the step in which the
+/// lock or its wait ended.
 #[derive(Debug, Drop)]
 pub struct Bar {
     /// The number of the lane of the bar's session.
     pub lane: u32,
-    /// The row of that lane in which the bar is drawn.
+    /// The row of the session's lane in which the bar is drawn.
     pub row: u32,
     pub tag: Tag,
     pub mode: Mode,
-    /// The object and the mode as text.
+    /// The lock's object and mode as text.
     pub label: String,
     /// The step in which the session asked for the lock.
     pub asked: u32,
-    /// The step in which the session got it, if it did.
+    /// The step in which the session got the lock, if it did.
     pub got: Option<u32>,
-    /// The step in which the session gave it back, or gave up its wait, if it did.
+    /// The step in which the session gave the lock back, or gave up its wait for the lock, if it did.
     pub ended: Option<u32>,
 }
 
 impl Bar {
-    /// The step up to which the label reaches.
+    /// The step up to which the bar's label reaches.
     pub fn label_end(&self) -> u32 {
         let steps = u32::try_from(self.label.len() / LETTERS_OF_A_STEP).unwrap_or(u32::MAX);
         self.asked.saturating_add(steps).saturating_add(1)
     }
 
-    /// Whether the session waits for the lock, and has not got it nor given up.
+    /// Whether the bar's session waits for the lock: it has neither got the lock nor given up.
     pub fn is_awaited(&self) -> bool
         ensures { result ≡ is_awaited self.now }
     {
         self.got.is_none() && self.ended.is_none()
     }
 
-    /// Whether the session has the lock.
+    /// Whether the bar's session has the lock: it got the lock and has not given it back.
     pub fn is_held(&self) -> bool
         ensures { result ≡ is_held self.now }
     {
@@ -48,21 +49,22 @@ impl Bar {
     }
 }
 
-/// How the other bar is in the way of one that waits.
+/// How another bar is in the way of a bar whose session waits.
 #[derive(Clone, Copy, Debug, PartialEq, Eq)]
 pub enum Way {
     /// The session of the other bar holds a conflicting mode.
     Holds,
-    /// The session of the other bar awaits a conflicting mode, and comes before the one that waits in the queue.
+    /// The session of the other bar awaits a conflicting mode, and is before the session that waits in the wait
+    /// queue.
     StandsBefore,
 }
 
-/// An arrow from a bar to one that was in its way when its wait began.
+/// An arrow from a bar whose session waits to a bar that was in the session's way when the wait began.
 #[derive(Clone, Copy, Debug, PartialEq, Eq)]
 pub struct Arrow {
-    /// The number of the bar that waits.
+    /// The number of the bar whose session waits.
     pub from: u32,
-    /// The number of the bar that is in its way.
+    /// The number of the bar that is in the way of the session that waits.
     pub to: u32,
     pub way: Way,
 }
@@ -78,8 +80,8 @@ pub fn held_on(bars: &[Bar], lane: u32, tag: Tag) -> ModeSet {
     modes
 }
 
-/// Whether `bar`, held or awaited, is in the way of `mode` on `tag` for the session of `lane`: it is another session's,
-/// on this object, in a mode that conflicts with this one.
+/// Whether `bar`, held or awaited, is in the way of `mode` on `tag` for the session of `lane`: `bar` is another
+/// session's, on `tag`, in a mode that conflicts with `mode`.
 pub fn is_in_the_way(bar: &Bar, lane: u32, tag: Tag, mode: Mode) -> bool
     ensures { result ≡ bars_the_way bar.now lane tag mode }
 {

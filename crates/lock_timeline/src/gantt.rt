@@ -6,9 +6,9 @@ use std::alloc::AllocError;
 use std::fmt::Write;
 
 impl Timeline {
-    /// Draws the timeline as Mermaid's Gantt chart, whose time is the number of the script's line: a section for each
-    /// session that has a lock or waits for one, with a task for each lock and for each wait, which names the sessions
-    /// in its way. Refused only where memory ran out.
+    /// Draws the timeline as a Gantt chart of Mermaid, whose time is the number of the script's line: a section for
+    /// each session that has a lock or waits for one, with a task for each lock and for each wait. The task of a wait
+    /// names the sessions in its way. Refused only where memory ran out.
     pub fn gantt(&self) -> Result<String, AllocError> {
         let mut text = String::new(self.alloc);
         writeln!(text, "gantt")?;
@@ -42,7 +42,7 @@ impl Timeline {
         Ok(())
     }
 
-    /// Writes to `text` the wait with which `bar`, numbered `number`, begins, if there is one.
+    /// Writes to `text` the task for the wait with which `bar`, numbered `number`, begins, if there is one.
     fn write_wait(&self, number: u32, bar: &Bar, text: &mut String) -> Result<(), AllocError> {
         let until = bar.got.or(bar.ended).unwrap_or(self.last_step());
         if until <= bar.asked && bar.got.is_some() {
@@ -62,7 +62,7 @@ impl Timeline {
         writeln!(text, " :crit, {from}, {to}")
     }
 
-    /// Writes to `text` the time for which the session of `bar` held the lock, if it got it.
+    /// Writes to `text` the task for the time in which the session of `bar` held the lock, if the session got it.
     fn write_hold(&self, bar: &Bar, text: &mut String) -> Result<(), AllocError> {
         let Some(got) = bar.got else {
             return Ok(());
@@ -85,7 +85,8 @@ impl Timeline {
         }
     }
 
-    /// The number of the script's line of the step `step`. After the last step, that of the line after its own.
+    /// The number of the script's line of the step `step`. After the last step, the number of the line after the last
+    /// step's line.
     fn line_of(&self, step: u32) -> u32 {
         match (self.steps.get(step as usize), self.steps.last()) {
             (Some(line), _) => *line,

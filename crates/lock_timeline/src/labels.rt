@@ -10,7 +10,7 @@ struct NamedObject {
     name: String,
 }
 
-/// The names of objects, where they have some.
+/// What the labels of bars are made from: the names of the objects that have one.
 #[derive(Drop)]
 pub struct Labels {
     alloc: Global,

@@ -7,20 +7,20 @@ use std::alloc::{AllocError, Global};
 /// The name of a session, of up to 16 bytes.
 pub type Name = ArrayString<16>;
 
-/// The step from which on a row is free while a bar is in it: none.
+/// What a lane keeps for a row that a bar is in, in place of the step from which on the row is free.
 const BUSY: u32 = u32::MAX;
 
-/// A session of a script, with the rows that its bars are in.
+/// The lane of a session of a script, with the rows for the session's bars.
 #[derive(Drop)]
 pub struct Lane {
     pub name: Name,
-    /// Whether the session was closed, so that its name may be another's.
+    /// Whether the lane's session was closed, so that a later session may have its name.
     pub is_closed: bool,
-    /// How deep the session's transaction is nested: 1 where it isn't.
+    /// The level of the transaction of the lane's session: 1, and one more for each level begun within.
     pub level: u32,
     /// Whether the lane has a bar.
     pub has_bars: bool,
-    /// The step from which on each row is free.
+    /// For each row of the lane, the step from which on the row is free, or `BUSY`.
     rows: Vec<u32>,
 }
 
@@ -50,7 +50,8 @@ impl Lane {
         }
     }
 
-    /// Takes the first row that is free at the step `step`, or adds one. Refused only where memory ran out.
+    /// Takes the first row of the lane that is free at the step `step`, or a new one, for a bar, and answers the
+    /// row's number. Refused only where memory ran out.
     pub fn take_row(&mut self, step: u32) -> Result<u32, AllocError> {
         self.has_bars = true;
         let mut row = 0_u32;
@@ -65,7 +66,7 @@ impl Lane {
         Ok(row)
     }
 
-    /// Frees the row numbered `row` from the step `step` on.
+    /// Frees the lane's row numbered `row` from the step `step` on.
     pub fn free_row(&mut self, row: u32, step: u32) {
         if let Some(free) = self.rows.get_mut(row as usize) {
             *free = step.min(BUSY - 1);

@@ -21,13 +21,13 @@ const ROW: u32 = 18;
 /// How far a lane is from the next one, beside its rows.
 const GAP: u32 = 12;
 
-/// How wide a picture is at least, so that what is said below has room.
+/// How wide a picture is at least, so that the text below the lanes has room.
 const NARROWEST: u32 = 740;
 
-/// How high what is said below the lanes is.
+/// How high the text below the lanes is.
 const BOTTOM: u32 = 40;
 
-/// What comes before the lanes: how lines, bars and arrows look.
+/// The part of a picture that comes before the lanes: how lines, bars and arrows look.
 const STYLE: &str = r##"<style>
 text { font: 10.5px ui-monospace, 'DejaVu Sans Mono', monospace; fill: #222 }
 .name { font-weight: bold; font-size: 12px }
@@ -43,7 +43,7 @@ text { font: 10.5px ui-monospace, 'DejaVu Sans Mono', monospace; fill: #222 }
 <defs><marker id="head" viewBox="0 0 8 8" refX="7" refY="4" markerWidth="7" markerHeight="7" orient="auto"><path d="M0 0 8 4 0 8z" fill="#c0392b"/></marker></defs>
 "##;
 
-/// Where the step `step` is, from the left.
+/// How far from the left the step `step` is.
 fn x_of(step: u32) -> u32 {
     step.saturating_mul(STEP).saturating_add(LEFT)
 }
@@ -88,12 +88,12 @@ impl Timeline {
         x_of(last).saturating_add(GAP).max(NARROWEST)
     }
 
-    /// The step after all steps of the timeline.
+    /// The step after all steps of the timeline, up to which the bars reach that have not ended.
     pub(crate) fn last_step(&self) -> u32 {
         u32::try_from(self.steps.len()).unwrap_or(u32::MAX)
     }
 
-    /// Where the lane numbered `number` begins, from the top; where there is none, the end of all lanes.
+    /// How far from the top the lane numbered `number` begins; where there is no such lane, the end of all lanes.
     fn top_of(&self, number: u32) -> u32 {
         let mut top = TOP;
         let mut before = number;
@@ -108,7 +108,7 @@ impl Timeline {
         top
     }
 
-    /// Where `bar` begins, from the top.
+    /// How far from the top `bar` begins.
     fn y_of(&self, bar: &Bar) -> u32 {
         let rows = bar.row.saturating_mul(ROW).saturating_add(GAP / 2);
         self.top_of(bar.lane).saturating_add(rows)
@@ -128,7 +128,8 @@ impl Timeline {
         Ok(())
     }
 
-    /// Writes to `text` a line above each lane, of the picture's `width`, with the session's name.
+    /// Writes to `text` a line above each lane, as wide as the picture, by `width`, with the name of the lane's
+    /// session.
     fn write_lanes(&self, width: u32, text: &mut String) -> Result<(), AllocError> {
         let mut number = 0_u32;
         for lane in &self.lanes {
@@ -171,7 +172,7 @@ impl Timeline {
         writeln!(text, "<text x=\"{x}\" y=\"{base}\">{label}</text>")
     }
 
-    /// Writes `arrow` to `text`: down or up from the beginning of the wait to the bar that is in its way.
+    /// Writes `arrow` to `text`: down or up from the beginning of a wait to the bar that is in the way.
     fn write_arrow(&self, arrow: &Arrow, text: &mut String) -> Result<(), AllocError> {
         let (Some(from), Some(to)) = (
             self.bars.get(arrow.from as usize),
@@ -214,8 +215,8 @@ impl Timeline {
     }
 }
 
-/// Writes to `text` a part of a bar, from the place `from` to the place `to`, in the way that `class` looks. `label` is
-/// shown where it is pointed at.
+/// Writes to `text` a rectangle, a part of a bar, whose top is `y`, from the place `from` to the place `to`, both
+/// from the left. `class` says how it looks, and `label` is shown where the pointer is on it.
 fn write_rect(
     text: &mut String,
     class: &str,

@@ -10,38 +10,40 @@ use crate::lanes::{Lane, Name};
 use modes_core::{LockMethod, Mode, Owner, Tag};
 use std::alloc::{AllocError, Global};
 
-/// How many lines a timeline shows. What comes later is left out, and the picture says so.
+/// How many steps a timeline shows at most. Later lines of the script are left out, and the picture says from which
+/// on.
 pub const MOST_STEPS: usize = 2000;
 
-/// How often an owner has a lock: the session itself, or its transaction at one level.
+/// How often an owner has a lock. The owner is the session itself, or its transaction at one level.
 #[derive(Clone, Copy, Debug, PartialEq, Eq)]
 struct Claim {
     lane: u32,
-    /// The number of the lock's bar.
+    /// The number of the bar of the claimed lock.
     bar: u32,
-    /// The level of the transaction, or 0 where the session itself is the owner.
+    /// The level of the transaction that has the lock, or 0 where the session itself is the owner.
     level: u32,
     count: u32,
 }
 
-/// What the sessions of a script were answered so far. A step is a line with a command.
+/// What the sessions of a script were answered so far, to be drawn as a picture. A step is a line of the script with
+/// a command.
 #[derive(Drop)]
 pub struct Timeline {
     pub(crate) alloc: Global,
-    /// The number of the script's line for each step.
+    /// The number of the script's line of each step of the timeline.
     pub(crate) steps: Vec<u32>,
     pub(crate) lanes: Vec<Lane>,
     pub(crate) bars: Vec<Bar>,
     pub(crate) arrows: Vec<Arrow>,
-    /// The first line that is left out, if one is.
+    /// The number of the script's first line that the timeline leaves out, if there is one.
     pub(crate) left_out: Option<u32>,
     labels: Labels,
     claims: Vec<Claim>,
-    /// The numbers of the bars that wait, those of one object in the order of its queue.
+    /// The numbers of the bars whose sessions wait; those of each object are in the order of the object's wait queue.
     queue: Vec<u32>,
 }
 
-/// The number that the next one gets where there are `length`.
+/// The number of the next step, lane or bar where there are `length` so far: they are numbered from 0.
 fn next_of(length: usize) -> u32 {
     u32::try_from(length).unwrap_or(u32::MAX)
 }
@@ -62,8 +64,8 @@ impl Timeline {
         }
     }
 
-    /// Begins the step of the script's line `number`: what comes next is of this step. After `MOST_STEPS` steps it only
-    /// keeps the first number that is left out. Refused only where memory ran out.
+    /// Begins the step of the script's line `number`: what is noted next is of this step. After `MOST_STEPS` steps,
+    /// only the number of the first line that is left out is kept. Refused only where memory ran out.
     pub fn begin_line(&mut self, number: u32) -> Result<(), AllocError> {
         if self.steps.len() < MOST_STEPS {
             self.steps.push(number)?;
@@ -73,7 +75,7 @@ impl Timeline {
         Ok(())
     }
 
-    /// Adds the session `name`, which was opened. Refused only where memory ran out.
+    /// Adds a lane for the session `name`, which was opened. Refused only where memory ran out.
     pub fn open(&mut self, name: Name) -> Result<(), AllocError> {
         if self.left_out.is_some() {
             return Ok(());
@@ -83,14 +85,14 @@ impl Timeline {
         Ok(())
     }
 
-    /// Notes that the object `tag` was given the name `name`, which stands in its place from now on. Refused only where
-    /// memory ran out.
+    /// Notes that the object `tag` was given the name `name`, which later labels show in place of the tag. Refused
+    /// only where memory ran out.
     pub fn name_object(&mut self, tag: Tag, name: &str) -> Result<(), AllocError> {
         self.labels.push(tag, name)
     }
 
-    /// Notes that the session `name` was granted `mode` on `tag` for `owner`, once more if it had the lock. Refused
-    /// only where memory ran out.
+    /// Notes that the session `name` was granted `mode` on `tag` for `owner`, once more if the session had the lock
+    /// already. Refused only where memory ran out.
     pub fn grant(
         &mut self,
         name: &Name,
@@ -128,7 +130,7 @@ impl Timeline {
         self.join_queue(lane, bar, tag, mode)
     }
 
-    /// Notes that the session `name`, which waited, got its lock.
+    /// Notes that the session `name`, which waited for a lock, got it.
     pub fn go_on(&mut self, name: &Name) {
         let step = self.step();
         if let Some(bar) = self.leave_queue(name) {
@@ -138,7 +140,7 @@ impl Timeline {
         }
     }
 
-    /// Notes that the session `name`, which waited, gave up.
+    /// Notes that the session `name`, which waited for a lock, gave up its wait.
     pub fn give_up(&mut self, name: &Name) {
         if let Some(bar) = self.leave_queue(name) {
             self.claims.retain(|claim| claim.bar != bar);
@@ -174,8 +176,8 @@ impl Timeline {
         }
     }
 
-    /// Notes that the session `name` ended the innermost level of its transaction, whose locks go to the level outside
-    /// if it `keeps` them, and else are dropped.
+    /// Notes that the session `name` ended the innermost level of its transaction. If `keeps`, the level's locks go
+    /// to the level outside it; otherwise they are dropped.
     pub fn end_level(&mut self, name: &Name, keeps: bool) {
         let Some(lane) = self.lane_of(name) else {
             return;
@@ -243,12 +245,13 @@ impl Timeline {
         }
     }
 
-    /// The step that has begun last.
+    /// The number of the step that was begun last.
     fn step(&self) -> u32 {
         next_of(self.steps.len()).saturating_sub(1)
     }
 
-    /// The number of the lane of the open session `name`. None is looked for where lines are left out.
+    /// The number of the lane of the open session `name`, if there is one. Once lines of the script are left out the
+    /// answer is `None`.
     fn lane_of(&self, name: &Name) -> Option<u32> {
         if self.left_out.is_some() {
             return None;
@@ -263,7 +266,8 @@ impl Timeline {
         None
     }
 
-    /// The level of `owner`: 0 of the session, or that of the transaction of the session of `lane`.
+    /// The level at which `owner` claims a lock for the session of `lane`: 0 for the session itself, or the level of
+    /// its transaction.
     fn level_of(&self, lane: u32, owner: Owner) -> u32 {
         match (owner, self.lanes.get(lane as usize)) {
             (Owner::Transaction, Some(it)) => it.level,
@@ -271,7 +275,7 @@ impl Timeline {
         }
     }
 
-    /// The number of the bar of the lock in `mode` on `tag` that the session of `lane` has.
+    /// The number of the bar of the lock in `mode` on `tag` that the session of `lane` has, if it has one.
     fn held_bar(&self, lane: u32, tag: Tag, mode: Mode) -> Option<u32> {
         let mut number = 0_u32;
         for bar in &self.bars {
@@ -283,8 +287,8 @@ impl Timeline {
         None
     }
 
-    /// Adds a bar of `mode` on `tag` that begins now, in the first free row of `lane`, held from the step `got` on if
-    /// there is one. Answers its number.
+    /// Adds a bar of `mode` on `tag` that begins in the step begun last, in the first free row of `lane`, and answers
+    /// the bar's number. The lock is held from the step `got` on, or awaited where that is `None`.
     fn add_bar(
         &mut self,
         lane: u32,
@@ -330,7 +334,7 @@ impl Timeline {
         Ok(())
     }
 
-    /// Ends the levels of the transaction of the session of `lane`, with the locks that no owner has any more.
+    /// Ends all levels of the transaction of the session of `lane`, and the bars of locks that no owner has any more.
     fn end_transaction(&mut self, lane: u32) {
         if let Some(it) = self.lanes.get_mut(lane as usize) {
             it.level = 1;
@@ -338,7 +342,7 @@ impl Timeline {
         self.end_unclaimed();
     }
 
-    /// Ends the bars that no owner claims any more.
+    /// Ends the bars of locks that no owner claims any more.
     fn end_unclaimed(&mut self) {
         let step = self.step();
         let mut number = 0_u32;

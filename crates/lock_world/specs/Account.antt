@@ -70,7 +70,7 @@ pub record Account : Type 0 where
   pub lists : ListAccount
   pub trace : List TraceEntry
 
--- the hand as its session knows it; nothing of the hand of another
+-- the hand that has a partition, as its own session knows it; nothing where the hand is another session's
 abbrev pub own_hand : Option Hand → Content → ℕ → Option InHand
 own_hand None now session = None
 own_hand (Some hand) now session =
@@ -78,7 +78,7 @@ own_hand (Some hand) now session =
     then Some (record { taken = hand.taken; now = now; recorded = hand.recorded; unmarked = hand.unmarked })
     else None
 
--- of each partition
+-- what a session has in hand of each partition
 abbrev pub own_hands : (ℕ → Option Hand) → (ℕ → Content) → ℕ → ℕ → Option InHand
 own_hands hand now session p = own_hand (hand p) (now p) session
 
@@ -86,7 +86,7 @@ own_hands hand now session p = own_hand (hand p) (now p) session
 abbrev pub known_slots : Bool → ℕ → (ℕ → ℕ) → Option SlotsInHand
 known_slots has database slot = if has then Some (record { word = slot; holds = slot_holds database slot }) else None
 
--- of each session
+-- the slots of each session as the one that has their lock knows them
 abbrev pub slots_in_hand : (ℕ → Bool) → (ℕ → ℕ) → (ℕ → ℕ → ℕ) → ℕ → Option SlotsInHand
 slots_in_hand has database slot owner = known_slots (has owner) (database owner) (slot owner)
 

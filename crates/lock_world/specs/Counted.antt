@@ -20,7 +20,7 @@ pub record Counted : Type 0 where
   pub mode : Mode
   pub position : ℕ
 
--- whether it is for the mode on the object
+-- whether what is counted is for the mode on the object
 abbrev pub is_of : Tag → Mode → Counted → Bool
 is_of tag mode c = tag_eq c.tag tag && mode_eq c.mode mode
 
@@ -28,11 +28,11 @@ is_of tag mode c = tag_eq c.tag tag && mode_eq c.mode mode
 abbrev pub counting : List Counted → Tag → Mode → List Counted
 counting list tag mode = list ++ record { tag = tag; mode = mode; position = 0 } ∷ []
 
--- counting it no more (AbortStrongLockAcquire, and RemoveLocalLock at its release)
+-- counting a strong lock no more (AbortStrongLockAcquire, and RemoveLocalLock at its release)
 abbrev pub uncounting : List Counted → Tag → Mode → List Counted
 uncounting list tag mode = filter (λ (c : Counted). not (is_of tag mode c)) list
 
--- one past the session, if it is for the mode on the object and the session is next
+-- what is counted, now past the session, if it is for the mode on the object and the session is next
 abbrev pub passed : Tag → Mode → ℕ → Counted → Counted
 passed tag mode session c = if is_of tag mode c && (c.position == session) then record c { position = session + 1 } else c
 
@@ -48,11 +48,11 @@ count_at index list = count_by (λ (c : Counted). index_of c.tag == index) list
 abbrev pub is_counted : List Counted → Tag → Mode → Bool
 is_counted list tag mode = list_any (is_of tag mode) list
 
--- whether it is, and at this position
+-- whether the mode on the object is counted, and at this position
 abbrev pub is_at : ℕ → List Counted → Tag → Mode → Bool
 is_at position list tag mode = list_any (λ (c : Counted). is_of tag mode c && (c.position == position)) list
 
--- whether it is, and past each session that there can be
+-- whether the mode on the object is counted, and past each session that there can be
 abbrev pub is_done : ℕ → List Counted → Tag → Mode → Bool
 is_done limit list tag mode = is_at limit list tag mode
 

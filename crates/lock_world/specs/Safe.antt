@@ -161,7 +161,7 @@ taken_after taken (Episode partition content put_back) = set_at taken partition 
 taken_after taken (AskedToCancel other before) = taken
 taken_after taken (Loaded word shown) = taken
 
--- what it has in hand after these steps
+-- what the session has in hand after these steps, of each partition the content as it took it
 abbrev pub taken_by : (ℕ → Option Content) → List TraceEntry → ℕ → Option Content
 taken_by taken [] = taken
 taken_by taken (entry ∷ trace) = taken_by (taken_after taken entry) trace
@@ -172,7 +172,7 @@ pub record IsAdopted (partition : ℕ) (tag : Tag) (mode : Mode) : Type 0 where
   pub database : ℕ
   pub eligible : is_eligible_for database tag mode ≡ true
 
--- Of one session an adopt adds such holds, and no others.
+-- An adopt adds such holds of one session, and no others of it.
 abbrev pub AddsAdopted : ℕ → Content → ℕ → Content → Type 0
 AddsAdopted partition before owner after =
     (tag : Tag) (mode : Mode) → after.holds owner tag mode ≡ true

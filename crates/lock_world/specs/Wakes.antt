@@ -15,7 +15,7 @@ use Rattle.lock_world.specs.Wakes.Calling.{Calls, IsParked, ShowsUntold, calling
 use Rattle.lock_world.specs.Wakes.Owing.{Duties, waking, no_duties, duties_after, after_attempt, after_looking, HasNothingToDo, Asks, AsksInOrder}
 
 -- No sleeper is forgotten, no call is lost, and no circle of sleepers comes: of every run whose steps keep to what their sessions
--- have to do for those who wait. What that is stands beside the World, and each step makes a next one of it.
+-- have to do for those who wait. What they have to do is kept beside the World, and changes with each step.
 
 -- What stands beside the World: duties for those who wait for lightweight locks, and calls on wait words and on sleep words.
 pub record Beside : Type 0 where

@@ -19,9 +19,9 @@ ghost use Rattle.lock_world.specs.SafeWorld.{SafeWorld, slots_of};
 ghost use Rattle.lock_world.specs.Headline.{stands_with};
 ghost use Rattle.lock_world.specs.Listing.{StandsThereOrInContent, TellsHold};
 
-/// In a safe World each episode of a trace put what one move of its session, on an object of that partition, makes of
-/// the content that it took: an earlier entry took just that content, and the session had it in hand until then. Of an
-/// adopt that is this content with holds of one more session, which slots can have, on objects of that partition.
+/// In a safe World each episode of a trace put what one move of its session, on an object of the partition, makes of the
+/// content that the session took: an earlier entry took just that content, and the session had it in hand until then. An adopt
+/// makes of it that content with more holds of one session, such as fast-path slots can have, on objects of the partition.
 pub fn each_episode_is_one_move()
     ensures moved { (w : World) → SafeWorld w →
         (session p : ℕ) (taken put_back : Content) (before after : List TraceEntry) →

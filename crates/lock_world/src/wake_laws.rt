@@ -16,11 +16,11 @@ ghost use Rattle.lock_world.specs.Wakes.Reasons.{HasReason};
 ghost use Rattle.lock_world.specs.Wakes.{Beside, Turn, Keeps, beside_after, RunKeeps, RunKeepsInOrder};
 ghost use Rattle.lock_world.specs.Wakes.{OnlyLiveOwe, IsLookedAfter, NoCallIsLost, SleepAndWakeup};
 
-/// No sleeper is forgotten, between any two turns of a run that keeps to what is owed. Where the wait list of a
-/// lightweight lock has a waiter, somebody has the lock or has something to do for it. A session that sleeps is in
-/// its list, and a session that makes steps has that lock or something to do for it; or the sleeper was taken off,
-/// and a session that makes steps has it to wake. Only sessions that make steps have a lightweight lock, or something
-/// to do. One turn that keeps to what is owed forgets nobody, in a safe World where nobody is forgotten.
+/// No sleeper is forgotten, between any two turns of a run that keeps to what is owed. Where the wait list of a lightweight
+/// lock has a waiter, somebody has the lock or has something to do for it. A session that sleeps is in the wait list of a lock,
+/// and a session that makes steps has that lock or something to do for it; or the sleeper was taken off, and a session that
+/// makes steps has it to wake. Only sessions that make steps have a lightweight lock, or something to do. One turn that keeps
+/// to what is owed forgets nobody, in a safe World where nobody is forgotten.
 pub fn no_sleeper_is_forgotten()
     ensures each_turn { (w v : World) (b : Beside) (turn : Turn) → SafeWorld w →
         NobodyIsForgotten (waking w b.duties) → Keeps w b turn v →
@@ -43,9 +43,9 @@ pub fn no_call_is_lost()
         NoCallIsLost v ShowsUntold v.words.sleep d.sleeps }
 {}
 
-/// No circle of sleepers comes, in a run that takes lightweight locks in their order as well. Nobody is in the list
-/// of a lock while it has a later one. So where anybody sleeps, not all of those sleep who have a lightweight lock,
-/// or something to do for one, or somebody to wake: a chain of waiting ends at a session that runs.
+/// No circle of sleepers comes, in a run that takes lightweight locks in their order as well. No session is in the wait list of
+/// a lock while it has a lock that is later in that order. So where anybody sleeps, not all of those sleep who have a
+/// lightweight lock, or something to do for one, or somebody to wake: a chain of waiting ends at a session that runs.
 pub fn no_circle_of_sleepers()
     ensures in_order { (limit groups : ℕ) (turns : List Turn) (v : World) (d : Beside) →
         RunKeepsInOrder limit groups turns v d → OrderIsKept (waking v d.duties) }
@@ -53,10 +53,11 @@ pub fn no_circle_of_sleepers()
         RunKeepsInOrder limit groups turns v d → NotAllSleep (waking v d.duties) }
 {}
 
-/// Every session that waits for an object has a reason, in a safe World with the object's partition at home. Another
-/// session holds the object in a mode that conflicts with the one awaited, or a session that waits before it awaits such
-/// a mode; otherwise its wait word shows the grant. In a run that keeps to what is owed it runs then, or is owed a call:
-/// where it is parked on a word that showed it waiting, a session that makes steps has it to call.
+/// Every session that waits for an object has a reason, in a safe World with the object's partition at home. Another session
+/// holds the object in a mode that conflicts with the one awaited, or a session that waits before it awaits such a mode;
+/// otherwise the wait word of the session that waits shows the grant. In a run that keeps to what is owed a session whose wait
+/// was granted runs, or is owed a call: where it is parked on a word that showed it waiting, a session that makes steps has it
+/// to call.
 pub fn every_waiter_has_a_reason()
     ensures reason { (w : World) → SafeWorld w → (session : ℕ) (wait : OwnWait) →
         w.sessions.awaited session ≡ Some wait → w.contents.hand (partition_of wait.tag) ≡ None →
@@ -67,8 +68,8 @@ pub fn every_waiter_has_a_reason()
         (other : ℕ) × (d.waits.owed other session ≡ true) × MakesSteps v.numbers other }
 {}
 
-/// What these laws ask of a run can be met: there is one in which a session falls asleep for the lock of another's slots,
-/// and goes on, called by the session that puts that lock, until it has the lock.
+/// What the laws on sleeping and waking ask of a run can be met: there is a run in which a session falls asleep for the lock of
+/// another's slots, and goes on, called by the session that puts that lock, until it has the lock.
 pub fn a_run_puts_a_session_to_sleep_and_wakes_it()
     ensures { SleepAndWakeup }
 {}

@@ -12,8 +12,8 @@ use crate::guarded::{Acquirable, Guarded};
 use crate::pauses::{SPINS, pause_before};
 use std::sync::Wait;
 
-/// Acquires `lock`, and what it guards comes in hand (`LWLockAcquire` in lwlock.c). The call waits in the lock's list
-/// until nobody is in the way.
+/// Acquires `lock` for the session in `state`, and answers what the lock guards (`LWLockAcquire` in lwlock.c). The session
+/// waits in the lock's wait list while others are in the way.
 #[inline]
 pub fn acquire<S, G, L: Acquirable<S, G>, R: Wait>(rt: &R, state: &mut S, lock: &L) -> G
     requires { L.on_way lock.now state.old state.old }
@@ -25,7 +25,8 @@ pub fn acquire<S, G, L: Acquirable<S, G>, R: Wait>(rt: &R, state: &mut S, lock: 
     }
 }
 
-/// Acquires `lock` after an attempt that was lost: goes round until it is won (the loop of `LWLockAcquire` in lwlock.c).
+/// Acquires `lock` for the session in `state` after a lost attempt: attempts and sleeps in turns until the lock is won (the
+/// loop of `LWLockAcquire` in lwlock.c).
 pub fn acquire_held<S, G, L: Guarded<S, G>, R: Wait>(rt: &R, state: &mut S, lock: &L) -> G
     requires { IsSince (L.on_way lock.now) state.old }
     ensures { Gains (L.on_way lock.now) (L.won lock.now) state.old state.new result }

@@ -7,7 +7,7 @@ ghost use Rattle.lw_lock.specs.Since.{IsSinceWith, Carries};
 
 use lw_word::LwMode;
 
-/// A lightweight lock that a session has. `S` is the session's state, and `C` what goes home as it puts the lock.
+/// A lightweight lock that a session has. `S` is the session's state, and `C` what the session gives back as it puts the lock.
 pub trait Held<S, C> {
     // How the session has it.
     ghost in_mode: { Self → LwMode };
@@ -25,7 +25,7 @@ pub trait Held<S, C> {
     fn mode(&self) -> LwMode
         ensures { result ≡ in_mode self.now };
 
-    /// Puts the lock by one fetch-and-subtract, with `content`, and answers the number that the word showed.
+    /// Puts the lock by one fetch-and-subtract, gives `content` back with it, and answers the number that the lock's word showed before.
     fn put(&self, state: &mut S, content: C) -> u64
         requires { may_put self.now state.old content }
         ensures due { must_wake (put_in (in_mode self.now) (state_of result)) ≡ true
@@ -33,7 +33,7 @@ pub trait Held<S, C> {
         ensures released { must_wake (put_in (in_mode self.now) (state_of result)) ≡ false
             → released self.now state.old state.new content };
 
-    /// Has the session in `state`, which has put the lock, wake those first in the lock's list (`LWLockWakeup` in lwlock.c).
+    /// Has the session in `state`, which has put the lock, wake the first ones in the lock's wait list (`LWLockWakeup` in lwlock.c).
     fn wake_waiters(&self, state: &mut S)
         requires { IsSinceWith (due self.now) state.old }
         ensures { Carries (due self.now) (released self.now) state.old state.new };

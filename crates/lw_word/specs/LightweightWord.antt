@@ -13,7 +13,7 @@ pub record IsLightweightWord (word : ℕ) : Type 0 where
 abbrev pub free_word : ℕ
 free_word = 2 ^ 29
 
--- Who holds it.
+-- Who holds the lock.
 
 -- held by nobody, neither exclusively nor shared
 abbrev pub IsHeldByNobody : ℕ → Type 0
@@ -39,7 +39,7 @@ taken_word word = word + 2 ^ 24
 abbrev pub put_word : ℕ → ℕ
 put_word word = word - 2 ^ 24
 
--- the word with one sharer more, and with one less
+-- the word with one sharer more
 abbrev pub shared_word : ℕ → ℕ
 shared_word word = word + 1
 
@@ -57,7 +57,7 @@ IsListLocked word = word / 2 ^ 28 % 2 ≡ 1
 abbrev pub IsReleaseOk : ℕ → Type 0
 IsReleaseOk word = word / 2 ^ 29 % 2 ≡ 1
 
--- somebody may stand in the wait list
+-- somebody may be in the wait list
 abbrev pub HasWaiters : ℕ → Type 0
 HasWaiters word = word / 2 ^ 30 % 2 ≡ 1
 
@@ -73,7 +73,7 @@ release_ok_word word = bit_or word (2 ^ 29)
 abbrev pub has_waiters_word : ℕ → ℕ
 has_waiters_word word = bit_or word (2 ^ 30)
 
--- 1 where it is so, else 0
+-- 1 for true, 0 for false
 abbrev pub bit : Bool → ℕ
 bit true = 1
 bit false = 0
@@ -101,6 +101,6 @@ flagged_and_unlocked_word word has_waiters release_ok =
 abbrev pub FlagsStay : ℕ → ℕ → Type 0
 FlagsStay old new = new / 2 ^ 25 ≡ old / 2 ^ 25
 
--- who holds it
+-- who holds the lock
 abbrev pub HoldersStay : ℕ → ℕ → Type 0
 HoldersStay old new = new % 2 ^ 25 ≡ old % 2 ^ 25

@@ -3,7 +3,7 @@ use Rattle.lw_word.specs.declared.words.LwMode.{LwMode}
 use Rattle.lw_word.specs.declared.words.LwMode.TheVariants.{Exclusive, Shared}
 use Rattle.lw_word.specs.LightweightWord.{bit, shared_count}
 
--- whether it is the mode in which many hold the lock at a time
+-- whether this is the mode in which many hold the lock at a time
 abbrev pub is_shared : LwMode → Bool
 is_shared Exclusive = false
 is_shared Shared = true
@@ -60,12 +60,12 @@ abbrev pub HasRoomFor : LwMode → LockState → Type 0
 HasRoomFor Exclusive state = Unit {0}
 HasRoomFor Shared state = state.shared < 2 ^ 24 - 1
 
--- somebody holds it in this mode
+-- somebody holds the lock in this mode
 abbrev pub IsHeldIn : LwMode → LockState → Type 0
 IsHeldIn Exclusive state = state.exclusive ≡ true
 IsHeldIn Shared state = 0 < state.shared
 
--- held by one more in this mode, and by one less
+-- what a word says once one more has taken the lock in the mode
 abbrev pub taken_in : LwMode → LockState → LockState
 taken_in Exclusive state = record state { exclusive = true }
 taken_in Shared state = record state { shared = state.shared + 1 }

@@ -15,15 +15,15 @@ pub record Waiting : Type 0 where
 abbrev pub is_of : ℕ → LwWaiter → Bool
 is_of session waiter = session == waiter.session
 
--- whether the session stands in the list
+-- whether the session is in the list
 abbrev pub stands_in : ℕ → List LwWaiter → Bool
 stands_in session waiters = list_any (is_of session) waiters
 
--- how often it stands there
+-- how often the session is in the list
 abbrev pub times_in : ℕ → List LwWaiter → ℕ
 times_in session waiters = count_by (is_of session) waiters
 
--- each session stands in the list once at most, and has a number below `room`
+-- each session is in the list once at most, and has a number below `room`
 pub record EachStandsOnce (room : ℕ) (waiters : List LwWaiter) : Type 0 where
   pub once : (session : ℕ) → times_in session waiters ≤ 1
   pub below : (session : ℕ) → 0 < times_in session waiters → session < room
@@ -45,13 +45,13 @@ without_sharers (suc many) [] = []
 without_sharers (suc many) (first ∷ others) =
     if wants_to_share first then without_sharers many others else first ∷ without_sharers (suc many) others
 
--- whom it takes off: those who want to share, where the first one does, as many as go at a time; else the first one alone
+-- whom a wakeup takes off: those who want to share, where the first one does, as many as go at a time; else the first one alone
 abbrev pub taken_off : List LwWaiter → List LwWaiter
 taken_off [] = []
 taken_off (first ∷ others) =
     if wants_to_share first then take MOST_TAKEN_OFF (filter wants_to_share (first ∷ others)) else first ∷ []
 
--- whom it leaves: all others
+-- whom a wakeup leaves: all others
 abbrev pub left_waiting : List LwWaiter → List LwWaiter
 left_waiting [] = []
 left_waiting (first ∷ others) =

@@ -13,15 +13,15 @@ ghost use Rattle.lw_word.specs.declared.wait_lists.LwWaiter.{LwWaiter};
 ghost use Rattle.lw_word.specs.declared.wait_lists.TheConstants.{MOST_TAKEN_OFF};
 ghost use Rattle.lw_word.specs.SlotWord.{relation_in, mode_bits, in_use, shows, slot_word};
 
-/// A lightweight word and what it says are one, both ways.
+/// A lightweight lock's word and what the word says (`LockState`) determine each other, both ways.
 pub fn a_word_and_what_it_says_are_one()
     ensures number { (word : ℕ) → IsLightweightWord word → word_of (state_of word) ≡ word }
     ensures said { (state : LockState) → state.shared < 2 ^ 24 → state_of (word_of state) ≡ state }
     ensures valid { (state : LockState) → state.shared < 2 ^ 24 → IsLightweightWord (word_of state) }
 {}
 
-/// What the record says and what the bits say are the same: when a word is free for a mode, when it is held, and
-/// the flags.
+/// The record `LockState` and the bits of a lightweight lock's word say one thing: when the lock is free for a mode, when it is
+/// held, and which flags are set.
 pub fn the_record_says_what_the_bits_say()
     ensures free { (word : ℕ) → IsFreeFor Exclusive (state_of word) ↔ IsHeldByNobody word }
     ensures free_to_share { (word : ℕ) → IsFreeFor Shared (state_of word) ↔ IsFreeToShare word }
@@ -31,7 +31,7 @@ pub fn the_record_says_what_the_bits_say()
     ensures has_waiters { (word : ℕ) → ((state_of word).has_waiters ≡ true) ↔ HasWaiters word }
 {}
 
-/// Taking a free word and putting it turn the exclusive bit alone.
+/// Taking a free lightweight lock exclusively and putting the lock change only the exclusive bit of the lock's word.
 pub fn taking_turns_one_bit()
     ensures taken { (word : ℕ) → IsHeldByNobody word → IsHeldExclusively (taken_word word) }
     ensures taken_count { (word : ℕ) → IsHeldByNobody word → shared_count (taken_word word) ≡ 0 }
@@ -41,7 +41,7 @@ pub fn taking_turns_one_bit()
     ensures put_flags { (word : ℕ) → IsHeldExclusively word → FlagsStay word (put_word word) }
 {}
 
-/// Sharing a word and sharing it no more change the count by one, and nothing else.
+/// Sharing a lightweight lock and giving the share back change the count in the lock's word by one, and nothing else.
 pub fn sharing_counts_alone()
     ensures shared { (word : ℕ) → shared_count word + 1 < 2 ^ 24 →
         shared_count (shared_word word) ≡ shared_count word + 1 }
@@ -50,7 +50,7 @@ pub fn sharing_counts_alone()
     ensures unshared_rest { (word : ℕ) → 0 < shared_count word → unshared_word word / 2 ^ 24 ≡ word / 2 ^ 24 }
 {}
 
-/// Setting a flag sets it, and leaves the other flags and the holders.
+/// Setting a flag in a lightweight lock's word sets that flag, and leaves the other flags and the holders.
 pub fn setting_a_flag_sets_it_alone()
     ensures list_locked { (word : ℕ) → IsListLocked (list_locked_word word) × HoldersStay word (list_locked_word word) }
     ensures list_locked_release { (word : ℕ) → list_locked_word word / 2 ^ 29 % 2 ≡ word / 2 ^ 29 % 2 }
@@ -63,7 +63,7 @@ pub fn setting_a_flag_sets_it_alone()
     ensures has_waiters_release { (word : ℕ) → has_waiters_word word / 2 ^ 29 % 2 ≡ word / 2 ^ 29 % 2 }
 {}
 
-/// Unlocking a wait list clears its bit and the flags that are not to stay, and leaves the others and the holders.
+/// Unlocking a wait list clears the list's bit in the lightweight lock's word and the flags that are not to stay, and leaves the other flags and the holders.
 pub fn unlocking_clears_what_is_told()
     ensures list { (word : ℕ) (waiters release : Bool) → list_unlocked_word word waiters release / 2 ^ 28 % 2 ≡ 0 }
     ensures holders { (word : ℕ) (waiters release : Bool) → HoldersStay word (list_unlocked_word word waiters release) }
@@ -75,8 +75,9 @@ pub fn unlocking_clears_what_is_told()
     ensures waiters_go { (word : ℕ) (release : Bool) → list_unlocked_word word false release / 2 ^ 30 % 2 ≡ 0 }
 {}
 
-/// A wakeup takes off somebody wherever anybody waits, and each waiter that it doesn't take off remains in the list.
-/// Where one who wants to share the lock is first, and no more do than go at a time, it takes off all of them.
+/// A wakeup takes somebody off a lightweight lock's wait list wherever anybody waits, and each waiter that it doesn't take off
+/// remains in the list. Where the first waiter wants to share the lock, and no more than `MOST_TAKEN_OFF` waiters want to, the
+/// wakeup takes off all who want to share.
 pub fn a_wakeup_splits_the_list()
     ensures split { (waiters : _) → IsPermutation waiters (taken_off waiters ++ left_waiting waiters) }
     ensures somebody { (waiters : _) → taken_off waiters ≡ [] → waiters ≡ [] }
@@ -88,8 +89,8 @@ pub fn a_wakeup_splits_the_list()
         → left_waiting (first ∷ others) ≡ filter (λ waiter. not (wants_to_share waiter)) (first ∷ others) }
 {}
 
-/// A slot word of a relation has just that relation and these mode bits; a slot in use shows a mode of its
-/// relation, and one that is not shows nothing.
+/// The fast-path slot word of a relation and mode bits has just that relation and those bits; a slot in use shows a mode of its
+/// relation, and a slot that is not in use shows nothing.
 pub fn a_slot_shows_one_relation()
     ensures relation { (relation bits : ℕ) → relation < 2 ^ 32 → bits < 2 ^ 3 →
         relation_in (slot_word relation bits) ≡ relation }

@@ -24,14 +24,14 @@ impl Model for SlotWord {
 impl SlotWord {
     const ALL_MODES: u64 = 7;
 
-    /// The word whose number is `number`.
+    /// The slot word whose number is `number`.
     pub fn from_number(number: u64) -> Self
         ensures { result ≡ number }
     {
         SlotWord { number }
     }
 
-    /// The number, as the shared table has it.
+    /// The slot word's number, as the shared table has it.
     pub fn number(self) -> u64
         ensures { result ≡ self }
     {
@@ -45,7 +45,7 @@ impl SlotWord {
         self.mode_bits() != 0
     }
 
-    /// The relation, where the slot is in use.
+    /// The relation that the slot has, where the slot is in use.
     pub fn relation(self) -> u32
         ensures { result ≡ relation_in self }
     {
@@ -67,8 +67,8 @@ impl SlotWord {
         self.has(mode) && self.relation() == relation
     }
 
-    /// The word with `mode` set for `relation`: of an empty slot, or of the one that the relation has
-    /// (`FAST_PATH_SET_LOCKMODE` in `FastPathGrantRelationLock` of lock.c). What else was shown stays.
+    /// The slot word with `mode` set for `relation`, where the slot is empty or has `relation` already
+    /// (`FAST_PATH_SET_LOCKMODE` in `FastPathGrantRelationLock` of lock.c). The other modes of the slot stay.
     pub fn with(self, relation: u32, mode: Mode) -> Self
         requires slot_mode { number_of mode ≤ 3 }
         requires its_slot { in_use self ≡ true → relation_in self ≡ relation }
@@ -79,8 +79,9 @@ impl SlotWord {
         Self::packed(relation, self.mode_bits() | Self::mode_bit(mode))
     }
 
-    /// The word with `mode` cleared, whether it was set or not (`FAST_PATH_CLEAR_LOCKMODE` in
-    /// `FastPathUnGrantRelationLock` of lock.c). What else was shown stays; the word of a slot that is empty then is 0.
+    /// The slot word with `mode` cleared, whether `mode` was set or not (`FAST_PATH_CLEAR_LOCKMODE` in
+    /// `FastPathUnGrantRelationLock` of lock.c). The other modes of the slot stay; the word of a slot that is left with no mode
+    /// is 0.
     pub fn without(self, mode: Mode) -> Self
         requires { number_of mode ≤ 3 }
         ensures number { result ≡ word_without self mode }
@@ -96,7 +97,7 @@ impl SlotWord {
         }
     }
 
-    /// The mode bits, moved down.
+    /// The three mode bits of the slot word, moved down to bits 0 to 2.
     fn mode_bits(self) -> u64
         ensures value { result ≡ mode_bits self }
         ensures within { result < 2 ^ 3 }
@@ -113,7 +114,7 @@ impl SlotWord {
         1 << (mode.number() - 1)
     }
 
-    /// The word of `relation` with the mode bits `modes`.
+    /// The slot word of `relation` with the mode bits `modes`.
     fn packed(relation: u32, modes: u64) -> Self
         requires { modes < 2 ^ 3 }
         ensures { result ≡ slot_word relation modes }

@@ -10,7 +10,7 @@ pub enum WaitState {
     NotWaiting = 0,
     /// The session waits in the queue of an object (`PROC_WAIT_STATUS_WAITING`).
     Waiting = 1,
-    /// The session's wait was granted (`PROC_WAIT_STATUS_OK`), and the session has not seen that yet.
+    /// The session's wait in the queue of an object was granted (`PROC_WAIT_STATUS_OK`), and the session has not seen that yet.
     Granted = 2,
 }
 

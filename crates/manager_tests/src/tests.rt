@@ -67,11 +67,12 @@ enum Story<'a> {
     Audits,
     /// Sessions, as many as `Limits` allows, have all local entries that they may have.
     Holds(Limits),
-    /// Sessions, of this number, ask for the objects of this plan, each in a thread of its own.
+    /// This number of sessions ask for the objects of this plan, each in a thread of its own.
     Asks(u32, Plan),
     /// All sessions but one sleep in one queue for this mode, each in a thread of its own.
     Queue(Mode),
-    /// One session waits for what another one gives back while a third one asks it to cancel, in this number of rounds.
+    /// This number of times, one session waits for what another one gives back while a third one asks the first to
+    /// cancel.
     Asked(u32),
     /// One session lists while three lock and unlock, each in a thread of its own.
     Watch,
@@ -87,9 +88,9 @@ enum Story<'a> {
     LetGoByCancel,
     /// One session sleeps in a wait queue until it is asked to cancel.
     WokenAsAsked,
-    /// Connections, of this number, come and go one after another.
+    /// This number of connections come and go one after another.
     Lives(u32),
-    /// Connections, of this number, come and go while one session lists and another one takes strong modes, each in a
+    /// This number of connections come and go while one session lists and another one takes strong modes, each in a
     /// thread of its own.
     BusyLives(u32),
 }
@@ -129,7 +130,8 @@ fn tell<
     }
 }
 
-/// Makes a manager of `config` and its opener: a server's where a usual one can't have its sessions.
+/// Makes a manager of `config` and its opener: a server's manager where a usual one can't have as many sessions as
+/// `config` says.
 fn make(alloc: Global, config: Config) -> Result<(Manager, Opener), Refusal>
     ensures new { IfOk result (λ made. IsNew made.0 made.1 config) }
 {
@@ -150,7 +152,7 @@ fn make_at_last(alloc: Global, config: Config) -> Result<(Manager, Opener), Refu
     }
 }
 
-/// Tells `story` at `desk`, that of a manager.
+/// Tells `story` at `desk`, the desk of a manager.
 fn tell_at<R: Abort + Clock + Threads + Wait + Sync + Print>(
     rt: &R,
     alloc: Global,
@@ -163,7 +165,7 @@ fn tell_at<R: Abort + Clock + Threads + Wait + Sync + Print>(
     tell(rt, alloc, desk, story);
 }
 
-/// Tells `story` from the beginning to the end of a manager of `config`.
+/// Tells `story` with a manager of `config` of its own, from the opening of the manager to its end.
 fn run<R: Abort + Clock + Threads + Wait + Sync + Print>(
     rt: &R,
     alloc: Global,
@@ -188,7 +190,7 @@ fn expect_nothing<R: Abort>(rt: &R, stood: Final) {
     assert_eq!(rt; stood, nothing);
 }
 
-/// The configuration of a manager for two sessions with `max_local` entries each.
+/// The configuration of a manager for two sessions with `max_local` entries in the local lock table of each.
 fn two(max_local: u32) -> Config {
     Config {
         sessions: 2,
@@ -320,8 +322,8 @@ fn a_server_has_a_thousand_sessions(rt: HostRuntime) -> Result<(), Fail> {
     Ok(())
 }
 
-/// How many sessions there are, with how many entries each: all that one session may have, and all that this number of
-/// sessions may have.
+/// The limits of two managers: the most entries that one session may have, and the most that each of 64 sessions may
+/// have.
 static LIMITS: [Limits; 2] = [
     Limits {
         sessions: 1,
@@ -346,7 +348,7 @@ fn all_local_entries_can_be_held_at_once(rt: HostRuntime) -> Result<(), Fail> {
     Ok(())
 }
 
-/// Run it under `rt try --test --fail-alloc N` for an allocation that fails.
+/// Run the test under `rt try --test --fail-alloc N` for an allocation that fails.
 #[test]
 fn sessions_go_on_where_memory_ran_out_once(rt: HostRuntime) -> Result<(), Fail> {
     let one = Config {

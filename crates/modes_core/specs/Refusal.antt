@@ -22,7 +22,7 @@ refusal_number BadConfig = 13
 refusal_number TooDeep = 15
 refusal_number NoNested = 16
 
--- what a session does with the mode that stands in the way, as texts say it
+-- what a session does with the mode that is in the way, as texts say it
 abbrev pub verb_of : How → List ℕ
 verb_of Held = codes "holds"
 verb_of Awaited = codes "awaits"

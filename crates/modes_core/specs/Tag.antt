@@ -24,7 +24,7 @@ relation_of (Relation database relation) = relation
 relation_of (Object sub_object database class object) = 0
 relation_of (Advisory sub database key1 key2) = 0
 
--- the number that tells objects of one kind apart most often
+-- the number in which objects of one kind differ most often
 abbrev pub own_number_of : Tag → ℕ
 own_number_of (Relation database relation) = relation
 own_number_of (Object sub_object database class object) = object

@@ -7,7 +7,7 @@ use Rattle.modes_core.specs.declared.tags.Tag.{Tag}
 use Rattle.modes_core.specs.declared.tags.Tag.TheVariants.{Relation, Object, Advisory}
 use Rattle.modes_core.specs.Tag.{numbers_of, tag_eq}
 
--- Two tags are the same one exactly where their six numbers are in no order.
+-- Two tags are the same one exactly where the order of their six numbers says that they are equal.
 tag_eq-by_numbers : (x y : Tag) → tag_eq x y ≡ eq_by_cmp (on numbers_of (slice_cmp nat_cmp)) x y
 tag_eq-by_numbers (Relation d r) (Relation d' r') = grind (arith, nat_tests)
 tag_eq-by_numbers (Object s d c o) (Object s' d' c' o') = grind (arith, nat_tests)
@@ -19,7 +19,7 @@ tag_eq-by_numbers (Advisory s d k l) (Relation d' r') = grind (arith, nat_tests)
 tag_eq-by_numbers (Object s d c o) (Advisory s' d' k' l') = grind (arith, nat_tests)
 tag_eq-by_numbers (Advisory s d k l) (Object s' d' c' o') = grind (arith, nat_tests)
 
--- So is any test that compares two tags field by field.
+-- Any test that compares two tags field by field is equality by the order of their six numbers too.
 pub same_tag-by_numbers :
     (same : Tag → Tag → Bool)
     (relations : (d r d' r' : ℕ) → same (Relation d r) (Relation d' r') ≡ ((d == d') && (r == r')))

@@ -32,7 +32,7 @@ impl ModeSet {
         ModeSet { mask: 0 }
     }
 
-    /// The set with `mode` in it, beside what was there.
+    /// This set with `mode` in it as well.
     pub fn with(self, mode: Mode) -> Self
         ensures { set_has result ≡ λ other. mode_eq other mode || set_has self other }
     {
@@ -88,8 +88,8 @@ pub fn conflict_is_symmetric()
     ensures { (mode other : _) → conflict mode other ≡ conflict other mode }
 {}
 
-/// The law on which the fast path depends: the modes 1 to 3, which slots may have, conflict with none but the modes
-/// from 5 on, which are counted.
+/// The law on which the fast path depends: the modes 1 to 3, which fast-path slots may have, conflict with none but the modes
+/// from 5 on, which strong lock counters count.
 pub fn slot_modes_conflict_with_counted_ones()
     ensures { (mode other : _) → number_of mode ≤ 3 → conflict mode other ≡ true → 5 ≤ number_of other }
 {}

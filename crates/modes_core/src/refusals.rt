@@ -8,9 +8,9 @@ use thiserror::Error;
 /// What another session does with the mode that is in the way.
 #[derive(Clone, Copy, Debug, PartialEq, Eq)]
 pub enum How {
-    /// The other session holds the mode.
+    /// The session in the way holds the conflicting mode.
     Held,
-    /// The other session waits for the mode, ahead in the queue.
+    /// The session in the way waits for the conflicting mode, ahead in the queue.
     Awaited,
 }
 
@@ -34,36 +34,35 @@ pub enum Refusal {
     /// A conditional request met a conflicting hold or wait of another session.
     #[error("conflict: session {session} {how} {mode}")]
     Conflict {
-        /// The session whose hold or wait is in the way.
+        /// The session whose hold or wait is in the way of the refused request.
         session: SessionId,
-        /// The mode of `session` that conflicts with the one asked for.
+        /// The mode of the session in the way, which conflicts with the mode that the refused request asked for.
         mode: Mode,
-        /// Whether `session` holds that mode or waits for it.
+        /// Whether the session in the way holds the conflicting mode or waits for it.
         how: How,
     },
     /// A growth of the memory was refused.
     #[error("out of memory")]
     NoMemory,
-    /// The session has as many local entries as the configuration allows.
+    /// The session's local lock table has as many entries as the configuration allows.
     #[error("the local lock table is full")]
     LocalFull,
-    /// The owner has acquired the mode as often as can be counted.
+    /// The resource owner (transaction or session) has acquired the lock in the mode as often as can be counted.
     #[error("the count of this lock is full")]
     CountFull,
-    /// Waiting would close a cycle with the session named (`DeadLockReport` after the simple test of
-    /// `ProcSleep` in proc.c).
+    /// Waiting would close a cycle with `session` (`DeadLockReport` after the simple test of `ProcSleep` in proc.c).
     #[error("simple deadlock with session {session}")]
     SimpleDeadlock {
-        /// The session that waits, or would wait, for this one.
+        /// The session that waits, or would wait, for the session whose request is refused.
         session: SessionId,
     },
     /// The session's wait was cancelled before it was granted.
     #[error("the wait was cancelled")]
     Cancelled,
-    /// The owner doesn't hold the mode.
+    /// The resource owner (transaction or session) doesn't hold the lock in the mode.
     #[error("you don't own this lock")]
     NotHeld,
-    /// The session's fast-path lock was taken at that moment.
+    /// Another session had the lightweight lock of the session's fast-path slots at that moment.
     #[error("the fast-path lock is busy")]
     Busy,
     /// All fast-path slots of the relation's group are in use.

@@ -29,8 +29,8 @@ pub enum LockMethod {
     User,
 }
 
-/// What a lock is on (`LOCKTAG` in lock.h). Relations and objects have the default lock method, advisory locks the
-/// user method. The smallest field stands first, beside the number of the variant, so that a tag takes 16 bytes.
+/// What a lock is on (`LOCKTAG` in lock.h). Relations and objects have the default lock method, advisory locks the user method.
+/// The smallest field is first, beside the number of the variant, so that a tag takes 16 bytes.
 #[derive(Clone, Copy, Debug, PartialEq, Eq, Hash)]
 pub enum Tag {
     /// A table or an index (`LOCKTAG_RELATION`).
@@ -46,9 +46,9 @@ pub enum Tag {
         sub_object: u16,
         /// The number of the database that the object is in.
         database: u32,
-        /// The number of the catalogue that the object is in.
+        /// The number of the catalog that the object is in.
         class: u32,
-        /// The number of the object in the catalogue `class`.
+        /// The number of the object in the catalog `class`.
         object: u32,
     },
     /// What only the application knows, named by numbers of its own (`LOCKTAG_ADVISORY`, of `USER_LOCKMETHOD`).
@@ -73,7 +73,7 @@ impl Tag {
     }
 
     /// The tag of the object numbered `object` in the catalog `class` of `database` (`SET_LOCKTAG_OBJECT` in lock.h).
-    /// `sub_object` is the number of a part of it, 0 for the whole.
+    /// `sub_object` is the number of a part of the object, 0 for the whole.
     pub fn object(database: u32, class: u32, object: u32, sub_object: u16) -> Self
         ensures { result ≡ Tag.Object sub_object database class object }
     {
@@ -99,7 +99,7 @@ impl Tag {
         }
     }
 
-    /// The database that the object is in (`locktag_field1` in lock.h, which has it for each type here).
+    /// The number of the database that the object is in (`locktag_field1` in lock.h).
     pub fn database(self) -> u32
         ensures { result ≡ database_of self }
     {
@@ -121,7 +121,7 @@ impl Tag {
         }
     }
 
-    /// The lock method (`locktag_lockmethodid` in lock.h).
+    /// The lock method whose rules locks on this tag follow (`locktag_lockmethodid` in lock.h).
     pub fn method(self) -> LockMethod
         ensures { result ≡ method_of self }
     {
@@ -131,7 +131,7 @@ impl Tag {
         }
     }
 
-    /// The number in which objects of one kind differ most often: the relation's, the object's or the last key.
+    /// The number in which objects of one kind differ most often: the relation's number, the object's number, or the second key of an advisory lock.
     #[inline(always)]
     fn own_number(self) -> u32
         ensures { result ≡ own_number_of self }
@@ -176,8 +176,8 @@ impl Tag {
         }
     }
 
-    /// The tag's hash, in place of `LockTagHashCode` of lock.c: its six numbers, each step multiplied
-    /// by 31 modulo 2^32. So each number is multiplied by its own power of 31.
+    /// The tag's hash, in place of `LockTagHashCode` of lock.c: the first of its six numbers, and then for each further number
+    /// the hash times 31 plus that number, modulo 2^32. Each number is so multiplied by a power of 31 of its own.
     pub fn hash(self) -> u32
         ensures { result ≡ hash_of self }
     {
@@ -221,7 +221,7 @@ impl Tag {
         (self.hash() % PARTITIONS) as u8
     }
 
-    /// The strong lock counter of the object, 0 to 1023 (`FastPathStrongLockHashPartition` in lock.c).
+    /// The index of the strong lock counter that counts for the object, 0 to 1023 (`FastPathStrongLockHashPartition` in lock.c).
     pub fn strong_index(self) -> u16
         ensures value { result ≡ index_of self }
         ensures within { result < 1024 }
@@ -230,7 +230,7 @@ impl Tag {
     }
 }
 
-/// Tags are ordered by their six numbers, the first one first.
+/// Tags are ordered by their six numbers (`LOCKTAG`), compared from the first number on.
 impl Ord for Tag {
     ghost cmp = { on numbers_of (slice_cmp nat_cmp) };
 
@@ -284,8 +284,8 @@ impl fmt::Display for Tag {
     }
 }
 
-/// Whether a session of `database` may take `mode` on `tag` by the fast path (`EligibleForRelationFastPath` in
-/// lock.c): the tag is a relation of that database, which is not 0, and the mode is 1 to 3, none of which conflict.
+/// Whether a session of `database` may take `mode` on `tag` by the fast path (`EligibleForRelationFastPath` in lock.c): the tag
+/// is a relation of that database, which is not 0, and the mode is 1 to 3, no two of which conflict.
 pub fn is_eligible(database: u32, tag: Tag, mode: Mode) -> bool
     ensures { result ≡ is_eligible_for database tag mode }
 {

@@ -86,11 +86,11 @@ pub record IsLinkedTo (heads : List ℕ) (links : List Link) (n : ℕ) : Type 0 
   pub firsts : HasHeads (length heads) (note_at links) (head_at heads) n
   pub nexts : HasNexts (length heads) (note_at links) (next_at links) n
 
--- the links of all places are
+-- the links of all places are in chains
 abbrev pub IsLinked : List ℕ → List Link → Type 0
 IsLinked heads links = IsLinkedTo heads links (length links)
 
--- a list of heads has one at least, and no more than hashes can tell apart
+-- a list of heads has one head at least, and no more heads than there are hashes
 pub record HasStarts (heads : List ℕ) : Type 0 where
   pub some : 0 < length heads
   pub few : length heads ≤ 2 ^ 32

@@ -38,7 +38,7 @@ IsNoted index place = (h : ℕ) × (0 < times index h place)
 abbrev pub IsFree : Notes → ℕ → Type 0
 IsFree index place = (h : ℕ) → times index h place ≡ 0
 
--- What a first look for a hash shows: with no place there that none is noted under it, and else a place that is noted.
+-- What a first look for a hash shows: where it finds no place, that no place is noted under the hash, and else a place that is noted.
 abbrev pub IsFirst : Notes → ℕ → Option ℕ → Type 0
 IsFirst index hash None = (p : ℕ) → times index hash p ≡ 0
 IsFirst index hash (Some p) = IsNoted index p

@@ -8,18 +8,18 @@ use crate::links::{END, Link};
 use std::alloc::{AllocError, Global};
 use std::marker::Model;
 
-/// How many places there is room for at first.
+/// How many places a new index has room for.
 const FIRST_PLACES: usize = 16;
 
-/// How many starts there are beside two for each place, so that in a small table too most chains have one place or
+/// How many starts of chains an index has beside two for each place, so that in a small table too most chains have one place or
 /// none.
 const MORE_STARTS: usize = 96;
 
-/// How many places there can be.
+/// How many places an index has room for at most.
 const MOST_PLACES: usize = 1 << 30;
 
-/// Places in somebody else's list, each noted under a 32-bit hash at most. Contracts see how often a place is
-/// noted under a hash, and how many places there is room for.
+/// An index of places in somebody else's list: each place is noted under one 32-bit hash or not at all. Contracts see how often
+/// a place is noted under a hash, and how many places the index has room for.
 #[derive(Drop)]
 pub struct PlaceIndex {
     heads: Vec<u32>,
@@ -39,7 +39,7 @@ impl Model for PlaceIndex {
     ghost invariant = { λ t. IsSound t.heads.items t.links.items t.len };
 }
 
-/// How many starts an index has for `places` places.
+/// How many starts of chains an index has that has room for `places` places.
 fn starts_for(places: usize) -> usize
     requires { places ≤ 1073741824 }
     ensures some { 0 < result }
@@ -49,7 +49,7 @@ fn starts_for(places: usize) -> usize
 }
 
 impl PlaceIndex {
-    /// An index with no note, and with room for its first places. Refused only where memory, by `alloc`, ran out.
+    /// An index with no note, and with room for a few places. Refused only where memory, by `alloc`, ran out.
     pub fn new(alloc: Global) -> Result<Self, AllocError>
         ensures empty { IfOk result (λ index. (h p : ℕ) → times index h p ≡ 0) }
         ensures room { IfOk result (λ index. 0 < index.places) }
@@ -65,8 +65,8 @@ impl PlaceIndex {
         })
     }
 
-    /// A place noted under `hash` of which `is_it` says that it is the one looked for, or `None`. The caller is
-    /// asked about places noted under that hash alone.
+    /// A place noted under `hash` of which `is_it` says that it is the one looked for, or `None`. `is_it` is asked only about
+    /// places that are noted under `hash`.
     #[inline(always)]
     pub fn find<F: Fn(u32) -> bool>(&self, hash: u32, is_it: F) -> Option<u32>
         requires { (p : ℕ) → 0 < times self.now hash p → F.pre is_it p }
@@ -76,8 +76,8 @@ impl PlaceIndex {
         find(self.heads.as_slice(), self.links.as_slice(), hash, is_it)
     }
 
-    /// The place that a `find` for `hash` comes to first, which may be noted under another hash, or `None`. A caller
-    /// that goes on with `find` where it isn't the one looked for has no loop in its own code.
+    /// The place that a `find` for `hash` comes to first, which may be noted under another hash, or `None`. A caller that goes
+    /// on with `find` where that place isn't the one looked for has no loop in its own code.
     #[inline(always)]
     pub fn first(&self, hash: u32) -> Option<u32>
         ensures { IsFirst self.now hash result }
@@ -91,7 +91,7 @@ impl PlaceIndex {
         }
     }
 
-    /// How many places there is room for: each number below that can be noted.
+    /// How many places the index has room for: each place below this number can be noted.
     #[inline(always)]
     pub fn places(&self) -> usize
         ensures is { result ≡ self.now.places }
@@ -117,8 +117,8 @@ impl PlaceIndex {
         place < self.links.len() && self.links[place].is_noted()
     }
 
-    /// Makes room for `place`. Beside `new`, nothing else takes memory. Refused where memory ran out, or where the
-    /// place is 2^30 or above; the notes are as before then.
+    /// Makes room for `place`. Only this call and `new` take memory. Refused where memory ran out, or where `place` is 2^30 or
+    /// above; after a refusal the notes are as before.
     #[inline(always)]
     pub fn reserve(&mut self, place: u32) -> Result<(), AllocError>
         ensures ok { OnOk result (place < self.new.places) }
@@ -135,7 +135,7 @@ impl PlaceIndex {
         }
     }
 
-    /// Makes room for twice as many places, or for `place` where that is more, and puts all notes into new chains.
+    /// Makes room for twice as many places as before, or for `place` where that takes more, and puts all notes into new chains.
     #[cold]
     #[inline(never)]
     fn grow(&mut self, place: usize) -> Result<(), AllocError>
@@ -207,8 +207,8 @@ impl PlaceIndex {
         self.len -= 1;
     }
 
-    /// Takes away the note of `place`, the last one of all that are noted, with neither a loop nor a call. The index
-    /// knows its hash.
+    /// Takes away the note of `place`, the last one of all that are noted, with neither a loop nor a call. The index knows the
+    /// hash of `place`.
     #[inline(always)]
     pub fn remove_last(&mut self, place: u32)
         requires noted { IsNoted self.old place }
@@ -227,7 +227,7 @@ impl PlaceIndex {
         self.len -= 1;
     }
 
-    /// Takes all notes away, and leaves their room.
+    /// Takes all notes out of the index, and keeps the room for them.
     pub fn clear(&mut self)
         ensures empty { (h p : ℕ) → times self.new h p ≡ 0 }
         ensures room { self.new.places ≡ self.old.places }

@@ -1,12 +1,12 @@
 ghost use Rattle.std.specs.Prelude.{◌≡◌};
 
-/// The number that says that a chain ends: it is no place.
+/// What a link has for the next place where a chain ends. It is the number of no place.
 pub(crate) const END: u32 = u32::MAX;
 
-/// The next place of a place that isn't noted. Neither this number nor `END` can be noted as a place.
+/// What the link of a place that isn't noted has for the next place. Neither this number nor `END` can be noted as a place.
 const FREE: u32 = u32::MAX - 1;
 
-/// What is kept of a place: the hash that it is noted under and the next place of its chain, or that it isn't noted.
+/// What an index keeps of a place: the hash that it is noted under and the next place of its chain, or that it isn't noted.
 #[derive(Clone, Copy, Debug)]
 pub struct Link {
     hash: u32,
@@ -51,7 +51,7 @@ impl Link {
         self.hash
     }
 
-    /// The next place of the chain.
+    /// The place after the link's place in its chain, or `END` where that is the last one.
     #[inline(always)]
     pub(crate) fn next(self) -> u32
         ensures { result ≡ self.next }
@@ -59,7 +59,7 @@ impl Link {
         self.next
     }
 
-    /// Makes `next` the place after this one in its chain.
+    /// Makes `next` the place after the link's place in its chain.
     #[inline(always)]
     pub(crate) fn set_next(&mut self, next: u32)
         ensures { self.new ≡ record { hash = self.old.hash; next = next } }

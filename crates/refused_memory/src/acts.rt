@@ -18,7 +18,7 @@ pub enum Act<'a> {
     Tells(&'a Tale),
     /// An audit counts what three sessions have.
     Audits,
-    /// A session looks at a queue, or at who is in the way there.
+    /// A session looks at a queue, or at who is in the way of a wait.
     Looks(Look),
     /// Two sessions go on for long, with every growth refused after their first round.
     GoesOn,

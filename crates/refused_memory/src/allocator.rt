@@ -3,11 +3,11 @@
 
 use std::alloc::Global;
 
-/// A request for this many bytes says that no growth is to be refused any more. With a number more it says that the
-/// growth of this number is to be refused, counted from then on.
+/// A request for this many bytes says to the allocator that no growth is to be refused any more. A request for `n`
+/// bytes more says that growth number `n` is to be refused, counted from then on.
 const NONE: usize = 7_000_000;
 
-/// The number that means every growth.
+/// The number of a growth that means every growth.
 const EVERY: u16 = 1_000;
 
 /// Whether a request for `bytes` bytes is granted.
@@ -16,8 +16,8 @@ fn is_granted(alloc: Global, bytes: usize) -> bool {
     taken.is_ok()
 }
 
-/// Has the growth numbered `growth` refused from now on, and answers whether the allocator listens, which refuses
-/// the request then.
+/// Has the growth numbered `growth` by `alloc` refused from now on, and answers whether the allocator listens: if it
+/// does, it refuses the request that says so.
 pub fn refuse(alloc: Global, growth: u16) -> bool {
     !is_granted(alloc, NONE + usize::from(growth))
 }
@@ -27,7 +27,8 @@ pub fn refuse_all(alloc: Global) -> bool {
     refuse(alloc, EVERY)
 }
 
-/// Has no growth by `alloc` refused any more, and answers whether one was refused since one was to be.
+/// Has no growth by `alloc` refused any more, and answers whether a growth was refused since the last request for a
+/// refusal.
 pub fn was_refused(alloc: Global) -> bool {
     refuse(alloc, 0)
 }

@@ -11,7 +11,7 @@ use lock_manager::{Audit, Board, Desk, OwnSession, Owner, PartTable, Refusal, cl
 use std::alloc::Global;
 use std::sync::Wait;
 
-/// The database of the session.
+/// The database of the session that an audit counts.
 const DATABASE: u32 = 5;
 
 /// What an audit is to count: a weak mode by a slot, and a strong one and four objects in the table.
@@ -33,7 +33,7 @@ fn take_counted<T: PartTable, B: Board<T>, R: Wait>(rt: &R, session: &mut OwnSes
     }
 }
 
-/// What two audits answered, `counted` and `again`, the first one with a growth refused where `refused`.
+/// How it went where two audits answered `counted` and `again`, and a growth of the first one was refused if `refused`.
 fn told_of(counted: Result<Audit, Refusal>, again: Result<Audit, Refusal>, refused: bool) -> Told {
     let is_right = again == Ok(COUNTED);
     match counted {

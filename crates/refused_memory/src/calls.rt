@@ -8,13 +8,13 @@ use lock_manager::{
 };
 use std::sync::Wait;
 
-/// What a session asks for, for its transaction.
+/// What a session asks for on behalf of its transaction.
 #[derive(Clone, Copy)]
 pub enum Call {
     Try(Tag, Mode),
-    /// By a slot or not at all.
+    /// A request by a fast-path slot or not at all.
     Fast(Tag, Mode),
-    /// A wait that begins is cancelled.
+    /// The start of a request. A wait that it begins is cancelled.
     Start(Tag, Mode),
     Lock(Tag, Mode),
     List,
@@ -34,7 +34,7 @@ pub enum Answer {
 }
 
 impl Answer {
-    /// Whether the call was refused for want of memory.
+    /// Whether the call with this answer was refused for want of memory.
     pub fn ran_out(self) -> bool {
         self == Answer::Refused(Refusal::NoMemory.number())
     }
@@ -61,7 +61,7 @@ fn answer_of(answer: Result<Acquired, Refusal>) -> Answer {
     }
 }
 
-/// The session, and what it is answered.
+/// The session, and what its call is answered.
 type Answered<T, B> = (OwnSession<T, B>, Answer);
 
 /// Asks for `tag` in `mode` with `session`, without waiting.
@@ -89,7 +89,7 @@ fn try_fast<T: PartTable, B: Board<T>>(
     (session, answer_of(answer))
 }
 
-/// Begins to wait for `tag` with `session`, which comes back where it has not to wait.
+/// Begins to wait for `tag` with `session`, and answers the session where it need not wait.
 pub fn queue<T: PartTable, B: Board<T>, R: Wait>(
     rt: &R,
     session: OwnSession<T, B>,
@@ -133,7 +133,7 @@ fn start<T: PartTable, B: Board<T>, R: Wait>(
     }
 }
 
-/// Asks for `tag` in `mode` with `session`, and waits for it where something is in the way.
+/// Asks for `tag` in `mode` with `session`, and waits where something is in the way.
 fn lock<T: PartTable, B: Board<T>, R: Wait>(
     rt: &R,
     session: OwnSession<T, B>,

@@ -13,14 +13,14 @@ const RELATION: Tag = Tag::Relation {
     relation: 16_384,
 };
 
-/// The step that takes the relation's partition.
+/// The step that takes the partition of the relation that is asked for.
 fn take() -> Step {
     Step::TakeExclusive {
         word: Word::Partition(RELATION.partition()),
     }
 }
 
-/// The step that puts the relation's partition back with a grant.
+/// The step that puts the partition of the relation that is asked for back with a grant.
 fn put() -> Step {
     Step::PutExclusive {
         word: Word::Partition(RELATION.partition()),
@@ -49,12 +49,12 @@ fn events(session: SessionId) -> [Event; 3] {
     ]
 }
 
-/// Whether `plain` has one hold, as the events lead to.
+/// Whether `plain` has one hold, as it must after the events.
 fn is_right(plain: &Plain) -> bool {
     plain.holds().len() == 1 && plain.waits().is_empty()
 }
 
-/// Runs the events with the growth numbered `growth` refused, and again where it was.
+/// Runs the events with the growth numbered `growth` refused, and once more after a refusal.
 pub fn run(alloc: Global, growth: u16) -> Told {
     let Some(session) = SessionId::new(0) else {
         return Told::Otherwise;

@@ -11,13 +11,13 @@ use lock_manager::{Acquired, Board, Desk, OwnSession, Owner, PartTable, SessionP
 use std::alloc::Global;
 use std::sync::Wait;
 
-/// How many connections there are, after the first one.
+/// How many connections come and go after the first one.
 pub const LIVES: u32 = 1_000_000;
 
 const DATABASE: u32 = 5;
 
-/// Takes locks with `session`, and leaves them there: by a slot, an object, and a strong mode of the session's own. Answers
-/// whether all were granted newly.
+/// Takes locks with `session`, and leaves them to the end of the session: one by a slot, one on an object, and a strong
+/// mode on a table of the session's own. Answers whether all were granted newly.
 fn take<T: PartTable, B: Board<T>, R: Wait>(rt: &R, session: &mut OwnSession<T, B>) -> bool
     ensures seat { KeepsSeat B.seat session.old session.new }
 {
@@ -28,7 +28,8 @@ fn take<T: PartTable, B: Board<T>, R: Wait>(rt: &R, session: &mut OwnSession<T, 
     weak == granted && of_object == granted && strong == granted
 }
 
-/// Has a connection come and go at `desk`, with a session of `pool`, and answers whether it had one and took its locks.
+/// Has a connection come and go at `desk`, with a session of `pool`, and answers whether it got the session and took
+/// its locks.
 fn live_once<T: PartTable, B: Board<T>, D: Desk<OwnSession<T, B>>, R: Wait>(
     rt: &R,
     desk: &mut D,
@@ -66,7 +67,8 @@ fn live_often<T: PartTable, B: Board<T>, D: Desk<OwnSession<T, B>>, R: Wait>(
     all
 }
 
-/// Has a connection come and go at `desk`, and then all others with every growth by `alloc` refused. None is asked for.
+/// Has a connection come and go at `desk`, and then all others with every growth by `alloc` refused. No growth is asked
+/// for.
 pub fn tell<T: PartTable, B: Board<T>, D: Desk<OwnSession<T, B>>, R: Wait>(
     rt: &R,
     alloc: Global,

@@ -57,8 +57,8 @@ fn rows_of<T: PartTable, B: Board<T>, R: Wait>(
     }
 }
 
-/// Looks with `session` in the way `kind`, for `waiter`, with the growth numbered `growth` refused, and once more
-/// where it was. There is one row.
+/// Looks with `session` in the way `kind`, for `waiter`, with the growth numbered `growth` refused, and once more after
+/// a refusal. The right answer is one row.
 fn look_twice<T: PartTable, B: Board<T>, R: Wait>(
     rt: &R,
     alloc: Global,

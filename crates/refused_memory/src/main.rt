@@ -30,8 +30,8 @@ use told::Told;
 /// How many growths of a call are tried at most.
 const MOST: u16 = 200;
 
-/// How many growths of a call of `story` were refused, one after another, until none was left, if all went as it is
-/// to.
+/// How many growths of `story` were refused, one in each run, until a run had none left to refuse. `None` if a run went
+/// otherwise than it is to.
 fn refused_in_turn<R: Wait>(rt: &R, alloc: Global, story: Story<'_>) -> Option<u16> {
     for growth in 1..MOST {
         match tell(rt, alloc, story, growth) {
@@ -43,8 +43,8 @@ fn refused_in_turn<R: Wait>(rt: &R, alloc: Global, story: Story<'_>) -> Option<u
     None
 }
 
-/// Runs `story`, called `name`, with each of its `growths` growths refused in turn. Where the allocator doesn't
-/// listen, as `listens` says, it runs once, and none is refused.
+/// Runs `story`, called `name`, with each of its `growths` growths refused in turn. Where the allocator doesn't listen,
+/// as `listens` says, the story runs once, and none is refused.
 fn tell_in_turn<R: Wait + Print>(
     rt: &R,
     alloc: Global,
@@ -79,7 +79,7 @@ fn tell_all<R: Wait + Print>(rt: &R, alloc: Global, listens: bool) -> anyhow::Re
     Ok(())
 }
 
-/// Runs all stories by `rt`, and then all growths of sessions at work refused. The error says what went otherwise.
+/// Runs all stories by `rt`, and then sessions at work with every growth refused. The error says what went otherwise.
 fn main(rt: HostRuntime) -> anyhow::Result<()> {
     let listens = refuse(rt.alloc(), 1);
     was_refused(rt.alloc());

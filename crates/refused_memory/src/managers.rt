@@ -34,8 +34,8 @@ pub fn perform<R: Wait>(rt: &R, alloc: Global, act: Act<'_>, growth: u16) -> Tol
     Told::Otherwise
 }
 
-/// Does `act` at `desk`, with the growth numbered `growth` refused. The board of the shared table is named here
-/// alone.
+/// Does `act` at `desk`, with the growth numbered `growth` refused. This function alone names the board of the shared
+/// table.
 fn perform_at<R: Wait>(
     rt: &R,
     alloc: Global,
@@ -63,8 +63,8 @@ pub fn make(alloc: Global, growth: u16) -> Told {
     }
 }
 
-/// Opens a session with the growth numbered `growth` refused. After a refusal the next one that opens is the first
-/// one.
+/// Opens a session with the growth numbered `growth` refused. After a refusal the next session that opens has the first
+/// number.
 pub fn open<R: Wait>(rt: &R, alloc: Global, growth: u16) -> Told {
     let Ok((manager, mut opener)) = Manager::new(alloc, CONFIG) else {
         return Told::Otherwise;
@@ -84,7 +84,7 @@ pub fn open<R: Wait>(rt: &R, alloc: Global, growth: u16) -> Told {
     }
 }
 
-/// Whether `opener` opens a session of `manager`, as the first one.
+/// Whether `opener` opens a session of `manager`, which has the first number.
 fn open_again<R: Wait>(rt: &R, manager: &Manager, opener: &mut Opener) -> bool
     requires { IsOpenerOf opener.old manager.now }
 {

@@ -52,7 +52,7 @@ fn ask<P: PartTable>(part: &mut P, session: SessionId) -> Result<Decision, Refus
     decide(part, session, &OBJECT, Mode::Exclusive, Kind::Conditional)
 }
 
-/// Decides a request of `session` in `part` with the growth numbered `growth` refused, and once more where it was.
+/// Decides a request of `session` in `part` with the growth numbered `growth` refused, and once more after a refusal.
 fn decide_once<P: PartTable>(alloc: Global, part: &mut P, session: SessionId, growth: u16) -> Told
     requires blank { IsBlank P.content P.begun part.old }
 {

@@ -14,12 +14,12 @@ use lock_manager::{
 use std::alloc::Global;
 use std::sync::Wait;
 
-/// How many rounds there are, after the first one.
+/// How many rounds two sessions play after the first one.
 pub const ROUNDS: u32 = 100_000;
 
 const DATABASE: u32 = 5;
 
-/// The object of the others of a round.
+/// An object that both sessions of a round ask for.
 const OBJECT: Tag = Tag::Object {
     database: 5,
     class: 1_259,
@@ -32,14 +32,15 @@ const OBJECT: Tag = Tag::Object {
 enum Deed {
     Takes,
     GivesBack,
-    /// Asks for it, and is refused, since the other one has something in the way.
+    /// Asks for the lock, and is refused, since the other session has something in the way.
     IsRefused,
 }
 
-/// Whether the first one does it, what, and of which lock.
+/// A turn of a round: whether the first session does something, or else the second one, what is done, and with which
+/// lock.
 type Turn = (bool, Deed, Hold);
 
-/// A round, but for its wait. The first session has a lock all the while.
+/// The turns of a round, which a wait follows. The first session has a lock all the while.
 static TURNS: [Turn; 17] = [
     // First in, first out: by a slot, an object, and a strong mode.
     (true, Deed::Takes, (TABLE, RowExclusive)),
@@ -63,7 +64,7 @@ static TURNS: [Turn; 17] = [
     (true, Deed::Takes, (OBJECT, Exclusive)),
 ];
 
-/// Does `deed` of `session` with `hold`, and answers whether it went so.
+/// Does `deed` with `session` for the lock `hold`, and answers whether that went as it is to.
 fn goes<T: PartTable, B: Board<T>, R: Wait>(
     rt: &R,
     session: &mut OwnSession<T, B>,
@@ -105,7 +106,7 @@ fn turns_go<T: PartTable, B: Board<T>, R: Wait>(
     all
 }
 
-/// Ends the wait `waiting`, and answers whether it is found granted.
+/// Ends the wait `waiting`, and answers whether the wait was granted.
 fn is_granted<T: PartTable, B: Board<T>, R: Wait>(
     rt: &R,
     waiting: OwnWaiting<T, B>,
@@ -119,7 +120,7 @@ fn is_granted<T: PartTable, B: Board<T>, R: Wait>(
     }
 }
 
-/// Has `second` wait for the object that `first` has, which commits.
+/// Has `second` wait for the object that `first` has, and `first` commit.
 fn hand_over<T: PartTable, B: Board<T>, R: Wait>(
     rt: &R,
     first: &mut OwnSession<T, B>,
@@ -175,7 +176,7 @@ fn go_rounds<T: PartTable, B: Board<T>, R: Wait>(
     (second, all)
 }
 
-/// Plays one round with `first` and `second`, and then the others with every growth refused. None is asked for.
+/// Plays one round with `first` and `second`, and then the others with every growth refused. No growth is asked for.
 fn go_on<T: PartTable, B: Board<T>, R: Wait>(
     rt: &R,
     alloc: Global,

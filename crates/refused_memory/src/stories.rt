@@ -8,7 +8,7 @@ use crate::{events, managers, parts};
 use std::alloc::Global;
 use std::sync::Wait;
 
-/// A call that may take memory, with what comes before it.
+/// A call that may take memory, with what happens before the call.
 #[derive(Clone, Copy)]
 pub enum Story<'a> {
     /// A call of `Manager::new`.
@@ -29,11 +29,11 @@ pub enum Story<'a> {
     AtDesk(Act<'a>),
 }
 
-/// Each but those of sessions, with its name and how many growths it takes. A manager takes three for each of 16
-/// partitions, two for each of 32 wait lists (those of a manager of 8 sessions), and five for the lists of partitions, of slots and of
-/// words, and for the table of both. A local table takes one for its slots, two for their index, and three for the
-/// counts of outer levels, a list that grows to 16. A session has that and a box. The list of an audit's rows grows
-/// to four and to eight.
+/// Each story but those of sessions, with its name and how many growths its call takes. A manager takes three for each
+/// of 16 partitions, two for each of 32 wait lists (those of a manager of 8 sessions), and five for the lists of
+/// partitions, of slots and of words, and for the table of both. A local table takes one for its slots, two for their
+/// index, and three for the counts of outer levels, a list that grows to 16. A session takes the growths of a local
+/// table and one for a box. The list of an audit's rows grows to four and to eight.
 pub static STORIES: [(&'static str, Story<'static>, u16); 15] = [
     ("Manager::new", Story::MakesManager, 117),
     ("Opener::session", Story::OpensSession, 7),

@@ -7,7 +7,7 @@ use lock_manager::{Mode, Tag};
 /// What a session has: an object and a mode.
 pub type Hold = (Tag, Mode);
 
-/// A session asks for something, beside three others and those that wait.
+/// A tale: a session asks for something, beside three other sessions and those that wait.
 #[derive(Clone, Copy)]
 pub struct Tale {
     pub name: &'static str,
@@ -15,13 +15,14 @@ pub struct Tale {
     pub others: [Option<Hold>; 3],
     /// How many objects the asking session has, each in a mode that no waiter asks for.
     pub own: u32,
-    /// How many further sessions wait for an object of the asking session, each for another one, or all for `awaited`.
+    /// How many further sessions wait for an object of the asking session, each for a different object, or all for
+    /// `awaited`.
     pub waiters: u32,
-    /// The one object that these wait for, where it is one.
+    /// The one object that all waiters of the tale wait for. `None` where each waits for a different one.
     pub awaited: Option<Tag>,
     pub call: Call,
     pub answer: Answer,
-    /// How many growths the call takes.
+    /// How many growths the call of the tale takes.
     pub growths: u16,
 }
 
@@ -52,7 +53,7 @@ const MANY: Tag = Tag::Object {
     sub_object: 0,
 };
 
-/// The tag of the object numbered `number`: all of them are in the partition of `TABLE`.
+/// The tag of the object numbered `number`: all such objects are in the partition of `TABLE`.
 pub fn object(number: u32) -> Tag {
     Tag::object(5, 2_600, 16 * (number % 1_024), 0)
 }
@@ -67,10 +68,10 @@ const READERS: [Option<Hold>; 3] = [
     Some((TABLE, AccessShare)),
 ];
 
-/// The first other session has an object that the asking session wants, in a partition that has no other.
+/// The first other session has an object that the asking session wants, in a partition that has nothing else.
 const ONE: [Option<Hold>; 3] = [Some((OBJECT, Exclusive)), None, None];
 
-/// The first other session has an object in the partition of those that the asking session has.
+/// The first other session has an object in the partition of the objects that the asking session has.
 const ONE_OF_MANY: [Option<Hold>; 3] = [Some((MANY, Exclusive)), None, None];
 
 /// The tales that are run with sessions.

@@ -14,9 +14,9 @@ use std::sync::Wait;
 /// The database of all sessions.
 const DATABASE: u32 = 5;
 
-/// What is seen before and after a call: the modes that the asking session has the table in, how many rows a
-/// listing has, what the table's strong lock counter shows, and whether of those who have the table the first ones
-/// have it in the lock table, and the others in slots.
+/// What is seen before and after a call: the modes that the asking session has the table in, how many rows a listing
+/// has, what the table's strong lock counter shows, and whether the sessions that have the table in the lock table come
+/// before those that have it in slots.
 #[derive(Clone, Copy, PartialEq, Eq)]
 struct Seen {
     held: u16,
@@ -47,14 +47,15 @@ fn up_to_table(rows: &[TableRow]) -> u16 {
     up_to
 }
 
-/// How many rows `listing` has, and whether those of the table are in order.
+/// How many rows `listing` has, and whether sessions that have the table in the lock table come before those that have
+/// it in slots.
 fn look_at(listing: &Listing) -> (usize, bool) {
     let rows = listing.fast.len().saturating_add(listing.table.len());
     let in_table = up_to_table(listing.table.as_slice());
     (rows, in_table <= before_slots(listing.fast.as_slice()))
 }
 
-/// Lists with `session`, and looks at what it shows.
+/// Lists with `session`, and answers what is seen.
 fn see<T: PartTable, B: Board<T>, R: Wait>(rt: &R, session: &mut OwnSession<T, B>) -> Seen
     ensures seat { KeepsSeat B.seat session.old session.new }
 {
@@ -81,7 +82,7 @@ fn take_own<T: PartTable, B: Board<T>, R: Wait>(rt: &R, session: &mut OwnSession
     }
 }
 
-/// Makes the call of `tale` with `session` and the growth numbered `growth` refused, and again where it was.
+/// Makes the call of `tale` with `session` and the growth numbered `growth` refused, and once more after a refusal.
 fn ask<T: PartTable, B: Board<T>, R: Wait>(
     rt: &R,
     alloc: Global,
@@ -108,8 +109,9 @@ fn ask<T: PartTable, B: Board<T>, R: Wait>(
     (session, Told::of(true, answer.ran_out(), is_right))
 }
 
-/// Opens at `desk` `waiters` sessions, each of which waits for an object that `session`, the asking one of `tale`,
-/// has, or for the one that `tale` says. Once all of them do, `session` asks, with the growth numbered `growth` refused.
+/// Opens at `desk` `waiters` sessions, each of which waits for an object that `session`, the asking one of `tale`, has,
+/// or all for the awaited object of `tale`. Once all of them wait, `session` asks, with the growth numbered `growth`
+/// refused.
 fn with_waiters<T: PartTable, B: Board<T>, D: Desk<OwnSession<T, B>>, R: Wait>(
     rt: &R,
     alloc: Global,
@@ -143,7 +145,7 @@ fn with_waiters<T: PartTable, B: Board<T>, D: Desk<OwnSession<T, B>>, R: Wait>(
     }
 }
 
-/// Has the asking session of `tale`, opened at `desk`, take what it has, and ask with the growth numbered `growth`
+/// Has the asking session of `tale`, opened at `desk`, take its own objects, and ask with the growth numbered `growth`
 /// refused.
 fn with_asking<T: PartTable, B: Board<T>, D: Desk<OwnSession<T, B>>, R: Wait>(
     rt: &R,
@@ -164,7 +166,7 @@ fn with_asking<T: PartTable, B: Board<T>, D: Desk<OwnSession<T, B>>, R: Wait>(
     told
 }
 
-/// Takes `hold`, if there is one, with `session`, and answers whether it has it.
+/// Takes `hold`, if there is one, with `session`, and answers whether the session has it.
 fn take<T: PartTable, B: Board<T>, R: Wait>(
     rt: &R,
     session: &mut OwnSession<T, B>,

@@ -65,7 +65,7 @@ NamesObject old new name tag it =
     ((it ≡ answer.Row (row.Named (record { name = name; tag = tag }))) × (new ≡ old ++ record { name = name; tag = tag } ∷ []))
     ⊎ ((it ≡ answer.NoMemory) × (new ≡ old))
 
--- None was opened.
+-- No session was opened.
 pub record OpensNone {B : Type 0} (old new : Cast B) (name : ArrayString 16) (it : Answer) : Type 0 where
   pub refusal : Refusal
   pub why : (refusal ≡ NoMoreSessions) ⊎ (refusal ≡ NoMemory)

@@ -36,12 +36,12 @@ IsUnheard (BadLine line what) = ⊥
 IsUnheard ReadFailed = ⊥
 IsUnheard GateHeld = ⊥
 
--- A listener hears these, one after another.
+-- A listener hears all of a list, one after another.
 abbrev pub HearsAll : {L : Type 0} → (L → Heard → L → Type 0) → L → List Heard → L → Type 0
 HearsAll hears old [] new = new ≡ old
 HearsAll {L} hears old (first ∷ others) new = (next : L) × hears old first next × HearsAll hears next others new
 
--- What a listener heard is so.
+-- What a listener heard is as the predicate says.
 abbrev pub Hears : {L : Type 0} → (L → Heard → L → Type 0) → L → L → (List Heard → Type 0) → Type 0
 Hears hears old new IsSo = (heard : List Heard) × IsSo heard × HearsAll hears old heard new
 

@@ -32,7 +32,7 @@ kept_of kept session = map said_by (lines_of kept session)
 abbrev pub one_of : List ℕ → ScriptLine → List ℕ → List ScriptLine
 one_of name line session = if bytes_eq name session then line ∷ [] else []
 
--- Of these lines, each with the name of its session, those of one session, in their order
+-- the lines of one session, in their order, among lines that each have the name of their session
 abbrev pub those_of : List (List ℕ × ScriptLine) → List ℕ → List ScriptLine
 those_of lines session = flat_map (λ it. one_of it.0 it.1 session) lines
 
@@ -71,7 +71,7 @@ module _ {C : Type 0} (Runs : C → ScriptLine → C → Type 0) where
       ((next : C) × Runs old line next × RunsKept next kept new left)
       ⊎ (IsKept kept line left × (new ≡ old))
 
-  -- These lines are taken in so, one after another, each once.
+  -- Lines are each run or kept, one after another, each once.
   abbrev pub TakesInEach : C → List KeptQueue → List ScriptLine → C → List KeptQueue → Type 0
   TakesInEach old kept [] new left = (new ≡ old) × (left ≡ kept)
   TakesInEach old kept (line ∷ lines) new left =
@@ -83,7 +83,7 @@ module _ {C : Type 0} (Runs : C → ScriptLine → C → Type 0) (objects : C �
   NamesTable old number table new =
       MatchBool (may_be_named (objects old) table) (Runs old (record { number = number; text = name_line table }) new) (new ≡ old)
 
-  -- These tables are, one after another.
+  -- Tables are given their names, one after another.
   abbrev pub NamesTables : C → ℕ → List Table → C → Type 0
   NamesTables old number [] new = new ≡ old
   NamesTables old number (table ∷ tables) new = (next : C) × NamesTable old number table next × NamesTables next number tables new

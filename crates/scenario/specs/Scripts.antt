@@ -95,7 +95,7 @@ module _
     pub ends : EndsSo (length texts) left new ended last
     pub all : heard ≡ played ++ last
 
-  -- So it was heard, but where the listener failed.
+  -- A script was heard as it was played, unless the listener failed.
   abbrev pub IsScriptHeard : {L : Type 0} → (L → Heard → L → Type 0) → Option (List ℕ) → Cast B → L → Result (Unit {0}) Fault → L → Type 0
   IsScriptHeard hears script old before (Ok ended) now = Hears hears before now (λ heard. PlaysScript script old (Ok ended) heard)
   IsScriptHeard hears script old before (Err (BadLine line what)) now =

@@ -9,10 +9,10 @@ use lock_manager::{
 };
 use lock_script::{Name, NamedObject};
 
-/// What a session is told: the answer to its line, or that it goes on.
+/// What a session is answered: the answer to a line of the session, or that the session goes on after a wait.
 #[derive(Clone, Copy, Debug, PartialEq, Eq)]
 pub enum Said {
-    /// The session was opened, with this number, of this database.
+    /// The session was opened, with its number and its database.
     Opened {
         session: SessionId,
         database: u32,
@@ -25,13 +25,13 @@ pub enum Said {
     GrantedAfterWaiting,
     /// The session waited, and was asked to stop.
     Cancelled,
-    /// The other session, which waits, was asked to stop.
+    /// The other session, of this name, waits, and was asked to stop waiting.
     Asked(Name),
     /// Whether somebody waits for what the session holds.
     Waiters(bool),
     /// The session gave one count of a lock back.
     Unlocked(Unlocked),
-    /// The session gave its advisory locks back: this number of modes on objects, which it has no longer.
+    /// The session gave its advisory locks back. The number counts the modes on objects that the session has no longer.
     UnlockedAll(u32),
     /// The session's transaction ended with success.
     Committed,
@@ -46,24 +46,24 @@ pub enum Said {
         of_transaction: u16,
         of_session: u16,
     },
-    /// The session doesn't own the lock, in this mode, that it gives back.
+    /// The session gave back a lock that it doesn't own in this mode.
     NotOwned(Mode),
     /// The session's call was refused.
     Refused(Refusal),
 }
 
-/// A line of an answer that is no session's own.
+/// A line of an answer that is said to no session: of a listing or a wait queue, for example.
 #[derive(Clone, Copy, Debug, PartialEq, Eq)]
 pub enum Row {
-    /// A lock in a slot.
+    /// A lock in a fast-path slot.
     Slot(SlotRow),
-    /// A lock in the table, or a wait for one.
+    /// A lock in the shared lock table, or a wait for one.
     Table(TableRow),
     /// How many rows a listing has.
     Rows(u64),
-    /// A wait in a queue.
+    /// A wait in a wait queue.
     Wait(QueueRow),
-    /// How many waits a queue has.
+    /// How many waits a wait queue has.
     Waits(u64),
     /// A blocker: a session in the way of the session of this name.
     InTheWay(Name, Blocker),
@@ -82,7 +82,7 @@ pub enum Row {
 pub enum Answer {
     /// What is said to the session of this name.
     Said(Name, Said),
-    /// A row alone, which is no session's own.
+    /// One row alone, which is said to no session.
     Row(Row),
     /// All that is held and awaited.
     Listing(Listing),
@@ -90,11 +90,11 @@ pub enum Answer {
     Queue(Vec<QueueRow>),
     /// The sessions in the way of the session of this name.
     Blockers(Name, Vec<Blocker>),
-    /// The script's own memory didn't suffice, which ends it.
+    /// The script's own memory didn't suffice, which ends the script.
     NoMemory,
 }
 
-/// What the session `name` is told of the answer `answer` to an acquire that doesn't wait.
+/// The script's answer to the session `name` for an acquire that doesn't wait, where the library's call returned `answer`.
 pub fn of_acquire(name: Name, answer: Result<Acquired, Refusal>) -> Answer
     ensures { result ≡ acquire_told name answer }
 {
@@ -104,7 +104,7 @@ pub fn of_acquire(name: Name, answer: Result<Acquired, Refusal>) -> Answer
     }
 }
 
-/// What the session `name` is told of the answer `answer` to a release of `mode`.
+/// The script's answer to the session `name` for a release of `mode`, where the library's call returned `answer`.
 pub fn of_unlock(name: Name, mode: Mode, answer: Result<Unlocked, Refusal>) -> Answer
     ensures { result ≡ unlock_told name mode answer }
 {
@@ -114,7 +114,8 @@ pub fn of_unlock(name: Name, mode: Mode, answer: Result<Unlocked, Refusal>) -> A
     }
 }
 
-/// What the session `name` is told of the answer `answer` to whether somebody waits for `mode`, which it has.
+/// The script's answer to the session `name`, which has `mode`, for a look whether somebody waits for that, where the library's call returned
+/// `answer`.
 pub fn of_waiters(name: Name, mode: Mode, answer: Result<bool, Refusal>) -> Answer
     ensures { result ≡ waiters_told name mode answer }
 {
@@ -124,7 +125,8 @@ pub fn of_waiters(name: Name, mode: Mode, answer: Result<bool, Refusal>) -> Answ
     }
 }
 
-/// What the session `name` is told of the level that its transaction is at now, by `answer`.
+/// The script's answer to the session `name` for a call that changes the nesting level of its transaction, where the library's call returned
+/// `answer`.
 pub fn of_level(name: Name, answer: Result<u8, Refusal>) -> Answer
     ensures { result ≡ level_told name answer }
 {
@@ -134,7 +136,7 @@ pub fn of_level(name: Name, answer: Result<u8, Refusal>) -> Answer
     }
 }
 
-/// What the session `name` is told that asked `other` to stop waiting, where `asked` says whether that one waited.
+/// The script's answer to the session `name`, which asked `other` to stop waiting: `asked` says whether `other` waited.
 pub fn of_cancel(name: Name, other: Name, asked: Asked) -> Answer
     ensures { result ≡ cancel_told name other asked }
 {
@@ -144,7 +146,7 @@ pub fn of_cancel(name: Name, other: Name, asked: Asked) -> Answer
     }
 }
 
-/// What is told of the listing `answer`, for which the session `name` asked.
+/// The script's answer for a listing that the session `name` asked for, where the library's call returned `answer`.
 pub fn of_list(name: Name, answer: Result<Listing, Refusal>) -> Answer
     ensures { result ≡ list_told name answer }
 {
@@ -154,7 +156,7 @@ pub fn of_list(name: Name, answer: Result<Listing, Refusal>) -> Answer
     }
 }
 
-/// What is told of the wait queue `answer`, for which the session `name` asked.
+/// The script's answer for a wait queue that the session `name` asked for, where the library's call returned `answer`.
 pub fn of_queue(name: Name, answer: Result<Vec<QueueRow>, Refusal>) -> Answer
     ensures { result ≡ queue_told name answer }
 {
@@ -164,7 +166,7 @@ pub fn of_queue(name: Name, answer: Result<Vec<QueueRow>, Refusal>) -> Answer
     }
 }
 
-/// What is told of `answer`, those in the way of `other`, for which the session `name` asked.
+/// The script's answer for a look of the session `name` at those in the way of `other`, where the library's call returned `answer`.
 pub fn of_blockers(name: Name, other: Name, answer: Result<Vec<Blocker>, Refusal>) -> Answer
     ensures { result ≡ blockers_told name other answer }
 {

@@ -15,30 +15,30 @@ use lock_table::PartTable;
 use shared_rule::Board;
 use std::sync::Wait;
 
-/// What a session that doesn't wait is asked to do, and may do at once.
+/// A call that a session which doesn't wait is asked to make, and that is answered at once.
 #[derive(Clone, Copy, Debug, PartialEq, Eq)]
 pub enum Call {
     /// To take a mode on an object for an owner, or to be refused.
     Try(Tag, Mode, Owner),
-    /// To take it in one of its slots, or to be refused.
+    /// To take a mode on an object for an owner in one of the session's fast-path slots, or to be refused.
     Fast(Tag, Mode, Owner),
-    /// To give one count of an owner back.
+    /// To release a mode on an object once for an owner.
     Unlock(Tag, Mode, Owner),
-    /// To give all advisory locks back that it owns itself.
+    /// To give all advisory locks back that the session itself owns, not its transaction.
     UnlockAll,
-    /// To end its transaction with success.
+    /// To end the session's transaction with success.
     Commit,
-    /// To end its transaction with failure.
+    /// To end the session's transaction with failure.
     Abort,
-    /// To begin a level of its transaction.
+    /// To begin a level of the session's transaction (a subtransaction).
     Begin,
-    /// To end the innermost level with success.
+    /// To end the innermost level of the session's transaction with success.
     SubCommit,
-    /// To end the innermost level with failure.
+    /// To end the innermost level of the session's transaction with failure.
     SubAbort,
-    /// To say how often each owner has an object in a mode.
+    /// To say how often each owner of the session has an object in a mode.
     Owned(Tag, Mode),
-    /// To say whether somebody waits for an object in a mode that conflicts with this one, which it has.
+    /// To say whether somebody waits for an object in a mode that conflicts with this one, which the session has.
     Waiters(Tag, Mode),
     /// To list who waits for an object.
     Queue(Tag),
@@ -52,7 +52,7 @@ pub enum Call {
     Count(u16),
 }
 
-/// Has `session` make the call `call`, and answers it by `name`.
+/// Has `session`, which a script calls `name`, make the call `call`, and answers the call.
 pub fn make<T: PartTable, B: Board<T>, H: Wait>(
     rt: &H,
     session: &mut OwnSession<T, B>,
@@ -83,7 +83,7 @@ pub fn make<T: PartTable, B: Board<T>, H: Wait>(
     }
 }
 
-/// Has `session` take `mode` on `tag` for `owner`, or refuses at once. The answer is told to `name`.
+/// Has `session` take `mode` on `tag` for `owner`, or refuses at once. The answer is for `name`.
 fn try_lock<T: PartTable, B: Board<T>, H: Wait>(
     rt: &H,
     session: &mut OwnSession<T, B>,
@@ -98,8 +98,7 @@ fn try_lock<T: PartTable, B: Board<T>, H: Wait>(
     of_acquire(name, session.try_lock(rt, tag, mode, owner))
 }
 
-/// Has `session` take `mode` on `tag` for `owner` in one of its slots, or refuses at once. The answer is told to
-/// `name`.
+/// Has `session` take `mode` on `tag` for `owner` in one of the session's fast-path slots, or refuses at once. The answer is for `name`.
 fn try_fast<T: PartTable, B: Board<T>>(
     session: &mut OwnSession<T, B>,
     name: Name,
@@ -113,7 +112,7 @@ fn try_fast<T: PartTable, B: Board<T>>(
     of_acquire(name, session.try_fast(tag, mode, owner))
 }
 
-/// Has `session` give one count of `owner` back of `mode` on `tag`. The answer is told to `name`.
+/// Has `session` release `mode` on `tag` once for `owner`. The answer is for `name`.
 fn unlock<T: PartTable, B: Board<T>, H: Wait>(
     rt: &H,
     session: &mut OwnSession<T, B>,
@@ -128,7 +127,7 @@ fn unlock<T: PartTable, B: Board<T>, H: Wait>(
     of_unlock(name, mode, session.unlock(rt, tag, mode, owner))
 }
 
-/// Has `session` give all advisory locks back that it owns itself. The answer is told to `name`.
+/// Has `session` give all advisory locks back that the session itself owns. The answer is for `name`.
 fn unlock_all<T: PartTable, B: Board<T>, H: Wait>(
     rt: &H,
     session: &mut OwnSession<T, B>,
@@ -141,7 +140,7 @@ fn unlock_all<T: PartTable, B: Board<T>, H: Wait>(
     Answer::Said(name, Said::UnlockedAll(released))
 }
 
-/// Ends the transaction of `session`, which succeeded. The answer is told to `name`.
+/// Ends the transaction of `session`, which succeeded. The answer is for `name`.
 fn commit<T: PartTable, B: Board<T>, H: Wait>(
     rt: &H,
     session: &mut OwnSession<T, B>,
@@ -154,7 +153,7 @@ fn commit<T: PartTable, B: Board<T>, H: Wait>(
     Answer::Said(name, Said::Committed)
 }
 
-/// Ends the transaction of `session`, which failed. The answer is told to `name`.
+/// Ends the transaction of `session`, which failed. The answer is for `name`.
 fn abort<T: PartTable, B: Board<T>, H: Wait>(
     rt: &H,
     session: &mut OwnSession<T, B>,
@@ -167,7 +166,7 @@ fn abort<T: PartTable, B: Board<T>, H: Wait>(
     Answer::Said(name, Said::Aborted)
 }
 
-/// Begins a level of the transaction of `session`. The answer is told to `name`.
+/// Begins a level of the transaction of `session`. The answer is for `name`.
 fn begin_nested<T: PartTable, B: Board<T>>(session: &mut OwnSession<T, B>, name: Name) -> Answer
     ensures made { IsMade B.seat B.view B.stack session.old session.new name Call.Begin result }
     ensures seat { B.seat session.new.board ≡ B.seat session.old.board }
@@ -175,7 +174,7 @@ fn begin_nested<T: PartTable, B: Board<T>>(session: &mut OwnSession<T, B>, name:
     of_level(name, session.begin_nested())
 }
 
-/// Ends the innermost level of `session` with success. The answer is told to `name`.
+/// Ends the innermost level of the transaction of `session` with success. The answer is for `name`.
 fn commit_nested<T: PartTable, B: Board<T>>(session: &mut OwnSession<T, B>, name: Name) -> Answer
     ensures made { IsMade B.seat B.view B.stack session.old session.new name Call.SubCommit result }
     ensures seat { B.seat session.new.board ≡ B.seat session.old.board }
@@ -183,7 +182,7 @@ fn commit_nested<T: PartTable, B: Board<T>>(session: &mut OwnSession<T, B>, name
     of_level(name, session.commit_nested())
 }
 
-/// Ends the innermost level of `session` with failure. The answer is told to `name`.
+/// Ends the innermost level of the transaction of `session` with failure. The answer is for `name`.
 fn abort_nested<T: PartTable, B: Board<T>, H: Wait>(
     rt: &H,
     session: &mut OwnSession<T, B>,
@@ -195,8 +194,7 @@ fn abort_nested<T: PartTable, B: Board<T>, H: Wait>(
     of_level(name, session.abort_nested(rt))
 }
 
-/// How often each owner of `session` has `tag` in `mode`, of a transaction the innermost level. The answer is told to
-/// `name`.
+/// How often `session` has `tag` in `mode`: for the innermost level of its transaction, and for the session itself. The answer is for `name`.
 fn owned<T: PartTable, B: Board<T>>(
     session: &mut OwnSession<T, B>,
     name: Name,
@@ -215,8 +213,7 @@ fn owned<T: PartTable, B: Board<T>>(
     Answer::Said(name, said)
 }
 
-/// Whether somebody awaits `tag` in a mode that conflicts with `mode`, which `session` has. The answer is told to
-/// `name`.
+/// Whether somebody awaits `tag` in a mode that conflicts with `mode`, which `session` has. The answer is for `name`.
 fn waiters<T: PartTable, B: Board<T>, H: Wait>(
     rt: &H,
     session: &mut OwnSession<T, B>,
@@ -230,7 +227,7 @@ fn waiters<T: PartTable, B: Board<T>, H: Wait>(
     of_waiters(name, mode, session.has_waiters(rt, tag, mode))
 }
 
-/// The waits on `tag`, in the order of its wait queue, as `session` sees them. The answer is told to `name`.
+/// The waits on `tag`, in the order of its wait queue, as `session` sees them. The answer is for `name`.
 fn queue<T: PartTable, B: Board<T>, H: Wait>(
     rt: &H,
     session: &mut OwnSession<T, B>,
@@ -243,8 +240,7 @@ fn queue<T: PartTable, B: Board<T>, H: Wait>(
     of_queue(name, session.queue(rt, tag))
 }
 
-/// The sessions in the way of the wait on `tag` of the session `other`, whose number is `number`, as `session` sees
-/// them. The answer is told to `name`.
+/// The sessions in the way of the wait on `tag` of the session `other`, whose number is `number`, as `session` sees them. The answer is for `name`.
 fn blockers<T: PartTable, B: Board<T>, H: Wait>(
     rt: &H,
     session: &mut OwnSession<T, B>,
@@ -259,7 +255,7 @@ fn blockers<T: PartTable, B: Board<T>, H: Wait>(
     of_blockers(name, other, session.blockers(rt, tag, number))
 }
 
-/// Has `session` ask the session `other`, whose number is `number`, to cancel its wait. The answer is told to `name`.
+/// Has `session` ask the session `other`, whose number is `number`, to cancel its wait. The answer is for `name`.
 fn ask_cancel<T: PartTable, B: Board<T>>(
     session: &mut OwnSession<T, B>,
     name: Name,
@@ -272,7 +268,7 @@ fn ask_cancel<T: PartTable, B: Board<T>>(
     of_cancel(name, other, session.ask_cancel(number))
 }
 
-/// All that is held and awaited, as `session` sees it. The answer is told to `name`.
+/// All that is held and awaited, as `session` sees it. The answer is for `name`.
 fn list<T: PartTable, B: Board<T>, H: Wait>(
     rt: &H,
     session: &mut OwnSession<T, B>,
@@ -284,7 +280,7 @@ fn list<T: PartTable, B: Board<T>, H: Wait>(
     of_list(name, session.list(rt))
 }
 
-/// What the strong lock counter `index` shows to `session`. The answer is told to `name`.
+/// What the strong lock counter `index` shows to `session`.
 fn count<T: PartTable, B: Board<T>>(session: &mut OwnSession<T, B>, index: u16) -> Answer
     requires exists { index < 1024 }
     ensures made { (shown : ℕ) × (result ≡ Answer.Row (Row.Counter index shown))
@@ -295,8 +291,8 @@ fn count<T: PartTable, B: Board<T>>(session: &mut OwnSession<T, B>, index: u16) 
     Answer::Row(Row::Counter { index, shown })
 }
 
-/// Draws with `pen` who waits for whom, by the `rows` of the table in a listing, as `session` finds those in each one's
-/// way, and the queue of each object that is awaited.
+/// Draws with `pen` who waits for whom: the waits among `rows`, those of the lock table in a listing, with who is in the way of each, and the wait
+/// queue of each awaited object, as `session` finds them.
 pub fn draw<T: PartTable, B: Board<T>, H: Wait>(
     rt: &H,
     session: &mut OwnSession<T, B>,

@@ -33,8 +33,8 @@ pub trait ScriptDesk<S> {
 
     ghost entries: { S → List Entry };
 
-    /// Opens a session of `database`, which holds nothing. Refused where there is no number for it, and then where memory runs out.
-    /// Nothing has changed then.
+    /// Opens a session of `database`, which holds nothing. Refused where no number is left for the session, or where memory runs out; nothing has
+    /// changed after a refusal.
     fn open<R: Wait>(&mut self, rt: &R, database: u32) -> Result<S, Refusal>
         ensures manager { manager self.new ≡ manager self.old }
         ensures own { IfOk result (λ session. (seat session).table ≡ (manager self.old).table) }
@@ -50,7 +50,7 @@ pub trait ScriptDesk<S> {
         ensures none_live { OnErr result (live self.new ≡ live self.old) }
         ensures none_issued { OnErr result (issued self.new ≡ issued self.old) };
 
-    /// Closes `session`, one of the desk's open ones. All that it holds is released.
+    /// Closes `session`, one of the desk's open ones. All that the session holds is released.
     fn close<R: Wait>(&mut self, rt: &R, session: S)
         requires own { (seat session).table ≡ (manager self.old).table }
         requires known { (seat session).number < issued self.old }
@@ -60,7 +60,7 @@ pub trait ScriptDesk<S> {
         ensures issued { issued self.new ≡ issued self.old };
 }
 
-/// A desk that gives each number once, the next one to each session.
+/// A desk that gives out each session number only once, the next number to each new session.
 #[derive(Drop)]
 pub struct OnceDesk<D> {
     pub desk: D,
@@ -90,8 +90,8 @@ impl<S, D: Desk<S>> ScriptDesk<S> for OnceDesk<D> {
     }
 }
 
-/// A desk that gives the lowest number that no open session has. Closed sessions go to its pool, which has room for all of the manager's, and
-/// lends them again.
+/// A desk that gives a new session the lowest number that no open session has. Closed sessions go to the desk's pool, which has room for all sessions
+/// of the manager and lends them out again.
 pub struct ReusingDesk<T: PartTable, B: Board<T>, D: Desk<OwnSession<T, B>>> {
     pub desk: D,
     pub pool: SessionPool<T, B>,

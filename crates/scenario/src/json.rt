@@ -45,7 +45,7 @@ pub fn picture_line(
     Ok(line)
 }
 
-/// The object of what the session `name` is told at the line `line`, where `names` are those of all sessions and objects.
+/// The object of `said`, which the session `name` is answered at the line `line`, where `names` are those of all sessions and objects.
 pub fn said(alloc: Global, line: u32, names: &Names, name: &Name, said: Said) -> Object
     ensures { IfOk result (λ object. view object ≡ said_data line names.now name.now said) }
 {
@@ -233,7 +233,7 @@ fn in_the_way(alloc: Global, line: u32, names: &Names, name: Name, blocker: Bloc
     })
 }
 
-/// The object of the row `wait` of a summary, whose own object is known by `names`.
+/// The object of JSON for the row `wait` of a summary. The object that the session awaited is known by `names`.
 pub fn waited(alloc: Global, names: &Names, wait: &WaitRow) -> Object {
     let mut behind = Vec::new(alloc);
     for obstacle in &wait.behind {
@@ -263,7 +263,8 @@ pub fn waited(alloc: Global, names: &Names, wait: &WaitRow) -> Object {
     }
 }
 
-/// The object of the end of a script: the sessions `waiting`, and the number `lines` of theirs that were not reached.
+/// The object of JSON for the end of a script: the names `waiting` of the sessions that wait, and the number `lines` of their lines that were not
+/// reached.
 pub fn left(alloc: Global, waiting: &[Name], lines: u64) -> Object {
     let mut names = Vec::new(alloc);
     for name in waiting {

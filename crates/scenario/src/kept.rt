@@ -22,17 +22,17 @@ use std::sync::Wait;
 /// How the lines of a script are run in turn.
 #[derive(Clone, Copy, Debug, PartialEq, Eq)]
 pub struct Turns {
-    /// Whether a line whose session waits is kept, and run once that goes on.
+    /// Whether a line whose session waits is kept, and run once the session goes on.
     pub keep: bool,
     /// Whether the numbers of closed sessions are given out again.
     pub reuse: bool,
 }
 
 /// Runs the script that `reader` gives against a lock manager of its own, of the size `config`, and tells `listener` what each line is answered.
-/// Where `turns` keeps lines, one whose session waits is kept, and run once that goes on, after the lines of the session that were kept before it.
-/// A script whose first command is `schema` speaks SQL, and what the statements of its `do` lines lock is kept so in any case. Where lines are kept,
-/// `listener` is told at the end who is left waiting, and how many lines were not reached. Where `turns` reuses numbers, a new session has the
-/// lowest one that no open session has. The run ends with the input or the first fault.
+/// Where `turns` keeps lines, one whose session waits is kept, and run once the session goes on, after the lines of the session that were kept
+/// before. A script whose first command is `schema` speaks SQL, and the lines that the statements of its `do` lines come to are kept in any case.
+/// Where lines are kept, `listener` hears at the end who is left waiting, and how many lines were not reached. Where `turns` reuses numbers, a new
+/// session has the lowest one that no open session has. The run ends with the input or the first fault.
 pub fn run_in_turn<H: AllocGlobal + Wait, R: Read + Drop, L: Listener + Drop>(
     rt: &H,
     reader: R,
@@ -63,7 +63,7 @@ pub fn run_in_turn<H: AllocGlobal + Wait, R: Read + Drop, L: Listener + Drop>(
 pub(crate) struct ReadLine<'a> {
     pub number: u32,
     pub text: &'a str,
-    /// Whether the next line is at hand.
+    /// Whether the next line of the script is at hand, without waiting for input.
     pub more: bool,
 }
 
@@ -86,9 +86,9 @@ impl<T: PartTable, B: Board<T>, D: ScriptDesk<OwnSession<T, B>>, L: Listener> Sc
         ended
     }
 
-    /// Runs the lines of `reader`, to its end or to the first fault. A line that is kept by `keeping` while its session waits, or has lines that
-    /// were kept, is kept after these. Whenever a line was run, the kept ones are run whose sessions don't wait, the first of
-    /// them first. Those that are left at the end are told.
+    /// Runs the lines of `reader`, to the end of the script or to the first fault. Where `keeping` says so, a line is kept while its session waits or
+    /// has earlier kept lines. After each line that is run, the kept lines are run whose sessions don't wait, in their order. The listener hears at
+    /// the end what is left.
     fn run_keeping<H: Wait, R: Read + Drop>(
         &mut self,
         rt: &H,
@@ -122,7 +122,7 @@ impl<T: PartTable, B: Board<T>, D: ScriptDesk<OwnSession<T, B>>, L: Listener> Sc
         self.tell_left(keeping.alloc, &kept)
     }
 
-    /// Keeps `line` behind those of `kept`, or runs it and then the kept ones that can be run.
+    /// Keeps `line` after the lines of `kept`, or runs it and then the kept lines that can be run.
     pub(crate) fn take_in<H: Wait>(
         &mut self,
         rt: &H,
@@ -146,7 +146,7 @@ impl<T: PartTable, B: Board<T>, D: ScriptDesk<OwnSession<T, B>>, L: Listener> Sc
         }
     }
 
-    /// Keeps `line` behind those of `kept` until `session` goes on. One that is bad is told now.
+    /// Keeps `line` after the lines of `kept` until `session` goes on. A bad line is a fault at once.
     fn keep(
         &mut self,
         alloc: Global,
@@ -165,8 +165,8 @@ impl<T: PartTable, B: Board<T>, D: ScriptDesk<OwnSession<T, B>>, L: Listener> Sc
         kept_or_fault(alloc, kept, session, line, defect)
     }
 
-    /// Runs the lines of `kept` whose sessions don't wait, the first of them first, until each one's that is left waits. Where
-    /// `more`, the line after the one that was read last is at hand.
+    /// Runs the lines of `kept` whose sessions don't wait, in their order, until the session of each line that is left waits. Where `more`, the line
+    /// after the one that was read last is at hand.
     pub(crate) fn run_ready<H: Wait>(
         &mut self,
         rt: &H,
@@ -188,7 +188,7 @@ impl<T: PartTable, B: Board<T>, D: ScriptDesk<OwnSession<T, B>>, L: Listener> Sc
         Ok(())
     }
 
-    /// Tells who waits at the end, and how many lines of `kept` were not reached.
+    /// Tells the listener who waits at the end of the script, and how many lines of `kept` were not reached.
     pub(crate) fn tell_left(&mut self, alloc: Global, kept: &KeptLines) -> Result<(), Fault>
         ensures manager { D.manager self.new.stage.desk ≡ D.manager self.old.stage.desk }
     {
@@ -200,7 +200,7 @@ impl<T: PartTable, B: Board<T>, D: ScriptDesk<OwnSession<T, B>>, L: Listener> Sc
     }
 }
 
-/// Keeps `line` of `session` behind those of `kept`, or says that it has this `defect`.
+/// Keeps `line` of `session` after the lines of `kept`. Refused where the line has a defect, as `defect` says, or where memory runs out.
 fn kept_or_fault(
     alloc: Global,
     kept: &mut KeptLines,

@@ -15,52 +15,52 @@ pub trait Listener {
     // What it is before it hears something, what it hears, and what it is then.
     ghost hears: { Self → Heard → Self → Type 0 };
 
-    /// A line of the script was read, its `text` with this `number`. What follows answers it. Where `more`, the next line is at hand, so
-    /// that nobody waits for what is printed of this one.
+    /// Hears that a line of the script was read, with its number `number` and its text `text`. What is heard next answers the line. Where `more`, the
+    /// next line is at hand, so that nobody waits for what is printed of this one.
     fn begin_line(&mut self, number: u32, text: &str, more: bool) -> Result<(), Fault>
         ensures heard { OnOk result (hears self.old (Line number text.now) self.new) }
         ensures unheard { IfErr result IsUnheard };
 
-    /// The session `name` is told what `said` is. The other sessions are known by `names`.
+    /// Hears what the session `name` is answered, `said`. The other sessions are known by `names`.
     fn said(&mut self, names: &Names, name: Name, said: Said) -> Result<(), Fault>
         ensures heard { OnOk result (hears self.old (Told names.now name said) self.new) }
         ensures unheard { IfErr result IsUnheard };
 
-    /// A `row` of an answer. Its sessions are known by `names`.
+    /// Hears the row `row` of an answer. The row's sessions are known by `names`.
     fn row(&mut self, names: &Names, row: Row) -> Result<(), Fault>
         ensures heard { OnOk result (hears self.old (Listed names.now row) self.new) }
         ensures unheard { IfErr result IsUnheard };
 
-    /// What draws the pictures, if any are wanted.
+    /// What draws a picture after each listing, if the listener wants pictures.
     fn pen(&self) -> Option<Pen>;
 
-    /// A `picture` of who waits for whom. Its sessions are known by `names`.
+    /// Hears of `picture`, which shows who waits for whom. The picture's sessions are known by `names`.
     fn picture(&mut self, names: &Names, picture: &Picture) -> Result<(), Fault>
         ensures heard { OnOk result (hears self.old Drawn self.new) }
         ensures unheard { IfErr result IsUnheard };
 
-    /// Whether the listener hears of each wait, as it begins, who is in its way. Nobody is asked otherwise.
+    /// Whether the listener wants to hear of each wait, as it begins, who is in its way. No session is asked for that otherwise.
     fn wants_waits(&self) -> bool {
         false
     }
 
-    /// A session has begun to wait, and says who is in its way, `blocked`. The sessions are known by `names`.
+    /// Hears that a session has begun to wait, and who is in its way, `blocked`, as the session says itself. The sessions are known by `names`.
     fn blocked(&mut self, names: &Names, blocked: &Blocked) -> Result<(), Fault>
         ensures heard { OnOk result (hears self.old (Behind names.now blocked.now) self.new) }
         ensures unheard { IfErr result IsUnheard };
 
-    /// Tells somebody at a shell `text`, at once.
+    /// Hears `text`, which is for somebody at a shell, at once.
     fn tell(&mut self, text: &str) -> Result<(), Fault>
         ensures heard { OnOk result (hears self.old (Helped text.now) self.new) }
         ensures unheard { IfErr result IsUnheard };
 
-    /// A line is answered, and all who go on have said so.
+    /// Hears that a line is answered, and that all sessions which go on after it have said so.
     fn end_line(&mut self) -> Result<(), Fault>
         ensures heard { OnOk result (hears self.old Done self.new) }
         ensures unheard { IfErr result IsUnheard };
 
-    /// Hears of a line that was read, with its text `_text` and its number `_number`, and is kept until its session
-    /// goes on. The line is answered then. Where `_more`, the next line is at hand.
+    /// Hears of a line that was read, with its text `_text` and its number `_number`, and is kept until its session goes on. The line is answered
+    /// when it is run. Where `_more`, the next line is at hand.
     fn keep_line(&mut self, _number: u32, _text: &str, _more: bool) -> Result<(), Fault>
         ensures unheard { IfErr result IsUnheard }
     {
@@ -72,8 +72,8 @@ pub trait Listener {
         None
     }
 
-    /// The script has ended, and has no bad line. Its sessions and objects are known by `names`. Where `_tells_left`, `left` is called next, with the
-    /// sessions that are left waiting.
+    /// Hears that the script has ended, and has no bad line. The sessions and objects are known by `_names`. Where `_tells_left`, `left` is called
+    /// next, with the sessions that are left waiting.
     fn ended(&mut self, _names: &Names, _tells_left: bool) -> Result<(), Fault>
         ensures unheard { IfErr result IsUnheard }
     {
@@ -112,7 +112,7 @@ pub fn tell_answer<L: Listener>(
     }
 }
 
-/// Tells `listener` a `listing`: each row, and then how many they are. The sessions are known by `names`.
+/// Tells `listener` a `listing`: each row, and then the number of the rows. The sessions are known by `names`.
 fn tell_listing<L: Listener>(
     listener: &mut L,
     names: &Names,
@@ -152,7 +152,7 @@ fn tell_table<L: Listener>(listener: &mut L, names: &Names, rows: &[TableRow]) -
     Ok(())
 }
 
-/// Tells `listener` the waits of a queue, which are `rows`.
+/// Tells `listener` the waits of a wait queue, which are `rows`.
 fn tell_waits<L: Listener>(listener: &mut L, names: &Names, rows: &[QueueRow]) -> Result<(), Fault>
     ensures heard { OnOk result (HearsAll L.hears listener.old
         (map (λ row. Listed names.now (Row.Wait row)) rows.now) listener.new) }

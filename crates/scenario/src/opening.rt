@@ -7,20 +7,20 @@ use std::io::{ErrorKind, Read};
 /// How many bytes of a script are looked at for its first command.
 const MOST_BYTES: usize = 65536;
 
-/// How many reads there are of these bytes at most, those included that a signal interrupts.
+/// How many reads of a script there are at most in search of its first command, those included that a signal interrupts.
 const MOST_READS: u32 = 1_000_000;
 
-/// How many bytes a read asks for.
+/// How many bytes each read in search of a script's first command asks for.
 const CAPACITY: usize = 4096;
 
-/// The first bytes of a script, and whether it speaks SQL.
+/// The first bytes of a script, and whether the script speaks SQL.
 #[derive(Drop)]
 pub struct Opening {
     pub front: Vec<u8>,
     pub speaks: bool,
 }
 
-/// Reads of `reader` what shows whether its script speaks SQL: whether its first command is a `schema`.
+/// Reads from `reader` what shows whether its script speaks SQL: whether the first command of the script is a `schema`.
 pub fn read_opening<R: Read>(alloc: Global, reader: &mut R) -> Result<Opening, Fault> {
     let mut front = Vec::new(alloc);
     let mut chunk = [0; CAPACITY];
@@ -44,8 +44,8 @@ pub fn read_opening<R: Read>(alloc: Global, reader: &mut R) -> Result<Opening, F
     Ok(Opening { front, speaks })
 }
 
-/// Whether the first command of a script that begins with `front` is a `schema`, where that is known. The last line is a whole one
-/// where `is_all` says so.
+/// Whether the first command of a script that begins with `front` is a `schema`, where that is known. The last line of `front` is a whole one where
+/// `is_all`.
 fn speaks_sql(front: &[u8], is_all: bool) -> Option<bool> {
     let mut left = front;
     for _ in 0..front.len() {

@@ -141,7 +141,7 @@ impl<W: Write + Drop> Output<W> {
         self.flush()
     }
 
-    /// Passes on what was printed, where there is something to pass on and somebody may wait for it.
+    /// Passes what was printed on to the writer, where there is something to pass on and somebody may wait for it.
     fn settle(&mut self) -> Result<(), Fault>
         ensures kept { Keeps (W.contents self.old.writer) (W.contents self.new.writer) }
         ensures unheard { IfErr result IsUnheard }

@@ -319,8 +319,7 @@ impl Picture {
         false
     }
 
-    /// The sessions that wait in a circle, as a set of bits by their numbers: by the arrows each of them comes back to
-    /// itself.
+    /// The sessions that wait in a circle, as a set of bits by their numbers: the arrows lead from each of them back to itself.
     fn circles(&self) -> u64 {
         let mut reached = [0_u64; 64];
         for arrow in &self.arrows {

@@ -80,7 +80,7 @@ impl<T: PartTable, B: Board<T>, D: ScriptDesk<OwnSession<T, B>>, L: Listener> Sc
         }
     }
 
-    /// Plays the script that `reader` gives as `play` does, and tells that it has ended before the sessions are closed.
+    /// Plays the script that `reader` gives as `play` does, and tells the listener that the script has ended before the sessions are closed.
     fn play_out<H: Wait, R: Read + Drop>(&mut self, rt: &H, reader: R) -> Result<(), Fault>
         requires seats { SeatsAre B.seat D.seat }
         ensures manager { D.manager self.new.stage.desk ≡ D.manager self.old.stage.desk }
@@ -96,8 +96,8 @@ impl<T: PartTable, B: Board<T>, D: ScriptDesk<OwnSession<T, B>>, L: Listener> Sc
         ended
     }
 
-    /// Draws who waits for whom, where the listener wants that of the end of a script, and tells it that this has come. Where
-    /// `tells_left`, who is left waiting is told next.
+    /// Draws who waits for whom at the end of the script, where the listener wants that, and tells the listener that the script has ended. Where
+    /// `tells_left`, the listener hears next who is left waiting.
     pub(crate) fn tell_end<H: Wait>(&mut self, rt: &H, tells_left: bool) -> Result<(), Fault>
         ensures manager { D.manager self.new.stage.desk ≡ D.manager self.old.stage.desk }
     {
@@ -112,7 +112,7 @@ impl<T: PartTable, B: Board<T>, D: ScriptDesk<OwnSession<T, B>>, L: Listener> Sc
         self.listener.ended(&stage.names, tells_left)
     }
 
-    /// Runs the lines of `reader`, to its end or to the first fault.
+    /// Runs the lines of `reader`, to the end of the script or to the first fault.
     fn run_lines<H: Wait, R: Read + Drop>(&mut self, rt: &H, reader: R) -> Result<(), Fault>
         requires seats { SeatsAre B.seat D.seat }
         ensures played { IsScriptHeard B.seat B.view B.stack D.again D.database_of D.entries L.hears (R.remaining reader)
@@ -157,7 +157,7 @@ impl<T: PartTable, B: Board<T>, D: ScriptDesk<OwnSession<T, B>>, L: Listener> Sc
         }
     }
 
-    /// Runs `command` and then polls those who wait, and passes on what both are answered.
+    /// Runs `command` and then polls those who wait, and tells the listener the answer and who goes on.
     pub fn run<H: Wait>(&mut self, rt: &H, command: Command) -> Result<(), Fault>
         requires seats { SeatsAre B.seat D.seat }
         requires addressed { Addresses self.old.stage.sessions command }
@@ -179,8 +179,8 @@ impl<T: PartTable, B: Board<T>, D: ScriptDesk<OwnSession<T, B>>, L: Listener> Sc
         self.listener.end_line()
     }
 
-    /// Draws who waits for whom behind an `answer` that `lister` has listed, and tells who is in the way behind one
-    /// that a session waits, where these are wanted.
+    /// Tells the listener what it wants to hear after `answer`: after a listing that `lister` asked for, a picture of who waits for whom; after an
+    /// answer that a session waits, who is in its way.
     fn follow_up<H: Wait>(
         &mut self,
         rt: &H,
@@ -205,7 +205,7 @@ impl<T: PartTable, B: Board<T>, D: ScriptDesk<OwnSession<T, B>>, L: Listener> Sc
         }
     }
 
-    /// Tells who is in the way of the session `name`, which has begun to wait, as it says itself, if that is wanted.
+    /// Tells the listener who is in the way of the session `name`, which has begun to wait, as the session says itself, if the listener wants that.
     fn tell_wait<H: Wait>(&mut self, rt: &H, name: Name) -> Result<(), Fault>
         ensures told { OnOk result (Hears L.hears self.old.listener self.new.listener (λ more.
             TellsWait B.seat B.view B.stack name
@@ -229,7 +229,7 @@ impl<T: PartTable, B: Board<T>, D: ScriptDesk<OwnSession<T, B>>, L: Listener> Sc
         }
     }
 
-    /// Draws who waits for whom, by the `rows` of a listing that `caller` asked for, if that is wanted.
+    /// Draws who waits for whom, by the `rows` of a listing that `caller` asked for, if the listener wants that.
     fn draw<H: Wait>(&mut self, rt: &H, caller: Caller, rows: &[TableRow]) -> Result<(), Fault>
         ensures drawn { OnOk result (Hears L.hears self.old.listener self.new.listener (λ picture. DrawsPicture
             (record { sessions = self.old.stage.sessions; names = self.old.stage.names }) picture
@@ -315,7 +315,7 @@ impl<T: PartTable, B: Board<T>, D: ScriptDesk<OwnSession<T, B>>, L: Listener> Sc
     }
 }
 
-/// Who asks for a listing, if `command` does.
+/// The session that asks for a listing by `command`, if `command` is a `list`.
 fn lister_of(command: &Command) -> Option<Caller> {
     match command {
         Command::List(caller) => Some(*caller),
@@ -323,7 +323,7 @@ fn lister_of(command: &Command) -> Option<Caller> {
     }
 }
 
-/// The session that waits from now on, where `answer` says so of one.
+/// The session that waits from now on by `answer`, if `answer` says that one does.
 fn waiter_of(answer: &Answer) -> Option<Name>
     ensures { IfSome result (λ name. answer.now ≡ Answer.Said name Said.Waits) }
 {

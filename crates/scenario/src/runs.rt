@@ -47,8 +47,8 @@ pub fn run_styled_script<H: AllocGlobal + Wait, R: Read + Drop, W: Write + Drop>
     act_out(rt, reader, output, config, Manner::Script, false)
 }
 
-/// Runs the script that `reader` gives against a lock manager of its own, of the size `config`, and tells `listener` what
-/// each line is answered before the next one is run. The run ends as one that prints does.
+/// Runs the script that `reader` gives against a lock manager of its own, of the size `config`, and tells `listener` what each line is answered
+/// before the next one is run. The run ends as that of `run_script` does.
 pub fn run_before<H: AllocGlobal + Wait, R: Read + Drop, L: Listener + Drop>(
     rt: &H,
     reader: R,
@@ -65,9 +65,9 @@ pub fn run_before<H: AllocGlobal + Wait, R: Read + Drop, L: Listener + Drop>(
 pub(crate) struct Keeping {
     /// The memory for the kept lines.
     pub alloc: Global,
-    /// Whether the script speaks SQL, of which each line that it comes to is kept.
+    /// Whether the script speaks SQL. Each line that its SQL comes to is kept while the session waits.
     pub speaks: bool,
-    /// Whether the lines that say no SQL are kept.
+    /// Whether the lines that say no SQL are kept while their sessions wait.
     pub keeps: bool,
 }
 
@@ -105,9 +105,8 @@ pub(crate) fn act_out<H: AllocGlobal + Wait, R: Read + Drop, L: Listener + Drop>
     ended
 }
 
-/// Runs the lines of `reader` in this `manner` before `listener`, with the sessions that `desk` opens, of which none is
-/// open after it. Where `reuse`, the numbers of closed ones are given out again. Nothing is run where there is no memory
-/// for the list of sessions.
+/// Runs the lines of `reader` in this `manner` before `listener`, with the sessions that `desk` opens, none of which is open at the end. Where
+/// `reuse`, the numbers of closed sessions are given out again. Nothing is run where there is no memory for the list of sessions.
 fn play<
     T: PartTable,
     B: Board<T>,
@@ -139,7 +138,7 @@ fn play<
     }
 }
 
-/// Runs the lines of `reader` as `play` does. Each number is given out once.
+/// Runs the lines of `reader` as `play` does, where each session number is given out once.
 fn play_once<
     T: PartTable,
     B: Board<T>,
@@ -209,7 +208,7 @@ impl<T: PartTable, B: Board<T>, D: Desk<OwnSession<T, B>>, L: Listener> Scene<
     }
 }
 
-/// Runs the lines of `reader` as `play` does. The numbers of closed sessions are given out again.
+/// Runs the lines of `reader` as `play` does, where the numbers of closed sessions are given out again.
 fn play_reusing<
     T: PartTable,
     B: Board<T>,

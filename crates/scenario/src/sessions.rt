@@ -29,7 +29,7 @@ use shared_rule::Board;
 use std::alloc::{AllocError, Global};
 use std::sync::Wait;
 
-/// What a command comes to.
+/// What a command of a script has a session or the script do.
 #[derive(Clone, Copy, Debug, PartialEq, Eq)]
 pub enum Deed {
     /// A session of this name and database is opened.
@@ -83,9 +83,9 @@ pub fn deed_of(command: Command, other: SessionId) -> Deed
     }
 }
 
-/// A desk, the names of sessions by the numbers that were given out there, and of objects, and the open sessions. Each of these is the desk's
-/// manager's, which has `USUAL_SESSIONS` at most, under one of these numbers, and the desk counts them. The stage is taken apart at its end,
-/// once no session is open.
+/// What a script acts on: a desk that opens sessions, the names of sessions by the numbers that the desk gave out, the names of objects, and the open
+/// sessions. Each open session is one of the desk's manager, which has `USUAL_SESSIONS` at most, under a number that the desk gave out, and the desk
+/// counts the open sessions. The stage is taken apart at its end, once no session is open.
 pub struct Stage<T: PartTable, B: Board<T>, D: ScriptDesk<OwnSession<T, B>>> {
     pub desk: D,
     pub names: Names,
@@ -122,7 +122,7 @@ impl<T: PartTable, B: Board<T>, D: ScriptDesk<OwnSession<T, B>>> Stage<T, B, D> 
         })
     }
 
-    /// Has the session that `command` names do what it says, and answers it.
+    /// Has the session that `command` names do what `command` says, and answers the command.
     pub fn answer<H: Wait>(&mut self, rt: &H, command: Command) -> Answer
         requires seats { SeatsAre B.seat D.seat }
         requires addressed { Addresses self.old.sessions command }
@@ -144,7 +144,7 @@ impl<T: PartTable, B: Board<T>, D: ScriptDesk<OwnSession<T, B>>> Stage<T, B, D> 
         }
     }
 
-    /// The number of the other session that `command` names, or else of the first one.
+    /// The number of the other session that `command` names, or the first session number where `command` names no other one.
     fn other_of(&self, command: &Command) -> SessionId
         requires addressed { Addresses self.now.sessions command.now }
         ensures number { IsOtherOf B.seat self.now.sessions command.now result }
@@ -193,7 +193,7 @@ impl<T: PartTable, B: Board<T>, D: ScriptDesk<OwnSession<T, B>>> Stage<T, B, D> 
         }
     }
 
-    /// Closes the session `caller`. Its name is free again, and its number where the desk gives those of closed sessions out again.
+    /// Closes the session `caller`. The session's name is free again, and its number is where the desk gives those of closed sessions out again.
     fn close<H: Wait>(&mut self, rt: &H, caller: Caller) -> Answer
         requires seats { SeatsAre B.seat D.seat }
         requires place { MayAct self.old.sessions caller.place }
@@ -240,7 +240,7 @@ impl<T: PartTable, B: Board<T>, D: ScriptDesk<OwnSession<T, B>>> Stage<T, B, D> 
         make(rt, session, caller.name, call)
     }
 
-    /// Who waits for whom, by the `rows` of the table in a listing, as the session at `place` finds it; `pen` draws it.
+    /// The picture of who waits for whom, by the `rows` of the lock table in a listing, as the session at `place` finds it; `pen` draws it.
     pub fn picture<H: Wait>(
         &mut self,
         rt: &H,
@@ -260,7 +260,7 @@ impl<T: PartTable, B: Board<T>, D: ScriptDesk<OwnSession<T, B>>> Stage<T, B, D> 
         Ok(picture)
     }
 
-    /// Adds to `picture` what each session holds of the objects that are awaited on it. Refused where there is no memory for it.
+    /// Adds to `picture` what each session holds of the objects that are awaited in the picture. Refused where there is no memory for that.
     fn add_holds(&self, picture: &mut Picture) -> Result<(), Refusal> {
         match self.add_all_holds(picture) {
             Ok(()) => Ok(()),
@@ -289,8 +289,8 @@ impl<T: PartTable, B: Board<T>, D: ScriptDesk<OwnSession<T, B>>> Stage<T, B, D> 
         Ok(())
     }
 
-    /// The wait of the session at `place` of those that wait, with who is in its way, as it says itself. Refused where
-    /// there is no memory for the list.
+    /// The wait of the session at `place` among those that wait, with who is in its way, as the session says itself. Refused where there is no memory
+    /// for the list.
     pub fn blocked<H: Wait>(&mut self, rt: &H, place: usize) -> Result<Blocked, Refusal>
         requires { place < length self.old.sessions.waiting }
         ensures told { IfOk result (TellsBlockedAt B.seat B.view B.stack self.old.sessions self.new.sessions place) }
@@ -302,7 +302,7 @@ impl<T: PartTable, B: Board<T>, D: ScriptDesk<OwnSession<T, B>>> Stage<T, B, D> 
         tell_blocked(rt, waiting)
     }
 
-    /// The queue in which the session at `place` of those that wait stands, as it says itself. Refused where there is no memory for the
+    /// The wait queue that has the session at `place` among those that wait, as the session says itself. Refused where there is no memory for the
     /// list.
     fn queue_at<H: Wait>(&mut self, rt: &H, place: usize) -> Result<Vec<QueueRow>, Refusal>
         requires { place < length self.old.sessions.waiting }
@@ -314,8 +314,7 @@ impl<T: PartTable, B: Board<T>, D: ScriptDesk<OwnSession<T, B>>> Stage<T, B, D> 
         waiting.queue(rt)
     }
 
-    /// Who waits for whom, as the sessions say themselves that wait; `pen` draws it. Refused where there is no memory for
-    /// it.
+    /// The picture of who waits for whom, as the sessions that wait say themselves; `pen` draws it. Refused where there is no memory for it.
     pub fn last_picture<H: Wait>(&mut self, rt: &H, pen: Pen) -> Result<Picture, Refusal>
         ensures names { self.new.names ≡ self.old.names }
         ensures manager { D.manager self.new.desk ≡ D.manager self.old.desk }
@@ -337,7 +336,7 @@ impl<T: PartTable, B: Board<T>, D: ScriptDesk<OwnSession<T, B>>> Stage<T, B, D> 
         Ok(picture)
     }
 
-    /// The number of the session that stands at `place`.
+    /// The number of the session at `place`.
     fn number_at(&self, place: Place) -> SessionId
         requires { IsThere self.now.sessions place }
         ensures { IsNumberAt B.seat self.now.sessions place result }
@@ -348,8 +347,8 @@ impl<T: PartTable, B: Board<T>, D: ScriptDesk<OwnSession<T, B>>> Stage<T, B, D> 
         }
     }
 
-    /// Polls the wait of the session at `place` of those that wait, and carries a cancel out that was asked. Answers
-    /// what the session is told, if it goes on.
+    /// Polls the wait of the session at `place` among those that wait, and carries a cancel out that was asked for. Where the session goes on, the
+    /// answer has its name and what it is answered.
     pub fn poll<H: Wait>(&mut self, rt: &H, place: usize) -> Option<(Name, Said)>
         requires { place < length self.old.sessions.waiting }
         ensures polled { PollsAt B.seat B.view B.stack self.old.sessions self.new.sessions place result }
@@ -371,7 +370,7 @@ impl<T: PartTable, B: Board<T>, D: ScriptDesk<OwnSession<T, B>>> Stage<T, B, D> 
         }
     }
 
-    /// Cancels the waits of those that wait, and then closes all sessions, in the byte order of their names.
+    /// Cancels the waits of the sessions that wait, and then closes all sessions, in the byte order of their names.
     pub fn close_all<H: Wait>(&mut self, rt: &H)
         requires seats { SeatsAre B.seat D.seat }
         ensures manager { D.manager self.new.desk ≡ D.manager self.old.desk }
@@ -385,7 +384,7 @@ impl<T: PartTable, B: Board<T>, D: ScriptDesk<OwnSession<T, B>>> Stage<T, B, D> 
         }
     }
 
-    /// Cancels the waits of those that wait.
+    /// Cancels the waits of the sessions that wait.
     pub fn cancel_all<H: Wait>(&mut self, rt: &H)
         ensures manager { D.manager self.new.desk ≡ D.manager self.old.desk }
         ensures none_waits { self.new.sessions.waiting ≡ [] }

@@ -18,14 +18,14 @@ use sql_script::{Heard, SqlScript, Statements, Table, Turn, Unplayed, lines_of};
 use std::alloc::Global;
 use std::sync::Wait;
 
-/// What a script says in SQL, if it speaks SQL.
+/// What the lines of a script have said in SQL so far, if the script speaks SQL.
 #[derive(Drop)]
 pub(crate) struct Spoken {
     script: Option<SqlScript>,
 }
 
 impl Spoken {
-    /// Nothing was said yet, in a script that speaks SQL as `keeping` says.
+    /// A script of which no line was heard yet, and which speaks SQL where `keeping` says so.
     pub fn new(keeping: Keeping) -> Self {
         let script = if keeping.speaks {
             Some(SqlScript::new(keeping.alloc))
@@ -35,7 +35,7 @@ impl Spoken {
         Spoken { script }
     }
 
-    /// What `line` says: nothing in SQL, where the script speaks none.
+    /// What `line` says in SQL. In a script that doesn't speak SQL no line says any.
     pub fn hear(&mut self, line: ReadLine<'_>) -> Result<Heard, Unplayed>
         ensures { IfOk result (IsHeardBy self.old.script line.entry.text.now) }
     {
@@ -55,7 +55,7 @@ impl Spoken {
 }
 
 impl<T: PartTable, B: Board<T>, D: ScriptDesk<OwnSession<T, B>>, L: Listener> Scene<T, B, D, L> {
-    /// Runs `line`, which says what is `heard`. What is kept of it by `keeping` while its session waits goes to `kept`.
+    /// Runs `line`, which says what `heard` has. What `keeping` has kept of the line while its session waits goes to `kept`.
     pub(crate) fn run_heard<H: Wait>(
         &mut self,
         rt: &H,
@@ -81,7 +81,7 @@ impl<T: PartTable, B: Board<T>, D: ScriptDesk<OwnSession<T, B>>, L: Listener> Sc
         }
     }
 
-    /// Runs `line`, which says no SQL. Where `keeping` says so it is kept while its session waits.
+    /// Runs `line`, which says no SQL. Where `keeping` says so the line is kept in `kept` while its session waits.
     fn run_plain<H: Wait>(
         &mut self,
         rt: &H,
@@ -203,7 +203,7 @@ impl<T: PartTable, B: Board<T>, D: ScriptDesk<OwnSession<T, B>>, L: Listener> Sc
         Ok(())
     }
 
-    /// Gives `table` its name by a line in place of `line`, where it may have that, and else does nothing.
+    /// Gives `table` its name by a line in place of `line`, where the table may have that name, and else does nothing.
     fn name_table<H: Wait>(
         &mut self,
         rt: &H,
@@ -247,7 +247,7 @@ impl<T: PartTable, B: Board<T>, D: ScriptDesk<OwnSession<T, B>>, L: Listener> Sc
         }
     }
 
-    /// The fault of the line of the number `number`, whose SQL can't be played. The listener is told why in place of the line.
+    /// The fault of the line of the number `number`, whose SQL can't be played. The listener hears why, `unplayed`, in place of the line.
     pub(crate) fn refuse(&mut self, number: u32, unplayed: Unplayed) -> Fault
         ensures manager { D.manager self.new.stage.desk ≡ D.manager self.old.stage.desk }
     {
@@ -264,7 +264,7 @@ impl<T: PartTable, B: Board<T>, D: ScriptDesk<OwnSession<T, B>>, L: Listener> Sc
     }
 }
 
-/// Whether `table` may have its name: none of `objects` goes by that, it has no other one, and an object may have such a name.
+/// Whether `table` may have its name: none of `objects` has that name, the table has no other one, and an object may have such a name.
 fn may_be_named(objects: &ObjectNames, table: &Table) -> bool
     ensures { result ≡ may_be_named objects.now table.now }
 {

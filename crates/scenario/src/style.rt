@@ -57,16 +57,17 @@ impl FromStr for Drawing {
 /// What a run shows beside the answers of its script, and how it writes them.
 #[derive(Clone, Copy, Debug, PartialEq, Eq)]
 pub struct Style {
-    /// Each line of the script, before its answers.
+    /// Whether a run prints each line of its script, before the line's answers.
     pub echo: bool,
-    /// An object of JSON for each line that is printed, instead of its text.
+    /// Whether a run prints an object of JSON for each line that it prints, instead of the line's text.
     pub json: bool,
-    /// A picture of who waits for whom behind the rows of each `list`; or one of the whole script, in place of the answers.
+    /// The language in which a run draws, if it draws: a picture of who waits for whom after the rows of each `list`, or one of the whole script in
+    /// place of the answers.
     pub graph: Option<Drawing>,
 }
 
 impl Style {
-    /// The answers alone, as text.
+    /// The style of a run that shows the answers alone, as text.
     pub const PLAIN: Style = Style {
         echo: false,
         json: false,

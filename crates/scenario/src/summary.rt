@@ -24,7 +24,7 @@ pub struct Obstacle {
 pub struct WaitEnd {
     /// The number of the script's line after which the wait ended.
     pub line: u32,
-    /// Whether the session had its lock then, and was not asked to stop.
+    /// Whether the wait ended with the lock granted. It ended with a request to stop otherwise.
     pub granted: bool,
 }
 
@@ -52,7 +52,7 @@ pub struct Summary {
 }
 
 impl Summary {
-    /// Nobody waited. Rows take memory by `alloc`.
+    /// A summary of a run in which nobody has waited. Its rows take memory by `alloc`.
     pub fn new(alloc: Global) -> Self
         ensures { result.waits.items ≡ [] }
     {
@@ -63,7 +63,7 @@ impl Summary {
         }
     }
 
-    /// The line of this `number` is run.
+    /// Notes that the line of the number `number` is run from now on.
     pub fn begin_line(&mut self, number: u32)
         ensures line { self.new.line ≡ number }
         ensures waits { self.new.waits ≡ self.old.waits }
@@ -71,7 +71,7 @@ impl Summary {
         self.line = number;
     }
 
-    /// Notes that the wait `blocked` begins, as its session describes it: it is the last row. Sessions are known by `names`.
+    /// Notes that the wait `blocked` begins, as its session describes it: the wait becomes the last row. Sessions are known by `names`.
     pub fn begin_wait(&mut self, names: &Names, blocked: &Blocked) -> Result<(), AllocError>
         ensures begun { OnOk result (BeginsRow names.now self.old.line blocked.now self.old.waits.items self.new.waits.items) }
         ensures refused { OnErr result (self.new.waits.items ≡ self.old.waits.items) }
@@ -89,7 +89,7 @@ impl Summary {
         Ok(())
     }
 
-    /// The wait of the session of this `name` ends at the line that is run: it was `granted`, or the session gave up.
+    /// Notes that the wait of the session `name` ends at the line that is run: the lock was granted where `granted`, or else the session gave up.
     fn end_wait(&mut self, name: &Name, granted: bool)
         ensures ended { EndsRow name.now.bytes self.old.line granted self.old.waits.items self.new.waits.items }
         ensures line { self.new.line ≡ self.old.line }
@@ -115,7 +115,7 @@ impl Summary {
         }
     }
 
-    /// Who waits still, in the order in which they began.
+    /// The names of the sessions that still wait, in the order in which their waits began.
     pub fn left(&self) -> Result<Vec<Name>, AllocError> {
         let mut names = Vec::new(self.alloc);
         for row in &self.waits {
@@ -150,7 +150,7 @@ fn end_row(waits: &mut [WaitRow], place: usize, end: WaitEnd)
     waits[place].ended = Some(end);
 }
 
-/// Where among `waits` the one of the session `name` stands that has not ended.
+/// The place among `waits` of the wait of the session `name` that has not ended, if there is one.
 fn place_of_open(waits: &[WaitRow], name: &Name) -> Option<usize>
     ensures within { IfSome result (λ place. place < length waits.now) }
     ensures open { IfSome result (HoldsAt (IsOpen name.now.bytes) waits.now) }
@@ -164,7 +164,7 @@ fn place_of_open(waits: &[WaitRow], name: &Name) -> Option<usize>
     None
 }
 
-/// A row of a summary, as text. Its object is known by `names`.
+/// A row of a summary, as text. The object that the row's session awaited is known by `names`.
 #[derive(Clone, Copy, Drop)]
 pub struct WaitText<'a> {
     pub names: &'a Names,

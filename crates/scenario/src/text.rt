@@ -47,14 +47,14 @@ pub fn refusal_text(refusal: Refusal) -> &'static str
     }
 }
 
-/// The name of `session`, one that a row or a refusal tells of, among `names`. All of them were opened under a name.
+/// The name of `session`, which a row or a refusal speaks of, among `names`. Each session was opened under a name.
 pub fn name_of(names: &Names, session: SessionId) -> Name
     ensures { result.bytes ≡ name_in names.now session }
 {
     names.sessions.name(session).unwrap_or(Name::new())
 }
 
-/// What a session is told in words alone by `said`, or none where that has more to it.
+/// The text of `said` where that is fixed words alone, and else an empty text.
 pub fn plain_text(said: Said) -> &'static str
     ensures { result.now ≡ text_of_plain said }
 {
@@ -81,7 +81,7 @@ pub fn plain_text(said: Said) -> &'static str
     }
 }
 
-/// What a session is told, as text, without its name. The others are known by these names.
+/// The text of what a session is answered, without the session's own name. Other sessions are known by `names`.
 #[derive(Clone, Copy, Drop)]
 pub struct SaidText<'a> {
     pub names: &'a Names,
@@ -161,7 +161,7 @@ impl fmt::Display for ObjectText<'_> {
     }
 }
 
-/// A row, as text. Its sessions and objects are known by these names.
+/// A row of an answer, as text. The row's sessions and objects are known by `names`.
 #[derive(Clone, Copy, Drop)]
 pub struct RowText<'a> {
     pub names: &'a Names,

@@ -45,7 +45,7 @@ pub const ABOUT: &str = "Run scripts against PostgreSQL's lock manager";
 /// The option that prints the man page.
 const MAN: &str = "--man";
 
-/// What is said of a summary beside a picture of the whole script.
+/// The error for `--summary` beside a picture of the whole script.
 const SUMMARY_OF_A_DRAWING: &str =
     "error: the argument '--summary' cannot be used with '--graph timeline' or '--graph gantt'
 
@@ -103,7 +103,7 @@ fn hammer_command<'a>(alloc: Global) -> Result<Command<'a>, AllocError> {
         .arg(rounds)
 }
 
-/// The subcommand `command` with the options of how large the lock manager is; it has `usual_sessions` where they don't say.
+/// The subcommand `command` with the options of how large the lock manager is: it has `usual_sessions` sessions where they don't say.
 fn with_config<'a>(
     alloc: Global,
     command: Command<'a>,
@@ -158,11 +158,10 @@ fn orders_command<'a>(alloc: Global) -> Result<Command<'a>, AllocError> {
         .arg(ends)
 }
 
-/// The command line: `run [--sessions N] [--max-local M] [--slot-groups G] [--echo] [--json] [--graph LANGUAGE]
-/// [--keep] [--reuse] [--summary] [--fail-on WHAT]`,
-/// `orders [--sessions N] [--max-local M] [--slot-groups G] [--limit K] [--seed S] [--ends]`,
-/// `sql [--schema FILE] [--fail-on KIND] [--single-transaction]`,
-/// `shell [--sessions N] [--max-local M] [--slot-groups G] [--reuse]`, `modes`, `hammer --sessions N --rounds K`, or `--man`. Its help has `helps`.
+/// The command line: `run [--sessions N] [--max-local M] [--slot-groups G] [--echo] [--json] [--graph LANGUAGE] [--keep] [--reuse] [--summary]
+/// [--fail-on WHAT]`, `orders [--sessions N] [--max-local M] [--slot-groups G] [--limit K] [--seed S] [--ends]`, `sql [--schema FILE] [--fail-on
+/// KIND] [--single-transaction]`, `shell [--sessions N] [--max-local M] [--slot-groups G] [--reuse]`, `modes`, `hammer --sessions N --rounds K`, or
+/// `--man`. The texts of its help are those of `helps`.
 fn command<'a>(alloc: Global, helps: &'a Helps) -> Result<Command<'a>, AllocError> {
     let run = Command::new(alloc, "run")
         .about("Run the script on standard input")
@@ -199,11 +198,11 @@ fn command<'a>(alloc: Global, helps: &'a Helps) -> Result<Command<'a>, AllocErro
 /// What the words after the program's name ask for.
 #[derive(Clone, Copy, Debug, PartialEq, Eq)]
 pub enum Task {
-    /// To run the script on standard input in this way.
+    /// To run the script on standard input, with these options.
     Run(Config, RunOptions),
     /// To run the lines of the script on standard input in every order.
     Orders(Config, OrdersOptions),
-    /// To say what the SQL statements on standard input lock, in the way that the words say.
+    /// To say what the SQL statements on standard input lock.
     Sql,
     /// To run lines as they are typed, and whether the numbers of closed sessions are given out again.
     Shell(Config, bool),
@@ -215,19 +214,19 @@ pub enum Task {
     Man,
 }
 
-/// What words come to that ask for no run.
+/// Why the words of the command line ask for no run.
 #[derive(Debug, Drop)]
 pub enum NoRun {
     /// The words ask for this text, a help or the version.
     Text(String),
     /// The words are refused, and this text says why.
     Refused(String),
-    /// Memory ran out where the words were read, or for the text.
+    /// Memory ran out where the words were read, or for the text of an answer.
     NoMemory,
 }
 
 impl NoRun {
-    /// What `clap` says of the words by its `error`.
+    /// What comes of words of which `clap` says `error`: a text or a refusal.
     fn of(alloc: Global, error: &Error) -> Self {
         if error.kind() == ErrorKind::OutOfMemory {
             return NoRun::NoMemory;
@@ -257,7 +256,7 @@ pub fn parse_arguments(alloc: Global, words: &[String]) -> Result<Task, NoRun>
     }
 }
 
-/// Why a summary is refused of a script that one picture shows, in memory by `alloc`.
+/// The refusal of a summary for a script that one picture shows, in memory by `alloc`.
 fn refuse_summary(alloc: Global) -> NoRun {
     match String::from_str(alloc, SUMMARY_OF_A_DRAWING) {
         Ok(text) => NoRun::Refused(text),
@@ -265,8 +264,8 @@ fn refuse_summary(alloc: Global) -> NoRun {
     }
 }
 
-/// Whether the first of `words` after the program's name is the option that prints the man page. No subcommand is wanted
-/// then, as none is for the help.
+/// Whether the first of `words` after the program's name is the option that prints the man page. Where it is no subcommand is wanted, as none is for
+/// the help.
 fn asks_for_man(words: &[String]) -> bool {
     match words.get(1) {
         Some(word) => word.as_str() == MAN,
@@ -332,7 +331,7 @@ fn options_of(words: &ArgMatches) -> OrdersOptions {
     }
 }
 
-/// The numbers of the hammer that `words` ask for.
+/// The numbers of sessions and rounds of the hammer that `words` ask for.
 fn hammer_of(words: &ArgMatches) -> Hammer
     ensures { IsPlayable result }
 {

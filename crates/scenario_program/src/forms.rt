@@ -9,21 +9,21 @@ const WIDTH: usize = 32;
 /// How wide a line of a help is at most.
 const LINE: usize = 80;
 
-/// A line that is no command: the word with which it begins, those after that, and what the line does.
+/// The form of a line that is no command: the word with which the line begins, the words after that, and what the line does.
 pub struct OtherLine {
     pub verb: &'static str,
     pub form: &'static str,
     pub help: &'static str,
 }
 
-/// What a script has beside its commands.
+/// The line that a script may have beside its commands: a comment.
 static COMMENT: OtherLine = OtherLine {
     verb: "#",
     form: "TEXT",
     help: "a comment",
 };
 
-/// What a script has that speaks SQL, beside the lines of any script.
+/// The lines that a script which speaks SQL may have beside the lines of any script.
 static SQL_LINES: [OtherLine; 3] = [
     OtherLine {
         verb: "schema",
@@ -45,7 +45,7 @@ static SQL_LINES: [OtherLine; 3] = [
 /// The words that end a shell, of which the help names the first one.
 pub static LEAVING: [&str; 4] = ["end", "quit", "exit", "\\q"];
 
-/// What a shell has beside the lines of a script.
+/// The lines that a shell has beside the lines of a script.
 pub static SHELL_LINES: [OtherLine; 6] = [
     OtherLine {
         verb: "help",
@@ -104,7 +104,7 @@ pub fn push_script_lines(text: &mut String) -> Result<(), AllocError> {
     text.push_str(WORDS)
 }
 
-/// Adds to `text` the forms of what a script has that speaks SQL.
+/// Adds to `text` the forms of the lines that a script which speaks SQL has beside the lines of any script.
 pub fn push_sql_lines(text: &mut String) -> Result<(), AllocError> {
     text.push_str("A script whose first command is schema has these lines too:\n")?;
     for line in &SQL_LINES {
@@ -113,7 +113,7 @@ pub fn push_sql_lines(text: &mut String) -> Result<(), AllocError> {
     Ok(())
 }
 
-/// Adds to `text` the forms of what a shell has beside the lines of a script.
+/// Adds to `text` the forms of the lines that a shell has beside the lines of a script.
 pub fn push_shell_lines(text: &mut String) -> Result<(), AllocError> {
     for line in &SHELL_LINES {
         push_line(text, line)?;
@@ -143,7 +143,7 @@ pub fn push_forms(text: &mut String, verb: &str) -> Result<(), AllocError> {
     Ok(())
 }
 
-/// Adds to `text` the form of the command `row`, with what it does.
+/// Adds to `text` the form of the command `row`, with what the command does.
 fn push_row(text: &mut String, row: &CommandRow) -> Result<(), AllocError> {
     push_form(text, row.verb, row.form, row.help)?;
     if row.help_below != "" {
@@ -153,12 +153,12 @@ fn push_row(text: &mut String, row: &CommandRow) -> Result<(), AllocError> {
     Ok(())
 }
 
-/// Adds to `text` the form of `line`, one that is no command's, with what it does.
+/// Adds to `text` the form of `line`, which is no command, with what the line does.
 fn push_line(text: &mut String, line: &OtherLine) -> Result<(), AllocError> {
     push_form(text, line.verb, line.form, line.help)
 }
 
-/// Adds to `text` the words `verb` and `form` of a line, and `help`, what it does.
+/// Adds to `text` the words `verb` and `form` of a line, and `help`, which says what the line does.
 fn push_form(text: &mut String, verb: &str, form: &str, help: &str) -> Result<(), AllocError> {
     let begin = text.len();
     write!(text, "  {verb} {form}")?;
@@ -179,12 +179,12 @@ fn push_blanks(text: &mut String, many: usize) -> Result<(), AllocError> {
 #[derive(Drop)]
 pub struct Wrapped {
     text: String,
-    /// How wide the last line is.
+    /// How wide the last line of the text is so far.
     width: usize,
 }
 
 impl Wrapped {
-    /// A text that begins with the words `begin`.
+    /// Words in lines, which begin with the words `begin`.
     pub fn new(alloc: Global, begin: &str) -> Result<Self, AllocError> {
         Ok(Wrapped {
             text: String::from_str(alloc, begin)?,
@@ -192,7 +192,7 @@ impl Wrapped {
         })
     }
 
-    /// Adds `words`, each of which may begin a line.
+    /// Adds `words` at the end, each of which may begin a line.
     pub fn push(&mut self, words: &str) -> Result<(), AllocError> {
         for word in words.split(' ') {
             let with_word = self.width.saturating_add(1).saturating_add(word.len());

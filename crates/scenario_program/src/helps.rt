@@ -4,17 +4,17 @@ use crate::forms::{push_script_lines, push_sql_lines, push_verbs};
 use crate::statuses::push_statuses_of_run;
 use std::alloc::{AllocError, Global};
 
-/// What `--help` and `run --help` show beside their options.
+/// The texts that `--help` and `run --help` show beside the options.
 #[derive(Drop)]
 pub struct Helps {
     /// The words with which a script's lines begin.
     pub program: String,
-    /// Each line of a script with its words, what they may be, and how a run ends.
+    /// Each line of a script with its words, what the words may be, and how a run ends.
     pub run: String,
 }
 
 impl Helps {
-    /// The texts, made of the table of commands.
+    /// The texts of the help, made of the table of commands.
     pub fn new(alloc: Global) -> Result<Self, AllocError> {
         let mut program = String::from_str(alloc, "Lines of a script begin with:\n")?;
         push_verbs(alloc, &mut program)?;

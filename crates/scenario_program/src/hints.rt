@@ -12,10 +12,10 @@ use modes_core::Mode;
 use std::alloc::{AllocError, Global};
 use strsim::jaro_winkler;
 
-/// How like two words are, from 0 to 1, of which one is offered as a guess at the other.
+/// How like a wrong word a good one has to be, from 0 to 1, to be offered as a guess.
 const LIKE: f64 = 0.8;
 
-/// What somebody may type who is used to SQL, and the word with which such a line begins here.
+/// What somebody may type who is used to SQL, and the word with which such a line begins in a script.
 static SQL_WORDS: [(&str, &str); 7] = [
     ("acquire", "lock"),
     ("connect", "session"),
@@ -26,7 +26,7 @@ static SQL_WORDS: [(&str, &str); 7] = [
     ("release", "unlock"),
 ];
 
-/// What somebody may type who is used to other shells, and the word with which such a line begins here.
+/// What somebody may type who is used to other shells, and the word with which such a line begins in this shell.
 static SHELL_WORDS: [(&str, &str); 5] = [
     ("quit", "end"),
     ("exit", "end"),
@@ -35,19 +35,19 @@ static SHELL_WORDS: [(&str, &str); 5] = [
     ("\\h", "help"),
 ];
 
-/// For whom it is said what is wrong with a line.
+/// What is known of the script, or of the shell, in which a line is wrong.
 #[derive(Clone, Copy)]
 pub struct Reader<'a> {
     /// The names of the sessions that are open.
     pub names: &'a [Name],
     /// The objects that have names.
     pub objects: &'a [NamedObject],
-    /// Whether it is said in a shell, which has lines of its own.
+    /// Whether the wrong line is one of a shell, which has lines of its own.
     pub is_in_shell: bool,
 }
 
-/// Adds to `text` what is wrong with `line`: the defect `what`, the word that has it, and the nearest good one for
-/// `reader`, or what it may be.
+/// Adds to `text` what is wrong with `line`: the defect `what`, the word that has it, and the nearest good word for `reader`, or what the word may
+/// be.
 pub fn push_correction(
     alloc: Global,
     text: &mut String,
@@ -76,8 +76,8 @@ pub fn push_correction(
     push_rule(text, what, words.as_slice(), reader)
 }
 
-/// The mode that SQL calls by `words` from the one on that is a mode's, as `ACCESS EXCLUSIVE`, if it does. The word
-/// `session` after them is left out.
+/// The mode that SQL calls by those of `words` that begin where a script has a mode, as `ACCESS EXCLUSIVE`, if they name one. The word `session` at
+/// the end is left out.
 fn mode_meant(alloc: Global, words: &[&str]) -> Result<Option<Mode>, AllocError> {
     let Some(place) = words.first().and_then(|verb| mode_place(*verb)) else {
         return Ok(None);
@@ -93,12 +93,12 @@ fn mode_meant(alloc: Global, words: &[&str]) -> Result<Option<Mode>, AllocError>
     Ok(mode_called(topic.as_str()))
 }
 
-/// Where in the lines of the command `verb` the mode is.
+/// The place of the mode among the words of a line of the command `verb`, if the command has a mode.
 fn mode_place(verb: &str) -> Option<usize> {
     command_row(verb)?.place_of(WordKind::ModeName)
 }
 
-/// Which one of `words` has the defect `what`, if it is one's, where the open sessions are called `names`.
+/// Which of `words` has the defect `what`, if the defect is that of a single word, where the open sessions are called `names`.
 fn word_meant<'a>(what: Defect, words: &[&'a str], names: &[Name]) -> Option<&'a str> {
     let verb = words.first().copied()?;
     if what == Defect::UnknownCommand {
@@ -108,7 +108,7 @@ fn word_meant<'a>(what: Defect, words: &[&'a str], names: &[Name]) -> Option<&'a
     words.get(place).copied()
 }
 
-/// Where in the lines of the command `row` the one of `words` is that has the defect `what`, if it is one's, where the
+/// The place among `words`, a line of the command `row`, of the word that has the defect `what`, if the defect is that of a single word, where the
 /// open sessions are called `names`.
 fn place_meant(what: Defect, row: &CommandRow, words: &[&str], names: &[Name]) -> Option<usize> {
     match what {
@@ -152,7 +152,7 @@ fn is_named(words: &[&str]) -> bool {
     }
 }
 
-/// Whether the second one of `words` is one of `names`, those of the open sessions.
+/// Whether the second of `words` is one of `names`, those of the open sessions.
 fn is_open(words: &[&str], names: &[Name]) -> bool {
     match words.get(1) {
         Some(word) => names.iter().any(|name| name.as_str() == *word),
@@ -160,8 +160,8 @@ fn is_open(words: &[&str], names: &[Name]) -> bool {
     }
 }
 
-/// The word that is good for `reader` in place of `word`, which has the defect `what`, and is like it, where good words
-/// can be listed and one is.
+/// The word that is good for `reader` in place of `word`, which has the defect `what`: the most like it, where the good words can be listed and one
+/// is like it.
 fn nearest_to(
     alloc: Global,
     what: Defect,
@@ -192,12 +192,12 @@ fn nearest_to(
     Ok(nearest.found)
 }
 
-/// The word most like another one of those that were looked at, in letters of either case.
+/// A search for the word most like a given one, in letters of either case, with what was found so far.
 #[derive(Drop)]
 struct Nearest {
     word: String,
     found: Option<String>,
-    /// How like `word` the word found is, or else how like it a word has to be to be found.
+    /// How like `word` the word found is, or how like it a word has to be where none was found.
     likeness: f64,
 }
 
@@ -212,8 +212,8 @@ impl Nearest {
         })
     }
 
-    /// Looks at the words with which lines begin, those of a shell too where `is_in_shell` is true, and at those that
-    /// others have for them.
+    /// Looks at the words with which lines begin, those of a shell too where `is_in_shell`, and at the words that SQL and other shells have for
+    /// these.
     fn look_at_verbs(&mut self, alloc: Global, is_in_shell: bool) -> Result<(), AllocError> {
         for row in command_rows() {
             self.look_at(alloc, row.verb, row.verb)?;
@@ -228,7 +228,7 @@ impl Nearest {
         Ok(())
     }
 
-    /// Looks at the words of `pairs` that others have, each with the good one.
+    /// Looks at the first word of each of `pairs`, what others type, whose second one is the good word for it.
     fn look_at_pairs(
         &mut self,
         alloc: Global,
@@ -240,7 +240,7 @@ impl Nearest {
         Ok(())
     }
 
-    /// Looks at `other`, which means the good word `good`. Of two that are equally like it the first one stays.
+    /// Looks at `other`, which means the good word `good`. Of two words that are equally like the wanted one, the one seen first is kept.
     fn look_at(&mut self, alloc: Global, other: &str, good: &str) -> Result<(), AllocError> {
         let lower = other.to_ascii_lowercase(alloc)?;
         let likeness = jaro_winkler(alloc, self.word.as_str(), lower.as_str())?;
@@ -252,8 +252,7 @@ impl Nearest {
     }
 }
 
-/// Ends the line of `text` with what the word with the defect `what` may be for `reader`, or with the form of the
-/// command of `words`.
+/// Ends the line of `text` with what a word with the defect `what` may be for `reader`, or with the form of the command that `words` begin with.
 fn push_rule(
     text: &mut String,
     what: Defect,
@@ -273,8 +272,7 @@ fn push_rule(
     }
 }
 
-/// Ends the line of `text` with what says which commands there are for `reader`, or which lock the SQL command `verb`
-/// takes.
+/// Ends the line of `text` with where `reader` finds the commands, or with which lock the SQL command `verb` takes.
 fn push_where_to_look(text: &mut String, verb: &str, reader: Reader) -> Result<(), AllocError> {
     if !reader.is_in_shell {
         return text.push_str("; lock_scenario run --help lists the commands\n");
@@ -297,8 +295,8 @@ fn push_open(text: &mut String, names: &[Name]) -> Result<(), AllocError> {
     text.push('\n')
 }
 
-/// Ends the line of `text` with what has the name, or the name that it has among `objects`, which a line of `words`
-/// gives anew.
+/// Ends the line of `text` with the object that has the name, or with the name of the object, for `words`, a line that gives a name again. `objects`
+/// are those that have names.
 fn push_named(
     text: &mut String,
     words: &[&str],
@@ -319,7 +317,7 @@ fn push_named(
     text.push('\n')
 }
 
-/// What comes at the end of the line that tells of the defect `what` of a line of `words`.
+/// What comes at the end of the line of text that says that a line of `words` has the defect `what`.
 fn rule_of(what: Defect, words: &[&str]) -> &'static str {
     match what {
         Defect::BadName if is_naming(words) => {

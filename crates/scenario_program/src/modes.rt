@@ -10,7 +10,7 @@ pub fn print_modes<W: Write + Drop>(output: W) -> Result<(), Fault> {
     write_modes(output).map_err(|_| Fault::WriteFailed)
 }
 
-/// Writes the table of modes to `output`. The error is the writer's own.
+/// Writes the conflict table to `output`. The error is the writer's own.
 fn write_modes<W: Write + Drop>(mut output: W) -> io::Result<()> {
     for mode in Mode::ALL {
         let (number, mask) = (mode.number(), conflicts(mode).mask());

@@ -7,13 +7,13 @@ use scenario::{Style, Turns};
 pub struct RunOptions {
     pub style: Style,
     pub turns: Turns,
-    /// Whether the run lists at its end who waited, for what and behind whom.
+    /// Whether the run lists at its end who waited, for which lock, and who was in the way.
     pub summary: bool,
     pub fail_on: FailOn,
 }
 
 impl RunOptions {
-    /// Whether the run is to list who waited where one picture of the script takes the place of all that is printed.
+    /// Whether the run is to list who waited though one picture of the script takes the place of all that is printed.
     pub fn summarizes_a_drawing(self) -> bool {
         match self.style.graph {
             Some(drawing) => self.summary && drawing.is_of_all_lines(),
@@ -32,7 +32,7 @@ pub struct FailOn {
     pub waits: bool,
     /// The run fails where a call is refused.
     pub refused: bool,
-    /// The run fails where a session is left waiting at its end.
+    /// The run fails where a session is left waiting at the end of the script.
     pub stuck: bool,
 }
 

@@ -19,7 +19,7 @@ use shared_rule::Board;
 use std::alloc::{AllocError, Global};
 use std::sync::Wait;
 
-/// Plays the lines of orders against lock managers of this size.
+/// Plays the lines of orders against lock managers of the size `config`.
 #[derive(Clone, Copy)]
 pub struct OnManagers {
     pub config: Config,
@@ -42,8 +42,8 @@ impl Player for OnManagers {
     }
 }
 
-/// Plays the lines that `orders` gives, with the sessions that `desk` opens, of which none is open after it. They are
-/// not begun where there is no memory for the list of sessions.
+/// Plays the lines that `orders` gives, with the sessions that `desk` opens, none of which is open at the end. No line is played where there is no
+/// memory for the list of sessions.
 fn play_at<T: PartTable, B: Board<T>, D: Desk<OwnSession<T, B>> + Drop, H: Wait>(
     rt: &H,
     alloc: Global,
@@ -70,7 +70,7 @@ fn play_at<T: PartTable, B: Board<T>, D: Desk<OwnSession<T, B>> + Drop, H: Wait>
     Ok((desk.desk, ended))
 }
 
-/// Does in `scene` what its orders say, turn by turn, to their end or to the first fault.
+/// Does in `scene` what the orders of its listener say, turn by turn, to their end or to the first fault.
 fn play_turns<T: PartTable, B: Board<T>, D: ScriptDesk<OwnSession<T, B>>, H: Wait>(
     rt: &H,
     scene: &mut Scene<T, B, D, Spectator<'_, '_>>,
@@ -89,7 +89,7 @@ fn play_turns<T: PartTable, B: Board<T>, D: ScriptDesk<OwnSession<T, B>>, H: Wai
     Ok(())
 }
 
-/// Runs `line` in `scene`, and notes in its orders what the line is answered.
+/// Runs `line` in `scene`, and notes in the orders of its listener what the line is answered.
 fn play_line<T: PartTable, B: Board<T>, D: ScriptDesk<OwnSession<T, B>>, H: Wait>(
     rt: &H,
     scene: &mut Scene<T, B, D, Spectator<'_, '_>>,
@@ -109,7 +109,7 @@ fn play_line<T: PartTable, B: Board<T>, D: ScriptDesk<OwnSession<T, B>>, H: Wait
     }
 }
 
-/// Has all sessions of `stage` abort. Those that wait stop that before.
+/// Has all sessions of `stage` abort their transactions. Sessions that wait cancel their waits before that.
 fn let_all_go<T: PartTable, B: Board<T>, D: ScriptDesk<OwnSession<T, B>>, H: Wait>(
     rt: &H,
     stage: &mut Stage<T, B, D>,
@@ -126,7 +126,7 @@ fn let_all_go<T: PartTable, B: Board<T>, D: ScriptDesk<OwnSession<T, B>>, H: Wai
     }
 }
 
-/// Notes in the orders what is answered.
+/// A listener that notes in the orders what the sessions are answered.
 #[derive(Drop)]
 struct Spectator<'a, 'b> {
     orders: &'a mut Orders<'b>,
@@ -175,7 +175,7 @@ impl Listener for Spectator<'_, '_> {
     }
 }
 
-/// What `said` says of the session that it is an answer to.
+/// What the answer `said` means for the session that it is given to.
 fn news_of(said: &Said) -> News {
     match said {
         Said::Opened { .. } => News::Opened,
@@ -186,7 +186,7 @@ fn news_of(said: &Said) -> News {
     }
 }
 
-/// What is said of the bad line `bad`: its number, and what is wrong with it, as a shell says it.
+/// The text on the bad line `bad`: its number, and what is wrong with it, as a shell says it.
 pub fn bad_line_text(alloc: Global, bad: &BadLine) -> Result<String, AllocError> {
     let reader = Reader {
         names: bad.open.as_slice(),
@@ -198,7 +198,7 @@ pub fn bad_line_text(alloc: Global, bad: &BadLine) -> Result<String, AllocError>
     Ok(text)
 }
 
-/// What is said of a session that was refused by `refused`, where `config` says how many may be opened.
+/// The text on a session that was refused as `refused` says, where `config` says how many may be opened.
 pub fn refused_session_text(
     alloc: Global,
     refused: RefusedSession,

@@ -12,22 +12,22 @@ use std::io::Write;
 #[derive(Drop)]
 pub struct Outcome {
     alloc: Global,
-    /// The line that was read last, and its number.
+    /// The text of the line that was read last, whose number is `number`.
     text: String,
     number: u32,
-    /// The names of the sessions that are open, and the objects that have names.
+    /// The names of the sessions that are open. The objects that have names are `objects`.
     open: Vec<Name>,
     objects: Vec<NamedObject>,
-    /// Whether a session waited in the run.
+    /// Whether a session has waited in the run so far.
     waited: bool,
-    /// Whether a call was refused.
+    /// Whether a call was refused in the run so far.
     was_refused: bool,
-    /// How many sessions wait now.
+    /// How many sessions of the run wait now.
     waiting: u32,
 }
 
 impl Outcome {
-    /// Nothing was heard yet. What is kept takes memory by `alloc`.
+    /// The outcome of a run of which nothing was heard yet. What is kept takes memory by `alloc`.
     pub fn new(alloc: Global) -> Self {
         Outcome {
             alloc,
@@ -41,16 +41,16 @@ impl Outcome {
         }
     }
 
-    /// Whether what was heard is one of what a run fails for, `fail_on`.
+    /// Whether something that the run fails for, by `fail_on`, has come in it.
     pub fn fails(&self, fail_on: FailOn) -> bool {
         (fail_on.waits && self.waited)
             || (fail_on.refused && self.was_refused)
             || (fail_on.stuck && self.waiting > 0)
     }
 
-    /// What is said of the bad line that ended the script, where that is the `fault`: its number, its defect, the word that has it, and the nearest
-    /// good one. Of SQL that can't be played it is what was told in place of the line. There is none of a line that isn't text, of another
-    /// fault, and where there is no memory for it.
+    /// What is said of the bad line that ended the script, where `fault` is a bad line: its number, its defect, the word that has the defect, and the
+    /// nearest good word. For SQL that can't be played it is the reason that the listener heard in place of the line. There is no text for a line
+    /// that isn't text, for another fault, and where there is no memory for it.
     pub fn correction(&self, fault: &Fault) -> Option<String> {
         match fault {
             Fault::BadLine { line, .. } if *line == self.number && is_told(&self.text) => {
@@ -123,17 +123,17 @@ impl Outcome {
     }
 }
 
-/// Whether `text` says why SQL can't be played, and is no line of a script: those have no line feed.
+/// Whether `text` is a reason why SQL can't be played, and no line of a script: only such a reason ends with a line feed.
 fn is_told(text: &String) -> bool {
     text.as_str().ends_with('\n')
 }
 
-/// Passes on to the output what is heard, and keeps what a run comes to.
+/// A listener that passes on to the output what is heard, and keeps what a run comes to.
 #[derive(Drop)]
 pub struct Witness<'a, W: Write + Drop> {
     pub output: Output<W>,
     pub outcome: &'a mut Outcome,
-    /// Who waited, if the run lists that at its end.
+    /// The waits of the run, if they are listed at its end.
     pub summary: Option<Summary>,
 }
 

@@ -30,7 +30,7 @@ const SUCCESS: u8 = 0;
 /// The status where the program's own words are refused.
 const REFUSED_WORDS: u8 = 2;
 
-/// The status of a run in which something came that its words name.
+/// The status of a run in which something has come that the command line names as a failure.
 const FAILED: u8 = 4;
 
 /// Where a script comes from.
@@ -41,7 +41,7 @@ pub struct Source<R: Drop> {
     pub is_terminal: bool,
 }
 
-/// Where the program says why it ends early, and somebody who waits what it does meanwhile.
+/// Where the program writes why it ends early, and, for somebody at a terminal, what it does meanwhile.
 #[derive(Drop)]
 pub struct Errors<'a, E> {
     pub writer: &'a mut E,
@@ -49,11 +49,11 @@ pub struct Errors<'a, E> {
     pub is_terminal: bool,
 }
 
-/// What ends the program early.
+/// What ends the program before its work is done.
 #[derive(Drop)]
 struct Failure {
     fault: Fault,
-    /// What is said of it, where that is more than the fault's own text.
+    /// The text on the failure, where there is more to say than the fault's own text.
     text: Option<String>,
 }
 
@@ -64,7 +64,7 @@ impl From<Fault> for Failure {
 }
 
 impl Failure {
-    /// What `ended` the orders of a script, which were run against lock managers of the size `config`.
+    /// What `ended` the orders of a script, which were run against lock managers of the size `config`, as a failure of the program.
     fn of_orders(alloc: Global, ended: OrdersFault, config: Config) -> Self {
         match ended {
             OrdersFault::Other(fault) => Failure::from(fault),
@@ -88,11 +88,10 @@ impl Failure {
     }
 }
 
-/// Runs the program, and answers its status: 0, 4 where a run or an SQL statement fails by `words`, 3 for a bad line of
-/// the script or a bad statement, 2 for refused words, and 1 for any other fault. The `words` are those of the command
-/// line, or the error of reading them. The script or the statements come from `input`, and a schema's file is read by
-/// `rt`. What it prints, and texts that are asked for, go to `output`. Why the program ends early goes to
-/// `errors`; at a terminal it also says there that it reads one, and how far a hammer is.
+/// Runs the program, and answers its status: 0, 4 where a run or an SQL statement fails by `words`, 3 for a bad line of the script or a bad
+/// statement, 2 for refused words, and 1 for any other fault. The `words` are those of the command line, or the error of reading them. The script or
+/// the statements come from `input`, and a schema's file is read by `rt`. What the program prints, and texts that are asked for, go to `output`. Why
+/// the program ends early goes to `errors`; so does, at a terminal, that the program reads from there, and how far a hammer is.
 pub fn run_program<
     H: AllocGlobal + Clock + Files + Threads + Wait + Sync,
     R: Read + Drop,
@@ -114,7 +113,7 @@ pub fn run_program<
     }
 }
 
-/// Does what `words` ask for, with the script of `input`, and answers the status.
+/// Does what `words` ask for, with the script of `input`, and answers the status of the program.
 fn run_words<
     H: AllocGlobal + Clock + Files + Threads + Wait + Sync,
     R: Read + Drop,
@@ -153,7 +152,7 @@ fn run_words<
     Ok(SUCCESS)
 }
 
-/// Runs the script of `input` with these `options` against a lock manager of the size `config`, and answers the status.
+/// Runs the script of `input` with these `options` against a lock manager of the size `config`, and answers the status of the program.
 fn run_input<H: AllocGlobal + Wait, R: Read + Drop, W: Write + Drop, E: Write>(
     rt: &H,
     config: Config,
@@ -267,8 +266,7 @@ fn print_man<W: Write + Drop>(alloc: Global, output: W) -> Result<(), Fault> {
     }
 }
 
-/// Says what each SQL statement of `input` locks, as `words` ask for it, on `output`, and answers the status. Faults go to
-/// `errors`.
+/// Says what each SQL statement of `input` locks, as `words` ask, on `output`, and answers the status of the program. Faults go to `errors`.
 fn run_statements<H: AllocGlobal + Files, R: Read + Drop, W: Write + Drop, E: Write>(
     rt: &H,
     words: &[String],
@@ -292,7 +290,7 @@ const TYPED_SCRIPT: &str =
 /// What is printed for somebody at a terminal who is to type SQL.
 const TYPED_SQL: &str = "reading SQL statements from the terminal, to their end (Ctrl-D)";
 
-/// Says to somebody at a terminal, by `errors`, that the input is read from there, in the words `what`.
+/// Says to somebody at a terminal, by `errors`, that the program reads the input from there, in the words `what`.
 fn say_input_is_typed<E: Write>(errors: &mut E, what: &str) {
     // Where the errors can't be written, the input is read all the same.
     let _ = writeln!(errors, "{what}");
@@ -304,7 +302,7 @@ fn print_text<W: Write + Drop>(mut output: W, text: &str) -> Result<(), Fault> {
     output.flush().map_err(|_| Fault::WriteFailed)
 }
 
-/// Refuses words that are no text, by `errors`.
+/// Says by `errors` that the words of the command line are no text, and answers the status for that.
 fn refuse_words<E: Write>(errors: &mut E) -> u8
     ensures { result ≤ 2 }
 {
@@ -316,7 +314,7 @@ fn refuse_words<E: Write>(errors: &mut E) -> u8
     REFUSED_WORDS
 }
 
-/// Says by `errors` what ended the program, `failure`, and answers the status for it.
+/// Says by `errors` what ended the program, `failure`, and answers the status for that.
 fn fail<E: Write>(errors: &mut E, failure: &Failure) -> u8
     ensures { result ≤ 3 }
 {

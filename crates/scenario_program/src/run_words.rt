@@ -5,7 +5,7 @@ use clap::{Arg, ArgAction, ArgMatches, Command};
 use scenario::{DRAWINGS, Drawing, Style, Turns};
 use std::alloc::{AllocError, Global};
 
-/// The subcommand `run` with the options of what it shows.
+/// The subcommand `run` with the options that say what a run shows.
 pub fn with_styles<'a>(alloc: Global, run: Command<'a>) -> Result<Command<'a>, AllocError> {
     let echo = Arg::new(alloc, "echo")
         .long("echo")
@@ -23,7 +23,7 @@ pub fn with_styles<'a>(alloc: Global, run: Command<'a>) -> Result<Command<'a>, A
     run.arg(echo)?.arg(json)?.arg(graph)
 }
 
-/// The option by which the numbers of closed sessions are given out again.
+/// The name of the option by which the numbers of closed sessions are given out again.
 pub const REUSE: &str = "reuse";
 
 /// The argument `--reuse` of a command, by which the numbers of closed sessions are given out again. Takes memory by
@@ -57,7 +57,7 @@ pub fn with_manners<'a>(alloc: Global, run: Command<'a>) -> Result<Command<'a>, 
         .arg(fail_on)
 }
 
-/// How `words` ask for a run.
+/// The options of a run that `words` ask for.
 pub fn run_options_of(words: &ArgMatches) -> RunOptions {
     RunOptions {
         style: style_of(words),

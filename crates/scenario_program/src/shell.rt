@@ -19,17 +19,17 @@ use std::alloc::{AllocError, Global};
 use std::io::{Read, Write};
 use std::sync::Wait;
 
-/// What is printed before each line at a terminal.
+/// What a shell prints before each line at a terminal.
 const PROMPT: &str = "lock> ";
 
-/// What is said first at a terminal.
+/// What a shell prints first at a terminal.
 const GREETING: &str = "help lists the commands, end closes all sessions and leaves\n";
 
 /// A shell, with the memory for what it says.
 #[derive(Clone, Copy)]
 pub struct Shell {
     pub alloc: Global,
-    /// Whether somebody types the lines at a terminal, and has a prompt.
+    /// Whether somebody types the lines at a terminal, so that the shell prints a prompt.
     pub is_terminal: bool,
 }
 
@@ -39,7 +39,7 @@ enum Typed {
     End,
     /// The line asks for help, which is this text.
     Help(String),
-    /// A line of a script.
+    /// The line is one of a script.
     Line,
 }
 
@@ -63,7 +63,7 @@ impl Shell {
     }
 }
 
-/// The names of those of `sessions` that are open.
+/// The names of all of `sessions`, which are open.
 fn names_of<S, W>(alloc: Global, sessions: &OpenSessions<S, W>) -> Result<Vec<Name>, AllocError> {
     let mut names = Vec::new(alloc);
     for place in 0..sessions.resting.len() {
@@ -96,16 +96,16 @@ fn words_behind_first(alloc: Global, line: &str) -> Result<Vec<&str>, AllocError
 /// How a shell is run.
 #[derive(Clone, Copy, Debug, PartialEq, Eq)]
 pub struct ShellOptions {
-    /// Whether somebody types the lines at a terminal, and has a prompt.
+    /// Whether somebody types the lines at a terminal, so that the shell prints a prompt.
     pub is_terminal: bool,
     /// Whether the numbers of closed sessions are given out again.
     pub reuse: bool,
 }
 
-/// Runs the lines that `reader` gives as a shell does, against a lock manager of the size `config`: a bad line is told
-/// to `writer`, with the nearest good word, and the shell goes on. Where `options` say that somebody types, it has a prompt; where they say so, a
-/// new session has the lowest number that no open session has. It ends with the line `end`, the input, or another fault, and then the sessions
-/// that are open are closed in silence.
+/// Runs the lines that `reader` gives as a shell does, against a lock manager of the size `config`: what is wrong with a bad line is written to
+/// `writer`, with the nearest good word, and the shell goes on. Where `options` say that somebody types, the shell has a prompt; where they say that
+/// numbers are reused, a new session has the lowest number that no open session has. The shell ends with the line `end`, the input, or another fault,
+/// and then the sessions that are open are closed in silence.
 pub fn run_shell<H: AllocGlobal + Wait, R: Read + Drop, W: Write + Drop>(
     rt: &H,
     reader: R,
@@ -133,8 +133,8 @@ pub fn run_shell<H: AllocGlobal + Wait, R: Read + Drop, W: Write + Drop>(
     ended
 }
 
-/// Has `shell` answer the lines of `reader` before `listener`, with the sessions that `desk` opens, of which none is open after it. Where
-/// `reuse`, the numbers of closed ones are given out again. No line is read where there is no memory for the list of them.
+/// Has `shell` answer the lines of `reader` before `listener`, with the sessions that `desk` opens, none of which is open at the end. Where `reuse`,
+/// the numbers of closed sessions are given out again. No line is read where there is no memory for the list of sessions.
 fn converse_at<
     T: PartTable,
     B: Board<T>,
@@ -165,8 +165,8 @@ fn converse_at<
     }
 }
 
-/// Has `shell` answer the lines of `reader` before `listener` as `converse_at` does, with the sessions that `desk` opens. Each number is given out
-/// once.
+/// Has `shell` answer the lines of `reader` before `listener` as `converse_at` does, with the sessions that `desk` opens. Each session number is
+/// given out once.
 fn converse_once<
     T: PartTable,
     B: Board<T>,
@@ -201,8 +201,8 @@ fn converse_once<
     Ok((desk.desk, ended))
 }
 
-/// Has `shell` answer the lines of `reader` before `listener` as `converse_at` does, with the sessions that `desk` opens. The numbers of closed ones
-/// are given out again.
+/// Has `shell` answer the lines of `reader` before `listener` as `converse_at` does, with the sessions that `desk` opens. The numbers of closed
+/// sessions are given out again.
 fn converse_reusing<
     T: PartTable,
     B: Board<T>,
@@ -270,7 +270,7 @@ fn converse<
     Ok(())
 }
 
-/// Has `listener` say `text` at the terminal of `shell`, if it has one.
+/// Has `listener` print `text` at the terminal of `shell`, if it has one.
 fn prompt<L: Listener>(listener: &mut L, shell: Shell, text: &'static str) -> Result<(), Fault> {
     if shell.is_terminal {
         listener.tell(text)
@@ -279,8 +279,7 @@ fn prompt<L: Listener>(listener: &mut L, shell: Shell, text: &'static str) -> Re
     }
 }
 
-/// Goes on after a line whose `fault` is that it isn't ASCII text, and which was read to its end. Other faults end
-/// the shell.
+/// Has the shell go on after a line that was read to its end and isn't ASCII text, where that is the `fault`. Other faults end the shell.
 fn pass_over<L: Listener>(listener: &mut L, fault: Fault) -> Result<(), Fault> {
     match fault {
         Fault::BadLine {
@@ -291,7 +290,7 @@ fn pass_over<L: Listener>(listener: &mut L, fault: Fault) -> Result<(), Fault> {
     }
 }
 
-/// Answers `line` in `scene` by `shell`, and says whether it ends that.
+/// Answers `line` in `scene` by `shell`, and says whether the line ends the shell.
 fn answer<T: PartTable, B: Board<T>, D: ScriptDesk<OwnSession<T, B>>, L: Listener, H: Wait>(
     rt: &H,
     scene: &mut Scene<T, B, D, L>,
@@ -315,7 +314,7 @@ fn answer<T: PartTable, B: Board<T>, D: ScriptDesk<OwnSession<T, B>>, L: Listene
     }
 }
 
-/// Runs `line`, one of a script, in `scene`, or tells by `shell` what is wrong with it.
+/// Runs `line`, one of a script, in `scene`, or says by `shell` what is wrong with the line.
 fn answer_line<T: PartTable, B: Board<T>, D: ScriptDesk<OwnSession<T, B>>, L: Listener, H: Wait>(
     rt: &H,
     scene: &mut Scene<T, B, D, L>,

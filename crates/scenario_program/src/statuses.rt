@@ -43,7 +43,7 @@ static STATUSES: [Status; 5] = [
     },
 ];
 
-/// Adds to `text` what the status says of a run, in lines of a help.
+/// Adds to `text` what each status says of a run, in lines of a help.
 pub fn push_statuses_of_run(alloc: Global, text: &mut String) -> Result<(), AllocError> {
     let mut wrapped = Wrapped::new(alloc, "Status:")?;
     for status in &STATUSES {
@@ -134,7 +134,7 @@ pub fn push_refusals(text: &mut String) -> Result<(), AllocError> {
     )
 }
 
-/// Adds to `text` the line of `refusal`, with what it names by `names` and `why` it comes.
+/// Adds to `text` the line of `refusal`, with what the refusal names by `names` and `why` it comes.
 fn push_refusal(
     text: &mut String,
     refusal: &Refusal,

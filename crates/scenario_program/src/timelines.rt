@@ -15,8 +15,8 @@ use std::alloc::{AllocError, Global};
 use std::io::{Read, Write};
 use std::sync::Wait;
 
-/// Runs the script that the reader gives, as `run_before` does, and writes a picture of all of it: as SVG, or where `style` asks
-/// for `Drawing::Gantt` as Mermaid's chart, and with `style.json` as an object of JSON. Nothing is written where the script ends with a fault.
+/// Runs the script that the reader gives, as `run_before` does, and writes a picture of the whole script: as SVG, or where `style` asks for
+/// `Drawing::Gantt` as Mermaid's chart, and with `style.json` as an object of JSON. Nothing is written where the script ends with a fault.
 pub fn draw_script<H: AllocGlobal + Wait, R: Read + Drop, W: Write + Drop>(
     rt: &H,
     reader: R,
@@ -79,7 +79,7 @@ fn write_sketch<W: Write + Drop>(
     Ok(())
 }
 
-/// A lock that a line asks for or gives back, and the words around it.
+/// A lock that a line of a script asks for or gives back.
 #[derive(Clone, Copy)]
 struct Asked {
     tag: Tag,
@@ -87,7 +87,7 @@ struct Asked {
     owner: Owner,
 }
 
-/// What a line says of a timeline: whose it is, which lock it is about, and whether it keeps what a level has.
+/// What a line of a script says for a timeline: whose line it is, which lock it is about, and what it does to the levels of a transaction.
 #[derive(Clone, Copy)]
 struct Played {
     name: Name,
@@ -95,7 +95,7 @@ struct Played {
     level: Level,
 }
 
-/// What a line does to the levels of a transaction.
+/// What a line of a script does to the levels of its session's transaction.
 #[derive(Clone, Copy)]
 enum Level {
     Stays,
@@ -105,7 +105,7 @@ enum Level {
 }
 
 impl Played {
-    /// What a line of `words` says, where `objects` have names.
+    /// What a line of these `words` says for a timeline, if it says something, where `objects` have names.
     fn of(words: &[&str], objects: &ObjectNames) -> Option<Self> {
         let [verb, name, others @ ..] = words else {
             return None;
@@ -122,8 +122,7 @@ impl Played {
     }
 }
 
-/// The lock of a line by `words`, those after its session: an object, a mode, and `session` or none; `objects` have
-/// names.
+/// The lock that a line is about by `words`, those after its session: an object, a mode, and `session` or nothing; `objects` have names.
 fn lock_of(words: &[&str], objects: &ObjectNames) -> Option<Asked> {
     let (tag, mode, owner) = match words {
         [tag, mode] => (*tag, *mode, Owner::Transaction),
@@ -137,7 +136,7 @@ fn lock_of(words: &[&str], objects: &ObjectNames) -> Option<Asked> {
     })
 }
 
-/// A timeline with the line that is played.
+/// A timeline, with the line of the script that is played.
 #[derive(Drop)]
 struct Sketch {
     timeline: Timeline,
@@ -168,7 +167,7 @@ impl Sketch {
         }
     }
 
-    /// The session of this name is told this. The objects are known by `names`.
+    /// Notes that the session `name` is answered `said`. The objects are known by `names`.
     fn hear(&mut self, names: &Names, name: &Name, said: Said) -> Result<(), AllocError> {
         let words = split_words(self.text.as_str());
         self.played = Played::of(words.as_slice(), &names.objects);
@@ -233,7 +232,7 @@ impl Sketch {
         }
     }
 
-    /// The lock that the line is about, if it is a line of the session `name`.
+    /// The lock that the line played is about, if it is a line of the session `name`.
     fn lock_for(&self, name: &Name) -> Option<Asked> {
         let played = self.played?;
         if played.name == *name {
@@ -256,7 +255,7 @@ impl Sketch {
     }
 }
 
-/// Keeps what is answered as a timeline.
+/// A listener that keeps what is answered as a timeline.
 #[derive(Drop)]
 struct Draftsman<'a> {
     sketch: &'a mut Sketch,

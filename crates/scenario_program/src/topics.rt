@@ -5,7 +5,7 @@ use crate::mode_help::{push_mode, push_modes};
 use crate::statements::push_statements;
 use std::alloc::{AllocError, Global};
 
-/// What is answered to `help` with `words` after it.
+/// What a shell answers to `help` with `words` after it.
 pub fn help(alloc: Global, words: &[&str]) -> Result<String, AllocError> {
     let mut text = String::new(alloc);
     if words.is_empty() {

@@ -1,7 +1,7 @@
 //! Scripts with advisory locks, as rows.
 use crate::rows::{BadRow, Row};
 
-/// What an advisory lock outlives, where it stands, and with what it conflicts.
+/// What an advisory lock outlives, where it is held, and with what it conflicts.
 pub static ADVISORY: [Row<'static>; 7] = [
     // what the session owns of advisory locks survives an abort, and nothing else does
     (

@@ -2,7 +2,8 @@
 
 use crate::rows::Row;
 
-/// With two groups relations of even numbers take slots 0 to 15, and those of odd numbers slots 16 to 31.
+/// Rows about two groups of fast-path slots: relations of even numbers take slots 0 to 15, and those of odd numbers
+/// slots 16 to 31.
 pub static TWO_GROUPS: [Row<'static>; 4] = [
     (
         1,

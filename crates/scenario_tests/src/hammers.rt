@@ -16,7 +16,7 @@ use std::time::{Clock, Duration};
 /// How many workers the gates count.
 const WORKERS: usize = 4;
 
-/// How often a gate that holds a worker looks for the other one.
+/// How often a gate that holds a worker looks whether the other worker has come.
 const TURNS: u32 = 10_000_000;
 
 /// A gate that counts how often each worker asks, and holds workers 0 and 1 each until the other has come.
@@ -33,7 +33,7 @@ impl MeetingGate {
         }
     }
 
-    /// How often `worker` has asked. Of those that aren't counted it is never.
+    /// How often `worker` has asked. 0 for a worker that isn't counted.
     fn times(&self, worker: usize) -> u64 {
         if worker < WORKERS {
             self.asked[worker].load(Ordering::SeqCst)
@@ -42,7 +42,7 @@ impl MeetingGate {
         }
     }
 
-    /// Whether `worker` comes within its turns.
+    /// Whether `worker` comes to the gate within `TURNS` looks.
     fn comes(&self, worker: usize) -> bool {
         'turns: for _ in 0..TURNS {
             if self.times(worker) != 0 {
@@ -76,8 +76,8 @@ impl Gate for GateShutFor {
     }
 }
 
-/// Runs a hammer of `sessions` and `rounds` in the threads of `gate`, and checks that it prints `printed` and that
-/// `fault` ends it, both as text. Numbers out of their ranges are put in these.
+/// Runs a hammer of `sessions` and `rounds`, both brought into their ranges, with `gate`, and checks that it prints
+/// `printed` and that it ends with `fault`, as text (empty for none).
 fn expect_hammer<G: Gate + Sync>(
     rt: &(impl Abort + AllocGlobal + Threads + Wait + Sync),
     gate: &G,
@@ -167,7 +167,7 @@ fn tells_of_a_writer_that_fails(rt: HostRuntime) {
     }
 }
 
-/// Counts what it is told of a hammer.
+/// A listener that counts the rounds and the ends that a hammer reports.
 #[derive(Drop)]
 struct Listener {
     rounds: AtomicU64,
@@ -194,7 +194,8 @@ impl Progress for Listener {
     }
 }
 
-/// A gate, by the worker that it is shut for, and how many rounds of a hundred each of four workers tell then.
+/// The worker for which a gate is shut, and how many rounds are reported then where each of four workers is to play a
+/// hundred.
 static TOLD: [(u32, u64); 3] = [(0, 300), (3, 300), (4, 400)];
 
 #[test]
@@ -219,7 +220,8 @@ fn tells_of_each_round_and_of_the_end(rt: HostRuntime) -> Result<(), Fail> {
     Ok(())
 }
 
-/// A clock on which a tenth of a second goes by from one reading to the next. It can be read so often.
+/// A clock on which a tenth of a second goes by from one reading to the next. It can be read a fixed number of times,
+/// and fails after that.
 #[derive(Drop)]
 struct Ticks {
     read: AtomicU64,
@@ -241,8 +243,8 @@ impl Clock for Ticks {
     }
 }
 
-/// How many rounds one session plays, how often the clock can be read, and what the line says. It is read at first,
-/// after each 64 rounds, and at the end.
+/// How many rounds one session plays, how often the clock can be read, and what the line says. The clock is read at
+/// first, after each 64 rounds, and at the end.
 static LINES: [(u32, u64, &str); 4] = [
     (100, 100, ""),
     (

@@ -5,7 +5,7 @@ use crate::rows::Row;
 
 const OPENED: &str = "a: session 0 database 5\n";
 
-/// Inputs from their first line on.
+/// Rows about inputs from their first line on.
 pub static INPUTS: [Row<'static>; 19] = [
     // bytes that are no text, of which 0xC3 is one, also on lines that do nothing
     (0, "# \u{c3}", "", "line 1: not ASCII text"),

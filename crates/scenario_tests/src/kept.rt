@@ -6,7 +6,7 @@ use std::test::Fail;
 
 const KEEP: &str = "lock_scenario run --keep";
 
-/// What `app` and `ddl` have at first.
+/// What the lines print that open the sessions `app` and `ddl`.
 const OPENED: &str = "app: session 0 database 5\nddl: session 1 database 5\n";
 
 /// Scripts with what they print where lines are kept.
@@ -72,7 +72,7 @@ fn each_session_s_lines_run_in_their_order(rt: HostRuntime) -> Result<(), Fail> 
     Ok(())
 }
 
-/// Lines that are left at the end, after those that open the two sessions.
+/// Kept lines that are left at the end, after those that open the two sessions.
 static LEFT: [(&str, &str); 4] = [
     (
         "lock app 5/1 AccessShareLock\nlock ddl 5/1 AccessExclusiveLock\ncommit ddl\nclose ddl\n",
@@ -107,11 +107,12 @@ fn what_is_left_is_told(rt: HostRuntime) -> Result<(), Fail> {
     Ok(())
 }
 
-/// Two sessions of which the second one waits with a commit behind it.
+/// Two sessions of which the second one waits for the first one.
 const WAITS: &str =
     "session a 5\nsession b 5\nlock a 5/1 ExclusiveLock\nlock b 5/1 ExclusiveLock\n";
 
-/// Scripts of these with the lines behind them, and what is printed behind theirs.
+/// Words of a run, and what the program does on the script `WAITS` with further lines: those lines, the status, and
+/// what is written for them to the output and to the errors.
 static ENDS: [(&str, (&str, u8, &str, &str)); 11] = [
     // a kept line that is bad is told when it is read
     (

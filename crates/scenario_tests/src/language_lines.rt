@@ -1,6 +1,6 @@
 //! The lines of scripts as docs/LANGUAGE.md lists them (`.ci/scenarios` writes them here).
 
-/// All of them.
+/// All lines of scripts that docs/LANGUAGE.md lists, in its order.
 pub static LINES: [&str; 21] = [
     "session NAME DB",
     "name OBJECT TAG",

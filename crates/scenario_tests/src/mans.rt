@@ -6,7 +6,7 @@ use std::alloc::{AllocError, Global};
 use std::process::Abort;
 use std::test::Fail;
 
-/// What stands before the texts of the help, and what behind them.
+/// What the manual page has before the texts of the help. `TAIL` is what it has after them.
 const HEAD: &str = ".TH LOCK_SCENARIO 1 \"\" \"lock_scenario 0.1.0\" \"User Commands\"\n.SH NAME\n\
     lock_scenario \\- Run scripts against PostgreSQL\\(aqs lock manager\n.SH SYNOPSIS\n.nf\n\
     lock_scenario run [OPTIONS] < SCRIPT\n\
@@ -40,7 +40,7 @@ const TAIL: &str = ".SH REFUSALS\n.nf\n\
     3  a bad line of a script, where what the lines before it printed stays; or a bad SQL statement\n\
     4  what \\-\\-fail\\-on names: of run a wait, a refused call, or somebody left waiting; of sql a statement\n.fi\n";
 
-/// The titles of the sections between them, and the words that ask for their texts.
+/// The titles of the sections of the manual page that have texts of the help, and the words that ask for their texts.
 static SECTIONS: [(&str, &str); 7] = [
     ("DESCRIPTION", "lock_scenario --help"),
     ("LOCK_SCENARIO RUN", "lock_scenario run --help"),

@@ -73,7 +73,7 @@ fn no_name_is_given_twice(rt: HostRuntime) -> Result<(), Fail> {
     Ok(())
 }
 
-/// What a shell tells of bad lines about names.
+/// What a shell answers to bad lines about names.
 const TOLD: &str = "\
 name accounts 5/16385
 bad line: name exists \"accounts\"; it is 5/16385
@@ -118,7 +118,7 @@ fn a_name_stands_beside_the_numbers_in_json(rt: HostRuntime) -> Result<(), Fail>
     Ok(())
 }
 
-/// One who waits for an object that has a name.
+/// A script in which a session waits for an object that has a name.
 const WAITS: &str = "session a 5\nsession b 5\nname accounts 5/16385\n\
     lock a accounts ShareLock\nlock b accounts ExclusiveLock\nlist a\n";
 

@@ -1,7 +1,7 @@
 //! Scripts with levels of transactions, as rows.
 use crate::rows::{Copies, Row};
 
-/// What a level owns, and what of it is left when it ends.
+/// Rows about what a level of a transaction owns, and what of that is left when the level ends.
 pub static NESTED: [Row<'static>; 8] = [
     // what is handed up goes with the level that it was handed to
     (

@@ -181,7 +181,7 @@ fn shows_at_a_terminal_how_many_were_run(rt: HostRuntime) -> Result<(), Fail> {
     Ok(())
 }
 
-/// What stands before the orders, the sessions' lines, and how many orders there are.
+/// A story: the lines before its orders, the lines of each session, and how many orders there are.
 type Tale = (&'static str, &'static [&'static [&'static str]], u32);
 
 static TALES: [Tale; 3] = [
@@ -226,7 +226,7 @@ static TALES: [Tale; 3] = [
 ];
 
 /// The `lines` lines of `tale` in the order that the digits of `code` say, one of which says whose line comes next.
-/// There is none where a digit names a session whose lines are all taken.
+/// `None` where a digit names a session whose lines are all taken.
 fn script_of(alloc: Global, tale: &Tale, lines: u32, code: u32) -> Result<Option<String>, Fail> {
     let (opening, actors, _) = *tale;
     let many = u32::try_from(actors.len()).unwrap_or(0);
@@ -244,7 +244,7 @@ fn script_of(alloc: Global, tale: &Tale, lines: u32, code: u32) -> Result<Option
     Ok(Some(script))
 }
 
-/// The next line of the one of `actors` at `place`, of whose lines `taken` are taken.
+/// The next line of the session at `place` of `actors`, from whose lines those counted in `taken` are taken.
 fn next_line(
     actors: &'static [&'static [&'static str]],
     place: usize,
@@ -285,7 +285,7 @@ fn whole(alloc: Global, tale: &Tale) -> Result<(String, u32), Fail> {
     Ok((script, many))
 }
 
-/// Checks that the program tells as many orders of `tale` as the plain enumeration has.
+/// Checks that the program finds as many orders of `tale` as the plain enumeration has.
 fn expect_counts(
     rt: &(impl Abort + AllocGlobal + Clock + Files + Threads + Wait + Sync),
     tale: &Tale,

@@ -6,7 +6,8 @@ pub const UPGRADE: &str = "# Whoever comes first.\n\
     lock a 5/1259/16384/0 ShareLock\nlock a 5/1259/16384/0 ExclusiveLock\ncommit a\n\
     lock b 5/1259/16384/0 ShareLock\n\nlock b 5/1259/16384/0 ExclusiveLock\ncommit b\n";
 
-/// In eight orders every line comes to a session that doesn't wait. Four of these end in a simple deadlock.
+/// What is printed of `UPGRADE`: in eight orders every line comes to a session that doesn't wait. Four of these end in
+/// a simple deadlock.
 pub const UPGRADED: &str = "\
 # 8 orders run, of at most 20: 8 ended, 0 stuck
 
@@ -79,9 +80,9 @@ pub const TWO_TABLES: &str = "session a 5\nsession b 5\n\
     lock a 5/1 AccessExclusiveLock\nlock a 5/2 AccessExclusiveLock\ncommit a\n\
     lock b 5/2 AccessExclusiveLock\nlock b 5/1 AccessExclusiveLock\ncommit b\n";
 
-/// Each may have its first table, and then both wait: which of the two comes first to its first table is nothing to the
-/// other, and who comes first to wait is. Where one has both tables, the other waits or comes later; it comes later in two
-/// orders, since both have to do with both tables.
+/// What is printed of `TWO_TABLES`. Each session may have its first table, and then both wait: which of the two comes
+/// first to its first table is nothing to the other, and who comes first to wait is. Where one has both tables, the
+/// other waits or comes later; it comes later in two orders, since both have to do with both tables.
 pub const TWO_TABLES_LOCKED: &str = "\
 # 6 orders run, of at most 20: 4 ended, 2 stuck
 
@@ -141,7 +142,8 @@ lock b 5/1 AccessExclusiveLock
 pub const LOOKED: &str = "session a 5\nsession b 5\n\
     lock a 5/1 ShareLock\n  queue a\t5/1 \nlock b 5/1 ExclusiveLock\n";
 
-/// What the session sees makes two ways. In the third one it waits for a session that has no line left.
+/// What is printed of `LOOKED`: what the session sees makes two ways. In the third one it waits for a session that has
+/// no line left.
 pub const LOOKED_AT: &str = "\
 # 3 orders run, of at most 3: 2 ended, 1 stuck
 
@@ -179,7 +181,8 @@ lock a 5/1 ShareLock
 # lines of different sessions that have nothing to do with one another
 ";
 
-/// The ways of the script with a look, with what the look sees left out: then it has nothing to do with the other session.
+/// The ways of the script with a look, with what the look sees left out: then the look has nothing to do with the other
+/// session.
 pub const LOOKED_AT_ENDS: &str = "\
 # 2 orders run, of at most 3: 1 ended, 1 stuck
 
@@ -207,7 +210,7 @@ lock a 5/1 ShareLock
 # lines of different sessions that have nothing to do with one another
 ";
 
-/// A session is asked to stop waiting, which it never does, before it is closed. Behind that nobody can ask it.
+/// A session is asked to stop waiting, which it never does, before it is closed. After that nobody can ask it.
 pub const CLOSED: &str = "session a 5\nsession b 5\ncancel a b\nclose b\n";
 
 pub const CLOSED_LATER: &str = "\
@@ -233,13 +236,13 @@ close b
 # lines of different sessions that have nothing to do with one another
 ";
 
-/// What is said where all were run.
+/// What is said after the ways where all orders were run.
 pub const ALL_RUN: &str = "
 # all were run, but for those that differ from one of these only in neighbouring
 # lines of different sessions that have nothing to do with one another
 ";
 
-/// What is said where half of a hundred were drawn.
+/// What is said after the ways where half of a hundred were drawn.
 pub const DRAWN: &str = "
 # not all were run: 50 of the first ones, and 50 drawn by seed 0
 # --limit runs more, --seed draws others
@@ -266,7 +269,7 @@ lock c 5/2 AccessExclusiveLock
 commit c
 ";
 
-/// The deadlock of b and c.
+/// What is printed of `GUARDED` for the deadlock of b and c.
 pub const GUARDED_LOCKED: &str = "
 #   b: granted; granted; waits
 #   c: granted; granted; granted; granted; waits

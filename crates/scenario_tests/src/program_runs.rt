@@ -3,7 +3,7 @@
 use crate::help_texts::{HAMMER_HELP, HELP, MODES, MODES_HELP, RUN_HELP};
 use std::io::ErrorKind;
 
-/// What the errors take where the script is typed.
+/// What is written to the errors where the script is typed.
 pub const INVITATION: &str =
     "reading a script from the terminal, to its end (Ctrl-D); run --help shows its lines\n";
 

@@ -11,7 +11,7 @@ use std::test::Fail;
 use std::thread::Threads;
 use std::time::Clock;
 
-/// A reader of a text, which fails where that ends if it is to.
+/// A reader of a text, which fails at the end of the text if it is to.
 #[derive(Drop)]
 struct Input<'a> {
     text: &'a [u8],

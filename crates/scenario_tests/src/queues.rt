@@ -118,7 +118,7 @@ b waits for a ExclusiveLock held
     ),
 ];
 
-/// Bad lines of these words, each behind the opening of `a`.
+/// Bad lines about queues, each after the line that opens the session `a`.
 pub static BAD_QUEUES: [BadRow<'static>; 10] = [
     ("queue a", "line 2: wrong number of words"),
     ("queue a 5/16384 ShareLock", "line 2: wrong number of words"),

@@ -12,7 +12,7 @@ pub type Copies<'a> = (&'a str, u32, &'a str, &'a str);
 
 const OPENED: &str = "a: session 0 database 5\n";
 
-/// Lines that do nothing, lines that end in every way, hashes, and counters.
+/// Rows about lines that do nothing, lines that end in every way, hashes, and counters.
 pub static LINES: [Row<'static>; 17] = [
     (0, "", "", ""),
     (0, "\n", "", ""),
@@ -178,7 +178,7 @@ pub static CLOSED_LINES: [BadRow<'static>; 4] = [
     ("commit a", "line 3: no such session"),
 ];
 
-/// Ends of locks, transactions and sessions.
+/// Rows about ends of locks, transactions and sessions.
 pub static ENDS: [Row<'static>; 6] = [
     // counts of a transaction and of the session
     (
@@ -255,7 +255,7 @@ pub static ENDS: [Row<'static>; 6] = [
     ),
 ];
 
-/// What is in the way, what goes by a slot, and what a listing shows.
+/// Rows about what is in the way, what goes by a slot, and what a listing shows.
 pub static LISTINGS: [Row<'static>; 14] = [
     // an object is not the relation of its numbers
     (
@@ -571,6 +571,6 @@ pub static TOO_MANY_LINES: [Copies<'static>; 2] = [
 /// A script whose third line is cut short.
 pub const CUT_SHORT: &str = "session a 5\nhash 5/16384\nsess";
 
-/// The sixth line is written by the pass after the last command.
+/// A script whose sixth printed line is written by the pass after the last command.
 pub const WAKES: &str =
     "session a 5\nsession b 5\ntry a 5/1 ShareLock\nlock b 5/1 ExclusiveLock\ncommit a\n";

@@ -71,7 +71,7 @@ const ALL_GROUPS: Config = Config {
 };
 
 /// Runs `script`, which is read `most` bytes at a time, and checks that it prints `printed` and that `fault` ends it,
-/// both as text. What is out of its range in `config` is put in that.
+/// both as text. Numbers of `config` that are out of their ranges are brought into them.
 fn expect_read(
     rt: &(impl Abort + AllocGlobal + Wait),
     config: Config,
@@ -105,7 +105,7 @@ fn expect_read(
     Ok(())
 }
 
-/// Runs `script` as it is read a byte, seven bytes and a page at a time, by `config`, and checks that it prints
+/// Runs `script` three times, read a byte, seven bytes and a page at a time, by `config`, and checks that it prints
 /// `printed` and that `fault` ends it.
 pub fn expect_run(
     rt: &(impl Abort + AllocGlobal + Wait),

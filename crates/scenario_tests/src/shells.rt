@@ -262,7 +262,7 @@ static ANSWERS: [(&str, &str); 61] = [
     ),
 ];
 
-/// All lines in one shell, with `end` behind them, and what stands there is read no more.
+/// One shell answers all lines and stops at `end`: what comes after that is read no more.
 #[test]
 fn answers_each_line(rt: HostRuntime) -> Result<(), Fail> {
     let mut lines = String::new(rt.alloc());

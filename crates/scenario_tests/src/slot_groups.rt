@@ -55,8 +55,8 @@ pub fn move_all_slots(
     printed.push_str("rows 129\n")
 }
 
-/// What is released in the table leaves its group's slots free to be counted anew, and those of other groups as
-/// they are.
+/// Further lines of the script after the moves: what is released in the table leaves the slots of its own group free to
+/// be counted anew, and the slots of other groups as they are.
 pub const AFTER_MOVES: &str = "fast a 5/16520 AccessShareLock\n\
     unlock a 5/16384 AccessShareLock\n\
     fast a 5/16520 AccessShareLock\n\

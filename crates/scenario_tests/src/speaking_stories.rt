@@ -1,6 +1,6 @@
 //! The stories in SQL of `scenarios/sql/`, with what they print (`.ci/scenarios` writes them here).
 
-/// All of them.
+/// All stories of scenarios/sql/, each with what it prints.
 pub static STORIES: [(&str, &str); 20] = [
     (
         "\

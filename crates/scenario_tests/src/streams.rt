@@ -67,8 +67,7 @@ fn lines_within(alloc: Global, bytes: usize) -> Result<(String, String), Fail> {
     Ok((script, printed))
 }
 
-/// Checks that the script ended as `expected`, where it did so as `ended`, and that it printed `printed`, where
-/// `output` is what came.
+/// Checks that a script that ended as `ended` was to end as `expected`, and that its `output` is `printed`.
 fn expect_end(
     rt: &impl Abort,
     ended: Result<(), Fault>,
@@ -80,7 +79,8 @@ fn expect_end(
     assert_eq!(rt; output, printed);
 }
 
-/// Runs `script` with a reader that fails after `reads` reads of at most `most` bytes. What comes before is run.
+/// Runs `script` with a reader that fails after `reads` reads of at most `most` bytes. The lines that come before the
+/// failure are run.
 fn expect_read_failed(
     rt: &(impl Abort + AllocGlobal + Wait),
     script: &str,
@@ -106,7 +106,8 @@ fn expect_read_failed(
     Ok(())
 }
 
-/// Runs `script` with a writer that fails after `writes` writes. It has taken what was printed of `printed` before.
+/// Runs `script` with a writer that fails after `writes` writes. The writer has taken what was printed of `printed`
+/// before the failure.
 fn expect_written(
     rt: &(impl Abort + AllocGlobal + Wait),
     script: &str,

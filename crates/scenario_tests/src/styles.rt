@@ -249,7 +249,7 @@ const TOGETHER: StyledRow<'static> = (
 ",
 );
 
-/// Where nothing is listed the last state is drawn: here nobody is left who could list.
+/// Where nothing is listed the last state is drawn: in this script nobody is left who could list.
 const LAST: StyledRow<'static> = (
     MERMAID,
     "\

@@ -22,7 +22,7 @@ lock late accounts ShareLock
 commit web2
 ";
 
-/// Who waited there. The last one waits behind a holder, and behind one who holds what it got when this went on.
+/// What the summary of the script `QUEUE` says: who waited, from which line to which, and behind whom, and who is left.
 const QUEUED: &str = "\
 alter waited from line 8 to line 12 for AccessExclusiveLock on accounts: report holds AccessShareLock
 web1 waits from line 9 for AccessShareLock on accounts: alter stands before with AccessExclusiveLock
@@ -40,7 +40,7 @@ fn tells_each_wait_behind_the_answers(rt: HostRuntime) -> Result<(), Fail> {
     Ok(())
 }
 
-/// Scripts with what is told behind their answers.
+/// Scripts with what is printed after their answers.
 static TOLD: [(&str, &str); 6] = [
     (
         "session a 5\nlock a 5/1 ShareLock\n",
@@ -92,7 +92,7 @@ fn tells_who_was_in_the_way(rt: HostRuntime) -> Result<(), Fail> {
     Ok(())
 }
 
-/// With kept lines: each line has the number at which it was read, and who is left is told once.
+/// A script with kept lines: each line has the number at which it was read, and who is left is told once.
 const KEPT: &str =
     "session a 5\nsession b 5\nlock a 5/1 ExclusiveLock\nlock b 5/1 ExclusiveLock\nlock b 5/2 ShareLock\n\
     lock a 5/2 ExclusiveLock\ncommit a\ncommit b\nlock a 5/2 ShareLock\nlock b 5/2 ExclusiveLock\ncommit b\n";

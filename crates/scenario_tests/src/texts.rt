@@ -65,7 +65,7 @@ fn a_refusal_has_its_number_and_text(rt: HostRuntime) -> Result<(), Fail> {
     Ok(())
 }
 
-/// Prints on `output` what sessions are told, in each variant.
+/// Prints on `output` answers to a session, one of each variant.
 fn print_said<H: AllocGlobal + Abort>(
     rt: &H,
     output: &mut Output<&mut Vec<u8>>,

@@ -55,7 +55,7 @@ gantt
 ",
 );
 
-/// Bars and waits as SVG, with an arrow to each that is in the way.
+/// Bars and waits as SVG, with an arrow to each session that is in the way.
 const PICTURE: StyledRow<'static> = (
     TIMELINE,
     "\
@@ -200,7 +200,7 @@ gantt
 ",
 );
 
-/// The picture as an object of JSON.
+/// The picture of a timeline as an object of JSON.
 const OBJECT: StyledRow<'static> = (
     JSON_GANTT,
     "\

@@ -1,7 +1,7 @@
 //! Scripts in which sessions wait, as rows, with what they print by the rules of the queue.
 use crate::rows::{BadRow, Row};
 
-/// Who waits, and who wakes.
+/// Rows about who waits, and who wakes.
 pub static WAITS: [Row<'static>; 9] = [
     // a reader, whoever waits for it, and what the listing shows of both
     (
@@ -263,7 +263,7 @@ pub static WAITING_LINES: [BadRow<'static>; 23] = [
     ("session b 5", "line 5: session exists"),
 ];
 
-/// Passes over more than a few who wait.
+/// Rows about passes over more than a few who wait.
 pub static PASSES: [Row<'static>; 4] = [
     // from name to name in their byte order
     (0, TWELVE_WAIT, TWELVE_WAKE, ""),

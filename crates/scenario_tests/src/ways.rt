@@ -31,7 +31,8 @@ static LINES: [(&str, &str); 5] = [
     ("commit ", ""),
 ];
 
-/// A small script: whose each line is, session by session, and which line.
+/// A small script: to which session each of its lines belongs (lines are in the order of the sessions), and which of
+/// `LINES` it is.
 #[derive(Drop)]
 struct Small {
     owners: Vec<usize>,
@@ -62,7 +63,7 @@ fn is_ascending(numbers: &[usize]) -> bool {
 }
 
 impl Small {
-    /// Adds to `text` the line at `place`.
+    /// Adds to `text` the line at `place` of the small script.
     fn push_line(&self, text: &mut String, place: usize) -> Result<(), AllocError> {
         let name = self.owners.get(place).and_then(|owner| NAMES.get(*owner));
         let line = self.kinds.get(place).and_then(|kind| LINES.get(*kind));
@@ -74,7 +75,7 @@ impl Small {
         Ok(())
     }
 
-    /// The place of a line of `session`, of whose lines `before` come before that.
+    /// The place of a line of `session`, which has `before` lines ahead of that line.
     fn place_of(&self, session: usize, before: usize) -> usize {
         let first = self
             .owners
@@ -105,7 +106,7 @@ fn lines_of(merge: &[usize], first: usize, session: usize) -> usize {
         .count()
 }
 
-/// What an order showed that was played alone: the answers of each session, and whether it waits.
+/// What an order that was played alone showed: the answers to each session, and whether the session waits.
 #[derive(Drop)]
 struct Shown {
     answers: Vec<String>,
@@ -113,7 +114,7 @@ struct Shown {
 }
 
 impl Shown {
-    /// What the lines `printed` tell, of which the first ones are the openings.
+    /// What the lines `printed` show, without the first ones, which come from the openings of the sessions.
     fn read(alloc: Global, printed: &str) -> Result<Self, AllocError> {
         let mut shown = Shown {
             answers: Vec::new(alloc),
@@ -152,12 +153,12 @@ impl Shown {
         self.waits.get(session).copied().unwrap_or(false)
     }
 
-    /// Whether everybody waits whose lines are `left`.
+    /// Whether all sessions wait that `left` names, those with lines left.
     fn is_stuck(&self, left: &[usize]) -> bool {
         left.iter().all(|session| self.waits(*session))
     }
 
-    /// What is told of the order `merge` of `small`, of which `run` lines were run.
+    /// What is said of the order `merge` of `small`, of which `run` lines were run.
     fn tell(
         &self,
         alloc: Global,
@@ -199,8 +200,8 @@ fn end_line(told: &mut String, is_any: bool) -> Result<(), AllocError> {
     if is_any { told.push('\n') } else { Ok(()) }
 }
 
-/// Plays the order `merge` of `small` alone, and answers what is told of it. None is for one in which a line comes of a
-/// session that waits while another one could go on.
+/// Plays the order `merge` of `small` alone, and answers what is said of that order. `None` for an order in which a
+/// line comes from a session that waits while another one could go on.
 fn played_alone(
     rt: &(impl Abort + AllocGlobal + Wait),
     small: &Small,

@@ -25,7 +25,7 @@ GivesOpening old new text =
     × HoldsAt (λ its. line ≡ its) old.story.now.opening.items old.opened
     × (text ≡ string_bytes line.text) × (new.opened ≡ old.opened + 1) × (steps_of new ≡ steps_of old)
 
--- A line of a session is given, and is run with that.
+-- A line of a session is given, and with that counts as run.
 abbrev pub GivesStep : Orders → Orders → List ℕ → Type 0
 GivesStep old new text =
     (step : Step) × (line : StoryLine) × IsLineAt old.story.now step line

@@ -10,19 +10,19 @@ use std::alloc::{AllocError, Global};
 use std::fmt;
 use std::io::{self, Write};
 
-/// What is written below the ways where all orders were run.
+/// What is written after the ways to end, where all orders were run.
 const ALL_RUN: &str = "
 # all were run, but for those that differ from one of these only in neighbouring
 # lines of different sessions that have nothing to do with one another";
 
-/// A way to end: how many orders lead there, and the first of them as a script.
+/// A way in which orders end: how many orders end in this way, and the first of these orders as a script.
 #[derive(Drop)]
 pub struct Way {
     pub orders: u32,
     pub script: String,
 }
 
-/// How many orders there are, in words.
+/// A number of orders, which is written with the word for them.
 #[derive(Clone, Copy)]
 struct Orders(u64);
 
@@ -35,20 +35,20 @@ impl fmt::Display for Orders {
     }
 }
 
-/// Ways to end, in the order in which they came first. Each order that is counted leads to one of them.
+/// Ways in which orders end, the one that came first at the front. Each order that is counted ends in one of these ways.
 #[derive(Drop)]
 pub struct Ways {
-    /// What is written of each way.
+    /// For each way, the text that says how its orders end.
     tellings: IndexSet<String>,
     ways: Vec<Way>,
-    /// How many orders lead to one of them.
+    /// How many orders are counted: the sum over all of `ways`.
     pub orders: u32,
     ghost each: { index_set_len tellings ≤ length ways.items },
     ghost all: { sum_by (λ (way : Way). way.orders) ways.items ≡ orders },
 }
 
 impl Ways {
-    /// Ways to end, of which there is none yet; they grow by `alloc`.
+    /// No ways to end yet, in lists that grow by `alloc`.
     pub fn new(alloc: Global) -> Self
         ensures { result.orders ≡ 0 }
     {
@@ -84,7 +84,7 @@ impl Ways {
 }
 
 impl Ways {
-    /// Writes the ways to `output`, with numbers from `before` plus one on, and with `words` after the head of each.
+    /// Writes the ways to `output`, numbered from `before` plus one on, and with `words` after the head of each way.
     fn write<W: Write>(&self, output: &mut W, before: usize, words: &str) -> io::Result<()> {
         for (place, (told, way)) in self.tellings.iter().zip(&self.ways).enumerate() {
             let number = before.saturating_add(place).saturating_add(1);
@@ -99,14 +99,14 @@ impl Ways {
     }
 }
 
-/// How the orders of a script ended that were begun.
+/// How those orders of a script ended that were begun.
 #[derive(Drop)]
 pub struct Endings {
-    /// The ways of the orders that ran to their end.
+    /// The ways in which the orders ended that ran to their end.
     ended: Ways,
-    /// The ways of the orders in which no session that has lines left can go on.
+    /// The ways in which the orders were stuck: no session that has lines left can go on.
     stuck: Ways,
-    /// How many were given up: others are run in their place.
+    /// How many orders were given up: others are run in their place.
     given_up: u32,
 }
 
@@ -122,7 +122,7 @@ pub enum Extent {
 impl Endings {
     ghost use Rattle.script_orders.specs.Ends.{begun_of, run_of};
 
-    /// Counts of orders, of which none was begun; they grow by `alloc`.
+    /// How orders ended, of which none was begun yet, in lists that grow by `alloc`.
     pub fn new(alloc: Global) -> Self
         ensures { begun_of result ≡ 0 }
     {
@@ -172,8 +172,8 @@ impl Endings {
         self.given_up += 1;
     }
 
-    /// Writes to `output` the table of all orders, as a script of comments, and by `extent` whether these were all.
-    /// `total` is in how many ways the lines can be merged.
+    /// Writes to `output` how all orders ended that were run, as a script with comments, and by `extent` which orders were run. `total` is in how many ways
+    /// the sessions' lines can be merged.
     pub fn write<W: Write>(&self, output: &mut W, total: Total, extent: Extent) -> io::Result<()> {
         let run = self.run();
         let (ended, stuck) = (self.ended.orders, self.stuck.orders);

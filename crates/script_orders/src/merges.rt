@@ -5,8 +5,8 @@ ghost use Rattle.std.specs.Prelude.{◌≡◌, ℕ, ◌<◌, ◌≤◌, ◌+◌,
 ghost use Rattle.std.specs.List.Sorted.{IsPermutation};
 ghost use Rattle.script_orders.specs.Merges.{ComesLater, LiesBetween, IsDescendingFrom, IsInDescendingOrder};
 
-/// Makes `merge` the next merge of its sessions, or answers that there is none. The first merge of all has the sessions
-/// in ascending order. Each merge comes later than the one before, so none comes twice.
+/// Makes `merge` the next merge of its sessions' lines, or answers that there is none. The first merge of all has the sessions in ascending order. Each next
+/// merge comes later, so none comes twice.
 pub fn next_merge(merge: &mut [usize]) -> bool
     ensures same { IsPermutation merge.old merge.new }
     ensures later { result ≡ true → ComesLater merge.old merge.new }
@@ -57,7 +57,7 @@ fn last_above(merge: &[usize], place: usize) -> usize
     found
 }
 
-/// Turns round what `merge` has from the place `from` on.
+/// Reverses what `merge` has from the place `from` on.
 fn turn_round(merge: &mut [usize], from: usize)
     requires { from ≤ length merge.old }
     ensures same { IsPermutation merge.old merge.new }

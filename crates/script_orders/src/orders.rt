@@ -57,7 +57,7 @@ enum Given {
     Step(Step),
 }
 
-/// The orders of a story: which are run, and how those ended that were.
+/// The orders of a story: which are run, and how those ended that were run.
 #[derive(Drop)]
 pub struct Orders<'a> {
     alloc: Global,
@@ -81,7 +81,7 @@ pub struct Orders<'a> {
     is_whole: bool,
     /// How many of the first orders were run, before the others were drawn.
     first: u64,
-    /// How many orders were begun against this lock manager.
+    /// How many orders were begun against the lock manager in use.
     begun_here: u32,
 }
 
@@ -89,8 +89,8 @@ impl<'a> Orders<'a> {
     ghost use Rattle.script_orders.specs.Ends.{begun_of, run_of};
     ghost use Rattle.script_orders.specs.Turns.{Begins, Goes, IsLineAt, KeepsOrder, steps_of};
 
-    /// The orders of `story` within `options`, none of which was run yet; `ties` says which of its lines have to do
-    /// with one another. Refused only where memory ran out.
+    /// The orders of `story` within `options`, none of which was run yet. `ties` says which lines of `story` have to do with one another. Refused only where
+    /// memory ran out.
     pub fn new(
         alloc: Global,
         story: &'a Story,
@@ -120,17 +120,17 @@ impl<'a> Orders<'a> {
         })
     }
 
-    /// Whether all orders were run that are to be.
+    /// Whether all orders were run that are to be run.
     pub fn is_over(&self) -> bool {
         self.phase == Phase::Over
     }
 
-    /// How many orders were run to their end.
+    /// How many orders were run to their end, or until they were stuck.
     pub fn run(&self) -> u64 {
         self.endings.run()
     }
 
-    /// Answers what the player is to do next. Where there is no memory, nothing is.
+    /// Answers what the player is to do next. Refused only where memory ran out.
     pub fn next_turn(&mut self) -> Result<Turn<'a>, AllocError>
         ensures goes { IfOk result (Goes self.old self.new) }
         ensures in_order { IsInOwnOrder (steps_of self.new) }
@@ -170,7 +170,7 @@ impl<'a> Orders<'a> {
         Turn::Line(line.text.as_str())
     }
 
-    /// Gives the next line of `session`. Where it has none, the order is given up.
+    /// Gives the next line of `session`. Where `session` has none left, the order is given up.
     fn give_line(&mut self, session: usize) -> Result<Turn<'a>, AllocError>
         ensures goes { IfOk result (Goes self.old self.new) }
         ensures same_story { self.new.story.now ≡ self.old.story.now }
@@ -194,7 +194,7 @@ impl<'a> Orders<'a> {
         self.story.line(Step { session, line })
     }
 
-    /// Ends the order that is played, which came to its end if `has_ended`, and else was given up. Begins the next one.
+    /// Ends the order that is played, which came to its end if `has_ended`, and else was given up. Begins the next order.
     fn end_order(&mut self, has_ended: bool) -> Result<Turn<'a>, AllocError>
         ensures begins { IfOk result (Begins self.new) }
         ensures same_story { self.new.story.now ≡ self.old.story.now }
@@ -223,8 +223,7 @@ impl<'a> Orders<'a> {
         self.begin_order()
     }
 
-    /// Counts the order that is played: as run to its end if `has_ended`, and else as given up. No more are counted
-    /// than are to be begun.
+    /// Counts the order that is played: as run to its end if `has_ended`, and else as given up. No more orders are counted than are to be begun.
     fn close_order(&mut self, has_ended: bool) -> Result<(), AllocError>
         ensures kept { KeepsOrder self.old self.new }
         ensures counted { OnOk result (run_of self.new.endings ≡ run_of self.old.endings
@@ -241,7 +240,7 @@ impl<'a> Orders<'a> {
         }
     }
 
-    /// How many of the first orders are begun at most: half of all that are, where these may not be all.
+    /// How many orders are begun at most before others are drawn: as many as the limit allows, or half as many where there may be more orders than that.
     fn most_first(&self) -> u64 {
         let limit = u64::from(self.options.limit);
         if self.total.is_at_most(limit) {
@@ -286,9 +285,8 @@ impl<'a> Orders<'a> {
         self.endings.count(told, script, is_stuck)
     }
 
-    /// Notes the answer to the line that was given last, or that a session goes on after it. `session` is the session
-    /// that is answered, with what that says of it, and `text` the answer without its name. A row of a list has none:
-    /// it is for the session whose line it is.
+    /// Notes the answer `text` to the line that was given last, or that a session goes on after that line. `session` is the session that is answered, whose
+    /// name `text` leaves out, with what the answer says of that session. A row of a list has no `session`: it is for the session whose line was given.
     pub fn tell<D: Display + Drop>(
         &mut self,
         session: Option<(Name, News)>,
@@ -312,7 +310,7 @@ impl<'a> Orders<'a> {
         }
     }
 
-    /// Whether the answers to the line of `step` are left out: it looks at locks, and only ends are described.
+    /// Whether the answers to the line of `step` are left out: the line only looks at locks, and only ends are described.
     fn is_left_out(&self, step: Step) -> bool {
         self.options.ends && self.story.line(step).is_some_and(|line| line.looks())
     }

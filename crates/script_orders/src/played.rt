@@ -5,7 +5,7 @@ use lock_script::Name;
 use std::alloc::{AllocError, Global};
 use std::fmt::Display;
 
-/// What an answer says of its session.
+/// What an answer says of the session that is answered.
 #[derive(Clone, Copy, Debug, PartialEq, Eq)]
 pub enum News {
     /// The session was opened, and is open.
@@ -23,17 +23,17 @@ pub enum News {
 /// Where a session has got to in an order that is played, and what it was answered.
 #[derive(Drop)]
 struct Standing {
-    /// The session's name, once it was answered something.
+    /// The session's name, once the session was answered something.
     name: Option<Name>,
     is_open: bool,
     waits: bool,
     /// What the session was answered, one answer after the other.
     answers: String,
-    /// How many lines were run when it was answered something last, that one too.
+    /// How many lines of the order were run when the session was answered something last, with the line that was answered.
     told_at: usize,
 }
 
-/// What an order showed so far.
+/// What was seen so far of an order that is played: its sessions, and what each was answered.
 #[derive(Drop)]
 pub struct Played {
     standings: Vec<Standing>,
@@ -42,7 +42,7 @@ pub struct Played {
 }
 
 impl Played {
-    /// An order of `sessions` sessions, of which nothing was played yet.
+    /// What was seen of an order of `sessions` sessions, of which nothing was played yet.
     pub fn new(alloc: Global, sessions: usize) -> Result<Self, AllocError> {
         let mut standings = Vec::new(alloc);
         for _ in 0..sessions {
@@ -60,7 +60,7 @@ impl Played {
         })
     }
 
-    /// Begins another order. The sessions that are open stay so.
+    /// Begins another order. The sessions that are open stay open.
     pub fn begin_order(&mut self) {
         for standing in &mut self.standings {
             standing.waits = false;
@@ -83,8 +83,7 @@ impl Played {
             .is_some_and(|standing| standing.is_open)
     }
 
-    /// How many lines were run when the session at the place `session` was answered something last, the line of that
-    /// too.
+    /// How many lines of the order were run when the session at the place `session` was answered something last, with the line that was answered.
     pub fn told_at(&self, session: usize) -> usize {
         self.standings
             .get(session)
@@ -186,7 +185,7 @@ fn tell_what_is_left(told: &mut String, story: &Story, taken: &[usize]) -> Resul
     end_line(told, is_any)
 }
 
-/// The `answers` of a session, or that there are none.
+/// The `answers` of a session, or a word that says that there are none.
 fn or_nothing(answers: &str) -> &str {
     if answers.is_empty() {
         "nothing"
@@ -195,7 +194,7 @@ fn or_nothing(answers: &str) -> &str {
     }
 }
 
-/// Ends the line of `told`, if `is_any`.
+/// Ends the last line of `told` with a line feed, if `is_any` says that this line has something.
 fn end_line(told: &mut String, is_any: bool) -> Result<(), AllocError> {
     if is_any { told.push('\n') } else { Ok(()) }
 }

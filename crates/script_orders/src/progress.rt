@@ -2,7 +2,7 @@
 
 use std::io::Write;
 
-/// The line, which only a terminal is shown.
+/// The line of a terminal that shows how many orders were run. Nothing is shown where the output is no terminal.
 #[derive(Drop)]
 pub struct OrdersLine<'a, E> {
     pub writer: &'a mut E,
@@ -19,7 +19,7 @@ impl<E: Write> OrdersLine<'_, E> {
         }
     }
 
-    /// Takes the line away: all orders are run.
+    /// Takes the line off the terminal, once all orders are run.
     pub fn end(&mut self) {
         if self.is_terminal {
             let _ = write!(self.writer, "\r\x1b[K");

@@ -11,7 +11,7 @@ use lock_script::{parse_strong_index, parse_tag, split_words};
 use modes_core::{Mode, Tag, is_strong};
 use std::alloc::{AllocError, Global};
 
-/// How many lines a story has at most for which is noted which lines are left that have to do with one.
+/// How many lines a story has at most if `Ties` notes, for each line, how far the lines go that have to do with that line.
 const MOST_LINES: usize = 1000;
 
 /// Objects, by their strong lock counters: bit `i % 64` of word `i / 64` is counter `i`.
@@ -39,7 +39,7 @@ impl Objects {
         Objects(words)
     }
 
-    /// Whether one object is among these and among those of `other`.
+    /// Whether an object is both in this set and in `other`.
     fn meet(&self, other: &Objects) -> bool {
         for (word, its) in self.0.iter().zip(&other.0) {
             if *word & *its != 0 {
@@ -55,14 +55,13 @@ impl Objects {
 struct Reach {
     /// Whether the line has to do with every line.
     is_all: bool,
-    /// Whether the line opens a session, whose number depends on who opened one before.
+    /// Whether the line opens a session. The session's number depends on which ones were opened before.
     opens: bool,
     /// The objects that the line asks for, looks at or lets go.
     objects: Objects,
     /// The objects that the line asks for in a strong mode.
     strong: Objects,
-    /// The objects that the line's session asked for before, where the line asks for a lock: slots of these may have
-    /// been moved.
+    /// The objects that the line's session asked for before, where the line asks for a lock: fast-path slots of these objects may have been moved.
     in_slots: Objects,
 }
 
@@ -90,7 +89,7 @@ impl Reach {
         }
     }
 
-    /// Whether this line has to do with that of `other`, which is another session's.
+    /// Whether the line of this reach has to do with that of `other`, which is another session's.
     fn meets(&self, other: &Reach) -> bool {
         self.is_all
             || other.is_all
@@ -101,8 +100,8 @@ impl Reach {
     }
 }
 
-/// What `line` of `story` has to do with, where its session asked for the objects `asked` before. With `ends` the
-/// answers to looks at locks are left out, so that most have to do with no line.
+/// What `line` of `story` has to do with, where its session asked for the objects `asked` before. With `ends` the answers to looks at locks are left out, so
+/// that most looks have to do with no line.
 fn reach_of(story: &Story, line: &str, asked: Objects, ends: bool) -> Reach {
     let words = split_words(line);
     let Some((verb, words)) = words.as_slice().split_first() else {
@@ -166,7 +165,7 @@ fn reach_of_request(story: &Story, words: &[&str], asked: Objects) -> Reach {
     }
 }
 
-/// What each line of `actor` in `story` has to do with; with `ends` as for `reach_of`.
+/// What each line of `actor` in `story` has to do with. With `ends` the answers to looks at locks are left out.
 fn reaches_of(
     alloc: Global,
     story: &Story,
@@ -188,14 +187,13 @@ fn reaches_of(
 pub struct Ties {
     /// What each line of each session has to do with.
     reaches: Vec<Vec<Reach>>,
-    /// For each line of each session, how many lines of each session there are up to the last one that has to do with
-    /// it. Empty where the story is large.
+    /// For each line of each session: how many lines each session has up to the last one that has to do with that line. Empty where the story is large.
     last: Vec<Vec<Vec<usize>>>,
 }
 
 impl Ties {
-    /// What each line of `story` reaches. With `ends` the answers to looks at locks are left out. Refused only where memory,
-    /// by `alloc`, ran out.
+    /// Which lines of `story` have to do with one another. With `ends` the answers to looks at locks are left out. Refused only where memory, by `alloc`, ran
+    /// out.
     pub fn new(alloc: Global, story: &Story, ends: bool) -> Result<Self, AllocError> {
         let mut reaches = Vec::new(alloc);
         for actor in &story.actors {
@@ -214,8 +212,7 @@ impl Ties {
         Ok(ties)
     }
 
-    /// For each line of `session`, how many lines of each other session there are up to the last one that has to do
-    /// with it.
+    /// For each line of `session`: how many lines each other session has up to the last one that has to do with that line.
     fn last_of_session(
         &self,
         alloc: Global,
@@ -252,7 +249,7 @@ impl Ties {
         Ok(last)
     }
 
-    /// Whether these lines, `line` of one session and `other_line` of `other`, have to do with one another.
+    /// Whether the line numbered `line` of `session` has to do with the line numbered `other_line` of the session `other`.
     pub fn meet(&self, session: usize, line: usize, other: usize, other_line: usize) -> bool {
         let reach = self.reaches.get(session).and_then(|lines| lines.get(line));
         let its = self

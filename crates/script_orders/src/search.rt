@@ -3,7 +3,7 @@
 
 use std::alloc::{AllocError, Global};
 
-/// A place of an order: whose line comes there now, and whose are still to be tried there, the next one last.
+/// A place of an order: the session whose line comes at this place now, and the sessions whose lines are still to be tried at it, the next one last.
 #[derive(Drop)]
 struct Fork {
     session: usize,
@@ -24,13 +24,13 @@ impl Search {
         }
     }
 
-    /// Whose line comes at `place`, if that was looked at.
+    /// The session whose line comes at `place`, if this place was looked at.
     pub fn session_at(&self, place: usize) -> Option<usize> {
         Some(self.forks.get(place)?.session)
     }
 
-    /// Looks at the next place, where the lines of `sessions` may come, and answers whose comes first: the last one's.
-    /// None where there is none.
+    /// Looks at the next place of the order, where a line of any of `sessions` may come, and answers which session's comes first: the last one's. None where
+    /// `sessions` is empty.
     pub fn add(&mut self, sessions: Vec<usize>) -> Result<Option<usize>, AllocError> {
         let mut to_try = sessions;
         let Some(session) = to_try.pop() else {
@@ -40,8 +40,8 @@ impl Search {
         Ok(Some(session))
     }
 
-    /// Goes to the next order: at the last place at which sessions are still to be tried the next one's line comes.
-    /// Answers whether there is one.
+    /// Goes to the next order: at the last place at which sessions are still to be tried, a line of the next of these comes. Answers whether there is a next
+    /// order.
     pub fn next_order(&mut self) -> bool {
         for _ in 0..self.forks.len() {
             if let Some(fork) = self.forks.last_mut() {

@@ -15,7 +15,7 @@ pub struct Step {
 /// its own order.
 #[derive(Drop)]
 pub struct Order {
-    /// The lines that were run, one after the other.
+    /// The lines of the order that were run, one after the other.
     pub steps: Vec<Step>,
     /// How many lines of each session were run.
     pub taken: Vec<usize>,
@@ -35,7 +35,7 @@ impl Order {
         })
     }
 
-    /// Runs the next line of `session`, and answers which it is. Where there is no memory nothing changes.
+    /// Notes that the next line of `session` is run, and answers which line this is. Where there is no memory nothing changes.
     pub fn take(&mut self, session: usize) -> Result<Step, AllocError>
         requires there { session < length self.old.taken.items }
         requires fits { slice_index self.old.taken.items session < 2 ^ 64 - 1 }

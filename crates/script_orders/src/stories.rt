@@ -9,7 +9,7 @@ use modes_core::Tag;
 use std::alloc::{AllocError, Global};
 use std::io::Read;
 
-/// A line of a script, with its number there.
+/// A line of a script, with its number in the script.
 #[derive(Drop)]
 pub struct StoryLine {
     pub number: u32,
@@ -30,11 +30,11 @@ pub struct Story {
     pub opening: Vec<StoryLine>,
     /// The sessions, in the order of their first lines.
     pub actors: Vec<Actor>,
-    /// The merge of the sessions' lines that the script has itself.
+    /// The sessions of the lines in the script's own order: for each line, whose it is.
     pub own_merge: Vec<usize>,
 }
 
-/// What a line is to the orders.
+/// What a line of a script is to the orders: whether it is played, and whose it is.
 #[derive(Clone, Copy)]
 enum LineKind<'a> {
     /// The line has no word, or is a comment.
@@ -47,7 +47,7 @@ enum LineKind<'a> {
     Of(&'a str),
 }
 
-/// What `line` is to the orders.
+/// Which kind of line `line` is to the orders.
 fn kind_of(line: &str) -> LineKind<'_> {
     let words = split_words(line);
     let Some((verb, words)) = words.as_slice().split_first() else {
@@ -69,7 +69,7 @@ fn kind_of(line: &str) -> LineKind<'_> {
     }
 }
 
-/// The one of `words`, those of a line, that names another session than the one that acts, if its command has one.
+/// The word among the `words` of a line that names another session than the one that acts, if the line's command has such a word.
 fn named_word<'a>(words: &[&'a str]) -> Option<&'a str> {
     let verb = words.first()?;
     let place = command_row(*verb)?.place_of(WordKind::OpenName)?;
@@ -82,7 +82,7 @@ fn opens(line: &str) -> bool {
 }
 
 impl StoryLine {
-    /// The word of another session that the line names beside its own, if it names one.
+    /// The name of another session in the line, beside that of the session that acts, if there is one.
     pub fn named(&self) -> Option<&str> {
         let words = split_words(self.text.as_str());
         named_word(words.as_slice())
@@ -121,8 +121,8 @@ impl Story {
         Ok(story)
     }
 
-    /// Adds `line`, numbered `number` in the script. The line that opens a session of a new name comes before all
-    /// orders; where the name was closed before, it is that session's.
+    /// Adds `line`, numbered `number` in the script. A line that opens a session of a new name comes before all orders. Where the name is that of a session
+    /// that was closed before, the line is one of that session.
     fn add(&mut self, alloc: Global, number: u32, line: &str) -> Result<(), AllocError> {
         let text = String::from_str(alloc, line)?;
         let added = StoryLine { number, text };
@@ -144,7 +144,7 @@ impl Story {
         Ok(())
     }
 
-    /// The place of the session `name` among all.
+    /// The place of the session `name` among the story's sessions.
     pub fn place_of(&self, name: &str) -> Option<usize> {
         self.actors
             .iter()
@@ -163,7 +163,7 @@ impl Story {
         Ok(place)
     }
 
-    /// Adds `line` to those of the session at `place`.
+    /// Adds `line` to the lines of the session at `place`.
     fn add_line(&mut self, place: usize, line: StoryLine) -> Result<(), AllocError> {
         if let Some(actor) = self.actors.get_mut(place) {
             actor.lines.push(line)?;
@@ -216,8 +216,8 @@ impl Story {
         wanted
     }
 
-    /// Whether all is as after the lines that come before all orders, once each session has aborted: no session opens
-    /// or closes within the orders, and none has a lock of its own that an abort leaves it.
+    /// Whether an order leaves nothing once each of its sessions has aborted: no session opens or closes within the orders, and none has a lock of its own
+    /// that an abort leaves it.
     pub fn is_undone_by_aborts(&self) -> bool {
         for actor in &self.actors {
             for line in &actor.lines {

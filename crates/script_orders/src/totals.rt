@@ -14,8 +14,7 @@ pub struct Total {
 }
 
 impl Total {
-    /// In how many ways the lines of the sessions of `story` can be merged. A session that waits leaves some of them
-    /// out.
+    /// In how many ways the lines of the sessions of `story` can be merged. A session that waits leaves some of these ways out.
     pub fn of_merges(story: &Story) -> Self {
         let mut total = Total {
             leading: 1,
@@ -32,7 +31,7 @@ impl Total {
         total
     }
 
-    /// The product with `factor`. What is beyond the leading digits is cut off.
+    /// This number times `factor`. What is beyond the leading digits is cut off.
     fn times(self, factor: u64) -> Self {
         let mut total = self;
         for _ in 0..64 {
@@ -47,7 +46,7 @@ impl Total {
         total
     }
 
-    /// The quotient by `divisor`, which divides it but for digits that were cut off.
+    /// This number divided by `divisor`, which leaves no remainder but for digits that were cut off.
     fn over(self, divisor: u64) -> Self {
         Total {
             leading: self.leading.checked_div(divisor).unwrap_or(self.leading),

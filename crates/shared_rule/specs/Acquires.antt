@@ -26,7 +26,7 @@ abbrev pub account_getting : LwMode → ℕ → Account → ℕ → SlotsInHand 
 account_getting Exclusive number a owner slots = account_taking_fast number a owner slots
 account_getting Shared number a owner slots = account_sharing_fast number a owner slots
 
--- The session may get it so: it doesn't share it yet.
+-- The session may get the lock of a session's slots in the mode: it doesn't share that lock yet.
 abbrev pub MayGetSlots : LwMode → Account → ℕ → Type 0
 MayGetSlots Exclusive a owner = Unit {0}
 MayGetSlots Shared a owner = MayShareFastBy a owner

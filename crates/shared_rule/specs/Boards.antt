@@ -14,7 +14,7 @@ use Rattle.shared_rule.specs.Todos.{first_todo, nothing_to_do, no_content}
 
 -- What a board is: shared state as one session sees it.
 
--- whose it is, how many sessions there can be, how many groups of slots each has, and at which table
+-- whose board it is, how many sessions there can be, how many groups of slots each has, and at which table
 pub record Seated : Type 0 where
   pub number : ℕ
   pub limit : ℕ
@@ -83,7 +83,7 @@ pub record IsFree {T : Type 0} (sessions : List (History T)) : Type 0 where
   pub idle : IsIdle sessions
   pub wakes_nobody : first_owed sessions ≡ []
 
--- Each of these sessions is so free.
+-- Each of these sessions is free, as `IsFree` says.
 abbrev pub AreFree : {T : Type 0} → List (History T) → Type 0
 AreFree [] = Unit {0}
 AreFree (history ∷ others) = IsFree (history ∷ []) × AreFree others

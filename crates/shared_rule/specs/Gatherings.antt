@@ -22,7 +22,7 @@ use Rattle.shared_rule.specs.Plays.{Side, Marked}
 abbrev pub most_shown : ℕ
 most_shown = most_sessions * most_counted
 
--- a session there: its number and its account
+-- a gathered session: its number and its account
 pub record Gathered : Type 0 where
   pub number : ℕ
   pub account : Account
@@ -32,7 +32,7 @@ abbrev pub account_among : List Gathered → ℕ → Account
 account_among [] number = blank_account
 account_among (one ∷ others) number = if one.number == number then one.account else account_among others number
 
--- The number is none of theirs.
+-- The number is that of none of the gathered sessions.
 abbrev pub IsNone : ℕ → List Gathered → Type 0
 IsNone number [] = Unit {0}
 IsNone number (one ∷ others) = (one.number ≢ number) × IsNone number others
@@ -42,12 +42,12 @@ abbrev pub AreDistinct : ℕ → List Gathered → Type 0
 AreDistinct limit [] = Unit {0}
 AreDistinct limit (one ∷ others) = (one.number < limit) × IsNone one.number others × AreDistinct limit others
 
--- None of them waits.
+-- None of the gathered sessions waits.
 abbrev pub NoneWaits : List Gathered → Type 0
 NoneWaits [] = Unit {0}
 NoneWaits (one ∷ others) = (one.account.awaited ≡ None) × NoneWaits others
 
--- how much they have counted at an index of the strong lock counters
+-- how many strong locks the gathered sessions have counted at an index of the strong lock counters
 abbrev pub counted_at : ℕ → List Gathered → ℕ
 counted_at index gathered = sum_by (λ one. count_at index one.account.fast.counted) gathered
 
@@ -100,7 +100,7 @@ module _ {T : Type 0} (content : T → Content) where
         → HasAllInHand (first_account content view.sessions) contents → (number : ℕ)
         → OwnStand groups number (account_among (gathered_in view.sessions) number) contents
 
-  -- Nothing changed, and it is told that.
+  -- Nothing changed, and the seat learns what `KnowsAll` says.
   abbrev pub ToldAll : ℕ → Step (Kept T) → Side T → ℕ → Side T → Type 0
   ToldAll groups step before found after =
       (after ≡ before) × ((issued : ℕ) → AreAll issued before.0 → KnowsAll groups issued before.0)

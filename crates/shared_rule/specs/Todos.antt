@@ -205,7 +205,7 @@ abbrev pub IsLatestBy : Account → LwLock → Type 0
 IsLatestBy a (OfPart part) = IsAboveHand a part
 IsLatestBy a (OfSlots owner) = HasNoLock a
 
--- The list in hand is that of such a lock.
+-- The list in hand is that of a lock that is later than all lightweight locks which the session has by its account.
 pub record JoinsLatest (a : Account) : Type 0 where
   pub sessions : ℕ
   pub lock : LwLock

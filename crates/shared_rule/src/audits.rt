@@ -247,9 +247,9 @@ fn put_back<T: PartTable>(words: &SharedWords<T>, seat: &mut Seat<T>, part: u8, 
     put_part::<T, Brand>(words, seat, part, &Move::Keep, content);
 }
 
-/// Takes the partitions from `part` on, in rising order, counts in `fast` with all in hand what slots show, and puts
-/// them back as they were, in the opposite order, with their rows appended to `rows`. Where memory runs out for
-/// these the call is refused, and all partitions are put back as well.
+/// Adds to `fast` how many modes fast-path slots show, loaded while all partitions from `part` on are in hand, and appends the rows of these partitions to
+/// `rows`. The partitions are taken in rising order, and put back unchanged in the opposite one. Where memory for the rows runs out the call is refused, and
+/// the partitions are put back in that case too.
 pub(crate) fn count_from<T: PartTable, R: Wait>(
     rt: &R,
     words: &SharedWords<T>,
@@ -294,10 +294,10 @@ fn granted_in(rows: &[TableRow]) -> u64
 }
 
 impl<T: PartTable> Opener<T> {
-    /// Counts what stands in `table`, with all sessions gathered here that are open, and nobody waiting: the strong
-    /// lock counters, each by a load; what fast-path slots show, each loaded with all partitions in hand; and the
-    /// rows of these, which are appended to `rows`, an empty list. The first session makes the steps. Where memory
-    /// runs out for the rows the call is refused, and all is as before as well.
+    /// Counts what is in `table`, with all open sessions gathered at the opener's seat and nobody waiting: the strong lock counters, each by a load; the
+    /// modes that fast-path slots show, each slot loaded with all partitions in hand; and the rows of the partitions, which are appended to `rows`, an empty
+    /// list. The first gathered session makes the steps. Where memory for the rows runs out the call is refused, and sessions and table are as before in that
+    /// case too.
     pub fn count<R: Wait>(
         &mut self,
         rt: &R,

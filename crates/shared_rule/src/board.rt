@@ -60,7 +60,7 @@ pub trait Board<T: PartTable> {
     // Its steps that the account may not tell, the last one first.
     ghost quiet: { Self → List Quiet };
 
-    /// The session's number, one of those that there can be.
+    /// The number of the board's session, which is less than `sessions` answers.
     fn number(&self) -> SessionId
         ensures value { result ≡ (seat self.now).number }
         ensures exists { result < (seat self.now).limit };
@@ -90,8 +90,7 @@ pub trait Board<T: PartTable> {
         ensures knows { KnowsContent (seat self.old).number (view self.old) part (T.content result) }
         ensures waiters { WaitsExist (seat self.old).limit (T.content result) };
 
-    /// Puts `content` home to partition `part` after the move `done`, and its lightweight lock (`LWLockRelease` in
-    /// lwlock.c).
+    /// Puts `content` home to partition `part` after the move `done`, and releases the partition's lightweight lock (`LWLockRelease` in lwlock.c).
     fn put_part(&mut self, part: u8, done: &Move, content: T)
         requires exists { part < 16 }
         requires in_hand { (others : List ℕ) × ((stack self.old).parts ≡ part ∷ others) }
@@ -117,9 +116,9 @@ pub trait Board<T: PartTable> {
         ensures stack { stack self.new ≡ stack self.old }
         ensures quiet { quiet self.new ≡ TakesSlots owner ∷ quiet self.old };
 
-    /// Takes the lock of its own slots if nobody holds it: a load of its word and, where bits 0 to 24 are all 0, one
-    /// exchange that expects the very number loaded (`LWLockConditionalAcquire` in lwlock.c). `Busy` where somebody
-    /// holds it, or changed it meanwhile.
+    /// Takes the lock of the session's own fast-path slots if nobody holds that lock: a load of the lock's word and, where bits 0 to 24 are all 0, one
+    /// exchange that expects the very number loaded (`LWLockConditionalAcquire` in lwlock.c). `Busy` where somebody holds the lock, or changed its word
+    /// meanwhile.
     fn try_take_fast(&mut self) -> Result<(), Busy>
         requires nothing_due { stack self.old ≡ nothing_due }
         requires no_slots { (view self.old).fast.slots ≡ (λ _. None) }
@@ -129,8 +128,7 @@ pub trait Board<T: PartTable> {
         ensures stack { stack self.new ≡ stack self.old }
         ensures quiet { quiet self.new ≡ quiet_trying (seat self.old).number result (quiet self.old) };
 
-    /// Puts the lock of the fast-path slots of `owner`, which the session holds exclusively (`LWLockRelease` in
-    /// lwlock.c).
+    /// Releases the lock of the fast-path slots of `owner`, which the session holds exclusively (`LWLockRelease` in lwlock.c).
     fn put_fast(&mut self, owner: SessionId)
         requires exists { owner < (seat self.old).limit }
         requires lawful { (slots : SlotsInHand) × MayPutFastBy (view self.old) owner slots }
@@ -163,8 +161,8 @@ pub trait Board<T: PartTable> {
         ensures stack { stack self.new ≡ stack self.old }
         ensures quiet { quiet self.new ≡ quiet self.old };
 
-    /// Puts the lock of the slots of `owner`, and goes past that session with the strong lock of `mode` on `tag`,
-    /// which is counted (the end of a turn of the loop in `FastPathTransferRelationLocks` in lock.c).
+    /// Releases the lock of the fast-path slots of `owner`, and goes past that session with the strong lock of `mode` on `tag`, which is counted (the end of
+    /// a turn of the loop in `FastPathTransferRelationLocks` in lock.c).
     fn pass_fast(&mut self, owner: SessionId, tag: &Tag, mode: Mode)
         requires exists { owner < (seat self.old).limit }
         requires lawful { (slots : SlotsInHand) × MayPassBy (view self.old) owner slots tag.now mode }
@@ -173,7 +171,8 @@ pub trait Board<T: PartTable> {
         ensures stack { stack self.new ≡ stack self.old }
         ensures quiet { quiet self.new ≡ quiet self.old };
 
-    /// Counts a strong lock of `mode` on `tag`, past nobody yet (`BeginStrongLockAcquire` in lock.c).
+    /// Counts a strong lock of `mode` on `tag` in the strong lock counter of `tag`; the strong lock has gone past no session yet (`BeginStrongLockAcquire` in
+    /// lock.c).
     fn add_strong(&mut self, tag: &Tag, mode: Mode)
         requires lawful { MayCountBy (view self.old) tag.now mode }
         ensures seat { seat self.new ≡ seat self.old }
@@ -226,9 +225,8 @@ pub trait Board<T: PartTable> {
         ensures of_shared_slots { (slots : SlotsInHand) → (view self.old).fast.shared_slots owner ≡ Some slots
             → result ≡ slots.word slot };
 
-    /// Loads the strong lock counter at `index`. Where it shows 0 while the session has its own slots in hand, the
-    /// session may set slots for objects of that index until it puts them (`FastPathStrongRelationLocks->count` in
-    /// `LockAcquireExtended` of lock.c).
+    /// Loads the strong lock counter at `index`. Where the counter shows 0 while the session has the lock of its own slots, the session may set slots for
+    /// objects of that index until it releases that lock (`FastPathStrongRelationLocks->count` in `LockAcquireExtended` of lock.c).
     fn load_strong(&mut self, index: u16) -> u64
         requires within { index < 1024 }
         ensures seat { seat self.new ≡ seat self.old }
@@ -287,8 +285,8 @@ pub trait Board<T: PartTable> {
         ensures stack { stack self.new ≡ stack self.old }
         ensures quiet { quiet self.new ≡ quiet self.old };
 
-    /// Stores in its own wait word that the session waits for `mode` on `tag`, with its join made in `content` in
-    /// hand (`ProcSleep` in proc.c sets `waitStatus` so).
+    /// Stores in the session's own wait word that the session waits for `mode` on `tag`, with its join made in `content` in hand (`ProcSleep` in proc.c sets
+    /// `waitStatus` so).
     fn set_waiting(&mut self, tag: &Tag, mode: Mode, content: &T)
         requires lawful { (mine : InHand) × MayMoveBy (seat self.old).limit (seat self.old).number (view self.old)
             (partition_of tag.now) mine (Join tag.now mode) [] (T.content content.now) }
@@ -300,10 +298,9 @@ pub trait Board<T: PartTable> {
         ensures stack { stack self.new ≡ stack self.old }
         ensures quiet { quiet self.new ≡ quiet self.old };
 
-    /// Marks the wait of `other` granted, one of those in `woken` whom the move `done` in `content`, that of
-    /// partition `part` in hand, grants. By the first mark the move stands recorded, and own holds follow it; the
-    /// partition is put once all are marked, as after `Keep` (`ProcWakeup` in proc.c sets `waitStatus`). That
-    /// session is owed a wake from then on.
+    /// Marks the wait of `other` granted, one of the sessions in `woken`, whose waits the move `done` grants in `content`, that of partition `part` in hand
+    /// (`ProcWakeup` in proc.c sets `waitStatus`). The first mark records the move, and the session's own holds follow the move; once all sessions in `woken`
+    /// are marked the partition is put with the move `Keep`. From the mark on `other` is owed a wake.
     fn mark_granted(
         &mut self,
         part: u8,
@@ -325,8 +322,8 @@ pub trait Board<T: PartTable> {
         ensures stack { stack self.new ≡ stack_owing (stack self.old) other }
         ensures quiet { quiet self.new ≡ quiet self.old };
 
-    /// Loads its own wait word: 2 in bits 0 to 1 where the wait was granted, bit 2 set where it was asked to cancel
-    /// (`waitStatus` in proc.h, as `ProcSleep` in proc.c reads it).
+    /// Loads the session's own wait word: 2 in bits 0 to 1 where the wait was granted, bit 2 set where it was asked to cancel (`waitStatus` in proc.h, as
+    /// `ProcSleep` in proc.c reads it).
     fn load_wait(&mut self) -> u64
         ensures seat { seat self.new ≡ seat self.old }
         ensures view { view self.new ≡
@@ -345,8 +342,7 @@ pub trait Board<T: PartTable> {
         ensures quiet { quiet self.new ≡ quiet self.old }
         ensures own { other ≡ (seat self.old).number → (view self.old).awaited ≡ None → wait_state result ≡ 0 };
 
-    /// Clears its own wait word: the wait is over, since the grant was seen or the wait is gone from the content in
-    /// hand.
+    /// Clears the session's own wait word: the wait is over, since the grant was seen or the wait is gone from the content in hand.
     fn clear_wait(&mut self)
         requires lawful { (wait : OwnWait) × MayClearBy (seat self.old).number (view self.old) wait }
         ensures seat { seat self.new ≡ seat self.old }
@@ -354,8 +350,8 @@ pub trait Board<T: PartTable> {
         ensures stack { stack self.new ≡ stack self.old }
         ensures quiet { quiet self.new ≡ quiet self.old };
 
-    /// Clears its own wait word and records that the wait was taken out of the queue of `content` in hand, which
-    /// granted the waits of those in `woken` (`RemoveFromWaitQueue` in lock.c).
+    /// Clears the session's own wait word, and records that its wait was taken out of the wait queue in `content` in hand, which granted the waits of the
+    /// sessions in `woken` (`RemoveFromWaitQueue` in lock.c).
     fn leave_queue(&mut self, woken: &[(SessionId, Mode)], content: &T)
         requires lawful { (wait : OwnWait) × (mine : InHand) × (granted : List contents.Wait)
             × (woken.now ≡ map whose_and_mode granted)
@@ -367,18 +363,17 @@ pub trait Board<T: PartTable> {
         ensures stack { stack self.new ≡ stack self.old }
         ensures quiet { quiet self.new ≡ quiet self.old };
 
-    /// Sleeps while its own wait word shows `shown`, until somebody wakes the session; the call may also return for
-    /// no reason (`WaitLatch` in `ProcSleep` of proc.c). The session has loaded that number just before, so no grant
-    /// and no request to cancel that came since is slept through. It has no lightweight lock, so nobody waits for
-    /// one that it would keep while it sleeps, and owes nobody a wake.
+    /// Sleeps while the session's own wait word shows `shown`, until somebody wakes the session; the call may also return for no reason (`WaitLatch` in
+    /// `ProcSleep` of proc.c). The session has loaded that number just before, so no grant and no request to cancel that came since is slept through. It has
+    /// no lightweight lock, so nobody waits for one that it would keep while it sleeps, and owes nobody a wake.
     fn sleep<R: Wait>(&self, rt: &R, shown: u64)
         requires looked { HasJustLooked (seat self.now).number (view self.now) shown }
         requires nothing_due { stack self.now ≡ nothing_due }
         requires no_slots { (owner : ℕ) → (view self.now).fast.slots owner ≡ None }
         requires no_shared_slots { (owner : ℕ) → (view self.now).fast.shared_slots owner ≡ None };
 
-    /// Wakes `other`, which sleeps until its wait word changes (`SetLatch` in `ProcWakeup` of proc.c): it is then
-    /// owed one wake less. This is not a step, but the session's history tells it.
+    /// Wakes `other`, which sleeps until its wait word changes (`SetLatch` in `ProcWakeup` of proc.c): `other` is owed one wake less from then on. The call
+    /// is no step on a word, but the history of the session that makes it notes the wake.
     fn wake(&mut self, other: SessionId)
         requires exists { other < (seat self.old).limit }
         ensures seat { seat self.new ≡ seat self.old }

@@ -13,7 +13,8 @@ use crate::words::{fetch_add_as, fetch_sub_as, load_as};
 use lock_table::PartTable;
 use modes_core::{Mode, Tag};
 
-/// Counts a strong lock of `mode` on `tag`, past nobody yet (`BeginStrongLockAcquire` in lock.c).
+/// Counts a strong lock of `mode` on `tag` in the strong lock counter of `tag`; the strong lock has gone past no session yet (`BeginStrongLockAcquire` in
+/// lock.c).
 pub(crate) fn add_strong<T: PartTable, M: Marking<T>>(
     words: &SharedWords<T>,
     seat: &mut Seat<T>,

@@ -18,8 +18,8 @@ use lock_table::PartTable;
 use modes_core::SessionId;
 use std::marker::Model;
 
-/// A session whose seat is gathered at the opener's: what is left of its board. It is not `Drop`, so that nobody
-/// lets one go, which would leave its session there for ever. Contracts see whose board it was, and at which table.
+/// A session whose seat is gathered at the opener's: what is left of its board. It is not `Drop`, so that nobody lets one go, which would leave its session
+/// at the opener's seat for ever. Contracts see which session it is of, and at which table.
 pub struct Absent<'a, T: PartTable> {
     table: &'a SharedWords<T>,
     number: SessionId,
@@ -46,7 +46,7 @@ impl<'a, T: PartTable> Model for Absent<'a, T> {
 }
 
 impl<T: PartTable> Opener<T> {
-    /// Takes the seat of the session on `board`, which has nothing in hand, behind those that came before.
+    /// Gathers the session of `board`, which has nothing in hand: its seat joins the opener's, after the sessions gathered before.
     pub fn gather<'a>(&mut self, board: SeatBoard<'a, T>) -> Absent<'a, T>
         requires table { (⟦<SeatBoard<'a, T> as Board<T>>⟧.seat board).table ≡ self.old.table }
         requires stack { ⟦<SeatBoard<'a, T> as Board<T>>⟧.stack board ≡ nothing_due }
@@ -67,7 +67,7 @@ impl<T: PartTable> Opener<T> {
         }
     }
 
-    /// Gives the session that came last, which was `absent`, its seat back.
+    /// Gives the session that was gathered last, that of `absent`, its seat back, and answers its board.
     pub fn send_back<'a>(&mut self, absent: Absent<'a, T>) -> SeatBoard<'a, T>
         requires table { absent.table ≡ self.old.table }
         requires last { HasLastOf absent.number self.old }

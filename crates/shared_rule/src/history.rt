@@ -7,136 +7,136 @@ use lw_word::{LwMode, LwWaiter};
 use modes_core::{Mode, Tag};
 use std::collections::LinkedList;
 
-/// A step that tells of no content, as its session's history has it. A type of its own: it doesn't depend on who
-/// keeps contents.
+/// The mark that a step leaves in its session's history, where it names no partition's content. A type apart from `Mark`, since it doesn't depend on the type
+/// of contents.
 pub enum WordMark {
-    /// The session took the lock of a session's fast-path slots, which show these numbers with this database.
+    /// The session took the lock of the fast-path slots of `owner` exclusively, which show `words` with the database word `database`.
     TookFast {
-        /// The session whose slots they are.
+        /// The session whose fast-path slots, or whose lock of them, the step is on.
         owner: u16,
         /// The number that the database word of `owner` shows.
         database: u64,
         /// The words of the fast-path slots of `owner`.
         words: [u64; 0],
     },
-    /// The session put the lock of a session's fast-path slots, whose word showed this before.
+    /// The session, which held the lock of the fast-path slots of `owner` exclusively, released it. The lock's word showed `found` before.
     PutFast {
-        /// The session whose slots they are.
+        /// The session whose fast-path slots, or whose lock of them, the step is on.
         owner: u16,
-        /// What the lock's word showed.
+        /// What the word of the released lightweight lock showed before its release.
         found: u64,
     },
-    /// The session shares the lock of a session's fast-path slots, which show these numbers with this database.
+    /// The session shares the lock of the fast-path slots of `owner`, which show `words` with the database word `database`.
     SharedFast {
-        /// The session whose slots they are.
+        /// The session whose fast-path slots, or whose lock of them, the step is on.
         owner: u16,
         /// The number that the database word of `owner` shows.
         database: u64,
         /// The words of the fast-path slots of `owner`.
         words: [u64; 0],
     },
-    /// The session gave back what it shared of the lock of a session's slots, whose word showed this before.
+    /// The session gave back its share of the lock of the fast-path slots of `owner`. The lock's word showed `found` before.
     UnsharedFast {
-        /// The session whose slots they are.
+        /// The session whose fast-path slots, or whose lock of them, the step is on.
         owner: u16,
-        /// What the lock's word showed.
+        /// What the word of the released lightweight lock showed before its release.
         found: u64,
     },
-    /// The session put the lock of a session's slots, and its strong lock, which it has counted, is past the session. The lock's
-    /// word showed this before.
+    /// The session released the lock of the fast-path slots of `owner`, and its strong lock of `mode` on `tag`, which it has counted, is past `owner`. The
+    /// lock's word showed `found` before.
     Passed {
-        /// The session whose slots the lock guards.
+        /// The session whose fast-path slots the released lock guards.
         owner: u16,
         /// The object of the strong lock.
         tag: Tag,
         /// The mode of the strong lock.
         mode: Mode,
-        /// What the lock's word showed.
+        /// What the word of the released lightweight lock showed before its release.
         found: u64,
     },
-    /// The session counted a strong lock.
+    /// The session counted a strong lock of `mode` on `tag` in a strong lock counter.
     Counted {
         /// The object of the strong lock.
         tag: Tag,
         /// The mode of the strong lock.
         mode: Mode,
     },
-    /// The session counts the strong lock no more.
+    /// The session took the count of its strong lock of `mode` on `tag` back.
     Uncounted {
         /// The object of the strong lock.
         tag: Tag,
         /// The mode of the strong lock.
         mode: Mode,
     },
-    /// The session loaded its own wait word, which showed this.
+    /// The session loaded its own wait word, which showed `shown`.
     LoadedWait {
         /// What the session's wait word showed.
         shown: u64,
     },
-    /// The session asked a session to cancel, whose wait word showed this before.
+    /// The session asked `other` to cancel its wait. The wait word of `other` showed `before` until then.
     Asked {
-        /// The session that was asked.
+        /// The session that was asked to cancel its wait.
         other: u16,
-        /// What the wait word of `other` showed.
+        /// What the wait word of `other` showed before `other` was asked to cancel its wait.
         before: u64,
     },
     /// The session cleared its own wait word.
     ClearedWait,
-    /// The session loaded a session's database, which was this.
+    /// The session loaded the database word of `owner`, which showed `shown`.
     LoadedDatabase {
-        /// The session whose slots they are.
+        /// The session whose database word was loaded.
         owner: u16,
         /// What the database word of `owner` showed.
         shown: u64,
     },
-    /// The session loaded a slot of a session, which showed this.
+    /// The session loaded the fast-path slot `slot` of `owner`, which showed `shown`.
     LoadedSlot {
-        /// The session whose slots they are.
+        /// The session whose fast-path slots, or whose lock of them, the step is on.
         owner: u16,
-        /// The number of the slot.
+        /// The number of the fast-path slot among those of its session.
         slot: u8,
         /// What the fast-path slot showed.
         shown: u64,
     },
-    /// The session loaded the word of the lock of its own slots, which showed this.
+    /// The session loaded the word of the lock of its own fast-path slots, which showed `shown`.
     LoadedFast {
-        /// What the lock's word showed.
+        /// What the word of the lock of the session's own fast-path slots showed.
         shown: u64,
     },
-    /// The session loaded a strong lock counter, which showed this.
+    /// The session loaded the strong lock counter at `index`, which showed `shown`.
     LoadedStrong {
-        /// The index of the counter.
+        /// The index of the strong lock counter that was loaded.
         index: u16,
         /// What the strong lock counter showed.
         shown: u64,
     },
-    /// The session set a mode in a slot of its own.
+    /// The session set `mode` on `tag` in its own fast-path slot `slot`.
     SetSlot {
-        /// The number of the slot.
+        /// The number of the fast-path slot among those of its session.
         slot: u8,
-        /// The relation of the slot.
+        /// The relation for which the fast-path slot is in use.
         tag: Tag,
-        /// The mode that was set in the slot.
+        /// The mode that was set in the fast-path slot.
         mode: Mode,
     },
-    /// The session cleared a mode in a slot of its own.
+    /// The session cleared `mode` on `tag` in its own fast-path slot `slot`.
     ClearedSlot {
-        /// The number of the slot.
+        /// The number of the fast-path slot among those of its session.
         slot: u8,
-        /// The relation of the slot.
+        /// The relation for which the fast-path slot is in use.
         tag: Tag,
-        /// The mode that was cleared in the slot.
+        /// The mode that was cleared in the fast-path slot.
         mode: Mode,
     },
-    /// The session moved a mode from a session's slot to the content in hand of the object's partition.
+    /// The session moved `mode` on `tag` from the fast-path slot `slot` of `owner` to the content in hand of the partition of `tag`.
     TransferredSlot {
-        /// The session whose slots they are.
+        /// The session whose fast-path slots, or whose lock of them, the step is on.
         owner: u16,
-        /// The number of the slot.
+        /// The number of the fast-path slot among those of its session.
         slot: u8,
-        /// The relation of the slot.
+        /// The relation for which the fast-path slot is in use.
         tag: Tag,
-        /// The mode that was moved.
+        /// The mode that was moved from the fast-path slot to the lock table.
         mode: Mode,
     },
     /// The session stored its own database.
@@ -144,101 +144,100 @@ pub enum WordMark {
         /// The number of the database that was stored.
         database: u32,
     },
-    /// The session locked the wait list of the lightweight lock with this number, in which these waiters are.
+    /// The session locked the wait list of the lightweight lock numbered `lock`, in which `waiters` are.
     LockedList {
-        /// The number of the lock.
+        /// The number of the lightweight lock.
         lock: u16,
-        /// The waiters in the list.
+        /// The waiters in the wait list of the lightweight lock.
         waiters: [LwWaiter; 0],
     },
-    /// The session put the list home and unlocked it.
+    /// The session put the wait list that it had in hand home and unlocked it.
     UnlockedList,
-    /// The session stands in the list in hand, last, to take the lock in this mode.
+    /// The session joined the wait list in hand at its end, to take the lightweight lock in `mode`.
     JoinedList {
-        /// How the session wants to take the lock.
+        /// The mode in which the session wants the lightweight lock.
         mode: LwMode,
     },
-    /// The session left the list in hand.
+    /// The session left the wait list in hand, in which it was itself.
     LeftList,
-    /// The session took a session off the list in hand, and is to tell it.
+    /// The session took `other` off the wait list in hand, and has to tell it so in its sleep word.
     TookOff {
-        /// The session that was taken off.
+        /// The session that was taken off the wait list.
         other: u16,
     },
-    /// The session told a session that it took off the list: it stored in that session's sleep word.
+    /// The session told `other`, which it had taken off a wait list, that it may go on: it stored so in the sleep word of `other`.
     Told {
-        /// The session that was told.
+        /// The session whose sleep word was changed: it may go on.
         other: u16,
     },
-    /// The session loaded its own sleep word, which showed this.
+    /// The session loaded its own sleep word, which showed `shown`.
     LoadedSleep {
         /// What the session's sleep word showed.
         shown: u64,
     },
-    /// The session set release-ok in the word of the lock with this number.
+    /// The session set the flag release-ok in the word of the lightweight lock numbered `lock`.
     SetReleaseOk {
-        /// The number of the lock.
+        /// The number of the lightweight lock.
         lock: u16,
     },
-    /// The session set has-waiters in the word of the lock with this number.
+    /// The session set the flag has-waiters in the word of the lightweight lock numbered `lock`.
     SetHasWaiters {
-        /// The number of the lock.
+        /// The number of the lightweight lock.
         lock: u16,
     },
-    /// The session saw that another session has the wait list of this lock locked: no step, but a look at the lock's word.
+    /// The session saw that another session has the wait list of the lightweight lock numbered `lock` locked: no step, but a look at the lock's word.
     SawListLocked {
-        /// The number of the lock.
+        /// The number of the lightweight lock.
         lock: u16,
     },
-    /// The session saw that another session holds this lock, in the way of its own attempt: no step, but a look at the lock's word.
+    /// The session saw that another session holds the lightweight lock numbered `lock`, in the way of its own attempt: no step, but a look at the lock's
+    /// word.
     SawHeld {
-        /// The number of the lock.
+        /// The number of the lightweight lock.
         lock: u16,
     },
-    /// The session calls a session that may be parked on its wait word: no step, but a look at that word, right before the call.
+    /// The session calls `other`, which may be parked on its wait word: no step, but a look at that word, right before the call.
     CalledWaiter {
-        /// The session that is called.
+        /// The session that is called, to go on if it is parked.
         other: u16,
     },
-    /// The session calls a session that may be parked on its sleep word: no step, but a look at that word, right before the call.
+    /// The session calls `other`, which may be parked on its sleep word: no step, but a look at that word, right before the call.
     CalledSleeper {
-        /// The session that is called.
+        /// The session that is called, to go on if it is parked.
         other: u16,
     },
 }
 
 /// One atomic step of a session, as its history has it.
 pub enum Mark<T> {
-    /// The session took the partition in hand, with this content.
+    /// The session took the partition `part` in hand, with the content `taken`.
     TookPart {
         /// The number of the partition.
         part: u8,
         /// The content of the partition.
         taken: T,
     },
-    /// The session put the partition home with this content, after this move that it made as it put it. The word of its lock
-    /// showed this before.
+    /// The session put the partition `part` home with the content `put`, after the move `done`. The word of the partition's lock showed `found` before.
     PutPart {
         /// The number of the partition.
         part: u8,
-        /// The move that the session made on the content.
+        /// The move that the session made on the partition's content.
         done: Move,
         /// The content of the partition after the move.
         put: T,
-        /// What the lock's word showed.
+        /// What the word of the released lightweight lock showed before its release.
         found: u64,
     },
-    /// The session set its wait word to waiting, and the content in hand is this, after the session's join.
+    /// The session stored in its own wait word that it waits for `mode` on `tag`. The content in hand is `now`, in whose wait queue the session is.
     SetWaiting {
         /// The object that the session waits for.
         tag: Tag,
         /// The mode that the session waits for.
         mode: Mode,
-        /// The content in hand after the join.
+        /// The content in hand after the session joined the wait queue.
         now: T,
     },
-    /// The session marked the wait of a session granted. Its move, by which the content in hand is this, granted the waits of
-    /// these sessions.
+    /// The session marked the wait of `other` granted. Its move `done`, which made the content in hand `now`, granted the waits of `woken`.
     MarkedGranted {
         /// The number of the partition.
         part: u8,
@@ -251,15 +250,14 @@ pub enum Mark<T> {
         /// The content in hand after the move.
         now: T,
     },
-    /// The session cleared its own wait word and left the queue, by which the content in hand is this, and the waits of these
-    /// sessions are granted.
+    /// The session cleared its own wait word and left the wait queue, which made the content in hand `now` and granted the waits of `woken`.
     LeftQueue {
         /// The sessions whose waits were granted.
         woken: [u16; 0],
-        /// The content in hand after the session left the queue.
+        /// The content in hand after the session left the wait queue.
         now: T,
     },
-    /// Any other step, which tells of no content.
+    /// Any other step: its mark names no partition's content.
     OfWords(WordMark),
 }
 
@@ -271,10 +269,9 @@ pub struct History<T> {
     pub marks: [Mark<T>; 0],
 }
 
-/// What a seat knows: the histories of the sessions that it is for, and, if it is the opener's, the number that the
-/// next session gets, and the histories of those that closed, the last one first. A seat is one session's, which
-/// makes its steps with it. Where two sessions meet, the first one's seat has the other's history behind its own
-/// for that time.
+/// What a seat knows: the histories of the sessions that it is for, and, if it is the opener's, the number that the next session gets, and the histories of
+/// those that closed, the last one first. A seat is one session's, which makes its steps with it. While two sessions meet, the first one's seat has the
+/// other's history after its own.
 pub struct View<T> {
     /// The number that the next session gets, at the seat of the opener.
     pub next: Option<u16>,

@@ -7,7 +7,7 @@ use lw_word::WaitList;
 /// takes memory.
 #[derive(Drop)]
 pub enum Kept<T> {
-    /// What belongs here is in a session's hand, or nothing does.
+    /// The shelf is empty: what belongs on it is in a session's hand, or nothing belongs on it.
     Nothing,
     /// The content of a partition.
     Part(T),

@@ -45,11 +45,10 @@ pub fn the_table_shows_why_each_session_waits<T: PartTable>()
         → ShowsReasons T.content T.begun sizes state }
 {}
 
-/// A table that keeps the rule forgets no session that sleeps for a lightweight lock, whatever the steps of the threads and their
-/// order. It shows a World in which, where a lock's wait list has a waiter, a session has the lock or something to do for it: a
-/// look at the list, the list itself, an attempt, or the release-ok flag. What that is, is what its history tells. So who sleeps stands in
-/// a list, and a session that makes steps has that lock or something to do for it; or the sleeper was taken off, and a session
-/// that makes steps has it to tell.
+/// A table that keeps the rule forgets no session that sleeps for a lightweight lock, whatever the steps of the threads and their order. It shows a World in
+/// which, where a lock's wait list has a waiter, a session has the lock or something to do for it: a look at the list, the list itself, an attempt, or the
+/// release-ok flag. The session's history says what it has to do. So a session that sleeps is in a wait list, and one that makes steps has that list's lock
+/// or something to do for it; or the sleeper was taken off its list, and a session that makes steps has still to tell it so.
 pub fn the_table_forgets_no_sleeper<T: PartTable>()
     ensures { (sizes : TableSizes) (state : State (Kept T) (View T)) → Ruled T.content T.begun sizes state
         → ShowsSleepers T.content T.begun sizes state }
@@ -79,14 +78,14 @@ pub fn each_word_is_within_the_table()
         index_of_word sizes.sessions word < words_of sizes.sessions sizes.groups }
 {}
 
-/// Two words with one index are one word.
+/// Two words of a table that have one index are one word.
 pub fn no_two_words_share_an_index()
     ensures { (sizes : TableSizes) (word other : Word) → IsInTable sizes word → IsInTable sizes other →
         index_of_word sizes.sessions word ≡ index_of_word sizes.sessions other → word ≡ other }
 {}
 
-/// Words of two partitions stand 128 bytes apart at least, so do words of two sessions, and so do words of a
-/// partition, of the counters and of a session from each other.
+/// The words of two partitions are at least 128 bytes apart; so are the words of two sessions, and the words of a partition, of the strong lock counters and
+/// of a session from each other.
 pub fn words_of_two_groups_stand_apart()
     ensures { (sizes : TableSizes) (word other : Word) → IsInTable sizes word → IsInTable sizes other →
         group_of word ≢ group_of other →
@@ -100,9 +99,9 @@ pub fn a_word_is_set_alone()
         WordsAreShown sizes (slice_set table (index_of_word sizes.sessions word) n) (set_word words word n) }
 {}
 
-/// Where the rule holds, whatever a session's account tells of what it has seen was so: each entry of its trace
-/// tells of a World on the way of events that lead from the World before the first step to the one that the table
-/// shows now. It is so of the sessions that seats are for, and of those that have closed.
+/// Where the rule holds, whatever a session's account tells of what it has seen was so: each entry of its trace is about a World on the way of events that
+/// lead from the World before the first step to the one that the table shows now. This holds for the sessions that seats are for, and for those that have
+/// closed.
 pub fn what_an_account_tells_was_so<T: PartTable>()
     ensures at_seat { (sizes : TableSizes) (state : State (Kept T) (View T)) (rule : Ruled T.content T.begun sizes state)
         (history : History T) → StandsAtSeat state.views history →
@@ -127,8 +126,8 @@ pub fn no_step_was_made_but_those_told<T: PartTable>()
         StepsAreTold state.views rule.world.numbers rule.events }
 {}
 
-/// Where the rule holds, each number that was given out has its history: at a seat, where its session is live, or with
-/// the opener, where it has closed. So no session's steps are told by nobody.
+/// Where the rule holds, each number that was given out has its history: at a seat, where its session is live, or with the opener, where it has closed. So no
+/// session's steps are in no history.
 pub fn each_number_given_out_has_its_history<T: PartTable>()
     ensures { (sizes : TableSizes) (state : State (Kept T) (View T)) (rule : Ruled T.content T.begun sizes state)
         (number : ℕ) → number < rule.world.numbers.issued →
@@ -169,14 +168,13 @@ pub fn an_adopt_moves_what_its_slot_had<T: PartTable>()
         WasInSlot (opening sizes.sessions sizes.groups) rule.world rule.events partition owner slot tag mode hand.taken }
 {}
 
-/// Nobody writes where no word stands: where the rule holds, each gap of the table shows what it opened with.
+/// Nobody writes into the gaps between a table's words: where the rule holds, each gap shows what the table opened with.
 pub fn gaps_are_never_written<T: PartTable>()
     ensures { (sizes : TableSizes) (state : State (Kept T) (View T)) → Ruled T.content T.begun sizes state →
         (index : ℕ) → IsGap sizes index → slice_index state.words index ≡ 0 }
 {}
 
-/// No seat vanishes: where the rule holds and a seat is one session's, it doesn't hold with that session's view gone and all
-/// else the same.
+/// No seat vanishes: where the rule holds of a table's state in which a seat is for one session, it doesn't hold of that state without the view of that seat.
 pub fn no_seat_vanishes<T: PartTable>()
     ensures { (sizes : TableSizes) (state : State (Kept T) (View T)) → Ruled T.content T.begun sizes state →
         (seat number : ℕ) (marks : List (Mark T)) → get_elem? state.views seat ≡ some (lone number marks) →

@@ -23,18 +23,18 @@ use modes_core::{PARTITIONS, STRONG_COUNTERS, SessionId};
 /// How far words are apart that share no cache line: 128 bytes, counted in words.
 pub(crate) const GAP: usize = 16;
 
-/// The counters come after the 16 partition words, each with its gap.
+/// The index of the first strong lock counter: the counters come after the 16 partition words, each of which has a gap after it.
 pub(crate) const COUNTERS_START: usize = PARTITIONS as usize * GAP;
 
-/// The sessions come after the 1,024 counters, with a gap: all sessions write the counters.
+/// The index of the first session's words: they come after the 1,024 strong lock counters and a gap, since all sessions write the counters.
 pub(crate) const SESSIONS_START: usize = COUNTERS_START + STRONG_COUNTERS as usize + GAP;
 
-/// A session's 20 words, and a gap to the next session's. The words that others write come last, next to the
-/// gap: a grant or a wakeup then does not slow down the neighbour. The gap is one word longer than it has to be, so that
-/// a block has an odd number of words: a walk through a session's slots then takes an instruction or two less for each.
+/// How many words a session's block has: the session's 20 words, and a gap before the next session's. The words that others write come last, next to the gap:
+/// a grant or a wakeup then does not slow down the neighbour. The gap is one word longer than it has to be, so that a block has an odd number of words: a
+/// walk through a session's slots then takes an instruction or two less for each.
 pub(crate) const BLOCK: usize = 20 + GAP + 1;
 
-/// How many slots a group has (`FP_LOCK_SLOTS_PER_GROUP` in proc.h of version 18).
+/// How many fast-path slots a group has (`FP_LOCK_SLOTS_PER_GROUP` in proc.h of version 18).
 pub(crate) const SLOTS_PER_GROUP: u8 = 16;
 
 /// How many words the table of `sizes` has.
@@ -101,10 +101,9 @@ pub fn database_word(session: SessionId) -> usize
     block(session.number() as usize) + 1
 }
 
-/// The index of the fast-path slot `slot` of `session` (`fpRelId` in proc.h), where there can be `sessions` sessions. The 16
-/// slots of the first group come after the database: a session that has the lightweight lock reads those of one group. Those
-/// of each further group stand the same way in a block of that group's, so no two sessions' slots share a line. Where a slot
-/// of the first group stands doesn't depend on `sessions`, which isn't read for it.
+/// The index of the fast-path slot `slot` of `session` (`fpRelId` in proc.h), where there can be `sessions` sessions. The 16 slots of the first group come
+/// after the database: a session that has the lightweight lock reads those of one group. The slots of each further group are laid out in the same way in a
+/// block for that group, so no two sessions' slots share a line. The index of a slot of the first group doesn't depend on `sessions`.
 pub fn slot_word(sessions: u16, session: SessionId, slot: u8) -> usize
     requires exists { slot < slot_count }
     ensures index { result ≡ index_of_word sessions (Slot session slot) }
@@ -128,7 +127,8 @@ pub fn wait_word(session: SessionId) -> usize
     block(session.number() as usize) + 18
 }
 
-/// The index of the sleep word of `session` (`lwWaiting` in proc.h), beside the wait word for the same reason.
+/// The index of the sleep word of `session` (`lwWaiting` in proc.h), beside its wait word: others write the sleep word only while the session waits for a
+/// lightweight lock, and the session doesn't use its slots meanwhile.
 pub fn sleep_word(session: SessionId) -> usize
     ensures index { (sessions : ℕ) → result ≡ index_of_word sessions (Sleep session) }
     ensures within { (sizes : TableSizes) (table : TableId) → IsSized sizes table → session < sizes.sessions →

@@ -37,10 +37,9 @@ use lw_word::{LwMode, LwWord, SleepState, WaitList, has_locked_list};
 use modes_core::SessionId;
 use std::marker::Brand;
 
-/// Makes one attempt to lock the wait list of `lock` (`LWLockWaitListLock` in lwlock.c). A session that gets it is told
-/// that it stands there only if it knows that it waits for that lock, that the list has room for all sessions that there
-/// can be, and that all who stand there are among these. A session that has put the lock so that it must wake has done its
-/// part then: it has the list in hand, or another session has.
+/// Makes one attempt to lock the wait list of `lock` (`LWLockWaitListLock` in lwlock.c). A session that gets the list learns of it: the session is in the
+/// list only if its account has that it waits for `lock`; the list has room for all sessions that there can be; and all waiters in the list are such
+/// sessions. A session that has to wake waiters after it released `lock` has done its part with the attempt: it has the list in hand, or another session has.
 pub(crate) fn try_lock_list<T: PartTable, G: Sizing>(
     words: &SharedWords<T>,
     seat: &mut Seat<T>,
@@ -74,11 +73,10 @@ pub(crate) fn try_lock_list<T: PartTable, G: Sizing>(
     }
 }
 
-/// Puts the list in hand home, with room for all sessions as before, and unlocks it; of the two flags those go that are
-/// not to stay (`LWLockWaitListUnlock`, and the end of `LWLockWakeup`, in lwlock.c). `has_waiters` may go only from an empty
-/// list, and `release_ok` only where somebody was taken off who is yet to be told, and will set it again. Nobody may
-/// leave a list so that its waiters are forgotten: where some are left, the session has taken one off, has the lock, or
-/// attempts it next.
+/// Puts the wait list in hand home, which still has room for all sessions, unlocks it, and clears those of the flags has-waiters and release-ok in the word
+/// of its lock that are not to be kept (`LWLockWaitListUnlock`, and the end of `LWLockWakeup`, in lwlock.c). `has_waiters` may go only from an empty list,
+/// and `release_ok` only where somebody was taken off who is yet to be told, and will set it again. Nobody may leave a list so that its waiters are
+/// forgotten: where some are left, the session has taken one off, has the lock, or attempts it next.
 pub(crate) fn unlock_list<T: PartTable>(
     words: &SharedWords<T>,
     seat: &mut Seat<T>,
@@ -112,7 +110,7 @@ pub(crate) fn unlock_list<T: PartTable>(
     }
 }
 
-/// Stores in the sleep word of the session `number`, its own, that it waits for `mode` in the list in hand
+/// Stores in the sleep word of the session `number`, its own, that it waits in the wait list in hand, to take the lightweight lock in `mode`
 /// (`LWLockQueueSelf` in lwlock.c sets `lwWaiting`).
 pub(crate) fn join_list<T: PartTable, M: Marking<T>>(
     words: &SharedWords<T>,
@@ -212,8 +210,8 @@ pub(crate) fn tell<T: PartTable, M: Marking<T>>(
     );
 }
 
-/// Calls `other`, which may be parked on its sleep word (`PGSemaphoreUnlock` in `LWLockWakeup` of lwlock.c). The session looks at
-/// that word right before the call, so that its history tells of it.
+/// Calls `other`, which may be parked on its sleep word (`PGSemaphoreUnlock` in `LWLockWakeup` of lwlock.c). The session looks at that word right before the
+/// call, so that its history notes the call.
 pub(crate) fn call_sleeper<T: PartTable, M: Marking<T>>(
     words: &SharedWords<T>,
     seat: &mut Seat<T>,
@@ -292,9 +290,8 @@ pub(crate) fn set_has_waiters<T: PartTable, M: Marking<T>>(
     fetch_or_as::<T, M>(words, seat, lock.word(), LwWord::HAS_WAITERS);
 }
 
-/// Loads the word of `lock`, which the session is to attempt (the loop of `LWLockAttemptLock` in lwlock.c). Where it
-/// shows that somebody holds the lock that is noted, and the attempt is done: the session that holds it sees
-/// has-waiters as it puts it.
+/// Loads the word of `lock`, which the session is to attempt (the loop of `LWLockAttemptLock` in lwlock.c). Where the word shows that somebody holds the
+/// lock, that is noted, and the attempt is over: the session that holds the lock sees the flag has-waiters as it releases the lock.
 pub(crate) fn look_at_lock<T: PartTable>(
     words: &SharedWords<T>,
     seat: &mut Seat<T>,

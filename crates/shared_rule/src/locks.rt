@@ -85,8 +85,8 @@ pub(crate) fn attempt_free_fast<T: PartTable>(
     }
 }
 
-/// Takes the lock of the fast-path slots of `owner` exclusively, issued or not (`LWLockAcquire` of `fpInfoLock` in
-/// lwlock.c). The call waits in the lock's list until the lock is free.
+/// Takes the lock of the fast-path slots of `owner` exclusively, whether that number is issued or not (`LWLockAcquire` of `fpInfoLock` in lwlock.c). The call
+/// waits in the lock's wait list until the lock is free.
 #[inline]
 pub(crate) fn take_fast<T: PartTable, R: Wait>(
     rt: &R,
@@ -212,8 +212,8 @@ pub(crate) fn put_fast_home<T: PartTable, M: Marking<T>>(
     fetch_sub_as::<T, M>(words, seat, fast_word(owner), LwMode::Exclusive.amount())
 }
 
-/// Puts the lock of the fast-path slots of `owner` (`LWLockRelease` of `fpInfoLock` in lwlock.c). Where the word
-/// says so the call wakes those who wait for it.
+/// Releases the lock of the fast-path slots of `owner` (`LWLockRelease` of `fpInfoLock` in lwlock.c). Where the lock's word says so the call wakes sessions
+/// that wait for the lock.
 pub(crate) fn put_fast<T: PartTable, M: Marking<T>>(
     words: &SharedWords<T>,
     seat: &mut Seat<T>,
@@ -256,9 +256,9 @@ pub(crate) fn pass_fast_home<T: PartTable, M: Marking<T>>(
     fetch_sub_as::<T, M>(words, seat, fast_word(owner), LwMode::Exclusive.amount())
 }
 
-/// Puts the lock of the slots of `owner`, and goes past that session with the strong lock of `mode` on `tag`, which
-/// is counted (the end of a turn of the loop in `FastPathTransferRelationLocks` in lock.c): the session has no slot
-/// on the object. Where the word says so the call wakes those who wait for the lock.
+/// Releases the lock of the fast-path slots of `owner`, and goes past that session with the strong lock of `mode` on `tag`, which is counted (the end of a
+/// turn of the loop in `FastPathTransferRelationLocks` in lock.c): `owner` has no slot in use for `tag`. Where the lock's word says so the call wakes
+/// sessions that wait for the lock.
 pub(crate) fn pass_fast<T: PartTable, M: Marking<T>>(
     words: &SharedWords<T>,
     seat: &mut Seat<T>,

@@ -19,7 +19,7 @@ pub(crate) enum LwLock {
 }
 
 impl LwLock {
-    /// The index of the lock's word.
+    /// The index, in the table, of the word of the lightweight lock.
     pub(crate) fn word(&self) -> usize
         requires exists { (sessions : ℕ) × LockExists sessions self.now }
         ensures index { (sessions : ℕ) → result ≡ index_of_word sessions (word_of_lock self.now) }
@@ -32,7 +32,7 @@ impl LwLock {
         }
     }
 
-    /// The shelf on which its wait list lies while nobody has it in hand.
+    /// The shelf on which the wait list of the lightweight lock lies while nobody has that list in hand.
     pub(crate) fn list_shelf(&self) -> usize
         requires exists { (sessions : ℕ) × LockExists sessions self.now }
         ensures shelf { result ≡ list_shelf_of (lock_number self.now) }

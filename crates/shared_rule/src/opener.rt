@@ -19,9 +19,8 @@ use lock_table::PartTable;
 use modes_core::SessionId;
 use std::marker::Model;
 
-/// Gives out session numbers, each once, in rising order (`InitProcess` in proc.c). Contracts see at which table it is,
-/// how many numbers it has given out, how many there can be, the histories of the sessions that have closed, and which
-/// sessions are gathered at its seat.
+/// Gives out session numbers, each once, in rising order (`InitProcess` in proc.c). Contracts see at which table the opener is, how many numbers it has given
+/// out, how many there can be, the histories of the sessions that have closed, and which sessions are gathered at its seat.
 #[derive(Drop)]
 pub struct Opener<T: PartTable> {
     pub(crate) seat: Seat<T>,
@@ -123,9 +122,8 @@ impl<T: PartTable> Opener<T> {
         Some(SeatBoard::at(table, seat, number, self.sizes))
     }
 
-    /// Takes back `board`, that of a session which has nothing any more (`ProcKill` in proc.c). Its number is that
-    /// of a closed session from then on, with all that it did, and all else of the opener is as before. Of those
-    /// that have closed each was given out, and none closed twice.
+    /// Takes back `board`, that of a session which has nothing any more (`ProcKill` in proc.c). Its number is that of a closed session from then on, with all
+    /// that it did, and all else of the opener is as before. Each session that has closed was given out, and none has closed twice.
     pub fn close<'a>(&mut self, board: SeatBoard<'a, T>)
         requires table { (⟦<SeatBoard<'a, T> as Board<T>>⟧.seat board).table ≡ self.old.table }
         requires stack { ⟦<SeatBoard<'a, T> as Board<T>>⟧.stack board ≡ nothing_due }

@@ -20,7 +20,7 @@ use modes_core::SessionId;
 use std::marker::PhantomData;
 use std::sync::Wait;
 
-/// The lock of partition `part`, as the session `number` comes for it: the content comes in hand with it.
+/// The lightweight lock of partition `part`, as the session `number` comes to take it: with the lock the partition's content comes in hand.
 #[derive(Drop)]
 pub(crate) struct PartLock<'a, T: PartTable> {
     pub(crate) words: &'a SharedWords<T>,
@@ -112,7 +112,7 @@ fn take_part_held<T: PartTable, R: Wait>(
     )
 }
 
-/// The lock of partition `part`, which goes home after the move `done`, with its content.
+/// The lightweight lock of partition `part`, as a session that has the partition in hand releases it: the content goes home, after the move `done`.
 #[derive(Drop)]
 pub(crate) struct PartInHand<'a, T: PartTable, M: Marking<T>> {
     pub(crate) words: &'a SharedWords<T>,

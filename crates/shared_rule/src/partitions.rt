@@ -120,9 +120,8 @@ pub(crate) fn take_part_alone<T: PartTable, R: Wait>(
     unreachable!()
 }
 
-/// Takes the lightweight lock of partition `part` exclusively, and its content in hand (`LWLockAcquire` in
-/// lwlock.c). The call waits in the lock's list until the lock is free. Of the content it tells what the account of
-/// the session `number` knows of it.
+/// Takes the lightweight lock of partition `part` exclusively, and its content in hand (`LWLockAcquire` in lwlock.c). The call waits in the lock's list until
+/// the lock is free. The answer is the content, of which the caller learns what the account of the session `number` knows of it.
 #[inline]
 pub(crate) fn take_part<T: PartTable, R: Wait>(
     rt: &R,
@@ -152,8 +151,8 @@ pub(crate) fn take_part<T: PartTable, R: Wait>(
     )
 }
 
-/// Puts `content` home to partition `part`, after the move `done`, and its lightweight lock, and answers what the
-/// lock's word showed. Nobody is woken.
+/// Puts `content` home to partition `part`, after the move `done`, releases the partition's lightweight lock, and answers what the lock's word showed. Nobody
+/// is woken.
 pub(crate) fn put_part_home<T: PartTable, M: Marking<T>>(
     words: &SharedWords<T>,
     seat: &mut Seat<T>,
@@ -181,8 +180,8 @@ pub(crate) fn put_part_home<T: PartTable, M: Marking<T>>(
     }
 }
 
-/// Puts `content` home to partition `part`, after the move `done`, and its lightweight lock (`LWLockRelease` in
-/// lwlock.c). Where the word says so the call wakes those who wait for the lock.
+/// Puts `content` home to partition `part`, after the move `done`, and releases the partition's lightweight lock (`LWLockRelease` in lwlock.c). Where the
+/// lock's word says so the call wakes sessions that wait for the lock.
 pub(crate) fn put_part<T: PartTable, M: Marking<T>>(
     words: &SharedWords<T>,
     seat: &mut Seat<T>,

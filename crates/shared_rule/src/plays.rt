@@ -6,7 +6,8 @@ use atomic_table::Play;
 use lock_table::PartTable;
 use std::marker::{Brand, PhantomData};
 
-/// The mark that a step leaves in its session's history, by the number that it finds in its word. Each call picks it.
+/// The mark that a step leaves in its session's history, as a function of the number that the step finds in its word. Each call that makes a step picks the
+/// mark.
 pub trait Marking<T> {
     ghost use Rattle.std.specs.Prelude.{ℕ};
     ghost use Rattle.shared_rule.specs.declared.history.Mark.{Mark};
@@ -20,7 +21,7 @@ impl<T> Marking<T> for Brand {
     ghost mark = { λ _. PutFast 0 0 };
 }
 
-/// The sizes of the table, as a step on it knows them. Each call picks them.
+/// The sizes of the table, as a step on the table knows them. Each call that makes a step names them.
 pub trait Sizing {
     ghost use Rattle.shared_rule.specs.declared.rule.TableSizes.{TableSizes};
 
@@ -64,7 +65,7 @@ impl<T: PartTable, G: Sizing> Play<Kept<T>, View<T>> for TakesPart<G> {
     ghost then = { TookPartition T.content T.begun G.sizes.sessions };
 }
 
-/// A load or a fetch operation that leaves its mark, and tells what the account knows of the number found.
+/// A load or a fetch operation that leaves its mark, and shows what the session's account knows of the number found.
 pub struct Looks<M> {
     of: PhantomData<M>,
 }
@@ -111,8 +112,7 @@ impl<T: PartTable, G: Sizing> Play<Kept<T>, View<T>> for TriesSlots<G> {
     ghost then = { TookSlotsOr T.content G.sizes.groups noted_load };
 }
 
-/// A fetch-or of a word's list bit that takes the wait list in hand where it finds the bit not set, and else is noted as
-/// a look that saw it locked.
+/// A fetch-or of a word's list bit that takes the wait list in hand where it finds the bit not set, and else is noted as a look that saw the list locked.
 pub struct LocksList<G> {
     of: PhantomData<G>,
 }
@@ -133,7 +133,7 @@ impl<T> Play<Kept<T>, View<T>> for SeesHeld {
     ghost then = { SawHeldOr };
 }
 
-/// A load that changes nothing, and tells the opener that those that have closed were given out, each once.
+/// A load that changes nothing, and shows the opener that each session that has closed was given out, and closed once.
 pub struct TellsClosed;
 
 impl<T> Play<Kept<T>, View<T>> for TellsClosed {
@@ -142,7 +142,7 @@ impl<T> Play<Kept<T>, View<T>> for TellsClosed {
     ghost then = { ToldClosed };
 }
 
-/// A load that changes nothing, and tells that no hold of the first session conflicts with one of the next.
+/// A load that changes nothing, and shows that no hold of a seat's first session conflicts with a hold of its second one.
 pub struct TellsApart;
 
 impl<T: PartTable> Play<Kept<T>, View<T>> for TellsApart {
@@ -151,7 +151,7 @@ impl<T: PartTable> Play<Kept<T>, View<T>> for TellsApart {
     ghost then = { ToldApart T.content };
 }
 
-/// A load that leaves its mark, and tells what a seat at which all sessions are knows of the number found.
+/// A load that leaves its mark, and shows what a seat at which all open sessions are gathered knows of the number found.
 pub struct LooksOver<M> {
     of: PhantomData<M>,
 }
@@ -162,7 +162,7 @@ impl<T: PartTable, M: Marking<T>> Play<Kept<T>, View<T>> for LooksOver<M> {
     ghost then = { LookedOver T.content M.mark };
 }
 
-/// A load that changes nothing, and tells such a seat who is there, and where each one's own holds stand.
+/// A load that changes nothing, and shows a seat at which all open sessions are gathered who they are, and where each one's own holds are.
 pub struct TellsAll<G> {
     of: PhantomData<G>,
 }

@@ -71,9 +71,8 @@ fn lock_list<T: PartTable, R: Wait>(
     unreachable!()
 }
 
-/// Queues the session `number` at the end of the wait list of `lock`, as one that wants `mode` (`LWLockQueueSelf` in
-/// lwlock.c). Has-waiters stands before the session does, so a session that releases the lock from then on sees it.
-/// The caller attempts the lock once more after it.
+/// Queues the session `number` at the end of the wait list of `lock`, as one that wants `mode` (`LWLockQueueSelf` in lwlock.c). The flag has-waiters is set
+/// before the session is in the list, so a session that releases the lock from then on sees the flag. The caller attempts the lock once more after this call.
 pub(crate) fn queue_self<T: PartTable, R: Wait>(
     rt: &R,
     words: &SharedWords<T>,
@@ -102,9 +101,9 @@ pub(crate) fn queue_self<T: PartTable, R: Wait>(
     unlock_list(words, seat, lock, list, true, true);
 }
 
-/// Sleeps until the sleep word of the session `number`, its own, shows 0: the session that took it off its list has
-/// told it so (the sleep on the semaphore in `LWLockAcquire` in lwlock.c). The kernel compares the word before a
-/// thread sleeps, so nothing that is told meanwhile is slept through.
+/// Sleeps until the sleep word of the session `number`, its own, shows 0: the session that took it off its wait list has said so there (the sleep on the
+/// semaphore in `LWLockAcquire` in lwlock.c). The kernel compares the word before a thread sleeps, so a change of the word that comes meanwhile is not slept
+/// through.
 pub(crate) fn sleep_until_told<T: PartTable, R: Wait>(
     rt: &R,
     words: &SharedWords<T>,
@@ -132,10 +131,9 @@ pub(crate) fn sleep_until_told<T: PartTable, R: Wait>(
     unreachable!()
 }
 
-/// Leaves the list of `lock`, which the session `number` has got meanwhile. Where another session has taken it off
-/// already, it sets release-ok in that one's stead, while it has the list in hand and so knows that it is off it. It is
-/// told so in any case, and waits for that (`LWLockDequeueSelf` in lwlock.c, which sets the flag after it has unlocked
-/// the list).
+/// Leaves the wait list of `lock`, a lock which the session `number` has got meanwhile. Where another session has taken `number` off the list already,
+/// `number` sets the flag release-ok in that one's stead, while it has the list in hand and so knows that it isn't in it. It then waits until its sleep word
+/// says that it was taken off (`LWLockDequeueSelf` in lwlock.c, which sets the flag after it has unlocked the list).
 pub(crate) fn dequeue_self<T: PartTable, R: Wait>(
     rt: &R,
     words: &SharedWords<T>,
@@ -167,7 +165,7 @@ pub(crate) fn dequeue_self<T: PartTable, R: Wait>(
     }
 }
 
-/// Sleeps until the session `number`, which stands in the list of `lock` or was taken off it, is told so, and lets
+/// Sleeps until the sleep word of the session `number`, which is in the wait list of `lock` or was taken off it, says that it was taken off, and lets
 /// releases wake others again (the end of the loop in `LWLockAcquire` in lwlock.c).
 pub(crate) fn sleep_for<T: PartTable, R: Wait>(
     rt: &R,

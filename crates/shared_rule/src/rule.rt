@@ -11,15 +11,15 @@ use lock_table::PartTable;
 pub struct TableSizes {
     /// How many sessions there can be.
     pub sessions: u16,
-    /// How many groups of fast-path slots each has.
+    /// How many groups of fast-path slots each session has.
     pub groups: u8,
 }
 
-/// The rule of the shared table, which holds between any two steps.
+/// The rule of the shared table, which holds between any two steps of all sessions: words, contents and the sessions' histories agree, and show a safe World.
 pub struct LockTableRule;
 
-/// Each partition's content, and each lightweight lock's wait list, has a shelf of its own, and lies there while nobody
-/// has it in hand. The shelves between stay unused.
+/// Each partition's content, and each lightweight lock's wait list, has a shelf of its own, and lies on that shelf while nobody has it in hand. The shelves
+/// between stay unused.
 impl<T: PartTable> TableRule<Kept<T>, View<T>, TableSizes> for LockTableRule {
     ghost use Rattle.shared_rule.specs.Ruled.{Ruled};
     ghost use Rattle.shared_rule.specs.History.{opening_view};

@@ -62,8 +62,8 @@ impl<'a, T: PartTable> SeatBoard<'a, T> {
         }
     }
 
-    /// Meets `other`, a session of the same table, whose board comes back: no hold of the one conflicts with a hold
-    /// of the other on an object. Both accounts are as before.
+    /// Has the board's session meet `other`, a session of the same table, whose board comes back: no hold of the one session conflicts with a hold of the
+    /// other on an object. The accounts of both are as before.
     pub fn meet(&mut self, other: SeatBoard<'a, T>) -> SeatBoard<'a, T>
         requires table { (⟦<SeatBoard<'a, T> as Board<T>>⟧.seat other).table
             ≡ (⟦<SeatBoard<'a, T> as Board<T>>⟧.seat self.old).table }

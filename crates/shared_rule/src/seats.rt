@@ -40,7 +40,7 @@ impl<T> Join<View<T>> for Closes {
     ghost spent = { spent_view };
 }
 
-/// A session is kept apart: its history goes behind those at the other seat.
+/// A session is kept apart: its history joins those at another session's seat, as the last one.
 struct KeepsApart;
 
 impl<T> Join<View<T>> for KeepsApart {
@@ -93,8 +93,7 @@ pub(crate) fn close<T: PartTable>(words: &SharedWords<T>, opener: &mut Seat<T>, 
     words.join_seat::<Closes>(opener, session);
 }
 
-/// Tells the seat `opener` that those that have closed were given out, each once. The call loads a word, and ignores what it
-/// finds.
+/// Shows the seat `opener` that each session that has closed was given out, and closed once. The call loads one of `words`, and ignores what it finds.
 pub(crate) fn tell_closed<T: PartTable>(words: &SharedWords<T>, opener: &mut Seat<T>)
     requires table { FitsTable opener.old words.now.key words.now.table_id }
     requires opener { HasNext opener.old.me.0 }
@@ -105,8 +104,8 @@ pub(crate) fn tell_closed<T: PartTable>(words: &SharedWords<T>, opener: &mut Sea
     words.load::<TellsClosed>(opener, 0);
 }
 
-/// Keeps the session of the seat `other` apart, which holds no word, has nothing to do for those who wait, and has nobody to
-/// wake: its history goes behind those at `seat`, for as long as they meet.
+/// Keeps the session of the seat `other` apart, which holds no word, has nothing to do for those who wait, and has nobody to wake: its history is after those
+/// at `seat`, for as long as the sessions meet.
 pub(crate) fn keep_apart<T: PartTable>(words: &SharedWords<T>, seat: &mut Seat<T>, other: Seat<T>)
     requires table { FitsTable seat.old words.now.key words.now.table_id }
     requires other_table { FitsTable other words.now.key words.now.table_id }
@@ -132,8 +131,8 @@ pub(crate) fn hand_back<T: PartTable>(words: &SharedWords<T>, seat: &mut Seat<T>
     words.split_seat::<HandsBack>(seat)
 }
 
-/// Has `seat`, in which two sessions meet, tell that no hold of the one conflicts with a hold of the other on an object
-/// (`LockConflicts` in lock.c says which modes do). It loads one of `words`, and ignores what it finds.
+/// Shows by `seat`, at which two sessions meet, that no hold of the one conflicts with a hold of the other on an object (`LockConflicts` in lock.c says which
+/// modes do). The call loads one of `words`, and ignores what it finds.
 pub(crate) fn tell_apart<T: PartTable>(words: &SharedWords<T>, seat: &mut Seat<T>)
     requires table { FitsTable seat.old words.now.key words.now.table_id }
     requires two { IsForTwo seat.old.me.0 }

@@ -83,8 +83,8 @@ pub(crate) fn attempt_free_share<T: PartTable>(
     }
 }
 
-/// Shares the lock of the fast-path slots of `owner`, issued or not (`LWLockAcquire` of `fpInfoLock` with
-/// `LW_SHARED` in lwlock.c). The call waits in the lock's list until nobody holds the lock exclusively.
+/// Shares the lock of the fast-path slots of `owner`, whether that number is issued or not (`LWLockAcquire` of `fpInfoLock` with `LW_SHARED` in lwlock.c).
+/// The call waits in the lock's list until nobody holds the lock exclusively.
 #[inline]
 pub(crate) fn share_fast<T: PartTable, R: Wait>(
     rt: &R,

@@ -25,7 +25,7 @@ use modes_core::{Mode, SessionId, Tag};
 use std::marker::PhantomData;
 use std::sync::Wait;
 
-/// The lock of the slots of `owner`, as the session `number` comes for it in `mode`: what they show is known with it.
+/// The lock of the fast-path slots of `owner`, as the session `number` comes to take it in `mode`: with the lock it knows what the slots show.
 #[derive(Drop)]
 pub(crate) struct SlotsLock<'a, T: PartTable> {
     pub(crate) words: &'a SharedWords<T>,
@@ -145,7 +145,7 @@ fn get_slots_held<T: PartTable, R: Wait>(
     )
 }
 
-/// The lock of the slots of `owner`, which the session has to write them and puts.
+/// The lock of the fast-path slots of `owner`, as a session that holds it exclusively releases it.
 #[derive(Drop)]
 pub(crate) struct SlotsTaken<'a, T: PartTable, M: Marking<T>> {
     pub(crate) words: &'a SharedWords<T>,
@@ -191,7 +191,7 @@ impl<'a, T: PartTable, M: Marking<T>> Held<Seat<T>, ()> for SlotsTaken<'a, T, M>
     }
 }
 
-/// The lock of the slots of `owner`, which the session puts as it goes past `owner` with the strong lock of `mode` on
+/// The lock of the fast-path slots of `owner`, as a session that holds it exclusively releases it and goes past `owner` with the strong lock of `mode` on
 /// `tag`.
 #[derive(Drop)]
 pub(crate) struct SlotsPassed<'a, T: PartTable, M: Marking<T>> {
@@ -241,7 +241,7 @@ impl<'a, T: PartTable, M: Marking<T>> Held<Seat<T>, ()> for SlotsPassed<'a, T, M
     }
 }
 
-/// The lock of the slots of `owner`, which the session shares and gives back.
+/// The lock of the fast-path slots of `owner`, as a session that shares it gives its share back.
 #[derive(Drop)]
 pub(crate) struct SlotsShared<'a, T: PartTable, M: Marking<T>> {
     pub(crate) words: &'a SharedWords<T>,

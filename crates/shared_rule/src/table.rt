@@ -21,7 +21,7 @@ use lw_word::{LwWord, WaitList};
 use modes_core::PARTITIONS;
 use std::alloc::Global;
 
-/// The table and its memory. Threads share its field `shared`.
+/// The table that all sessions share, with its memory. Threads share its field `shared`.
 pub type SharedTable<T> = Table<Kept<T>, View<T>, TableSizes, LockTableRule, Global>;
 
 // All words of the table of `sizes`, before the first step: those of lightweight locks are free, and all others 0.
@@ -70,9 +70,8 @@ fn next_list<T: PartTable>(alloc: Global, index: usize, sessions: u16) -> Result
     }
 }
 
-/// The shelves of the table with `parts`, the sixteen partitions, each on its own (`content_shelf`), and with the
-/// wait lists of the lightweight locks of `sessions` sessions, each with room for all of these. Where memory, by `alloc`,
-/// runs out the parts are let go.
+/// The shelves of the table with `parts`, the sixteen partitions, each on its own (`content_shelf`), and with the wait lists of the lightweight locks of
+/// `sessions` sessions, each list with room for all sessions. Where memory, by `alloc`, runs out `parts` are let go.
 pub fn in_shelves<T: PartTable + Drop>(
     alloc: Global,
     mut parts: Vec<T>,
@@ -93,8 +92,8 @@ pub fn in_shelves<T: PartTable + Drop>(
     Ok(shelves)
 }
 
-/// Makes the table of `sizes`, and the opener at it (`InitProcGlobal` in proc.c, `InitLocks` in lock.c). `parts`
-/// come each on its shelf of the table, as `in_shelves` puts them. Without memory, by `alloc`, they come back.
+/// Makes the table of `sizes`, and the opener at it (`InitProcGlobal` in proc.c, `InitLocks` in lock.c). `parts` come each on its shelf of the table, as
+/// `in_shelves` puts them. Where memory, by `alloc`, runs out `parts` come back.
 pub fn open<T: PartTable>(
     alloc: Global,
     sizes: &TableSizes,

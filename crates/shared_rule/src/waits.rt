@@ -50,8 +50,8 @@ pub(crate) fn set_waiting<T: PartTable, M: Marking<T>>(
     store_as::<T, M>(words, seat, wait_word(number), WaitState::Waiting as u64);
 }
 
-/// Marks the wait of `other` granted, one of those in `woken` whom the move `done` in `content`, that of partition
-/// `part`, grants (`ProcWakeup` in proc.c sets `waitStatus`; the waiter's own side is `GrantAwaitedLock` in lock.c).
+/// Marks the wait of `other` granted, one of the sessions in `woken`, whose waits the move `done` grants in `content`, that of partition `part` (`ProcWakeup`
+/// in proc.c sets `waitStatus`; the waiter's own side is `GrantAwaitedLock` in lock.c).
 pub(crate) fn mark_granted<T: PartTable, M: Marking<T>>(
     words: &SharedWords<T>,
     seat: &mut Seat<T>,
@@ -117,8 +117,8 @@ pub(crate) fn ask_cancel<T: PartTable, M: Marking<T>>(
     fetch_or_as::<T, M>(words, seat, wait_word(other), CANCEL_ASKED)
 }
 
-/// Calls `other`, which may be parked on its wait word (`SetLatch` in `ProcWakeup` of proc.c). The session looks at that word
-/// right before the call, so that its history tells of it.
+/// Calls `other`, which may be parked on its wait word (`SetLatch` in `ProcWakeup` of proc.c). The session looks at that word right before the call, so that
+/// its history notes the call.
 pub(crate) fn call_waiter<T: PartTable, M: Marking<T>>(
     words: &SharedWords<T>,
     seat: &mut Seat<T>,
@@ -154,8 +154,8 @@ pub(crate) fn clear_wait<T: PartTable, M: Marking<T>>(
     store_as::<T, M>(words, seat, wait_word(number), WaitState::NotWaiting as u64);
 }
 
-/// Clears the wait word of the session `number`, its own, and records that the wait was taken out of the queue of
-/// `content` in hand, which granted those in `woken` (`RemoveFromWaitQueue` in lock.c).
+/// Clears the wait word of the session `number`, its own, and records that the wait was taken out of the queue of `content` in hand, which granted the waits
+/// of the sessions in `woken` (`RemoveFromWaitQueue` in lock.c).
 pub(crate) fn leave_queue<T: PartTable, M: Marking<T>>(
     words: &SharedWords<T>,
     seat: &mut Seat<T>,

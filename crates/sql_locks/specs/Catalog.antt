@@ -9,7 +9,7 @@ use Rattle.sql_locks.specs.declared.catalog.LinkKind.TheVariants.{Child, Partiti
 abbrev pub SameNames : {A : Type 0} → BTreeMap (String A) ℕ → BTreeMap (String A) ℕ → Type 0
 SameNames old new = (name : List ℕ) → get_by_text new name ≡ get_by_text old name
 
--- whether two kinds of links are the same
+-- the number of a kind of links, by which kinds are compared
 abbrev pub number_of : LinkKind → ℕ
 number_of Child = 0
 number_of Default = 1
@@ -21,7 +21,7 @@ number_of Owns = 6
 number_of Partition = 7
 number_of Key = 8
 
--- whether a link is another one than this
+-- whether a link is another one than that of this kind between these relations
 abbrev pub is_other_link : LinkKind → ℕ → ℕ → Link → Bool
 is_other_link kind from to link = not (number_of link.kind == number_of kind) || (not (link.from == from) || not (link.to == to))
 

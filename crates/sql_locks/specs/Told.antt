@@ -22,18 +22,18 @@ stays Referred = false
 stays Referring = false
 stays Owned = false
 
--- whether a path that begins there and has this last step ends at the relation of a side, or goes along from it
+-- whether a path that begins at a relation and has this last step reaches the relation of a side itself
 abbrev pub is_told : Start → Start → Hop → Bool
 is_told Target Target hop = stays hop
 is_told Target Other hop = false
 is_told Other Target hop = false
 is_told Other Other hop = stays hop
 
--- whether one of these parts has this mode there
+-- whether one of these parts has this mode on the relation of a side itself
 abbrev pub has_told : Start → Mode → List Part → Bool
 has_told side its parts = list_any (λ part. mode_eq part.mode its && is_told side part.path.start part.path.hop) parts
 
--- the strongest of the four weakest modes that these parts have there
+-- the strongest of the four weakest modes that these parts have on the relation of a side itself
 abbrev pub strongest_below : Start → List Part → Option Mode
 strongest_below side parts =
     if has_told side mode.ShareUpdateExclusive parts then Some mode.ShareUpdateExclusive
@@ -42,7 +42,7 @@ strongest_below side parts =
     else if has_told side mode.AccessShare parts then Some mode.AccessShare
     else None
 
--- the strongest mode that these parts have there
+-- the strongest mode that these parts have on the relation of a side itself
 abbrev pub strongest_told : Start → List Part → Option Mode
 strongest_told side parts =
     if has_told side mode.AccessExclusive parts then Some mode.AccessExclusive
@@ -51,6 +51,6 @@ strongest_told side parts =
     else if has_told side mode.Share parts then Some mode.Share
     else strongest_below side parts
 
--- A mode is the strongest on a side in a row of a form.
+-- A mode is the strongest that a form's row has on the relation of a side itself.
 abbrev pub IsModeOf : Form → Start → Mode → Type 0
 IsModeOf form side its = (row : FormRow) × (row.form ≡ form) × (strongest_told side row.parts.now ≡ Some its)

@@ -6,11 +6,11 @@ use Rattle.sql_locks.specs.declared.words.Word.{Word}
 use Rattle.sql_locks.specs.declared.words.WordKind.{WordKind}
 use Rattle.sql_locks.specs.declared.words.WordKind.TheVariants.{Blank, Comment, Name, QuotedName, Text, Number, Parameter, Operator, Mark, Semicolon, Rows}
 
--- a word as it stands
+-- the bytes of a word
 abbrev pub text_of : Word → List ℕ
 text_of word = word.text.now
 
--- a length of a part of a text that is not empty
+-- a length of a part of this text, which is not empty
 abbrev pub IsWithin : ℕ → List ℕ → Type 0
 IsWithin n text = (0 < n) × (n ≤ length text)
 

@@ -2,7 +2,7 @@
 ghost use Rattle.std.specs.Prelude.{◌≡◌};
 ghost use Rattle.sql_locks.specs.Text.{is_in_class};
 
-/// What a run of bytes is made of.
+/// A class of bytes, of which a run in a word of SQL is made.
 #[derive(Clone, Copy, Debug, PartialEq, Eq)]
 pub enum ByteClass {
     /// Spaces, tabs and ends of lines.
@@ -11,13 +11,13 @@ pub enum ByteClass {
     Digit,
     /// What a number is made of, after its first digit or point: digits, letters, points and underscores.
     Number,
-    /// What an operator is made of.
+    /// The bytes of which an operator is made, as `+`, `<` or `=`.
     Operator,
     /// What a name is made of, after its first character.
     Name,
     /// What a dollar tag is made of.
     Tag,
-    /// All but the end of a line.
+    /// All bytes but the one that ends a line.
     Line,
 }
 

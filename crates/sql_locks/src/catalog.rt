@@ -22,30 +22,30 @@ pub enum RelationKind {
 pub struct Relation {
     pub name: String,
     pub kind: RelationKind,
-    /// Whether the transaction made it that has not ended, so that nobody else knows it.
+    /// Whether the transaction that has not ended made this relation, so that no other transaction knows it.
     pub is_own: bool,
 }
 
-/// How two relations hang together.
+/// The kind of a link from one relation to another.
 #[derive(Clone, Copy, Debug, PartialEq, Eq)]
 pub enum LinkKind {
-    /// From a parent to a child or a partition.
+    /// Links a parent to a child or a partition.
     Child,
-    /// From a partitioned table to a partition, which is a child too.
+    /// Links a partitioned table to a partition, which is a child too.
     Partition,
-    /// From a partitioned table to its default partition.
+    /// Links a partitioned table to its default partition.
     Default,
-    /// From a table to an index.
+    /// Links a table to an index.
     Index,
-    /// From a table to the index of its primary key, which is an index too.
+    /// Links a table to the index of its primary key, which is linked as an index too.
     Key,
-    /// From a table with a foreign key to the table that it refers to.
+    /// Links a table with a foreign key to the table that the key refers to.
     Refers,
-    /// From a view to a relation that it reads.
+    /// Links a view to a relation that the view reads.
     Reads,
-    /// From a materialized view to a relation that it is made of.
+    /// Links a materialized view to a relation that the view is made of.
     Stores,
-    /// From a table to a sequence of one of its columns.
+    /// Links a table to a sequence of one of its columns.
     Owns,
 }
 
@@ -80,19 +80,19 @@ pub struct ForeignKey {
     /// The table that has the foreign key, and the table that the key refers to.
     pub table: usize,
     pub referred: usize,
-    /// The columns of both, where they were named.
+    /// The columns of the foreign key, and the columns of the other table that the key refers to, where a statement named them.
     pub columns: Vec<String>,
     pub referred_columns: Vec<String>,
-    /// Whether a `DELETE` from the table referred to, or an `UPDATE` of its key, changes rows of this one: by `CASCADE`, `SET NULL` or
-    /// `SET DEFAULT`.
+    /// Whether a `DELETE` from the table that the foreign key refers to, or an `UPDATE` of the columns that the key refers to, changes rows of the table that
+    /// has the key: by `CASCADE`, `SET NULL` or `SET DEFAULT`.
     pub changes_on_delete: bool,
     pub changes_on_update: bool,
-    /// Whether all rows are known to keep it.
+    /// Whether all rows of the table are known to keep the foreign key.
     pub is_valid: bool,
 }
 
-/// The relations that statements made, by their numbers, their names, and their links. The name of a relation that was
-/// dropped stands for nothing, and its number is given to no other.
+/// The relations that statements made, by their numbers, with their names, links and foreign keys. A relation that was dropped has no name any more, and its
+/// number is given to no other.
 #[derive(Debug, Drop)]
 pub struct Catalog {
     pub relations: Vec<Relation>,
@@ -122,7 +122,7 @@ impl Catalog {
         self.names.get(name).copied()
     }
 
-    /// Adds a relation of `kind`, which takes `name` from another one that has it.
+    /// Adds a relation of `kind`, which takes `name` from another one that has it, and answers the new number.
     pub fn add(
         &mut self,
         alloc: Global,
@@ -159,7 +159,7 @@ impl Catalog {
         Ok(())
     }
 
-    /// Takes the link of `kind` from `from` to `to` away.
+    /// Takes away the link of `kind` from `from` to `to`.
     pub fn unlink(&mut self, kind: LinkKind, from: usize, to: usize)
         ensures links { self.new.links.items ≡ filter (is_other_link kind from to) self.old.links.items }
         ensures names { SameNames self.old.names self.new.names }
@@ -198,7 +198,7 @@ impl Catalog {
         }
     }
 
-    /// Takes the foreign key of `table` away that is called `name`.
+    /// Takes away the foreign key of `table` that is called `name`.
     pub fn drop_foreign_key(&mut self, table: usize, name: &str)
         ensures names { SameNames self.old.names self.new.names }
         ensures links { self.new.links.items ≡ self.old.links.items }
@@ -207,7 +207,7 @@ impl Catalog {
             .retain(|key| key.table != table || key.name.as_str() != name);
     }
 
-    /// Takes the relation `number`, which is called `name`, away with its links.
+    /// Takes away the relation `number`, which is called `name`, and its links.
     pub fn drop_relation(&mut self, name: &str, number: usize)
         ensures gone { get_by_text self.new.names name.now ≡ None }
         ensures others { (other : List ℕ) → bytes_eq other name.now ≡ false →

@@ -12,9 +12,9 @@ use modes_core::Mode;
 pub struct SqlCommand {
     pub sql: &'static str,
     pub form: Form,
-    /// Which of the relations of the form a help names.
+    /// The relation of the form, its target or the other one, whose lock mode the help shows for this command.
     pub side: Start,
-    /// What else is to be said, as it is printed after the mode.
+    /// What the help says of this command after its lock mode.
     pub note: &'static str,
 }
 
@@ -24,7 +24,7 @@ pub fn sql_commands() -> &'static [SqlCommand] {
 }
 
 impl SqlCommand {
-    /// The strongest mode that the row of its form has on the relation that a help names.
+    /// The strongest mode that the row of the command's form has on the relation of the command's `side`, or none where it has no mode on that relation.
     pub fn mode(&self) -> Option<Mode>
         ensures { IfSome result (IsModeOf self.now.form self.now.side) }
     {
@@ -77,7 +77,7 @@ fn has_told(parts: &[Part], side: Start, mode: Mode) -> bool
         && is_told(side, part.path.start, part.path.hop))
 }
 
-/// Whether a path from `start` on, whose last step is `hop`, ends at the relation of `side` or goes along from it.
+/// Whether a path from `start` on, whose last step is `hop`, reaches the relation of `side` itself: it begins at that relation and has no last step.
 fn is_told(side: Start, start: Start, hop: Hop) -> bool
     ensures { result ≡ is_told side start hop }
 {

@@ -15,7 +15,7 @@ pub struct Edge {
 }
 
 impl Link {
-    /// The step that this link is of the path `along`, if it is one.
+    /// This link as a step of a path that goes along `along`, or none where such a path does not follow the link.
     fn step(&self, along: Along) -> Option<Edge>
         ensures { result ≡ step_of along self.now }
     {
@@ -41,7 +41,7 @@ impl Link {
     }
 }
 
-/// All steps of the path `along` that `links` have.
+/// All steps that `links` have for a path that goes along `along`.
 fn edges(alloc: Global, links: &[Link], along: Along) -> Result<Vec<Edge>, AllocError>
     ensures { IfOk result (λ edges. edges.items ≡ edges_of along links.now) }
 {
@@ -51,7 +51,7 @@ fn edges(alloc: Global, links: &[Link], along: Along) -> Result<Vec<Edge>, Alloc
         .collect(alloc)
 }
 
-/// The relations to which the steps along a path lead from `start`, with that one.
+/// The relations that a path along `along` reaches from the relation `start` by `links`, with `start` itself.
 pub fn closure(
     alloc: Global,
     links: &[Link],
@@ -73,7 +73,7 @@ pub fn closure(
     Ok(found)
 }
 
-/// Adds to `found` the ends of those of `edges` that begin there, and answers the others.
+/// Adds to `found` the ends of those of `edges` that begin at a relation of `found`, and answers the other edges.
 fn follow(alloc: Global, found: &mut Vec<usize>, edges: &Vec<Edge>) -> Result<Vec<Edge>, AllocError>
     ensures { IfOk result (λ rest. IsFollowed found.old.items edges.now.items found.new.items rest.items) }
 {
@@ -88,7 +88,7 @@ fn follow(alloc: Global, found: &mut Vec<usize>, edges: &Vec<Edge>) -> Result<Ve
     Ok(rest)
 }
 
-/// Whether `found` has this relation.
+/// Whether `found` has the relation `number`.
 fn is_among(found: &Vec<usize>, number: usize) -> bool
     ensures yes { result ≡ true → Contains found.now.items number }
     ensures no { result ≡ false → Contains found.now.items number → ⊥ }

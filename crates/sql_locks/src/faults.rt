@@ -49,12 +49,12 @@ pub enum Defect {
 /// What ends the reading of a text of SQL statements early.
 #[derive(Clone, Copy, Debug, PartialEq, Eq, Drop)]
 pub enum SqlFault {
-    /// A word is wrong. Lines are counted from 1.
+    /// A word of the text is wrong. Lines are counted from 1.
     BadWord {
         /// The line on which the word begins.
         line: usize,
         what: Defect,
-        /// How many bytes come before the word.
+        /// How many bytes of the text come before the word.
         from: usize,
     },
     /// Memory ran out for what is read.

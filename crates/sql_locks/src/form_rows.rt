@@ -24,7 +24,7 @@ pub fn row_of(form: Form) -> Option<&'static FormRow>
     None
 }
 
-/// The row of `form` among these.
+/// The row of `form` among `rows`, if there is one.
 fn row_among(rows: &'static [FormRow], form: Form) -> Option<&'static FormRow>
     ensures { IfSome result (λ row. row.now.form ≡ form) }
 {

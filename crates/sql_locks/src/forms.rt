@@ -2,7 +2,7 @@
 
 use modes_core::Mode;
 
-/// From which relation of a statement a path begins.
+/// The relation of a statement at which a path begins.
 #[derive(Clone, Copy, Debug, PartialEq, Eq)]
 pub enum Start {
     /// The relation that the form is about.
@@ -11,39 +11,39 @@ pub enum Start {
     Other,
 }
 
-/// Along which links a path goes, as far as they lead.
+/// The links along which a path goes, as far as they lead.
 #[derive(Clone, Copy, Debug, PartialEq, Eq)]
 pub enum Along {
-    /// Along none: it stays where it is.
+    /// Along no links: the path stays at the relation where it begins.
     Nothing,
-    /// To children and partitions, unless the statement says `ONLY`.
+    /// Along links to children and partitions, unless the statement says `ONLY`.
     Family,
-    /// To the relations that views read, and to children and partitions.
+    /// Along links to the relations that views read, and to children and partitions, unless the statement says `ONLY`.
     Sources,
-    /// To the relations that a materialized view is made of, and on as `Sources`.
+    /// Along links to the relations that a materialized view is made of, and further along those of `Sources`.
     Stored,
-    /// To the tables that refer to a table by a foreign key, and to children and partitions.
+    /// Along links to the tables that refer to a table by a foreign key, and to children and partitions, unless the statement says `ONLY`.
     Referring,
 }
 
 /// The last step of a path.
 #[derive(Clone, Copy, Debug, PartialEq, Eq)]
 pub enum Hop {
-    /// No step: the path ends where it has got to.
+    /// No last step: the path ends at the relations that it has reached.
     Stay,
-    /// To the indexes of a table.
+    /// The last step leads to the indexes of a table.
     Indexes,
-    /// To the table of an index.
+    /// The last step leads to the table of an index.
     Table,
-    /// To the index of a table's primary key.
+    /// The last step leads to the index of a table's primary key.
     Key,
-    /// To the default partition of a table.
+    /// The last step leads to the default partition of a table.
     Default,
-    /// To the tables that a table refers to.
+    /// The last step leads to the tables that a table refers to by foreign keys.
     Referred,
-    /// To the tables that refer to a table.
+    /// The last step leads to the tables that refer to a table by foreign keys.
     Referring,
-    /// To the sequences of a table's columns.
+    /// The last step leads to the sequences of a table's columns.
     Owned,
 }
 
@@ -86,19 +86,19 @@ pub enum Until {
     OwnEnd,
 }
 
-/// For whom a statement waits beside its locks.
+/// The transactions for whose end a statement waits, beside its waits for locks.
 #[derive(Clone, Copy, Debug, PartialEq, Eq)]
 pub enum Awaits {
     Nobody,
-    /// Each transaction that has written the table, and then those with older snapshots.
+    /// Each transaction that has written the table, and after these each transaction with an older snapshot.
     Writers,
-    /// Each transaction that has used the table, and be it to read.
+    /// Each transaction that has used the table, even if only to read.
     Users,
-    /// Each transaction that has used the table, and those with older snapshots.
+    /// Each transaction that has used the table, and each transaction with an older snapshot.
     UsersAndSnapshots,
 }
 
-/// A form of a statement. What each is, its row says.
+/// A form of an SQL statement. The `sql` of its `FormRow` says which.
 #[derive(Clone, Copy, Debug, PartialEq, Eq)]
 pub enum Form {
     Select,
@@ -234,9 +234,9 @@ pub enum Form {
 #[derive(Clone, Copy, Debug)]
 pub struct FormRow {
     pub form: Form,
-    /// The form as it is written.
+    /// The form as it is written in SQL.
     pub sql: &'static str,
-    /// What the form locks, in the order of the server.
+    /// What the form locks, in the order in which the server takes the locks.
     pub parts: &'static [Part],
     pub work: Work,
     pub until: Until,

@@ -15,7 +15,7 @@ pub struct Act {
     pub form: Form,
     /// The number of the relation that the form is about.
     pub target: usize,
-    /// The number of the other relation that it names.
+    /// The number of the other relation that the form names, if it names one.
     pub other: Option<usize>,
     /// Whether the statement says `ONLY`, and so leaves children and partitions alone.
     pub is_only: bool,
@@ -24,13 +24,13 @@ pub struct Act {
 /// A lock on a relation.
 #[derive(Clone, Copy, Debug)]
 pub struct Lock {
-    /// The number of the relation in the catalog.
+    /// The number of the locked relation in the catalog.
     pub relation: usize,
     pub mode: Mode,
 }
 
 impl Act {
-    /// The relation at which a path begins that begins as `start` says.
+    /// The relation of this act at which a path begins whose row says `start`, if the act has that relation.
     fn start(&self, start: Start) -> Option<usize>
         ensures { result ≡ start_of start self.now }
     {
@@ -41,8 +41,8 @@ impl Act {
     }
 }
 
-/// The path that is gone where a form's is `along`: that one, or none along children where `is_only` is true, as for a
-/// statement that says `ONLY`.
+/// What a path really goes along where its row says `along`: nothing where `is_only` is true, as for a statement that says `ONLY`, but `along` itself for
+/// `Along::Stored` and wherever `is_only` is false.
 fn along_gone(along: Along, is_only: bool) -> Along
     ensures { result ≡ along_of along is_only }
 {
@@ -54,8 +54,8 @@ fn along_gone(along: Along, is_only: bool) -> Along
     }
 }
 
-/// The locks of `act` by `links`, in the order of the row of its form: the mode of each of `parts` on each relation
-/// that its path reaches.
+/// The locks of `act` by `links`, in the order of `parts`, which are those of the row of its form: the mode of each part on each relation that the path of
+/// the part reaches.
 pub fn locks_of(
     alloc: Global,
     links: &[Link],
@@ -72,7 +72,7 @@ pub fn locks_of(
     Ok(locks)
 }
 
-/// The locks of one part of a form's row, `part`, of `act` by `links`.
+/// The locks that `part`, one part of the row of a form, has for `act` by `links`.
 fn part_locks(
     alloc: Global,
     links: &[Link],
@@ -93,7 +93,7 @@ fn part_locks(
     Ok(locks)
 }
 
-/// Adds to `locks` one of `mode` on each relation of `reached`.
+/// Adds to `locks` a lock of `mode` on each relation of `reached`.
 fn push_locks(locks: &mut Vec<Lock>, reached: &Vec<usize>, mode: Mode) -> Result<(), AllocError>
     ensures { IfOk result (λ done. locks.new.items ≡
         locks.old.items ++ map (λ x. record { relation = x; mode = mode }) reached.now.items) }

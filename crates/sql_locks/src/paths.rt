@@ -16,21 +16,21 @@ pub const OTHER: Path = Path {
     hop: Hop::Stay,
 };
 
-/// The path to the relation with its children and partitions.
+/// The path to the relation that the form is about, with its children and partitions.
 pub const FAMILY: Path = Path {
     start: Start::Target,
     along: Along::Family,
     hop: Hop::Stay,
 };
 
-/// The path to the indexes of the relation and of its children and partitions.
+/// The path to the indexes of the relation that the form is about, and of its children and partitions.
 pub const FAMILY_INDEXES: Path = Path {
     start: Start::Target,
     along: Along::Family,
     hop: Hop::Indexes,
 };
 
-/// The path to the relation with what it reads as a view, and with children and partitions.
+/// The path to the relation that the form is about, with what it reads as a view, and with children and partitions.
 pub const SOURCES: Path = Path {
     start: Start::Target,
     along: Along::Sources,
@@ -58,7 +58,7 @@ pub const STORED_INDEXES: Path = Path {
     hop: Hop::Indexes,
 };
 
-/// The path to the indexes of the relation.
+/// The path to the indexes of the relation that the form is about.
 pub const INDEXES: Path = Path {
     start: Start::Target,
     along: Along::Nothing,
@@ -72,63 +72,63 @@ pub const TABLE: Path = Path {
     hop: Hop::Table,
 };
 
-/// The path to the indexes of the other relation.
+/// The path to the indexes of the other relation that the statement names.
 pub const OTHER_INDEXES: Path = Path {
     start: Start::Other,
     along: Along::Nothing,
     hop: Hop::Indexes,
 };
 
-/// The path to the default partition of the other relation.
+/// The path to the default partition of the other relation that the statement names.
 pub const OTHER_DEFAULT: Path = Path {
     start: Start::Other,
     along: Along::Nothing,
     hop: Hop::Default,
 };
 
-/// The path to the default partition of the relation.
+/// The path to the default partition of the relation that the form is about.
 pub const DEFAULT: Path = Path {
     start: Start::Target,
     along: Along::Nothing,
     hop: Hop::Default,
 };
 
-/// The path to the index of the other relation's primary key.
+/// The path to the index of the primary key of the other relation that the statement names.
 pub const OTHER_KEY: Path = Path {
     start: Start::Other,
     along: Along::Nothing,
     hop: Hop::Key,
 };
 
-/// The path to the sequences of the relation's columns.
+/// The path to the sequences of the columns of the relation that the form is about.
 pub const OWNED: Path = Path {
     start: Start::Target,
     along: Along::Nothing,
     hop: Hop::Owned,
 };
 
-/// The path to the tables that the relation refers to.
+/// The path to the tables to which the relation that the form is about refers.
 pub const REFERRED: Path = Path {
     start: Start::Target,
     along: Along::Nothing,
     hop: Hop::Referred,
 };
 
-/// The path to the tables that refer to the relation.
+/// The path to the tables that refer to the relation that the form is about.
 pub const REFERRING: Path = Path {
     start: Start::Target,
     along: Along::Nothing,
     hop: Hop::Referring,
 };
 
-/// The path to the relation with all that refer to it, and so on.
+/// The path to the relation that the form is about, with all that refer to it, and all that refer to these, and so on.
 pub const REFERRING_ALL: Path = Path {
     start: Start::Target,
     along: Along::Referring,
     hop: Hop::Stay,
 };
 
-/// The path to the indexes of the relation and of all that refer to it, and so on.
+/// The path to the indexes of the relation that the form is about, of all that refer to it, of all that refer to these, and so on.
 pub const REFERRING_ALL_INDEXES: Path = Path {
     start: Start::Target,
     along: Along::Referring,

@@ -6,7 +6,7 @@ use crate::paths::{
 };
 use modes_core::Mode;
 
-/// Each form with what it locks, in the order of the server.
+/// The forms of `ALTER TABLE`, each with what it locks, in the order in which the server takes the locks.
 pub static ALTER_TABLE_ROWS: [FormRow; 46] = [
     FormRow {
         form: Form::AddColumn,

@@ -9,7 +9,7 @@ use crate::byte_classes::ByteClass;
 use crate::faults::Defect;
 use crate::words::WordKind;
 
-/// The first word of `rest`, and how many bytes it has.
+/// The kind of the first word of `rest`, and how many bytes the word has.
 #[tactic(auto, using(crate::proofs::Classes::no_tag))]
 pub fn first_word(rest: &[u8]) -> Result<(WordKind, usize), Defect>
     requires { 0 < length rest.now }
@@ -39,7 +39,7 @@ pub fn first_word(rest: &[u8]) -> Result<(WordKind, usize), Defect>
     }
 }
 
-/// How many bytes at the front of `rest` are of this class.
+/// How many bytes at the front of `rest` are of `class`.
 fn run_length(rest: &[u8], class: ByteClass) -> usize
     ensures within { result ≤ length rest.now }
     ensures all { list_all (is_in_class class) (take result rest.now) ≡ true }
@@ -54,7 +54,8 @@ fn run_length(rest: &[u8], class: ByteClass) -> usize
     rest.len()
 }
 
-/// A text in single quotes, which begins at `begin`.
+/// The text in single quotes with which `rest` begins and whose first quote is at `begin`: its kind and its length. Where `escapes`, a backslash takes the
+/// next byte with it.
 fn quoted_text(rest: &[u8], begin: usize, escapes: bool) -> Result<(WordKind, usize), Defect>
     requires { begin < length rest.now }
     ensures within { IfOk result (λ found. IsWithin found.1 rest.now) }
@@ -67,7 +68,7 @@ fn quoted_text(rest: &[u8], begin: usize, escapes: bool) -> Result<(WordKind, us
     }
 }
 
-/// A name in double quotes, which begins at `begin`.
+/// The name in double quotes with which `rest` begins and whose first quote is at `begin`: its kind and its length.
 fn quoted_name(rest: &[u8], begin: usize) -> Result<(WordKind, usize), Defect>
     requires { begin < length rest.now }
     ensures within { IfOk result (λ found. IsWithin found.1 rest.now) }
@@ -80,8 +81,8 @@ fn quoted_name(rest: &[u8], begin: usize) -> Result<(WordKind, usize), Defect>
     }
 }
 
-/// Where a text ends that begins at `begin`: after the first `quote` that is not doubled. Where `escapes`, a backslash takes
-/// the next byte with it.
+/// Where the quoted part of `rest` ends whose first `quote` is at `begin`: after the first further `quote` that is not doubled. Where `escapes`, a backslash
+/// takes the next byte with it.
 fn quoted_end(rest: &[u8], begin: usize, quote: u8, escapes: bool) -> Option<usize>
     requires { begin < length rest.now }
     ensures within { IfSome result (λ end. (begin + 1 < end) × (end ≤ length rest.now)) }
@@ -104,7 +105,7 @@ fn quoted_end(rest: &[u8], begin: usize, quote: u8, escapes: bool) -> Option<usi
     None
 }
 
-/// Whether `byte` stands at `place`.
+/// Whether `byte` is at `place` in `text`.
 fn is_at(text: &[u8], place: usize, byte: u8) -> bool
     ensures within { result ≡ true → place < length text.now }
     ensures byte { result ≡ true → slice_index text.now place ≡ byte }
@@ -115,7 +116,7 @@ fn is_at(text: &[u8], place: usize, byte: u8) -> bool
     }
 }
 
-/// The length of the word with which `rest` begins: a parameter, as `$1`, or a text between two dollar tags.
+/// The kind and the length of the word with which `rest` begins: a parameter, as `$1`, or a text between two dollar tags.
 fn dollar_word(rest: &[u8]) -> Result<(WordKind, usize), Defect>
     requires some { 0 < length rest.now }
     requires dollar { slice_index rest.now 0 ≡ 36 }
@@ -137,7 +138,7 @@ fn dollar_word(rest: &[u8]) -> Result<(WordKind, usize), Defect>
     }
 }
 
-/// Where a text ends whose opening tag has `tag` bytes, with both dollars.
+/// Where the text between dollar tags ends with which `rest` begins. The opening tag has `tag` bytes, with both dollars.
 fn dollar_end(rest: &[u8], tag: usize) -> Option<usize>
     requires some { 0 < tag }
     requires within { tag ≤ length rest.now }
@@ -152,7 +153,7 @@ fn dollar_end(rest: &[u8], tag: usize) -> Option<usize>
     None
 }
 
-/// The length of the word with which `rest` begins: a point, or a number that begins with one.
+/// The kind and the length of the word with which `rest` begins: a point, or a number that begins with a point.
 fn point_or_number(rest: &[u8]) -> Result<(WordKind, usize), Defect>
     requires some { 0 < length rest.now }
     requires point { slice_index rest.now 0 ≡ 46 }
@@ -166,8 +167,8 @@ fn point_or_number(rest: &[u8]) -> Result<(WordKind, usize), Defect>
     }
 }
 
-/// The length of the line with which `rest` begins and by which a dump is guarded, `\restrict KEY` or `\unrestrict
-/// KEY`. Such a line is passed as a comment is. Another command of psql is a defect.
+/// The kind and the length of the line with which `rest` begins and by which a dump is guarded, `\restrict KEY` or `\unrestrict KEY`. Such a line is passed
+/// as a comment is. Another command of psql is a defect.
 fn guard_of_dump(rest: &[u8]) -> Result<(WordKind, usize), Defect>
     requires some { 0 < length rest.now }
     requires backslash { slice_index rest.now 0 ≡ 92 }
@@ -181,7 +182,7 @@ fn guard_of_dump(rest: &[u8]) -> Result<(WordKind, usize), Defect>
     Err(Defect::BackslashCommand)
 }
 
-/// The length of the comment or the operator with which `rest` begins.
+/// The kind and the length of the comment or the operator with which `rest` begins.
 fn comment_or_operator(rest: &[u8]) -> Result<(WordKind, usize), Defect>
     requires { 0 < length rest.now }
     ensures within { IfOk result (λ found. IsWithin found.1 rest.now) }
@@ -200,7 +201,7 @@ fn comment_or_operator(rest: &[u8]) -> Result<(WordKind, usize), Defect>
     Ok((WordKind::Operator, operator_length(rest)))
 }
 
-/// Where the comment ends with which `rest` begins and that opens with `/*`. Comments nest.
+/// Where the comment ends that opens with the `/*` at the front of `rest`. Comments nest.
 fn comment_end(rest: &[u8]) -> Option<usize>
     ensures { IfSome result (λ end. (0 < end) × (end ≤ length rest.now)) }
 {
@@ -223,7 +224,7 @@ fn comment_end(rest: &[u8]) -> Option<usize>
     None
 }
 
-/// How many bytes the operator has with which `rest` begins: a comment ends it.
+/// How many bytes the operator has with which `rest` begins: the operator ends where a comment begins.
 fn operator_length(rest: &[u8]) -> usize
     requires { 0 < length rest.now }
     ensures within { IsWithin result rest.now }
@@ -237,8 +238,7 @@ fn operator_length(rest: &[u8]) -> usize
     length.max(1)
 }
 
-/// The length of the word with which `rest` begins: a name, a text with a prefix, as `E'..'`, or a name in quotes with
-/// the prefix `U&`.
+/// The kind and the length of the word with which `rest` begins: a name, a text with a prefix, as `E'..'`, or a name in quotes with the prefix `U&`.
 fn name_or_prefix(rest: &[u8]) -> Result<(WordKind, usize), Defect>
     requires some { 0 < length rest.now }
     requires name { is_in_class ByteClass.Name (slice_index rest.now 0) ≡ true }
@@ -271,7 +271,7 @@ pub fn rows_length(rest: &[u8]) -> Result<(WordKind, usize), Defect>
     Err(Defect::UnendedRows)
 }
 
-/// Whether a line that ends the rows stands at the front of `rest`.
+/// Whether `rest` begins with the line `\.`, which ends the rows of a `COPY .. FROM stdin`.
 fn ends_rows(rest: &[u8]) -> bool
     ensures { result ≡ true → 2 ≤ length rest.now }
 {

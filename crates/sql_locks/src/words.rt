@@ -9,7 +9,7 @@ use crate::faults::{Defect, SqlFault};
 use crate::word_lengths::{first_word, rows_length};
 use std::alloc::Global;
 
-/// What a word of a text of SQL statements is.
+/// The kind of a word of a text of SQL statements.
 #[derive(Clone, Copy, Debug, PartialEq, Eq)]
 pub enum WordKind {
     /// Spaces, tabs and ends of lines.
@@ -59,7 +59,7 @@ enum CopyProgress {
     From,
     /// `COPY .. FROM STDIN`, and what comes after it.
     Stdin,
-    /// The statement has ended, and its rows are to come.
+    /// The statement `COPY .. FROM stdin` has ended, and its rows are to come.
     Rows,
 }
 
@@ -85,7 +85,7 @@ impl CopyProgress {
         })
     }
 
-    /// How much was read with one more word, which is of `kind` and is `text`.
+    /// How much of a `COPY .. FROM stdin` was read after one more word, `text`, which is of `kind`.
     fn after(self, kind: WordKind, text: &[u8]) -> Self {
         match kind {
             WordKind::Blank | WordKind::Comment => self,
@@ -96,7 +96,7 @@ impl CopyProgress {
         }
     }
 
-    /// How much was read with the end of the statement.
+    /// How much of a `COPY .. FROM stdin` was read after the end of the statement.
     fn after_end(self) -> Self {
         match self {
             CopyProgress::Stdin => CopyProgress::Rows,
@@ -104,7 +104,7 @@ impl CopyProgress {
         }
     }
 
-    /// How much was read with one more name, `text`.
+    /// How much of a `COPY .. FROM stdin` was read after one more name, `text`.
     fn after_name(self, text: &[u8]) -> Self {
         match self {
             CopyProgress::Start if text.eq_ignore_ascii_case(b"copy") => CopyProgress::Copy,
@@ -114,7 +114,7 @@ impl CopyProgress {
         }
     }
 
-    /// How much was read with one more word that is nothing to a `COPY`.
+    /// How much of a `COPY .. FROM stdin` was read after one more word that is nothing to a `COPY`.
     fn after_other(self) -> Self {
         match self {
             CopyProgress::Start => CopyProgress::Other,

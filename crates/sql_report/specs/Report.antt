@@ -49,7 +49,7 @@ lines_that_stop mode answers = map line_of (filter (λ answer. set_has answer.st
 abbrev pub BeginsWith : {A : Type 0} → List ℕ → String A → Type 0
 BeginsWith front text = (behind : List ℕ) × (string_bytes text ≡ front ++ behind)
 
--- whether a transaction is open behind a statement, where all statements are one transaction if `is_single`
+-- whether a transaction is open after a statement, where all statements are one transaction if `is_single`
 abbrev pub transaction_after : Bool → Bool → Control → Bool
 transaction_after is_single was_open Stay = was_open
 transaction_after is_single was_open Begin = true

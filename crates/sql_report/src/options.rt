@@ -8,19 +8,19 @@ use std::alloc::{AllocError, Global};
 #[derive(Clone, Copy, Debug, PartialEq, Eq)]
 pub enum FailOn {
     Nothing,
-    /// A statement that keeps reads waiting.
+    /// The program fails on a statement that keeps reads waiting.
     Reads,
-    /// A statement that keeps writes waiting.
+    /// The program fails on a statement that keeps writes waiting.
     Writes,
 }
 
 /// What the words after `lock_scenario sql` ask for, where they ask for a report.
 #[derive(Debug, Drop)]
 pub struct SqlOptions {
-    /// The file of the statements that were run before.
+    /// The file of the statements that were run before the migration, if one is named.
     pub schema: Option<String>,
     pub fail_on: FailOn,
-    /// Whether all statements are one transaction.
+    /// Whether all statements of the migration are one transaction.
     pub is_single: bool,
 }
 

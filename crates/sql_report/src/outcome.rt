@@ -10,7 +10,7 @@ use modes_core::{Mode, ModeSet, conflicts};
 use sql_locks::{Act, Awaits, Link, Lock, Relation, SqlFault, Until, Work, locks_of, row_of};
 use std::alloc::Global;
 
-/// What a statement comes to.
+/// What a statement comes to: what it locks, how long it works, and what it keeps waiting.
 #[derive(Drop)]
 pub struct Outcome {
     /// The locks of the statement, in the order in which they are taken.
@@ -20,7 +20,7 @@ pub struct Outcome {
     pub stopped: ModeSet,
 }
 
-/// How long a statement works, until when it holds its locks, and for whom it waits beside these.
+/// How long a statement works, until when it holds its locks, and for whom it waits beside its waits for locks.
 #[derive(Clone, Copy, Debug)]
 pub struct Effort {
     pub work: Work,
@@ -81,7 +81,7 @@ pub fn stopped_by(relations: &[Relation], locks: &[Lock]) -> ModeSet
     stopped
 }
 
-/// The modes `stopped`, and those that `lock` keeps waiting where others know its relation.
+/// The modes `stopped`, and those that `lock` keeps waiting where others know the relation of the lock.
 fn with_stopped(stopped: ModeSet, relations: &[Relation], lock: &Lock) -> ModeSet
     ensures { (mode : _) → set_has result mode ≡
         (others_know relations.now lock.now.relation && conflict lock.now.mode mode) || set_has stopped mode }
@@ -93,7 +93,7 @@ fn with_stopped(stopped: ModeSet, relations: &[Relation], lock: &Lock) -> ModeSe
     }
 }
 
-/// Whether others know the relation of the number `number` among `relations`: one that the transaction made itself is its own.
+/// Whether others know the relation `number` of `relations`: a relation that the open transaction made itself is known to that transaction alone.
 pub fn are_known(relations: &[Relation], number: usize) -> bool
     ensures { result ≡ others_know relations.now number }
 {
@@ -140,7 +140,7 @@ fn with_all(modes: ModeSet, others: ModeSet) -> ModeSet
     with_shared(all, others, Mode::AccessExclusive)
 }
 
-/// The set `all`, and `mode` where `others` has that.
+/// The set `all`, and `mode` where `others` has `mode`.
 fn with_shared(all: ModeSet, others: ModeSet, mode: Mode) -> ModeSet
     ensures { (other : _) → set_has result other ≡ (mode_eq other mode && set_has others mode) || set_has all other }
 {

@@ -12,7 +12,7 @@ use sql_locks::{Awaits, Defect, Lock, SqlFault};
 use sql_statements::{Control, SqlStatement, StatementReader, has_part, split_statements};
 use std::alloc::{AllocError, Global};
 
-/// What is said of one statement.
+/// What a report says of one statement.
 #[derive(Debug, Drop)]
 pub struct Answer {
     /// The line on which the statement begins, from 1.
@@ -25,12 +25,12 @@ pub struct Answer {
     pub text: String,
 }
 
-/// What is said of a text of statements.
+/// What a report says of a text of statements.
 #[derive(Debug, Drop)]
 pub struct Report {
-    /// Of each statement, in their order.
+    /// What is said of each statement, in the order of the statements.
     pub answers: Vec<Answer>,
-    /// The lines of the statements that keep reads waiting, and of those that keep writes waiting, of a relation that others know.
+    /// The lines of the statements that keep reads of a relation waiting that others know, and of those that keep writes of such a relation waiting.
     pub reads: Vec<usize>,
     pub writes: Vec<usize>,
     /// All that is printed: the answers' texts, and sums after them.
@@ -55,7 +55,7 @@ impl Refused {
         }
     }
 
-    /// The fault `fault` of `text`, which `name` comes before.
+    /// The refusal of `text` for `fault`, in words that begin with `name`.
     fn of_fault(alloc: Global, name: &str, text: &[u8], fault: SqlFault) -> Self {
         if fault == SqlFault::NoMemory {
             return Refused::of_memory(alloc);
@@ -73,7 +73,7 @@ impl Refused {
     }
 }
 
-/// What reads the statements, and how far their transaction is.
+/// What writes a report: the reader of the statements, and whether a transaction is open.
 #[derive(Drop)]
 struct Writer {
     alloc: Global,
@@ -83,8 +83,8 @@ struct Writer {
     is_in_transaction: bool,
 }
 
-/// Says of each statement of `migration` what it locks, where the statements of `schema` were run before, all in one transaction where
-/// `is_single`.
+/// Says of each statement of `migration` what it locks, where the statements of `schema` were run before. Where `is_single`, all statements of `migration`
+/// are one transaction.
 pub fn make_report(
     alloc: Global,
     schema: &[u8],
@@ -111,8 +111,8 @@ pub fn make_report(
     }
 }
 
-/// Whether a transaction is open behind a statement that does this to it, where `was_open` says so before it, and all statements are one
-/// transaction where `is_single`.
+/// Whether a transaction is open after a statement that does `control` to it, where `was_open` says whether one was open before the statement, and
+/// `is_single` whether all statements are one transaction.
 pub fn is_open_after(control: Control, was_open: bool, is_single: bool) -> bool
     ensures { result ≡ transaction_after is_single was_open control }
 {
@@ -133,7 +133,7 @@ impl Writer {
         Ok(())
     }
 
-    /// Says of each statement of `migration` what it locks, and what all come to.
+    /// Says of each statement of `migration` what it locks, and what all statements come to.
     fn report(&mut self, migration: &[u8]) -> Result<Report, SqlFault>
         ensures answers { IfOk result (λ report. AreAnswersOf migration.now report.answers.items) }
         ensures reads { IfOk result (λ report. report.reads.items ≡ lines_that_stop AccessShare report.answers.items) }
@@ -186,7 +186,7 @@ impl Writer {
         })
     }
 
-    /// What the locks of the statement come to that was read.
+    /// What the locks of the statement that was read last come to.
     fn outcome(&self) -> Result<Outcome, SqlFault>
         ensures { IfOk result (λ outcome. CameTo outcome.locks.items outcome.stopped) }
     {
@@ -200,7 +200,7 @@ impl Writer {
         )
     }
 
-    /// What is printed of the statement that was read, which begins on `line` as `title` and comes to `outcome`.
+    /// What is printed of the statement that was read last, which begins on `line` as `title` and comes to `outcome`.
     fn text_of(&self, line: usize, title: &str, outcome: &Outcome) -> Result<String, AllocError> {
         let mut text = format!(in self.alloc; "line {line}: {title}\n")?;
         if !outcome.locks.is_empty() {
@@ -211,8 +211,8 @@ impl Writer {
         Ok(text)
     }
 
-    /// Adds to `text` the modes of each relation of `locks`, in the order of its first lock, and answers whether others
-    /// know one of these relations.
+    /// Adds to `text` the modes on each relation of `locks`, in the order of the relations' first locks, and answers whether others know one of these
+    /// relations.
     fn push_locks(&self, text: &mut String, locks: &[Lock]) -> Result<bool, AllocError> {
         let relations = self.reader.catalog.relations.as_slice();
         let mut is_known = false;
@@ -263,7 +263,7 @@ impl Writer {
         Ok(())
     }
 
-    /// Adds to `text` the advisory locks that the statement takes, and those that it gives back.
+    /// Adds to `text` the advisory locks that the statement that was read last takes, and those that it gives back.
     fn push_advisory(&self, text: &mut String) -> Result<(), AllocError> {
         for lock in &self.reader.advisory {
             let words = &self.reader.cursor.words;
@@ -290,7 +290,7 @@ impl Writer {
     }
 }
 
-/// The report of `answers`: their texts one after another, and the sums.
+/// The report of `answers`: their texts one after another, and what all come to after them.
 fn report_of(alloc: Global, answers: Vec<Answer>) -> Result<Report, AllocError>
     ensures reads { IfOk result (λ report. report.reads.items ≡ lines_that_stop AccessShare report.answers.items) }
     ensures writes { IfOk result (λ report. report.writes.items ≡ lines_that_stop RowExclusive report.answers.items) }
@@ -347,7 +347,7 @@ fn sums_of(
     Ok(text)
 }
 
-/// Until when the advisory lock is held that `function` takes, or that it gives one back.
+/// Until when the advisory lock that `function` takes is held, or that `function` gives one back, in words.
 fn until_of(function: &str) -> &'static str {
     if has_part(function, "unlock") {
         "given back"
@@ -358,7 +358,7 @@ fn until_of(function: &str) -> &'static str {
     }
 }
 
-/// The text of `word`, if there is one.
+/// The text of `word`, or an empty text where there is no word.
 fn word_text(word: Option<&sql_statements::SqlWord>) -> &str {
     match word {
         Some(word) => word.text.as_str(),

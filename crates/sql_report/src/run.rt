@@ -9,7 +9,8 @@ use std::fs;
 use std::io::{Read, Write};
 use std::rt::Files;
 
-/// The statuses of the subcommand.
+/// The statuses of the subcommand `sql`, from 0 to 4: success, a fault of input, output or memory, refused words, a bad statement or one whose locks are not
+/// known, and a statement that keeps those waiting whom `--fail-on` names.
 const SUCCESS: u8 = 0;
 
 const FAILED: u8 = 1;
@@ -46,8 +47,8 @@ pub fn run_sql<H: AllocGlobal + Files, R: Read, W: Write, E: Write>(
     }
 }
 
-/// Reads the schema that `options` names, and the migration of `input`, and prints on `output` what is said of it, or on
-/// `errors` why nothing is. `rt` reads the files.
+/// Reads the schema that `options` names, and the migration of `input`, prints on `output` what is said of the migration, or on `errors` why nothing is, and
+/// answers the status. `rt` reads the files.
 fn run_report<H: AllocGlobal + Files, R: Read, W: Write, E: Write>(
     rt: &H,
     options: &SqlOptions,
@@ -119,7 +120,7 @@ fn print<W: Write>(output: &mut W, text: &str, status: u8) -> u8
     status
 }
 
-/// Says on `errors` why a text is refused, as `refused` has it.
+/// Says on `errors` why a text is refused, as `refused` has it, and answers the status.
 fn refuse<E: Write>(errors: &mut E, refused: &Refused) -> u8
     ensures { result ≤ 4 }
 {
@@ -131,7 +132,7 @@ fn refuse<E: Write>(errors: &mut E, refused: &Refused) -> u8
     BAD_STATEMENT
 }
 
-/// Says on `errors` that nothing is said, for the reason `why`.
+/// Says on `errors` that nothing is reported, for the reason `why`, and answers the status.
 fn fail<E: Write>(errors: &mut E, why: &str) -> u8
     ensures { result ≤ 4 }
 {

@@ -7,7 +7,7 @@ use strsim::jaro_winkler;
 /// How many bytes of a statement or a word are shown at most.
 const MOST_SHOWN: usize = 72;
 
-/// What is between `from` and `to` in `text`, up to its first line's end, and no more than is shown.
+/// What is shown of the part of `text` between `from` and `to`: no more than its first line, and at most `MOST_SHOWN` bytes.
 pub fn shown(alloc: Global, text: &[u8], from: usize, to: usize) -> Result<String, AllocError> {
     let all = text.get(from..to).unwrap_or(b"");
     let mut end = 0usize;
@@ -34,7 +34,7 @@ pub fn word_at(alloc: Global, text: &[u8], from: usize) -> Result<String, AllocE
     String::from_utf8_lossy(alloc, all.get(..end).unwrap_or(b""))
 }
 
-/// What is said of `fault`, one of `text`.
+/// What is said of `fault`, which is a fault of `text`.
 pub fn fault_text(alloc: Global, text: &[u8], fault: SqlFault) -> Result<String, AllocError> {
     match fault {
         SqlFault::NoMemory => String::from_str(alloc, "no memory\n"),
@@ -98,7 +98,7 @@ fn nearest_among(
     Ok((nearest, most))
 }
 
-/// How long `work` takes, as it is said after `for`.
+/// How long `work` takes, as a report says it after `for`.
 pub fn work_text(work: Work) -> &'static str {
     match work {
         Work::Moment => "a moment",
@@ -118,7 +118,7 @@ pub fn longer(work: Work, other: Work) -> Work {
     }
 }
 
-/// The place of `work` among all, the shortest first.
+/// The place of `work` among all kinds of work, from 0, the shortest work first.
 fn rank(work: Work) -> u8 {
     match work {
         Work::Moment => 0,
@@ -129,7 +129,7 @@ fn rank(work: Work) -> u8 {
     }
 }
 
-/// Until when locks are held by `until`, where `is_in_transaction` says whether a transaction is open.
+/// Until when locks are held by `until`, in words, where `is_in_transaction` says whether a transaction is open.
 pub fn until_text(until: Until, is_in_transaction: bool) -> &'static str {
     match until {
         Until::Commit if is_in_transaction => "COMMIT",
@@ -137,7 +137,7 @@ pub fn until_text(until: Until, is_in_transaction: bool) -> &'static str {
     }
 }
 
-/// For whom a statement waits beside its locks, by `awaits`.
+/// For whom a statement waits beside its waits for locks, by `awaits`, in words.
 pub fn awaits_text(awaits: Awaits) -> &'static str {
     match awaits {
         Awaits::Nobody => "",

@@ -20,7 +20,7 @@ stops locks relation mode = list_any (λ lock. (lock.relation == relation) && co
 abbrev pub is_covered : List Lock → Lock → Bool
 is_covered before lock = list_all (λ mode. not (conflict lock.mode mode) || stops before lock.relation mode) all_modes
 
--- the locks behind some others that none before them cover, in their order
+-- the locks of the second list, which come after those of the first, that no earlier ones cover, in their order
 abbrev pub asked_behind : List Lock → List Lock → List Lock
 asked_behind before [] = []
 asked_behind before (lock ∷ locks) =
@@ -33,6 +33,6 @@ asking_step Try tag mode = step.Try tag mode Transaction
 asking_step Own tag mode = step.Lock tag mode Session
 asking_step GiveBack tag mode = step.Unlock tag mode Session
 
--- the step by which a session of a database asks so for a lock on a relation
+-- the step by which a session of a database asks in this way for a lock on a relation
 abbrev pub step_of : ℕ → Asking → Lock → Step
 step_of database asking lock = asking_step asking (Relation database (16384 + lock.relation)) lock.mode

@@ -19,7 +19,7 @@ is_on_one locks relation = list_any (λ lock. lock.relation == relation) locks
 abbrev pub has_used : List Lock → ScriptSession → Bool
 has_used locks session = list_any (λ used. is_on_one locks used.relation) session.used.items
 
--- whether it has one there that keeps an index build waiting
+-- whether the open transaction of a session has a lock on a relation of these locks that keeps an index build waiting
 abbrev pub has_written : List Lock → ScriptSession → Bool
 has_written locks session = list_any (λ used. conflict Share used.mode && is_on_one locks used.relation) session.used.items
 
@@ -30,12 +30,12 @@ is_awaited awaits.Writers locks session = session.has_snapshot || has_written lo
 is_awaited awaits.Users locks session = has_used locks session
 is_awaited awaits.UsersAndSnapshots locks session = session.has_snapshot || has_used locks session
 
--- the lock of a session's open transaction, where a statement of a database waits for it
+-- the lock of a session's open transaction, where a statement of a database waits for the end of that transaction
 abbrev pub awaited_in : ℕ → Awaits → List Lock → ScriptSession → Option Tag
 awaited_in database its locks session =
     if (session.database == database) && is_awaited its locks session then session.transaction else None
 
--- what there is, as a list
+-- a lock tag, if there is one, as a list
 abbrev pub as_list : Option Tag → List Tag
 as_list None = []
 as_list (Some tag) = tag ∷ []
@@ -48,6 +48,6 @@ awaited_by database its locks sessions = flat_map (λ session. as_list (awaited_
 abbrev pub await_step : Tag → Step
 await_step tag = step.Lock tag Share Transaction
 
--- the steps that wait for it and keep nothing
+-- the steps that wait for the end of the transaction that has this lock, and keep nothing
 abbrev pub pass_steps : Tag → List Step
 pass_steps tag = await_step tag ∷ step.Unlock tag Share Transaction ∷ []

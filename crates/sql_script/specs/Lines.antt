@@ -63,8 +63,8 @@ IsToPlay sessions name Are heard =
     (said : Statements) × (heard ≡ heard_.Statements said) × (string_bytes said.session ≡ name)
     × ((database : ℕ) × (database_called sessions name ≡ Some database) × Are database said.turns.items)
 
--- What is heard of a line outside of a schema: of a `do` or `work` line its own statements, of a `done` line the end of the one at which the session
--- works, and of others that they are plain ones.
+-- What is heard of a line outside of a schema: of a `do` or `work` line its own statements, of a `done` line the end of the statement at which the session
+-- works. Other lines are plain ones.
 abbrev pub IsHeardAs : Verb → List ScriptSession → List ℕ → Heard → Type 0
 IsHeardAs verb.Schema sessions behind heard = heard ≡ heard_.Schema
 IsHeardAs verb.Do sessions behind heard =

@@ -15,7 +15,7 @@ abbrev pub text_of : Owner → List ℕ
 text_of Transaction = []
 text_of Session = codes " session"
 
--- the words of a line behind its first one: the session, the object, the mode and the owner
+-- the words of a line after its first one: the session, the object, the mode and the owner
 abbrev pub lock_text : List ℕ → Tag → Mode → Owner → List ℕ
 lock_text session tag mode owner =
     session ++ (codes " " ++ (tag_text tag ++ (codes " " ++ (name_of mode ++ text_of owner))))

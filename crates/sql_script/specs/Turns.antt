@@ -50,7 +50,7 @@ abbrev pub parted_for : ℕ → List Lock → List Tag → List Step
 parted_for database locks awaited =
     (transaction_for database (take 2 locks) ++ flat_map pass_steps awaited) ++ map (step_of database asking.Wait) (asked_behind [] (drop 2 locks))
 
--- what is played for a statement that goes so through transactions, but for its end
+-- what is played for a statement that goes through transactions in this way, but for its end
 abbrev pub gone_for : Course → ℕ → Manner → List Lock → List Step → List Tag → List Step
 gone_for Within database manner locks others awaited = taken_for database manner locks others
 gone_for Kept database manner locks others awaited = flat_map (keeping_steps database) (asked_behind [] locks)
@@ -65,15 +65,15 @@ work_under Rollback database manner locks others awaited = step.Abort ∷ begun_
 work_under Savepoint database manner locks others awaited = others
 work_under Stay database manner locks others awaited = gone_for manner.course database manner locks others awaited
 
--- what a session of a database plays for a statement, but for what ends that
+-- what a session of a database plays for a statement, but for what ends the statement
 abbrev pub work_for : ℕ → Manner → List Lock → List Step → List Tag → List Step
 work_for database manner locks others awaited = work_under manner.control database manner locks others awaited
 
--- the end of a transaction, behind which the session gives back its own locks
+-- the end of a transaction, after which the session gives back its own locks
 abbrev pub given_back : ℕ → List Lock → List Step
 given_back database locks = step.Commit ∷ map (step_of database asking.GiveBack) locks
 
--- what ends a statement that goes so through transactions
+-- what ends a statement that goes through transactions in this way
 abbrev pub gone_end : Course → ℕ → Manner → List Lock → List Step
 gone_end Within database manner locks = if manner.is_alone then (step.Commit ∷ []) else []
 gone_end Kept database manner locks = given_back database (filter is_kept (asked_behind [] locks))
@@ -116,7 +116,7 @@ left_for true database manner locks = end_for database manner locks
 left_for false database manner locks = []
 
 -- A turn has the locks of some forms, and takes no lock for a transaction but its own. Where its statement works until a later line its end is left, and
--- else nothing. What it plays and what is left, one behind the other, are just what its statement comes to.
+-- else nothing. What it plays and what is left, one after the other, are just what its statement comes to.
 abbrev pub IsTurn : ℕ → Bool → Turn → Type 0
 IsTurn database works turn =
     HasForms turn.locks.items × IfSome turn.manner.begins (IsOwnLock database)

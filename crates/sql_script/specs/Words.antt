@@ -6,7 +6,7 @@ use Rattle.std.specs.Str.{trim_start}
 
 -- The words of a line that says SQL, one after another.
 
--- where the first word of a text ends that begins with it
+-- where the first word of a text ends, if the text begins with that word
 abbrev pub word_end : List ℕ → ℕ
 word_end text = unwrap_or (position is_ascii_whitespace text) (length text)
 

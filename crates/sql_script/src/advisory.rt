@@ -6,7 +6,7 @@ use modes_core::{Mode, Owner, Tag};
 use sql_statements::{Advisory, SqlWord, has_part};
 use std::alloc::Global;
 
-/// The steps by which a session of `database` takes the advisory locks `taken` or gives them back, whose functions and keys stand among `words`.
+/// The steps by which a session of `database` takes the advisory locks `taken` or gives them back. Their functions and keys are among `words`.
 pub fn advisory_steps(
     alloc: Global,
     database: u32,
@@ -20,8 +20,9 @@ pub fn advisory_steps(
     Ok(steps)
 }
 
-/// The step by which a session of `database` takes the advisory lock `taken` or gives it back, whose function and keys stand among `words`: of one
-/// key the two halves of its 64 bits with 1 behind them, of two keys both with 2 behind them, as a server has it.
+/// The step by which a session of `database` takes the advisory lock `taken` or gives it back, whose function and keys are among `words`. The lock tag of one
+/// key has the two halves of its 64 bits and a 1 after them, that of two keys has both and a 2 after them (`SET_LOCKTAG_INT64` and `SET_LOCKTAG_INT32` in
+/// lockfuncs.c).
 fn advisory_step(database: u32, words: &[SqlWord], taken: &Advisory) -> Result<Step, ScriptFault> {
     let function = match words.get(taken.function) {
         Some(word) => word.text.as_str(),
@@ -50,7 +51,7 @@ fn advisory_step(database: u32, words: &[SqlWord], taken: &Advisory) -> Result<S
     }
 }
 
-/// The object of `database` that the keys of `taken` name, which stand among `words`.
+/// The lock tag of the advisory lock in `database` that the keys of `taken` name, which are among `words`.
 fn advisory_tag(database: u32, words: &[SqlWord], taken: &Advisory) -> Result<Tag, ScriptFault> {
     match taken.second {
         None => {
@@ -67,7 +68,7 @@ fn advisory_tag(database: u32, words: &[SqlWord], taken: &Advisory) -> Result<Ta
     }
 }
 
-/// The number of at most `most` that stands at `place` among `words`, as a key of an advisory lock.
+/// The number at `place` among `words`, at most `most`, as a key of an advisory lock.
 fn key_at(words: &[SqlWord], place: usize, most: u64) -> Result<u64, ScriptFault> {
     let Some(word) = words.get(place) else {
         return Err(bad_key(words.last()));
@@ -78,7 +79,7 @@ fn key_at(words: &[SqlWord], place: usize, most: u64) -> Result<u64, ScriptFault
     }
 }
 
-/// The fault of a key at `word`.
+/// The fault of an advisory lock's key that is no number, which `word` is if there is one.
 fn bad_key(word: Option<&SqlWord>) -> ScriptFault {
     let (line, from) = match word {
         Some(word) => (word.line, word.from),

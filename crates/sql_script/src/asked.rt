@@ -11,7 +11,7 @@ use std::alloc::{AllocError, Global};
 /// The number of the first relation that statements make, as a new database of a server has it.
 pub const FIRST_RELATION: usize = 16384;
 
-/// The ones of `locks` that no earlier ones cover, in their order.
+/// The locks among `locks` that no earlier ones of the list cover, in the order of `locks`.
 pub fn asked_of(alloc: Global, locks: &[Lock]) -> Result<Vec<Lock>, AllocError>
     ensures { IfOk result (λ asked. asked.items ≡ asked_behind [] locks.now) }
 {
@@ -51,13 +51,13 @@ pub fn clash(mode: Mode, other: Mode) -> bool
 /// How a session asks for the locks of a statement, or gives them back.
 #[derive(Clone, Copy, Debug, PartialEq, Eq)]
 pub enum Asking {
-    /// The session's transaction takes each, and waits for it if need be.
+    /// The session's transaction takes each lock, and waits for it if need be.
     Wait,
-    /// The session's transaction takes each, if nothing is in the way: as by `NOWAIT`.
+    /// The session's transaction takes each lock, if nothing is in the way: as by `NOWAIT`.
     Try,
-    /// The session itself takes each, and waits for it if need be.
+    /// The session itself takes each lock, and waits for it if need be.
     Own,
-    /// The session gives each back that it owns itself.
+    /// The session gives each lock back that it owns itself.
     GiveBack,
 }
 
@@ -107,8 +107,8 @@ pub fn asking_step(tag: Tag, mode: Mode, asking: Asking) -> Step
     }
 }
 
-/// The tag of the relation of the number `relation` in `database`. The error is being out of memory: where its number is beyond that of any tag,
-/// there are more relations than memory holds.
+/// The lock tag of the relation of the number `relation` in `database`. Where `relation` is beyond the number of any lock tag, the error is being out of
+/// memory: there are more relations than memory holds.
 pub fn tag_of(database: u32, relation: usize) -> Result<Tag, SqlFault>
     ensures { IfOk result (λ tag. tag ≡ Tag.Relation database (16384 + relation)) }
 {

@@ -13,18 +13,17 @@ use std::alloc::{AllocError, Global};
 /// How a statement goes through transactions.
 #[derive(Clone, Copy, Debug, PartialEq, Eq)]
 pub enum Course {
-    /// Within one transaction.
+    /// The statement runs within one transaction.
     Within,
-    /// Within one transaction, with locks that the session owns beside it: as `VACUUM`.
+    /// The statement runs within one transaction, and the session owns locks beside that transaction: as for `VACUUM`.
     Kept,
-    /// The session owns its locks, and its transaction waits for the ends of others: as `CREATE INDEX CONCURRENTLY`.
+    /// The session owns the statement's locks, and its transaction waits for the ends of other transactions: as for `CREATE INDEX CONCURRENTLY`.
     Owned,
-    /// In two transactions, between which it waits for the ends of others: as `DETACH PARTITION CONCURRENTLY`.
+    /// The statement runs in two transactions, and waits between them for the ends of others: as `DETACH PARTITION CONCURRENTLY`.
     Parted,
 }
 
-/// The locks of those open transactions of `sessions`, in `database`, for whose end a statement waits that awaits `awaits` and
-/// has these `locks` on what they may have used.
+/// The locks of the open transactions of `sessions` in `database` for whose end a statement waits that awaits `awaits` and has the locks `locks`.
 pub fn awaited_of(
     alloc: Global,
     sessions: &[ScriptSession],
@@ -43,8 +42,8 @@ pub fn awaited_of(
     Ok(tags)
 }
 
-/// The lock of the open transaction of `session`, where that is waited for by a statement in `database` that awaits `awaits` and has
-/// these `locks`.
+/// The lock of the open transaction of `session`, if a statement in `database` that awaits `awaits` and has the locks `locks` waits for the end of that
+/// transaction.
 fn awaited_in(session: &ScriptSession, database: u32, awaits: Awaits, locks: &[Lock]) -> Option<Tag>
     ensures { result ≡ awaited_in database awaits locks.now session.now }
 {
@@ -91,7 +90,7 @@ fn is_on_one(locks: &[Lock], relation: usize) -> bool
     locks.iter().any(|lock| lock.relation == relation)
 }
 
-/// The steps by which a transaction waits for the ends of those whose locks are `tags`: it asks for each of them, and keeps it.
+/// The steps by which a transaction waits for the ends of the transactions whose locks are `tags`: it takes each of these locks, and keeps it.
 pub fn waits_of(alloc: Global, tags: &Vec<Tag>) -> Result<Vec<Step>, SqlFault>
     ensures { IfOk result (λ steps. steps.items ≡ map await_step tags.now.items) }
 {
@@ -102,7 +101,7 @@ pub fn waits_of(alloc: Global, tags: &Vec<Tag>) -> Result<Vec<Step>, SqlFault>
     Ok(steps)
 }
 
-/// The steps by which a transaction waits for the ends of those whose locks are `tags`, and keeps none of them.
+/// The steps by which a transaction waits for the ends of the transactions whose locks are `tags`, and keeps none of these locks.
 pub fn passes_of(alloc: Global, tags: &Vec<Tag>) -> Result<Vec<Step>, SqlFault>
     ensures { IfOk result (λ steps. steps.items ≡ flat_map pass_steps tags.now.items) }
 {
@@ -126,7 +125,7 @@ fn await_step(tag: Tag) -> Step
     }
 }
 
-/// The step by which it gives the lock `tag` back.
+/// The step by which a session gives the lock `tag` back, which it took to wait for the end of a transaction.
 fn give_back_step(tag: Tag) -> Step
     ensures { result ≡ Step.Unlock tag Mode.Share Owner.Transaction }
 {

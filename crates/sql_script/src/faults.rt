@@ -37,12 +37,12 @@ pub enum ScriptDefect {
 pub enum ScriptFault {
     /// The SQL is bad, or its locks are not known, or there was no memory.
     Sql(SqlFault),
-    /// A word is wrong.
+    /// A word of the SQL is wrong.
     Word {
-        /// The line of the text on which it stands, from 1.
+        /// The line of the text on which the wrong word is, from 1.
         line: usize,
         what: ScriptDefect,
-        /// How many bytes of the text stand before it.
+        /// How many bytes of the text come before the wrong word.
         from: usize,
     },
 }
@@ -66,7 +66,7 @@ impl<T: Drop> From<AllocFailed<T>> for ScriptFault {
 }
 
 impl ScriptFault {
-    /// Whether there was no memory.
+    /// Whether the fault is that there was no memory.
     pub fn is_of_memory(&self) -> bool {
         match self {
             ScriptFault::Sql(fault) => *fault == SqlFault::NoMemory,
@@ -74,7 +74,7 @@ impl ScriptFault {
         }
     }
 
-    /// What is said of the fault, which is one of `text`, whose first line is the one of the number `first` in its script.
+    /// The message that says this fault of `text`, whose first line has the number `first` in its script.
     pub fn told(self, alloc: Global, first: usize, text: &[u8]) -> Result<String, AllocError> {
         let above = first.saturating_sub(1);
         match self {

@@ -36,7 +36,7 @@ fn keeping_steps(alloc: Global, database: u32, lock: &Lock) -> Result<Vec<Step>,
     Ok(steps)
 }
 
-/// What of `locks` no earlier ones cover and the session keeps.
+/// The locks among `locks` that no earlier ones of the list cover, and that the session keeps beside its transaction.
 pub fn kept_of(alloc: Global, locks: &[Lock]) -> Result<Vec<Lock>, AllocError>
     ensures { IfOk result (λ kept. kept.items ≡ filter is_kept (asked_behind [] locks.now)) }
 {
@@ -50,7 +50,8 @@ pub fn kept_of(alloc: Global, locks: &[Lock]) -> Result<Vec<Lock>, AllocError>
     Ok(kept)
 }
 
-/// Whether the session keeps `lock`: one that keeps its own mode waiting, as a table's and no index's.
+/// Whether the session keeps `lock` beside its transaction: whether the lock's mode keeps itself waiting, as that on a table does and that on an index
+/// doesn't.
 fn is_kept(lock: &Lock) -> bool
     ensures { result ≡ is_kept lock.now }
 {

@@ -5,8 +5,8 @@ use crate::sessions::ScriptSession;
 use sql_locks::{Link, Lock};
 use std::alloc::{AllocError, Global};
 
-/// The links, of `links`, that a statement of the session named `name` knows, which has these `locks` where it knows all. What the open transaction of
-/// another one of `sessions` made is known to it only where it waits for the end of that.
+/// The links among `links` that a statement of the session named `name` knows, where `locks` are those that it has if it knows all links. What the open
+/// transaction of another one of `sessions` made is known to the statement only where it waits for the end of that transaction.
 pub fn known_links(
     alloc: Global,
     links: &[Link],
@@ -24,7 +24,7 @@ pub fn known_links(
     Ok(known)
 }
 
-/// Whether one of `locks` has to wait for a lock of the open transaction of `session`, on a relation that this did not make.
+/// Whether one of `locks` has to wait for a lock of the open transaction of `session`, on a relation that this transaction did not make.
 fn waits_for(session: &ScriptSession, locks: &[Lock]) -> bool {
     for used in &session.used {
         if !has_made(session, used.relation) && is_stopped(used, locks) {
@@ -34,7 +34,7 @@ fn waits_for(session: &ScriptSession, locks: &[Lock]) -> bool {
     false
 }
 
-/// Whether one of `locks` is on the relation of `used` and has to wait for that lock.
+/// Whether one of `locks` is on the relation of the lock `used` and has to wait for `used`.
 fn is_stopped(used: &Lock, locks: &[Lock]) -> bool {
     locks.iter().any(|lock| lock.relation == used.relation && clash(used.mode, lock.mode))
 }

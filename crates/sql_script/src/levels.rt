@@ -6,8 +6,8 @@ use crate::steps::Step;
 use sql_statements::SqlWord;
 use std::alloc::{AllocError, Global};
 
-/// What a session plays for the statement of `words`, which sets a savepoint, releases one or goes back to one: releasing or going back to one ends
-/// those set behind it too, and a savepoint that is gone back to is there again.
+/// What `session` plays for the statement of `words`, which sets a savepoint, releases one or goes back to one. Releasing or going back to a savepoint ends
+/// those set after it too, and a savepoint that is gone back to begins anew.
 pub fn level_steps(
     alloc: Global,
     session: &mut ScriptSession,
@@ -58,14 +58,14 @@ fn push_savepoint(session: &mut ScriptSession, name: String) -> Result<(), Alloc
     }
 }
 
-/// Has `session` have the locks alone that it had before its savepoint at `place`.
+/// Takes from `session` the locks that it got after its savepoint at `place` was set.
 fn give_back_to(session: &mut ScriptSession, place: usize) {
     if let Some(savepoint) = session.savepoints.get(place) {
         session.used.truncate(savepoint.used);
     }
 }
 
-/// Where the last one of `savepoints` stands whose name is `name`.
+/// The place of the last one of `savepoints` whose name is `name`.
 fn place_of(savepoints: &Vec<Savepoint>, name: &str) -> Option<usize> {
     let mut found = None;
     for (place, other) in savepoints.iter().enumerate() {

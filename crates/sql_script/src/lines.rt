@@ -16,7 +16,7 @@ pub enum Heard {
     Plain,
     /// The line is one of a schema, for which nothing is played.
     Schema,
-    /// A session plays what its statements come to.
+    /// A session plays what the line's statements come to.
     Statements(Statements),
 }
 
@@ -24,14 +24,14 @@ pub enum Heard {
 #[derive(Debug, Drop)]
 pub struct Statements {
     pub session: String,
-    /// One for each statement, in order.
+    /// What the session plays: a turn for each statement of the line, in order.
     pub turns: Vec<Turn>,
 }
 
 /// Why the SQL of a line can't be played.
 #[derive(Debug, Drop)]
 pub enum Unplayed {
-    /// The line is bad: this says which word of which line is, with a line feed at its end.
+    /// The line is bad. The text says which word of which line is, with a line feed at its end.
     Told(String),
     NoMemory,
 }
@@ -43,7 +43,7 @@ impl From<AllocError> for Unplayed {
 }
 
 impl Unplayed {
-    /// What is said of `fault`, one of `text`, whose first line is that of the number `first` in its script.
+    /// Why the SQL `text`, whose first line has the number `first` in its script, can't be played: it has the fault `fault`.
     fn of(alloc: Global, first: u32, text: &[u8], fault: ScriptFault) -> Self {
         match fault.told(alloc, first as usize, text) {
             Ok(told) => Unplayed::Told(told),
@@ -52,12 +52,12 @@ impl Unplayed {
     }
 }
 
-/// A schema that is read.
+/// A schema of a script, while its lines are read.
 #[derive(Debug, Drop)]
 pub struct Schema {
-    /// The number of the line that begins it.
+    /// The number of the line that begins the schema.
     line: u32,
-    /// Its lines so far, each with a line feed.
+    /// The lines of the schema that were read, each with a line feed.
     text: String,
 }
 
@@ -97,7 +97,7 @@ impl SqlScript {
         }
     }
 
-    /// Says what is wrong where the script ends, if its schema doesn't.
+    /// Checks, where the script ends, that no schema is without its end. The error says what is wrong.
     pub fn finish(&self) -> Result<(), Unplayed> {
         match &self.schema {
             Some(schema) => {
@@ -108,7 +108,7 @@ impl SqlScript {
         }
     }
 
-    /// Has the lines from here on make tables. The line of the number `number` says so.
+    /// Begins a schema, as the line of the number `number` says: the lines after that line make tables.
     fn begin_schema(&mut self, number: u32) {
         self.schema = Some(Schema {
             line: number,
@@ -116,7 +116,7 @@ impl SqlScript {
         });
     }
 
-    /// Takes in `line`, one of a schema, which ends the schema where `is_end`. The statements of one that has ended are run.
+    /// Takes in `line`, one of a schema. Where `is_end`, the line ends the schema, and the schema's statements are run.
     fn hear_schema(&mut self, line: &str, is_end: bool) -> Result<(), Unplayed> {
         let Some(mut schema) = self.schema.take() else {
             return Ok(());
@@ -135,7 +135,8 @@ impl SqlScript {
         }
     }
 
-    /// Has the session of a line that opens it be known, where `name` and the word of `text` that says its database are good ones.
+    /// Opens the session `name` in the database that the first word of `text` says, if that word is a number: else the line is a bad one, and nothing is
+    /// opened.
     fn hear_opening(&mut self, name: &str, text: &str) -> Result<(), AllocError> {
         match cut_word(text).0.parse::<u32>() {
             Ok(database) => self.open(name, database),
@@ -143,8 +144,8 @@ impl SqlScript {
         }
     }
 
-    /// What the session named `name` plays for the statements `text` of the line of the number `number`. Where `works` says so it works at it, one
-    /// statement, until a later line.
+    /// What the session named `name` plays for the statements `text` of the line of the number `number`. Where `works`, `text` is one statement, at which the
+    /// session works until a later line.
     fn hear_statements(
         &mut self,
         number: u32,
@@ -168,8 +169,8 @@ impl SqlScript {
         }
     }
 
-    /// What the session named `name`, one of `database`, plays for the statements `text`. Where `works` says so it works at it, one statement, until a
-    /// later line.
+    /// What the session named `name`, one of `database`, plays for the statements `text`. Where `works`, `text` is one statement, at which the session works
+    /// until a later line.
     fn turns_for(
         &mut self,
         name: &str,
@@ -200,8 +201,8 @@ impl SqlScript {
         }
     }
 
-    /// The database of the session named `name`, which the line of the number `number` names. Refused where there is no such session, and where it
-    /// works at a statement or not, otherwise than `is_at_work` wants.
+    /// The database of the session named `name`, which the line of the number `number` names. Refused where there is no such session, and where whether the
+    /// session works at a statement is not as `is_at_work` says.
     fn worker(&self, number: u32, name: &str, is_at_work: bool) -> Result<u32, Unplayed>
         ensures { IfOk result (λ database. database_called self.now.sessions name.now ≡ Some database) }
     {

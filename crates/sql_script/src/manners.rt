@@ -37,8 +37,8 @@ impl SqlScript {
         Ok(locks_of_acts(self.alloc, known.as_slice(), acts, unknown)?)
     }
 
-    /// How the statement that was read goes through transactions, where the session named `name` says it. Where that has one open, and the statement
-    /// may have none around it, it is a fault; so is one that waits for the ends of transactions, where these have no locks.
+    /// How the statement that was read goes through transactions, where the session named `name` says it. A fault where that session has a transaction open
+    /// and the statement may have none around it, and where the statement waits for the ends of transactions and these have no locks.
     fn course(&self, name: &str) -> Result<Course, ScriptFault> {
         let mut course = Course::Within;
         for act in &self.reader.acts {
@@ -61,8 +61,8 @@ impl SqlScript {
         Ok(course)
     }
 
-    /// The locks of the transactions for whose end the statement that was read waits, one in `database` with these `locks`. Those who have used a
-    /// partition alone are in nobody's way while it is detached.
+    /// The locks of the transactions for whose end the statement that was read waits, which is in `database` and has the locks `locks`. Transactions that
+    /// have used a partition alone are in nobody's way while that partition is detached.
     pub(crate) fn awaited(&self, database: u32, locks: &[Lock]) -> Result<Vec<Tag>, AllocError> {
         let mut awaits = Awaits::Nobody;
         let mut tables = locks;
@@ -119,8 +119,8 @@ impl SqlScript {
         Ok(Vec::new(alloc))
     }
 
-    /// How the statement that was read is played by the session named `name`, one of `database`, where it has these `locks`, plays `others` beside
-    /// them, and works until a later line where `works` says so.
+    /// How the statement that was read is played by the session named `name`, one of `database`. The statement has the locks `locks` and plays `others`
+    /// beside them. Where `works`, the session works at the statement until a later line.
     pub(crate) fn manner(
         &mut self,
         name: &str,
@@ -148,9 +148,8 @@ impl SqlScript {
         })
     }
 
-    /// The lock of the transaction that the statement that was read begins, said by the session named `name` of `database`, where transactions have
-    /// one: an advisory lock whose last number no function of the server gives. A statement that is no `BEGIN` begins one of its own where
-    /// `begins_own` says so.
+    /// The lock of the transaction that the statement that was read begins, said by the session named `name` of `database`, where transactions have one: an
+    /// advisory lock whose last number no function of the server gives. Where `begins_own`, a statement that is no `BEGIN` begins a transaction of its own.
     fn begins(&mut self, name: &str, database: u32, begins_own: bool) -> Option<Tag>
         ensures { IfSome result (IsOwnLock database) }
     {
@@ -193,7 +192,7 @@ impl SqlScript {
     }
 }
 
-/// Whether one of `steps` takes a lock of the transaction's.
+/// Whether one of `steps` takes a lock that the transaction owns.
 fn has_own(steps: &Vec<Step>) -> bool {
     for step in steps {
         match step {

@@ -22,9 +22,9 @@ pub struct SqlScript {
     pub(crate) alloc: Global,
     pub(crate) reader: StatementReader,
     pub(crate) sessions: Vec<ScriptSession>,
-    /// How many transactions have begun that have a lock of their own, where the schema says that all have one that a `BEGIN` opens.
+    /// How many transactions have begun that have a lock of their own. It is none unless the schema says that each transaction that a `BEGIN` opens has one.
     pub(crate) begun: Option<u32>,
-    /// The schema that is read, while one is.
+    /// The schema whose lines are read now, if there is one.
     pub(crate) schema: Option<Schema>,
 }
 
@@ -38,7 +38,7 @@ impl Model for SqlScript {
 }
 
 impl SqlScript {
-    /// No table was made, and no session opened.
+    /// The SQL of a script of which nothing was read: no table was made, and no session opened.
     pub fn new(alloc: Global) -> Self {
         SqlScript {
             alloc,
@@ -49,7 +49,7 @@ impl SqlScript {
         }
     }
 
-    /// Runs the statements `text` of a schema: all know the tables that they make.
+    /// Runs the statements `text` of a schema. All sessions know the tables that these statements make.
     pub fn read_schema(&mut self, text: &[u8]) -> Result<(), ScriptFault> {
         for statement in split_statements(self.alloc, text)? {
             self.reader.read_statement(statement.words)?;
@@ -61,7 +61,7 @@ impl SqlScript {
         Ok(())
     }
 
-    /// Has the session named `name` be one of `database`, with no transaction open.
+    /// Opens the session named `name` in `database`, with no transaction open.
     pub fn open(&mut self, name: &str, database: u32) -> Result<(), AllocError> {
         self.close(name);
         let session = ScriptSession::new(self.alloc, name, database)?;
@@ -71,7 +71,7 @@ impl SqlScript {
         }
     }
 
-    /// Has no session be named `name`.
+    /// Takes away the session named `name`, if there is one.
     pub fn close(&mut self, name: &str) {
         self.sessions
             .retain(|session| session.name.as_str() != name);
@@ -87,14 +87,14 @@ impl SqlScript {
             .map(|session| session.database)
     }
 
-    /// Where the session named `name` stands.
+    /// The place of the session named `name` among the script's sessions.
     pub(crate) fn place_of(&self, name: &str) -> Option<usize> {
         self.sessions
             .iter()
             .position(|session| session.name.as_str() == name)
     }
 
-    /// What the session named `name`, one of `database`, plays for the statements `text`, a turn for each. Where one is bad nothing is to be
+    /// What the session named `name`, one of `database`, plays for the statements `text`, a turn for each. Where one statement is bad nothing is to be
     /// played.
     pub fn turns_of(
         &mut self,
@@ -108,8 +108,8 @@ impl SqlScript {
         self.all_turns(name, database, statements, false)
     }
 
-    /// What the session named `name`, one of `database`, plays for the statement `text`, at which it works until a later line. What it plays
-    /// at its end is left. Refused where `text` is not one statement.
+    /// What the session named `name`, one of `database`, plays for the statement `text`, at which it works until a later line. What the session plays at the
+    /// statement's end is not played yet, but left. Refused where `text` is not one statement.
     pub fn turns_at_work(
         &mut self,
         name: &str,
@@ -129,7 +129,7 @@ impl SqlScript {
         self.all_turns(name, database, statements, true)
     }
 
-    /// What the session named `name`, one of `database`, plays for `statements`. Where `works` says so each is one at which it works until a later
+    /// What the session named `name`, one of `database`, plays for `statements`, a turn for each. Where `works`, the session works at each until a later
     /// line.
     fn all_turns(
         &mut self,
@@ -149,7 +149,7 @@ impl SqlScript {
         Ok(turns)
     }
 
-    /// What the session named `name`, one of `database`, plays for `statement`, at which it works until a later line where `works` says so.
+    /// What the session named `name`, one of `database`, plays for `statement`. Where `works`, the session works at it until a later line.
     fn turn(
         &mut self,
         name: &str,
@@ -197,7 +197,7 @@ impl SqlScript {
         })
     }
 
-    /// The relations of `locks`, as `database` has them, each once, with their names, and the lock `begins` of a transaction with its own.
+    /// What a statement in `database` locks, with names: first the transaction's lock `begins`, if there is one, and then each relation of `locks` once.
     fn named(
         &self,
         database: u32,
@@ -226,7 +226,7 @@ impl SqlScript {
         Ok(named)
     }
 
-    /// The lock `begins` of a transaction, with its name.
+    /// The lock `begins` of a transaction with its name, if there is one.
     fn named_transaction(&self, begins: Option<Tag>) -> Result<Option<Table>, AllocError> {
         let (Some(tag), Some(number)) = (begins, self.begun) else {
             return Ok(None);
@@ -235,8 +235,8 @@ impl SqlScript {
         Ok(Some(Table { tag, name }))
     }
 
-    /// Has the tables and the transaction of the session named `name` be as the statement that was read leaves them, which has these `locks`, in
-    /// its `manner`.
+    /// Has the tables, and the transaction of the session named `name`, be as the statement that was read leaves them, which has the locks `locks` and is
+    /// played in `manner`.
     fn settle(&mut self, name: &str, manner: Manner, locks: &[Lock]) -> Result<(), ScriptFault> {
         let alloc = self.alloc;
         if let Some(place) = self.place_of(name) {
@@ -249,8 +249,8 @@ impl SqlScript {
         Ok(())
     }
 
-    /// Keeps which relations the open transaction of the session named `name` made by the statement that was read, in its `manner`: all but the first
-    /// `known` ones. Where it works until a later line, as `works` says, a transaction of its own is open too.
+    /// Notes the relations that the open transaction of the session named `name` made by the statement that was read, which is played in `manner`: all but
+    /// the first `known` ones. Where `works`, a transaction of the statement's own is open too, until a later line.
     fn note_made(
         &mut self,
         name: &str,

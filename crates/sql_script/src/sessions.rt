@@ -11,21 +11,22 @@ use std::alloc::{AllocError, Global};
 pub struct ScriptSession {
     pub name: String,
     pub database: u32,
-    /// Whether its transaction is open, since a `BEGIN`.
+    /// Whether the session's transaction is open, since a `BEGIN`.
     pub is_open: bool,
-    /// The savepoints that its transaction has, the innermost last.
+    /// The savepoints that the session's transaction has, the innermost last.
     pub savepoints: Vec<Savepoint>,
-    /// The lock of its open transaction, where transactions have one.
+    /// The lock of the session's open transaction, where transactions have one.
     pub transaction: Option<Tag>,
-    /// The locks on relations that its open transaction has.
+    /// The locks on relations that the session's open transaction has.
     pub used: Vec<Lock>,
-    /// Whether its open transaction reads all by one snapshot, as `REPEATABLE READ` does.
+    /// Whether the session's open transaction reads all by one snapshot, as `REPEATABLE READ` does.
     pub repeats: bool,
-    /// Whether its open transaction has that snapshot, or the statement at which it works one of its own.
+    /// Whether the session's open transaction has the one snapshot by which it reads all, or the statement at which the session works has a snapshot of its
+    /// own.
     pub has_snapshot: bool,
-    /// The numbers of the relations that its open transaction made.
+    /// The numbers of the relations that the session's open transaction made.
     pub made: Vec<usize>,
-    /// The statement at which it works, while it does.
+    /// The statement at which the session works, while it does.
     pub work: Option<Work>,
 }
 
@@ -34,9 +35,9 @@ pub struct ScriptSession {
 pub struct Work {
     /// What the session plays at the end of the statement.
     pub left: Vec<Step>,
-    /// Whether it waits before that for the transactions that have a snapshot then.
+    /// Whether the session waits before the end of the statement for the transactions that have a snapshot by then.
     pub awaits_snapshots: bool,
-    /// Whether the session's transaction has a snapshot beside the statement.
+    /// Whether the session's transaction had a snapshot before the statement began.
     pub had_snapshot: bool,
 }
 
@@ -44,7 +45,7 @@ pub struct Work {
 #[derive(Debug, Drop)]
 pub struct Savepoint {
     pub name: String,
-    /// How many locks on relations the transaction had before it.
+    /// How many locks on relations the transaction had before the savepoint.
     pub used: usize,
 }
 
@@ -65,8 +66,8 @@ impl ScriptSession {
         })
     }
 
-    /// Has its transaction be as a statement of `words` with these `locks` leaves it that does `control` to it. The lock of a transaction that it
-    /// begins, where that has one, is `begins`.
+    /// Has the session's transaction be as a statement of `words` leaves it, which has the locks `locks` and does `control` to the transaction. The lock of a
+    /// transaction that the statement begins is `begins`, if any.
     pub fn follow(
         &mut self,
         alloc: Global,
@@ -102,7 +103,7 @@ impl ScriptSession {
         Ok(())
     }
 
-    /// Has it have no transaction, and work at nothing.
+    /// Ends the session's transaction, and its work at a statement.
     pub fn end_transaction(&mut self, alloc: Global) {
         self.is_open = false;
         self.savepoints = Vec::new(alloc);
@@ -113,8 +114,8 @@ impl ScriptSession {
         self.work = None;
     }
 
-    /// Has it work at the statement of `words` with these `locks`, of which `left` is played at its end. Where `awaits_snapshots` says so it waits
-    /// before that for who has a snapshot then.
+    /// Has the session work at the statement of `words`, which has the locks `locks`, and at whose end `left` is played. Where `awaits_snapshots`, the
+    /// session waits before that end for the transactions that have a snapshot by then.
     pub fn begin_work(
         &mut self,
         words: &[SqlWord],
@@ -137,8 +138,8 @@ impl ScriptSession {
         Ok(())
     }
 
-    /// Where `is_done`, has the session work at nothing: its transaction has ended, if that was the statement's own, and else has the snapshot that it
-    /// had before. Where the work is not done, the statement waits for no snapshot any more.
+    /// Where `is_done`, has the session work at nothing. If the statement had a transaction of its own, that has ended, and else the session's transaction
+    /// has the snapshot that it had before. Where not `is_done`, the statement waits for no snapshot any more.
     pub fn leave_work(&mut self, alloc: Global, is_done: bool) {
         let Some(mut work) = self.work.take() else {
             return;
@@ -153,7 +154,7 @@ impl ScriptSession {
         }
     }
 
-    /// Keeps whether the statement of `words` has its transaction read by one snapshot, and whether it takes that.
+    /// Notes whether the statement of `words` has the session's transaction read all by one snapshot, and whether it takes that snapshot.
     fn note_snapshot(&mut self, words: &[SqlWord]) {
         let Some(first) = words.first() else {
             return;

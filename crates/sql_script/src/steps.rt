@@ -56,7 +56,7 @@ pub fn line_of(alloc: Global, session: &str, step: Step) -> Result<String, Alloc
     }
 }
 
-/// The word by which a line says that a lock is of `owner`, with the space before it: none where it is the transaction's.
+/// The word by which a line names the owner of a lock, `owner`, with a space before the word: none where the transaction owns the lock.
 fn whose(owner: Owner) -> &'static str
     ensures { result.now ≡ text_of owner }
 {
@@ -77,7 +77,7 @@ pub fn lines_of(alloc: Global, session: &str, turns: &[Turn]) -> Result<Vec<Stri
     Ok(lines)
 }
 
-/// Adds to `lines` those by which the session named `session` does `steps`.
+/// Adds to `lines` the lines by which the session named `session` does `steps`.
 fn push_lines(
     lines: &mut Vec<String>,
     alloc: Global,

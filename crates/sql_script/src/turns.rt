@@ -19,19 +19,19 @@ pub struct Turn {
     pub manner: Manner,
     /// The locks of the statement, in the order of the server.
     pub locks: Vec<Lock>,
-    /// What it plays beside them: the levels that a savepoint begins or ends, or advisory locks.
+    /// What the session plays beside the statement's locks on relations: the levels that a savepoint begins or ends, or advisory locks.
     pub others: Vec<Step>,
-    /// The locks of the transactions for whose end it waits.
+    /// The locks of the transactions for whose end the statement waits.
     pub awaited: Vec<Tag>,
-    /// What it plays, in order: all, or of a statement that works until a later line what comes before its end.
+    /// What the session plays for the statement, in order: all, or, where the session works at the statement until a later line, what comes before its end.
     pub steps: Vec<Step>,
-    /// What it plays at its end, where that comes by a later line.
+    /// What the session plays at the end of the statement, where that comes by a later line.
     pub left: Vec<Step>,
-    /// The relations that it locks, with their names.
+    /// What the statement locks, with names: the lock of a transaction that it begins, and relations.
     pub named: Vec<Table>,
 }
 
-/// A relation under its name.
+/// A relation, or the lock of a transaction, under its name.
 #[derive(Debug, Drop)]
 pub struct Table {
     pub tag: Tag,
@@ -41,20 +41,20 @@ pub struct Table {
 /// How a statement is played.
 #[derive(Clone, Copy, Debug, PartialEq, Eq)]
 pub struct Manner {
-    /// What it does to the transaction.
+    /// What the statement does to the transaction.
     pub control: Control,
-    /// How it asks for its locks.
+    /// How the session asks for the statement's locks.
     pub asking: Asking,
-    /// Whether it is a transaction of its own that takes a lock, and so ends with it.
+    /// Whether the statement is a transaction of its own that takes a lock, and so ends with the statement.
     pub is_alone: bool,
-    /// How it goes through transactions.
+    /// How the statement goes through transactions.
     pub course: Course,
-    /// The lock of the transaction that it begins, where transactions have one.
+    /// The lock of the transaction that the statement begins, where transactions have one.
     pub begins: Option<Tag>,
 }
 
-/// What a session of `database` plays for a statement with these `locks`, in this `manner`, and `others` beside the locks, where it waits for
-/// the transactions whose locks are `awaited`: all but what ends it.
+/// What a session of `database` plays for a statement with the locks `locks`, in `manner`, and `others` beside the locks, where the statement waits for the
+/// transactions whose locks are `awaited`: all but what ends the statement.
 pub fn work_of(
     alloc: Global,
     database: u32,
@@ -84,8 +84,8 @@ pub fn work_of(
     }
 }
 
-/// What ends a statement with these `locks` of a session of `database`, in this `manner`: the end of its own transaction, and what the session
-/// gives back behind that.
+/// What ends a statement with the locks `locks` of a session of `database`, in `manner`: the end of the statement's own transaction, and what the session
+/// gives back after that.
 pub fn end_of(
     alloc: Global,
     database: u32,
@@ -122,7 +122,7 @@ fn committed(alloc: Global, is_alone: bool) -> Result<Vec<Step>, SqlFault>
     Ok(steps)
 }
 
-/// The end of a transaction, behind which a session of `database` gives back its own `locks`.
+/// The end of a transaction, after which a session of `database` gives back the locks `locks` that it owns itself.
 fn given_back(alloc: Global, database: u32, locks: &Vec<Lock>) -> Result<Vec<Step>, SqlFault>
     ensures { IfOk result (λ steps. steps.items ≡ given_back database locks.now.items) }
 {
@@ -133,8 +133,8 @@ fn given_back(alloc: Global, database: u32, locks: &Vec<Lock>) -> Result<Vec<Ste
     Ok(steps)
 }
 
-/// What a session plays where a statement's work is done whose end is `left`, and which waits then for the transactions whose locks are `awaited`:
-/// where there are some, a transaction waits for each of them, and the end comes later.
+/// What a session plays once the work of a statement is done, whose end is `left`. If there are transactions for which the statement then waits, their locks
+/// are `awaited`: a transaction waits for each of them, and the end comes later.
 pub fn resumed(alloc: Global, left: &Vec<Step>, awaited: &Vec<Tag>) -> Result<Vec<Step>, SqlFault>
     ensures { IfOk result (λ steps. steps.items ≡ resumed_for left.now.items awaited.now.items) }
 {
@@ -149,7 +149,7 @@ pub fn resumed(alloc: Global, left: &Vec<Step>, awaited: &Vec<Tag>) -> Result<Ve
     Ok(steps)
 }
 
-/// What is played for the begin of a transaction that has the lock `begins`, if any: it takes that.
+/// What is played for the begin of a transaction: it takes its lock `begins`, if it has one.
 fn begun(alloc: Global, begins: Option<Tag>) -> Result<Vec<Step>, SqlFault>
     ensures { IfOk result (λ steps. steps.items ≡ begun_by begins) }
 {
@@ -164,7 +164,7 @@ fn begun(alloc: Global, begins: Option<Tag>) -> Result<Vec<Step>, SqlFault>
     Ok(steps)
 }
 
-/// What is played for the end of a transaction, the step `end`, behind which the next one begins that has the lock `begins`, if any.
+/// What is played where the step `end` ends a transaction and the next one begins, which has the lock `begins`, if any.
 fn ended(alloc: Global, end: Step, begins: Option<Tag>) -> Result<Vec<Step>, SqlFault>
     ensures { IfOk result (λ steps. steps.items ≡ end ∷ begun_by begins) }
 {
@@ -175,7 +175,7 @@ fn ended(alloc: Global, end: Step, begins: Option<Tag>) -> Result<Vec<Step>, Sql
     Ok(steps)
 }
 
-/// What a session of `database` plays for a statement that begins a transaction of its own as `manner` says, takes `locks`, and `others` behind them.
+/// What a session of `database` plays for a statement that begins a transaction of its own as `manner` says, takes `locks`, and plays `others` after them.
 fn played_in(
     alloc: Global,
     database: u32,
@@ -193,7 +193,7 @@ fn played_in(
     Ok(steps)
 }
 
-/// What a session of `database` plays for a statement whose `locks` it owns itself, while its transaction waits for those whose locks are
+/// What a session of `database` plays for a statement whose locks `locks` it owns itself, while its transaction waits for the transactions whose locks are
 /// `awaited`: as for `CREATE INDEX CONCURRENTLY` (`DefineIndex` in indexcmds.c).
 fn played_owned(
     alloc: Global,
@@ -210,8 +210,9 @@ fn played_owned(
     Ok(steps)
 }
 
-/// What a session of `database` plays for a statement whose first two `locks` one transaction takes, and another one the others, and between
-/// them waits for the transactions whose locks are `awaited`: as for `DETACH PARTITION CONCURRENTLY` (`ATExecDetachPartition` in tablecmds.c).
+/// What a session of `database` plays for a statement of two transactions. The first one takes the first two of `locks`, and the second one the others.
+/// Between them the statement waits for the transactions whose locks are `awaited`: as for `DETACH PARTITION CONCURRENTLY` (`ATExecDetachPartition` in
+/// tablecmds.c).
 fn played_parted(
     alloc: Global,
     database: u32,

@@ -8,7 +8,7 @@ ghost use Rattle.sql_script.specs.Words.{before_semicolon, behind_word, first_wo
 /// What the first word of a line asks for.
 #[derive(Clone, Copy, Debug, PartialEq, Eq)]
 pub enum Verb {
-    /// The lines up to `end` make tables.
+    /// A schema begins: the lines up to `end` make tables.
     Schema,
     /// A session plays what some statements come to.
     Do,
@@ -61,7 +61,7 @@ pub fn cut_word(text: &str) -> (&str, &str)
     (&begun[..end], &begun[end..])
 }
 
-/// Where the first word of `text` ends, which begins with it.
+/// Where the first word of `text` ends, if `text` begins with that word.
 fn word_end(text: &str) -> usize
     ensures end { result ≡ word_end text.now }
     ensures boundary { IsCharBoundary text.now result }
@@ -91,7 +91,7 @@ pub fn before_semicolon(word: &str) -> &str
     }
 }
 
-/// What stands before and after the first semicolon of `word`.
+/// What comes before and what comes after the first semicolon of `word`, if there is one.
 fn cut_at_semicolon(word: &str) -> Option<(&str, &str)>
     ensures { MatchOption result (before_semicolon word.now ≡ word.now) (λ parts. parts.0.now ≡ before_semicolon word.now) }
 {

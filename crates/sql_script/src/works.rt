@@ -27,8 +27,8 @@ impl SqlScript {
         }
     }
 
-    /// Has the session named `name` work at the statement that was read, which has these `locks`, and of which `left` is played at its end. A
-    /// statement that begins or ends transactions or their levels does no work.
+    /// Has the session named `name` work at the statement that was read, which has the locks `locks`, and at whose end `left` is played. Refused where the
+    /// statement begins or ends transactions or their levels.
     pub(crate) fn begin_work(
         &mut self,
         name: &str,
@@ -50,7 +50,7 @@ impl SqlScript {
         Ok(())
     }
 
-    /// Whether the statement that was read waits at last for who has a snapshot.
+    /// Whether the statement that was read waits at last for the transactions that have a snapshot.
     fn awaits_snapshots(&self) -> bool {
         self.reader.acts.iter().any(|act| match row_of(act.form) {
             Some(row) => row.awaits == Awaits::Writers || row.awaits == Awaits::UsersAndSnapshots,
@@ -58,8 +58,8 @@ impl SqlScript {
         })
     }
 
-    /// What the session named `name`, one of `database`, plays now that the work of its statement is done: nothing where it works at none, and else
-    /// one turn. Where the statement waits for who has a snapshot, the session works on, and the end comes by another such line.
+    /// What the session named `name`, one of `database`, plays now that the work of its statement is done: nothing where it works at no statement, and else
+    /// one turn. Where the statement waits for transactions that have a snapshot, the session works on, and the end comes by another `done` line.
     pub fn done(&mut self, name: &str, database: u32) -> Result<Vec<Turn>, ScriptFault>
         ensures { IfOk result (λ turns.
             IsPlayedAtEnd database self.old.sessions (work_called self.old.sessions name.now) turns.items) }
@@ -95,8 +95,8 @@ impl SqlScript {
             .find(|session| session.name.as_str() == name)
     }
 
-    /// The locks of the transactions for whose ends a statement of `database` waits that has done its `work`: of those that have a snapshot, if it waits for
-    /// these.
+    /// The locks of the transactions for whose ends a statement of `database` waits that has done its `work`: those that have a snapshot, if `work` awaits
+    /// them.
     fn awaited_at_end(&self, database: u32, work: &Work) -> Result<Vec<Tag>, AllocError>
         ensures { IfOk result (λ tags. tags.items ≡ awaited_at_end database self.now.sessions work.now) }
     {
@@ -107,7 +107,7 @@ impl SqlScript {
         awaited_of(self.alloc, sessions, database, Awaits::Writers, &[])
     }
 
-    /// Has the work of the statement at which the session named `name` works be done, or, where not `is_done`, have it wait for no snapshot any more.
+    /// Where `is_done`, has the session named `name` work at nothing. Where not, the statement at which the session works waits for no snapshot any more.
     fn leave_work(&mut self, name: &str, is_done: bool) {
         let alloc = self.alloc;
         let Some(place) = self.place_of(name) else {
@@ -140,7 +140,7 @@ impl SqlScript {
         }
     }
 
-    /// Has the session named `name` have no transaction, and work at nothing: a line that says no SQL ended that.
+    /// Has the session named `name` have no transaction and work at nothing, since a line that says no SQL ended its transaction.
     pub(crate) fn drop_transaction(&mut self, name: &str) {
         let alloc = self.alloc;
         if let Some(place) = self.place_of(name) {

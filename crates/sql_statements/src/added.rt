@@ -51,7 +51,7 @@ impl StatementReader {
         Ok(())
     }
 
-    /// Whether the default that comes next calls a function that gives another value each time.
+    /// Whether the default of a column that comes next calls a function that gives another value each time.
     fn is_volatile(&self) -> bool {
         self.cursor.is_mark_ahead(1, "(")
             && !self.cursor.is_at("now")
@@ -62,8 +62,7 @@ impl StatementReader {
             && !self.cursor.is_at("varchar")
     }
 
-    /// Adds the form of `constraint`, which is of a column that is added to `table`, and to its children unless
-    /// `is_only`.
+    /// Has the statement reach what `constraint` reaches, a constraint of a column that is added to `table`, and to its children unless `is_only`.
     fn add_column_constraint(
         &mut self,
         table: usize,
@@ -91,7 +90,7 @@ impl StatementReader {
         Ok(())
     }
 
-    /// Adds the form of `constraint`, which is one of `table`, and of its children unless `is_only`.
+    /// Has the statement reach what `constraint` reaches, a constraint that is added to `table`, and to its children unless `is_only`.
     fn add_constraint(
         &mut self,
         table: usize,
@@ -131,7 +130,7 @@ impl StatementReader {
         Ok(())
     }
 
-    /// Adds the form of the foreign key `constraint`, by which `table` and each of its partitions refer to `referred`.
+    /// Has the statement reach what the foreign key `constraint` reaches, by which `table` and each of its partitions refer to `referred`.
     fn add_foreign_key(
         &mut self,
         table: usize,

@@ -26,7 +26,7 @@ impl StatementReader {
         Ok(())
     }
 
-    /// Goes on to the comma after a form.
+    /// Passes the rest of one form of an `ALTER TABLE`, up to the comma after the form or to the statement's end.
     fn skip_alteration(&mut self) {
         for _ in 0..self.cursor.words.len() {
             if self.cursor.is_at_end() || self.cursor.is_mark(",") {
@@ -101,7 +101,7 @@ impl StatementReader {
         Ok(())
     }
 
-    /// Adds the other tables of the foreign keys that `column` of `table` is in.
+    /// Has the statement reach the other tables of the foreign keys that `column` of `table` is in.
     fn alter_foreign_keys(&mut self, table: usize, column: &str) -> Result<(), SqlFault> {
         let mut others = Vec::new(self.alloc);
         for key in &self.catalog.foreign_keys {
@@ -182,7 +182,7 @@ impl StatementReader {
         Ok(())
     }
 
-    /// Reads one of the other forms of an `ALTER TABLE` of `table`, and answers which it is.
+    /// Reads one of the rarer forms of an `ALTER TABLE` of `table`, and answers which form it is, or none where it is not known.
     fn other_alteration(&mut self, table: usize) -> Result<Option<Form>, SqlFault> {
         if self.cursor.eat_all(&["cluster", "on"]) {
             if let Some(index) = self.relation()? {
@@ -212,7 +212,7 @@ impl StatementReader {
         Ok(self.plain_alteration())
     }
 
-    /// Makes `table` a logged one or not, by `is_logged`, and answers in which form.
+    /// Makes `table` a logged table or an unlogged one, by `is_logged`, and answers the form in which this is done.
     fn set_logged(&mut self, table: usize, is_logged: bool) -> Result<Form, SqlFault> {
         if self.belongings.is_unlogged(table) != is_logged {
             return Ok(Form::SetLoggedAlready);
@@ -239,7 +239,7 @@ impl StatementReader {
         Ok(())
     }
 
-    /// The form that comes next, of those that name no other relation.
+    /// Reads the form of `ALTER TABLE` that comes next, if it is one that names no other relation.
     fn plain_alteration(&mut self) -> Option<Form> {
         let cursor = &mut self.cursor;
         if cursor.eat_all(&["owner", "to"]) {
@@ -265,7 +265,7 @@ impl StatementReader {
         }
     }
 
-    /// The form that comes next, of those that switch triggers, rules and row level security on and off.
+    /// Reads the form of `ALTER TABLE` that comes next, if it is one that switches triggers, rules or row level security on or off.
     fn switch(&mut self) -> Option<Form> {
         let cursor = &mut self.cursor;
         if cursor.eat_all(&["no", "force"]) || cursor.eat("force") {

@@ -156,7 +156,7 @@ impl StatementReader {
         Ok(())
     }
 
-    /// Whether `table` has something of one of `kinds` that is called `name`.
+    /// Whether something that is of one of `kinds` and called `name` belongs to `table`.
     fn has_one(&self, kinds: &[AttachedKind], name: &str, table: usize) -> bool {
         kinds
             .iter()
@@ -237,7 +237,7 @@ impl StatementReader {
         Ok(())
     }
 
-    /// Reads the name of a publication and what it has of tables, or what it gets or loses.
+    /// Reads the name of a publication and the tables that the publication has, gets or loses.
     pub fn read_publication(&mut self) -> Result<(), SqlFault> {
         let name = self.name()?;
         if self.cursor.is_at("set") && self.cursor.is_ahead(1, "table") {
@@ -260,7 +260,7 @@ impl StatementReader {
         self.read_published(name.as_str(), loses)
     }
 
-    /// Reads the tables of the publication `name`, which it gets, or loses where `loses` is true.
+    /// Reads the tables that the publication `name` gets, or loses where `loses` is true.
     fn read_published(&mut self, name: &str, loses: bool) -> Result<(), SqlFault> {
         for _ in 0..self.cursor.words.len() {
             if self.cursor.is_at_end() {
@@ -285,8 +285,7 @@ impl StatementReader {
         Ok(())
     }
 
-    /// Gives the publication `name` the table `table`, with its children unless `is_only`, or takes them from it where
-    /// `loses` is true.
+    /// Gives the publication `name` the table `table`, with its children unless `is_only`, or takes these from the publication where `loses` is true.
     fn publish(
         &mut self,
         name: &str,

@@ -17,11 +17,11 @@ pub enum AttachedKind {
     Statistics,
     /// A publication that has the table.
     Publication,
-    /// A column's default that has its value from the sequence of this name.
+    /// The default of a column of the table, whose value comes from the sequence that the `Attached` has as its `name`.
     Default,
 }
 
-/// What belongs to a table.
+/// Something that belongs to a table, as a trigger or a policy.
 #[derive(Debug, Drop)]
 pub struct Attached {
     pub kind: AttachedKind,
@@ -36,12 +36,12 @@ pub struct IndexOf {
     /// The numbers of the index and of its table.
     pub index: usize,
     pub table: usize,
-    /// The columns, and all names that its definition has.
+    /// The columns of the index, and all names in the definition of the index.
     pub columns: Vec<String>,
     pub names: Vec<String>,
-    /// What the server puts after the name that it makes itself.
+    /// The end of the name that the server makes for the index where the statement gives none, as `pkey`.
     pub suffix: &'static str,
-    /// The index of the partitioned table that it is a part of.
+    /// The index of a partitioned table that this index is a part of, if it is one.
     pub whole: Option<usize>,
 }
 
@@ -52,7 +52,7 @@ pub struct ViewNames {
     pub names: Vec<String>,
 }
 
-/// What statements said of relations beside the catalog. What is said of a relation that was dropped stays, and is asked for no more.
+/// What statements said of relations, beside what the catalog has. What was said of a relation that was dropped stays, and is not asked for any more.
 #[derive(Drop)]
 pub struct Belongings {
     pub attached: Vec<Attached>,
@@ -64,7 +64,7 @@ pub struct Belongings {
 }
 
 impl Belongings {
-    /// Belongings of no relation. What is said of one takes memory by `alloc`.
+    /// The belongings where no statement was read yet. What is added takes memory by `alloc`.
     pub fn new(alloc: Global) -> Self {
         Belongings {
             attached: Vec::new(alloc),
@@ -133,7 +133,7 @@ impl Belongings {
         self.unlogged.iter().any(|other| *other == table)
     }
 
-    /// Makes `table` a logged one or not, by `is_logged`.
+    /// Makes `table` a logged table or an unlogged one, by `is_logged`.
     pub fn set_logged(&mut self, table: usize, is_logged: bool) -> Result<(), AllocError> {
         self.unlogged.retain(|other| *other != table);
         if !is_logged {
@@ -142,7 +142,7 @@ impl Belongings {
         Ok(())
     }
 
-    /// Whether `view` names `column`, or all columns.
+    /// Whether the query of `view` names `column`, or all columns by a star.
     pub fn view_names(&self, view: usize, column: &str) -> bool {
         self.views.iter().any(|names| {
             names.view == view
@@ -153,7 +153,7 @@ impl Belongings {
         })
     }
 
-    /// Gives the column `old` of `table` the name `new`.
+    /// Gives the column `old` of `table` the name `new` in what is kept of the table's indexes.
     pub fn rename_column(
         &mut self,
         alloc: Global,

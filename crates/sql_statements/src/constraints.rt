@@ -21,9 +21,9 @@ pub enum ConstraintKind {
 #[derive(Debug, Drop)]
 pub struct Constraint {
     pub kind: ConstraintKind,
-    /// The name of the constraint, where it was said.
+    /// The name of the constraint, where the statement says one.
     pub name: String,
-    /// What the server puts after the name that it makes itself.
+    /// The end of the name that the server makes for the constraint where the statement gives none, as `fkey`.
     pub suffix: &'static str,
     pub columns: Vec<String>,
     /// The table that a foreign key refers to, or the index that a key uses.
@@ -48,7 +48,7 @@ static BEGINNINGS: [&str; 7] = [
 ];
 
 impl StatementReader {
-    /// Reads the constraint that comes next, of the column `column` or else of a table. None where no constraint comes.
+    /// Reads the constraint that comes next: one of the column `column`, or one of a table where `column` is empty. None where no constraint comes.
     pub fn constraint(&mut self, column: &str) -> Result<Option<Constraint>, SqlFault> {
         let alloc = self.alloc;
         let mut name = String::new(alloc);
@@ -86,7 +86,7 @@ impl StatementReader {
         Ok(Some(constraint))
     }
 
-    /// The kind of the constraint that comes next, and the end of the name that the server makes for it.
+    /// Reads the kind of the constraint that comes next, and answers it with the end of the name that the server makes for such a constraint.
     fn constraint_kind(&mut self) -> Option<(ConstraintKind, &'static str)> {
         let cursor = &mut self.cursor;
         if cursor.eat_all(&["primary", "key"]) {
@@ -147,7 +147,7 @@ impl StatementReader {
         }
     }
 
-    /// Goes on after what a foreign key does with its rows, and answers whether that changes them.
+    /// Passes what a foreign key does with its rows, as `CASCADE`, and answers whether that changes the rows.
     fn eat_change(&mut self) -> bool {
         self.cursor.eat("cascade")
             || self.cursor.eat_all(&["set", "null"])
@@ -179,7 +179,7 @@ impl StatementReader {
         Ok(number)
     }
 
-    /// Adds the partitions of `referred`, to which a foreign key refers, and the indexes of their keys.
+    /// Has the statement reach the partitions of `referred`, to which a foreign key refers, and the indexes of their keys.
     pub fn refer_to_partitions(&mut self, referred: usize) -> Result<(), SqlFault> {
         if !self.belongings.is_partitioned(referred) {
             return Ok(());

@@ -7,7 +7,7 @@ use crate::reader::{Change, StatementReader};
 use sql_locks::{Defect, Form, LinkKind, RelationKind, SqlFault};
 use std::alloc::AllocError;
 
-/// What is made, altered and dropped without a lock on a relation.
+/// The kinds of objects that are made, altered and dropped without a lock on a relation.
 pub static LOCKLESS_OBJECTS: [&str; 23] = [
     "function",
     "procedure",
@@ -106,7 +106,7 @@ impl StatementReader {
         Ok(())
     }
 
-    /// All names that are left of the statement, and stars.
+    /// The names and stars among the words of the statement that are left.
     fn names_left(&mut self) -> Result<Vec<String>, SqlFault> {
         let begin = self.cursor.place;
         let mut names = Vec::new(self.alloc);
@@ -124,7 +124,7 @@ impl StatementReader {
         Ok(names)
     }
 
-    /// The one part of a name that comes next.
+    /// The next word, as one part of a name.
     fn part(&mut self) -> Result<String, SqlFault> {
         let begin = self.cursor.place;
         self.cursor.advance();
@@ -155,8 +155,8 @@ impl StatementReader {
         self.know_view(view, names)
     }
 
-    /// Links `view`, by a link of `kind`, with the relations of all forms from the number `first` on. Answers whether
-    /// none of these is the view or reads it.
+    /// Links `view`, by links of `kind`, to the targets of the forms that the statement has from the place `first` on, and answers whether none of these
+    /// targets is the view or reads it.
     fn link_readings(
         &mut self,
         kind: LinkKind,
@@ -259,7 +259,7 @@ impl StatementReader {
         Ok(())
     }
 
-    /// The columns of an index, by which the server names it.
+    /// Reads the columns of an index, by which the server names the index.
     fn index_columns(&mut self) -> Result<Vec<String>, SqlFault> {
         if self.cursor.eat("using") {
             self.cursor.advance();

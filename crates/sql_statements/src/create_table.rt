@@ -35,7 +35,7 @@ impl StatementReader {
         self.read_table_options(table)
     }
 
-    /// Reads the parent of the partition `table`, and for which rows it is.
+    /// Reads the parent of the partition `table`, and for which rows the partition is.
     fn read_partition_of(&mut self, table: usize) -> Result<(), SqlFault> {
         let Some(parent) = self.relation()? else {
             return Ok(());
@@ -82,7 +82,7 @@ impl StatementReader {
         self.read_column(table, column.as_str())
     }
 
-    /// Reads the table that the new one, `table`, is like.
+    /// Reads the table after `LIKE`, which the new table `table` is like.
     fn read_like(&mut self, table: usize) -> Result<(), SqlFault> {
         let Some(other) = self.relation()? else {
             self.cursor.skip_element();
@@ -106,7 +106,7 @@ impl StatementReader {
         Ok(())
     }
 
-    /// Whether the type that comes next has a sequence, or an identity comes after it.
+    /// Whether the type of a column that comes next has a sequence, as `serial`, or an identity comes after the type.
     pub fn is_serial(&mut self) -> bool {
         if self
             .cursor

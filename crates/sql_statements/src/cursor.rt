@@ -8,7 +8,7 @@ pub struct SqlWord {
     pub kind: WordKind,
     /// The word as it is written.
     pub text: String,
-    /// The line on which it begins, from 1.
+    /// The line on which the word begins, from 1.
     pub line: usize,
     /// How many bytes of the text come before the word.
     pub from: usize,
@@ -44,7 +44,7 @@ impl SqlWord {
     }
 }
 
-/// Where a name stands among the words: from the first word on, to before the last one.
+/// The place of a name among the words of a statement: from the word at `begin` on, to before the word at `end`.
 #[derive(Clone, Copy, Debug, PartialEq, Eq)]
 pub struct NamePlace {
     pub begin: usize,
@@ -69,12 +69,12 @@ impl Cursor {
         self.place >= self.words.len()
     }
 
-    /// Goes on after the next word.
+    /// Passes the next word.
     pub fn advance(&mut self) {
         self.place = self.place.saturating_add(1);
     }
 
-    /// Whether the word that comes `ahead` words after the next one is this key word.
+    /// Whether the word that comes `ahead` words after the next one is `key_word`.
     pub fn is_ahead(&self, ahead: usize, key_word: &str) -> bool {
         match self.ahead(ahead) {
             Some(word) => word.is_key_word(key_word),
@@ -123,7 +123,7 @@ impl Cursor {
         found
     }
 
-    /// Whether the word that comes `ahead` words after the next one is this mark.
+    /// Whether the word that comes `ahead` words after the next one is `mark`.
     pub fn is_mark_ahead(&self, ahead: usize, mark: &str) -> bool {
         match self.ahead(ahead) {
             Some(word) => word.is_mark(mark),
@@ -145,14 +145,14 @@ impl Cursor {
         found
     }
 
-    /// Goes on after a star, where one comes next.
+    /// Passes the next word where it is a star.
     pub fn eat_star(&mut self) {
         if self.is_star() {
             self.advance();
         }
     }
 
-    /// Whether the next word is a semicolon, as one stands between the commands of a rule.
+    /// Whether the next word is a semicolon, as between two commands of a rule.
     pub fn is_semicolon(&self) -> bool {
         match self.ahead(0) {
             Some(word) => word.kind == WordKind::Semicolon,
@@ -168,7 +168,7 @@ impl Cursor {
         }
     }
 
-    /// Goes on to where the element of a list ends that stands here.
+    /// Passes what is left of the list element at the cursor.
     pub fn skip_element(&mut self) {
         for _ in 0..self.words.len() {
             if self.is_at_element_end() {
@@ -178,13 +178,13 @@ impl Cursor {
         }
     }
 
-    /// Whether what stands here ends before the next word: by a comma, a parenthesis, or the statement's end.
+    /// Whether the list element at the cursor ends before the next word: by a comma, a parenthesis, or the statement's end.
     pub fn is_at_element_end(&self) -> bool {
         self.is_at_end() || self.is_mark(",") || self.is_mark(")")
     }
 
-    /// Goes on after the next `key_word` outside all parentheses, and answers whether there is one. Where there is none,
-    /// it goes on to the statement's end.
+    /// Goes on after the next `key_word` outside all parentheses, and answers whether there is one. Where there is none, the cursor goes on to the
+    /// statement's end.
     pub fn skip_to(&mut self, key_word: &str) -> bool {
         for _ in 0..self.words.len() {
             if self.eat(key_word) {
@@ -198,7 +198,7 @@ impl Cursor {
         self.eat(key_word)
     }
 
-    /// Goes on after the next word, or after all that is in parentheses where that word opens some.
+    /// Passes the next word, or all that is in parentheses where the next word opens some.
     pub fn skip(&mut self) {
         let mut depth = 0usize;
         for _ in 0..self.words.len() {
@@ -239,7 +239,7 @@ impl Cursor {
         false
     }
 
-    /// Whether these key words come one after another, from the word on that comes `ahead` words after the next one.
+    /// Whether `key_words` come one after another, from the word on that comes `ahead` words after the next one.
     fn are_ahead(&self, ahead: usize, key_words: &[&str]) -> bool {
         for (place, key_word) in key_words.iter().enumerate() {
             if !self.is_ahead(ahead.saturating_add(place), key_word) {
@@ -249,7 +249,7 @@ impl Cursor {
         true
     }
 
-    /// The place of the name that comes next, after which it goes on: names joined by points. None where no name comes.
+    /// Passes the name that comes next, which is names joined by points, and answers its place. None where no name comes.
     pub fn name(&mut self) -> Option<NamePlace> {
         let begin = self.place;
         if !self.is_name_ahead(0) {

@@ -98,8 +98,7 @@ impl StatementReader {
         Ok(())
     }
 
-    /// Adds that the relation `number` is dropped in `form`, and what goes with it, by `CASCADE` too where `cascades`
-    /// is true.
+    /// Has the statement drop the relation `number` in `form`, and what goes with that relation, by `CASCADE` too where `cascades` is true.
     fn drop_one(&mut self, form: Form, number: usize, cascades: bool) -> Result<(), SqlFault> {
         match self.kind(number) {
             RelationKind::Index => {
@@ -114,7 +113,7 @@ impl StatementReader {
         self.drop_dependents(number, cascades)
     }
 
-    /// Adds that `index` is dropped in `form`.
+    /// Has the statement drop `index` in `form`.
     fn drop_index(&mut self, form: Form, index: usize) -> Result<(), SqlFault> {
         match self.table_of_index(index) {
             Some(table) if self.belongings.is_partitioned(table) => {
@@ -126,7 +125,7 @@ impl StatementReader {
         Ok(())
     }
 
-    /// Adds the tables whose columns have their defaults from `sequence`.
+    /// Has the statement reach the tables whose columns have their defaults from `sequence`.
     fn drop_defaults(&mut self, sequence: usize) -> Result<(), SqlFault> {
         let name = self.name_of_relation(sequence)?;
         let tables = self
@@ -138,7 +137,7 @@ impl StatementReader {
         Ok(())
     }
 
-    /// Adds what goes with the relation `number`, by `CASCADE` too where `cascades` is true.
+    /// Has the statement drop what goes with the relation `number`, by `CASCADE` too where `cascades` is true.
     pub fn drop_dependents(&mut self, number: usize, cascades: bool) -> Result<(), SqlFault> {
         let mut gone = Vec::new(self.alloc);
         gone.push(number)?;
@@ -162,7 +161,7 @@ impl StatementReader {
         Ok(())
     }
 
-    /// Adds the indexes of the partitioned table `table`, which go with it, and drops all indexes of the table.
+    /// Has the statement drop all indexes of `table`, and reach them where the table is partitioned.
     fn drop_indexes_of(&mut self, table: usize) -> Result<(), SqlFault> {
         let mut indexes = Vec::new(self.alloc);
         for of in &self.belongings.indexes {
@@ -179,7 +178,7 @@ impl StatementReader {
         Ok(())
     }
 
-    /// Adds the views of `table` that name `column`, and what goes with them.
+    /// Has the statement drop the views of `table` that name `column`, and what goes with these views.
     pub fn drop_views_with(&mut self, table: usize, column: &str) -> Result<(), SqlFault> {
         let mut views = Vec::new(self.alloc);
         for link in &self.catalog.links {

@@ -87,7 +87,7 @@ fn sequence_name(reader: &StatementReader) -> Result<Option<String>, AllocError>
     Ok(Some(part_of(reader.alloc, kind, inner)?))
 }
 
-/// Reads in `reader` a call that takes an advisory lock or gives one back, with the places of its keys.
+/// Reads in `reader` a call of a function that takes an advisory lock or gives one back, with the places of the lock's keys.
 fn read_advisory(reader: &mut StatementReader) -> Result<(), AllocError> {
     let function = reader.cursor.place;
     let second = if reader.cursor.is_mark_ahead(3, ",") {
@@ -104,8 +104,8 @@ fn read_advisory(reader: &mut StatementReader) -> Result<(), AllocError> {
 }
 
 impl StatementReader {
-    /// Keeps that a column of `table` has its default from a sequence, where a `nextval` comes next. The statement itself locks no
-    /// sequence: the server looks its name up without a lock, and locks it once a row takes a number.
+    /// Keeps that a column of `table` has its default from a sequence, where a `nextval` comes next. The statement itself locks no sequence: the server looks
+    /// the sequence's name up without a lock, and locks the sequence once a row takes a number.
     pub fn note_default(&mut self, table: usize) -> Result<(), SqlFault> {
         if !self.cursor.is_at("nextval") {
             return Ok(());
@@ -120,8 +120,8 @@ impl StatementReader {
         Ok(())
     }
 
-    /// Adds the tables of which `table` is a partition: where a row comes straight to it, the server reads what they
-    /// are parted by.
+    /// Has the statement reach the tables of which `table` is a partition: where a row comes straight to `table`, the server reads what these are partitioned
+    /// by.
     pub fn add_parents(&mut self, table: usize) -> Result<(), SqlFault> {
         let mut next = table;
         for _ in 0..self.catalog.relations.len() {

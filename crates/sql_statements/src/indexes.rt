@@ -12,14 +12,14 @@ pub struct IndexWords {
     pub columns: Vec<String>,
     /// All names that the definition of the index has.
     pub names: Vec<String>,
-    /// What the server puts after the name that it makes itself.
+    /// The end of the name that the server makes for the index where the statement gives none, as `pkey`.
     pub suffix: &'static str,
-    /// The index of the partitioned table that it is to be a part of.
+    /// The index of a partitioned table that the index is to be a part of, if it is to be one.
     pub whole: Option<usize>,
 }
 
 impl StatementReader {
-    /// A copy of what an index is made of, as a part of the index `whole`.
+    /// A copy of what the index `of` is made of, as a part of the index `whole`.
     fn words_of(&self, of: &IndexOf, whole: Option<usize>) -> Result<IndexWords, AllocError> {
         Ok(IndexWords {
             columns: copy_names(self.alloc, &of.columns)?,
@@ -43,7 +43,7 @@ impl StatementReader {
         Ok(all)
     }
 
-    /// Keeps that `index` is one of `table`, and is made of `words`.
+    /// Keeps that `index` is an index of `table`, and is made of `words`.
     pub fn know_index(
         &mut self,
         index: usize,
@@ -63,8 +63,8 @@ impl StatementReader {
         }
     }
 
-    /// Links `index` with `table`, unless that is partitioned: such an index has no rows. The end of its name is
-    /// `suffix`.
+    /// Links `table` to `index`, unless the table is partitioned: an index of such a table has no rows. The index's name ends in `suffix`, which is `pkey`
+    /// for a primary key.
     pub fn link_index(
         &mut self,
         index: usize,
@@ -92,7 +92,7 @@ impl StatementReader {
         Ok(index)
     }
 
-    /// The name that the server makes for an index of `columns` of `table` with `suffix`, one that nothing has.
+    /// The name that the server makes for an index of `columns` of `table` with `suffix`, a name that no relation has.
     pub fn name_of_index(
         &self,
         table: usize,
@@ -112,8 +112,7 @@ impl StatementReader {
         self.free_name(table.as_str(), joined.as_str(), suffix)
     }
 
-    /// The name that the server makes of `table`, `columns` and `suffix`, with a number after it where another relation
-    /// has it.
+    /// The name that the server makes of `table`, `columns` and `suffix`, with a number at its end where another relation has the name without one.
     pub fn free_name(
         &self,
         table: &str,
@@ -133,7 +132,7 @@ impl StatementReader {
         Ok(name)
     }
 
-    /// Gives each partition of `table`, and each of theirs, an index like `whole`, in `form`.
+    /// Gives each partition of `table`, and each partition of these, an index like `whole`, in `form`.
     pub fn make_parts(&mut self, form: Form, table: usize, whole: usize) -> Result<(), SqlFault> {
         let mut parts = Vec::new(self.alloc);
         for partition in &self.partitions_of(table)? {
@@ -149,7 +148,7 @@ impl StatementReader {
         Ok(())
     }
 
-    /// A copy of what `index` is made of, for one that is to be a part of it.
+    /// A copy of what `index` is made of, for an index that is to be a part of `index`.
     fn words_of_index(&self, index: usize) -> Result<Option<IndexWords>, AllocError> {
         for of in &self.belongings.indexes {
             if of.index == index {
@@ -176,7 +175,7 @@ impl StatementReader {
         Ok(())
     }
 
-    /// Has an index of a partition that is like these words be a part of the index `whole`, and answers whether there is one.
+    /// Makes an index of `partition` that is like `words` a part of the index `whole`, and answers whether there is such an index.
     fn take_index(&mut self, partition: usize, words: &IndexWords, whole: usize) -> bool {
         for of in self.belongings.indexes.iter_mut() {
             if of.table == partition
@@ -232,7 +231,7 @@ impl StatementReader {
         Ok(Vec::new(self.alloc))
     }
 
-    /// The index of the primary key of `table`.
+    /// The number of the index of the primary key of `table`.
     pub fn key_of(&self, table: usize) -> Option<usize> {
         for of in &self.belongings.indexes {
             if of.table == table && of.suffix == "pkey" && self.is_live(of.index) {
@@ -250,7 +249,7 @@ impl StatementReader {
         }
     }
 
-    /// Adds the parts of `whole`, an index of a partitioned table, which go with it.
+    /// Has the statement drop the parts of `whole`, an index of a partitioned table that is dropped.
     pub fn drop_parts(&mut self, whole: usize) -> Result<(), SqlFault> {
         let mut gone = self.parts_of(whole)?;
         for place in 0..self.belongings.indexes.len() {
@@ -270,7 +269,7 @@ impl StatementReader {
         Ok(())
     }
 
-    /// Adds the indexes of `tables` that have `column`, which goes.
+    /// Has the statement drop the indexes of `tables` that have `column`, which is dropped.
     pub fn drop_indexes_with(&mut self, tables: &Vec<usize>, column: &str) -> Result<(), SqlFault> {
         let mut gone = Vec::new(self.alloc);
         for of in &self.belongings.indexes {

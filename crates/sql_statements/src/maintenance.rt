@@ -4,7 +4,7 @@ use crate::reader::StatementReader;
 use sql_locks::{Defect, Form, RelationKind, SqlFault};
 
 impl StatementReader {
-    /// Reads a statement of maintenance, or one that locks or empties tables, and answers whether this is one.
+    /// Reads a statement of maintenance, or one that locks or empties tables, and answers whether such a statement comes next.
     pub fn read_maintenance(&mut self) -> Result<bool, SqlFault> {
         if self.cursor.eat("truncate") {
             self.read_truncate()?;
@@ -62,7 +62,7 @@ impl StatementReader {
         Ok(())
     }
 
-    /// Goes on after the star of a table and a comma, and answers whether a comma came.
+    /// Passes the star after a table's name and a comma, and answers whether a comma came.
     fn goes_on(&mut self) -> bool {
         self.cursor.eat_star();
         self.cursor.eat_mark(",")
@@ -84,7 +84,7 @@ impl StatementReader {
         Ok(())
     }
 
-    /// The form of the mode after `IN`.
+    /// The form of a `LOCK TABLE` in the mode that comes after `IN`, or in `ACCESS EXCLUSIVE` mode where no `IN` comes.
     fn lock_form(&mut self) -> Result<Form, SqlFault> {
         let begin = self.cursor.place;
         if !self.cursor.skip_to("in") {
@@ -101,7 +101,7 @@ impl StatementReader {
         }
     }
 
-    /// The form of the mode that comes next.
+    /// Reads the lock mode that comes next, and answers the form of a `LOCK TABLE` in that mode, or none where no lock mode comes.
     fn lock_mode(&mut self) -> Option<Form> {
         let cursor = &mut self.cursor;
         if cursor.eat_all(&["access", "share"]) {
@@ -159,7 +159,7 @@ impl StatementReader {
         Err(self.fault_at(0, Defect::UnknownStatement))
     }
 
-    /// Goes on after the options of `EXPLAIN`, and answers whether the statement is run.
+    /// Passes the options of `EXPLAIN`, and answers whether the explained statement is run.
     fn eat_explain_options(&mut self) -> bool {
         let mut runs = false;
         if self.cursor.is_mark("(") && !self.cursor.is_ahead(1, "select") {
@@ -213,7 +213,7 @@ impl StatementReader {
         })
     }
 
-    /// Reads the tables that `form` is about, or takes each table where none is named.
+    /// Reads the tables that `form` is about, or takes every table where none is named.
     fn read_tables(&mut self, form: Form) -> Result<(), SqlFault> {
         if self.cursor.is_mark("(") {
             self.cursor.skip();
@@ -234,7 +234,7 @@ impl StatementReader {
         Ok(())
     }
 
-    /// Has `form` be about `table`. An `ANALYZE` reads its children, and analyzes its partitions.
+    /// Has `form` be about `table`. An `ANALYZE` reads the table's children, and analyzes its partitions.
     fn maintain(&mut self, form: Form, table: usize) -> Result<(), SqlFault> {
         self.act(form, table)?;
         if form != Form::Analyze {
@@ -248,7 +248,7 @@ impl StatementReader {
         Ok(())
     }
 
-    /// Has `form` be about each table and materialized view.
+    /// Has `form` be about every table and materialized view.
     fn act_on_all(&mut self, form: Form) -> Result<(), SqlFault> {
         for number in 0..self.catalog.relations.len() {
             let kind = self.kind(number);

@@ -27,7 +27,7 @@ pub fn name_of(alloc: Global, parts: &[SqlWord]) -> Result<String, AllocError> {
     Ok(name)
 }
 
-/// The part `text` of a name, a word of `kind`, in the form in which it is kept.
+/// The part of a name that is written as `text`, a word of `kind`, in the form in which every name is kept.
 pub fn part_of(alloc: Global, kind: WordKind, text: &str) -> Result<String, AllocError> {
     if kind == WordKind::Name {
         let mut part = String::from_str(alloc, text)?;

@@ -4,7 +4,7 @@ use crate::reader::{Change, StatementReader};
 use sql_locks::{Form, LinkKind, SqlFault};
 
 impl StatementReader {
-    /// Reads a form that attaches a partition to `table` or detaches one, and answers whether it is one.
+    /// Reads a form of `ALTER TABLE` that attaches a partition to `table` or detaches one, and answers whether such a form comes next.
     pub fn read_partitions(&mut self, table: usize) -> Result<bool, SqlFault> {
         if self.cursor.eat_all(&["attach", "partition"]) {
             if let Some(partition) = self.relation()? {
@@ -36,7 +36,7 @@ impl StatementReader {
         Ok(false)
     }
 
-    /// Has the indexes of `partition` be parts of its parent's no more.
+    /// Makes the indexes of `partition` no longer parts of the indexes of its parent.
     fn detach_indexes(&mut self, partition: usize) -> Result<(), SqlFault> {
         let mut detached = Vec::new(self.alloc);
         for of in self.belongings.indexes.iter_mut() {
@@ -53,7 +53,7 @@ impl StatementReader {
         Ok(())
     }
 
-    /// Reads a form that gives `table` a parent or takes one away, and answers whether it is one.
+    /// Reads a form of `ALTER TABLE` that gives `table` a parent or takes one away, and answers whether such a form comes next.
     pub fn read_parent(&mut self, table: usize) -> Result<bool, SqlFault> {
         if self.cursor.eat("inherit") {
             if let Some(parent) = self.relation()? {

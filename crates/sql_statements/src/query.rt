@@ -8,7 +8,7 @@ use crate::reader::StatementReader;
 use sql_locks::{Defect, Form, LinkKind, RelationKind, SqlFault};
 use std::alloc::AllocError;
 
-/// A relation that is read, with the place of the name by which the query knows it.
+/// A relation that a query reads, with the place of the name by which the query knows the relation.
 #[derive(Clone, Copy, Debug)]
 struct Reading {
     form: Form,
@@ -17,29 +17,29 @@ struct Reading {
     is_only: bool,
 }
 
-/// How far a query is read.
+/// A query that is being read, and how far it was read.
 #[derive(Drop)]
 struct Query {
-    /// The form of what is read.
+    /// The form in which the query reaches the relations that it reads.
     reads: Form,
     outer: Vec<Level>,
     level: Level,
     readings: Vec<Reading>,
-    /// The places of the names of common table expressions.
+    /// The places, among the words of the statement, of the names of common table expressions.
     expressions: Vec<usize>,
-    /// Whether the next relation comes after `ONLY`.
+    /// Whether the relation that comes next is named after `ONLY`.
     is_only: bool,
 }
 
 impl StatementReader {
-    /// Reads the query that comes next, up to its end or the parenthesis that ends it, and adds the form of each relation:
-    /// `reads` of those that it reads.
+    /// Reads the query that comes next, up to its end or the parenthesis that ends it, and has the statement reach its relations: those that the query reads
+    /// in the form `reads`.
     pub fn read_query(&mut self, reads: Form) -> Result<(), SqlFault> {
         self.read_query_with(reads, None)
     }
 
-    /// Reads the query of a definition that the server plans no more than its views: it has the modes of what is read and written, and none
-    /// on indexes and children.
+    /// Reads the query of a definition, which the server does not plan, nor does it plan the views that the query names: what is read and written is
+    /// locked, but no indexes and no children.
     pub fn read_definition(&mut self) -> Result<(), SqlFault> {
         let first = self.acts.len();
         self.read_query(Form::ReadDefinition)?;
@@ -56,7 +56,7 @@ impl StatementReader {
         Ok(())
     }
 
-    /// What `view` reads, and all that the views among these read.
+    /// The relations that `view` reads, and all that the views among these read.
     fn read_by(&self, view: usize) -> Result<Vec<usize>, AllocError> {
         self.followed(LinkKind::Reads, view)
     }
@@ -69,7 +69,8 @@ impl StatementReader {
         self.read_query(Form::Select)
     }
 
-    /// Reads the query that comes next, in which the name at the place `own` is no relation but the query itself.
+    /// Reads the query that comes next, which reads relations in the form `reads`. The name at the place `own`, if one is given, is no relation but the query
+    /// itself.
     pub fn read_query_with(&mut self, reads: Form, own: Option<usize>) -> Result<(), SqlFault> {
         let mut query = Query {
             reads,
@@ -96,8 +97,8 @@ impl StatementReader {
         Ok(())
     }
 
-    /// Adds the forms of the `readings` of a query before those that were added behind the first `before` ones: the server locks what a query
-    /// names before it runs it, and calls functions, checks foreign keys and makes tables as it runs.
+    /// Puts the forms of `readings`, the relations that a query names, before the forms that were added after the first `before` ones: the server locks what
+    /// a query names before it runs the query, and calls functions, checks foreign keys and makes tables as it runs.
     fn add_readings(&mut self, readings: &Vec<Reading>, before: usize) -> Result<(), AllocError> {
         let mut behind = Vec::new(self.alloc);
         for place in before..self.acts.len() {
@@ -182,7 +183,7 @@ impl Query {
         Ok(())
     }
 
-    /// Reads in `reader` a relation that is read, or a function or an expression in its place.
+    /// Reads in `reader` a relation that the query reads, or passes the name of a function or a common table expression in place of one.
     fn read_reading(&mut self, reader: &mut StatementReader) -> Result<(), SqlFault> {
         if reader.cursor.eat("only") {
             self.is_only = true;
@@ -208,7 +209,7 @@ impl Query {
         self.read_relation(reader, self.reads)
     }
 
-    /// Whether a common table expression of `reader` has the name at `place`.
+    /// Whether a common table expression of the query has the name that is at `place` among the words of `reader`.
     fn is_expression(&self, reader: &StatementReader, place: usize) -> bool {
         for expression in &self.expressions {
             if reader.cursor.is_same_name(*expression, place) {
@@ -218,7 +219,7 @@ impl Query {
         false
     }
 
-    /// Reads in `reader` a relation, which the query reaches in `form`, and its other name.
+    /// Reads in `reader` a relation, which the query reaches in `form`, and its alias.
     fn read_relation(&mut self, reader: &mut StatementReader, form: Form) -> Result<(), SqlFault> {
         let number = reader.relation()?;
         let own = reader.cursor.place.saturating_sub(1);
@@ -236,7 +237,7 @@ impl Query {
         Ok(())
     }
 
-    /// Reads in `reader` what begins with a key word, or passes a name.
+    /// Reads in `reader` the part of a query that begins with a key word, or passes a name.
     fn read_key_word(&mut self, reader: &mut StatementReader) -> Result<(), SqlFault> {
         if self.level.is_fresh && reader.cursor.eat("with") {
             self.level.is_in_with = true;
@@ -289,7 +290,7 @@ impl Query {
         Ok(())
     }
 
-    /// Passes in `reader` the key word that ends a list behind `FROM`. Behind one that joins two queries `TABLE` may name a relation.
+    /// Passes in `reader` the key word that ends a list after `FROM`. After a key word that joins two queries `TABLE` may name a relation.
     fn pass_end_of_from(&mut self, reader: &mut StatementReader) {
         let joins = reader.cursor.is_at_one(&JOINS_OF_QUERIES);
         reader.cursor.advance();
@@ -326,8 +327,7 @@ impl Query {
         }
     }
 
-    /// Has `reader` read the relations of the level for their rows to be locked: that of the name at the place `name`,
-    /// or all.
+    /// Has the query lock rows of the relations of its level: of the one whose name `reader` has at the place `name`, or of all where `name` is none.
     fn lock_rows(&mut self, reader: &StatementReader, name: Option<usize>) {
         let before = self.level.before;
         for place in before..self.readings.len() {
@@ -343,7 +343,7 @@ impl Query {
     }
 }
 
-/// Reads in `reader` the other name of a relation, if it has one, and answers its place.
+/// Reads in `reader` the alias of a relation, if the relation has one, and answers the place of the alias.
 fn read_alias(reader: &mut StatementReader) -> Option<usize> {
     let is_said = reader.cursor.eat("as");
     if !reader.cursor.is_name_ahead(0) {

@@ -1,28 +1,28 @@
 //! What stands in the parentheses of a query, and the key words that end its lists.
 
-/// What stands in one pair of parentheses, or outside all.
+/// What is known of one level of a query: of what is in one pair of parentheses, or outside all.
 #[derive(Clone, Copy, Debug)]
 pub struct Level {
-    /// Whether no word was read that says what it is.
+    /// Whether no word was read that says what the level is.
     pub is_fresh: bool,
-    /// Whether a query stands there, so that `FROM` names relations.
+    /// Whether the level is a query, so that `FROM` names relations.
     pub is_query: bool,
-    /// Whether the words are those of a list behind `FROM`.
+    /// Whether the words that come next are those of a list after `FROM`.
     pub is_in_from: bool,
     /// Whether a relation comes next.
     pub expects_relation: bool,
     /// Whether the name of a common table expression comes next.
     pub expects_expression: bool,
-    /// Whether its common table expressions are read.
+    /// Whether the common table expressions of the level are being read.
     pub is_in_with: bool,
-    /// Whether `USING` names relations, as in a `DELETE` and a `MERGE`.
+    /// Whether `USING` names relations on the level, as in a `DELETE` and a `MERGE`.
     pub uses: bool,
-    /// How many relations were read before it.
+    /// How many relations were read before the level.
     pub before: usize,
 }
 
 impl Level {
-    /// A level where nothing was read, after `before` relations.
+    /// A level of which nothing was read, after `before` relations.
     pub fn new(before: usize) -> Self {
         Level {
             is_fresh: true,
@@ -36,7 +36,7 @@ impl Level {
         }
     }
 
-    /// The level after an opening parenthesis and `before` relations: a list of relations, where one was to come.
+    /// The level within a parenthesis that opens on this level, after `before` relations: a list of relations, where a relation was to come next.
     pub fn within(self, before: usize) -> Self {
         let mut level = Level::new(before);
         level.is_in_from = self.expects_relation;
@@ -45,10 +45,10 @@ impl Level {
     }
 }
 
-/// The key words behind which another query comes.
+/// The key words after which another query comes.
 pub static JOINS_OF_QUERIES: [&str; 3] = ["union", "intersect", "except"];
 
-/// The key words that end a list behind `FROM`.
+/// The key words that end a list after `FROM`.
 pub static ENDS_OF_FROM: [&str; 14] = [
     "where",
     "group",
@@ -66,7 +66,7 @@ pub static ENDS_OF_FROM: [&str; 14] = [
     "set",
 ];
 
-/// The key words behind a relation that are not another name for it.
+/// The key words after a relation that are not an alias of the relation.
 pub static NO_ALIASES: [&str; 19] = [
     "join",
     "inner",

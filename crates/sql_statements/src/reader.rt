@@ -11,21 +11,21 @@ use std::alloc::{AllocError, Global};
 pub enum Change {
     /// The relation of this number is dropped.
     Drop(usize),
-    /// A relation gets another name.
+    /// The relation of this number gets this name.
     Rename(usize, String),
-    /// Two relations are linked, in this way: from the first one to the second one.
+    /// The first of two relations, given by their numbers, is linked to the second one by a link of this kind.
     Link(LinkKind, usize, usize),
-    /// Two relations are linked no more.
+    /// The link of this kind from the first to the second of two relations, given by their numbers, is taken away.
     Unlink(LinkKind, usize, usize),
-    /// A foreign key of a table goes.
+    /// The foreign key of this name is taken away from the table of this number.
     DropForeignKey(usize, String),
-    /// A foreign key of a table gets another name.
+    /// A foreign key of the table of this number gets another name: the old name comes first, and the new one after it.
     RenameForeignKey(usize, String, String),
-    /// All rows of a table are known to keep this foreign key.
+    /// All rows of the table of this number are known to keep the foreign key of this name.
     ValidateForeignKey(usize, String),
-    /// A column of a table gets another name.
+    /// A column of the table of this number gets another name: the old name comes first, and the new one after it.
     RenameColumn(usize, String, String),
-    /// A table gets a foreign key.
+    /// A table gets this foreign key.
     AddForeignKey(ForeignKey),
 }
 
@@ -41,8 +41,8 @@ pub enum Control {
     Savepoint,
 }
 
-/// An advisory lock that a statement takes or gives back: the places of the function and of its keys among the words. Of a function that gives
-/// all back `first` is the place after its parenthesis.
+/// An advisory lock that a statement takes or gives back: the places, among the words of the statement, of the function and of the keys. Of a function that
+/// gives back all advisory locks `first` is the place after the opening parenthesis.
 #[derive(Clone, Copy, Debug)]
 pub struct Advisory {
     pub function: usize,
@@ -60,7 +60,7 @@ pub struct StatementReader {
     pub changes: Vec<Change>,
     pub advisory: Vec<Advisory>,
     pub control: Control,
-    /// What statements said of relations beside the catalog.
+    /// What statements said of relations, beside what the catalog has.
     pub belongings: Belongings,
     /// Whether the statement is planned and not run, as by an `EXPLAIN`.
     pub is_planned: bool,
@@ -85,8 +85,8 @@ impl StatementReader {
         }
     }
 
-    /// Reads the statement of `words`, of which blanks, comments and the semicolon are left out. What the statement
-    /// before changes is to be settled first.
+    /// Reads the statement of `words`, of which blanks, comments and the semicolon are left out. The changes of the statement before this one must be settled
+    /// first.
     pub fn read_statement(&mut self, words: Vec<SqlWord>) -> Result<(), SqlFault> {
         self.cursor = Cursor { words, place: 0 };
         self.acts = Vec::new(self.alloc);
@@ -180,17 +180,17 @@ impl StatementReader {
         Err(self.fault_at(begin, Defect::UnknownRelation))
     }
 
-    /// Adds that `form` reaches `target`.
+    /// Has the statement reach `target` in `form`.
     pub fn act(&mut self, form: Form, target: usize) -> Result<(), AllocError> {
         self.act_on(form, target, None, false)
     }
 
-    /// Adds that `form` reaches `target` and `other`.
+    /// Has the statement reach `target` and `other` in `form`.
     pub fn act_with(&mut self, form: Form, target: usize, other: usize) -> Result<(), AllocError> {
         self.act_on(form, target, Some(other), false)
     }
 
-    /// Adds that `form` reaches `target` and `other`, and their children unless `is_only`.
+    /// Has the statement reach `target` and `other` in `form`, and their children unless `is_only`.
     pub fn act_on(
         &mut self,
         form: Form,
@@ -208,7 +208,7 @@ impl StatementReader {
         Ok(())
     }
 
-    /// Whether `form` reaches no children of `target`, since it goes to partitions alone, or to all but these.
+    /// Whether `form` reaches no children of `target`, as a form that reaches partitions alone, or all children but partitions.
     fn stays_at(&self, form: Form, target: usize) -> bool {
         let is_partitioned = self.belongings.is_partitioned(target);
         match form {
@@ -230,7 +230,7 @@ impl StatementReader {
         }
     }
 
-    /// Adds `change` to what the statement changes.
+    /// Adds `change` to the changes that the statement makes in the catalog.
     pub fn change(&mut self, change: Change) -> Result<(), AllocError> {
         match self.changes.push(change) {
             Ok(()) => Ok(()),
@@ -238,7 +238,7 @@ impl StatementReader {
         }
     }
 
-    /// Makes a relation of `kind` that is called `name`, unless there is one.
+    /// Makes a relation of `kind` that is called `name`, unless there is a relation of that name, and answers the relation's number.
     pub fn make(&mut self, name: &str, kind: RelationKind) -> Result<usize, AllocError> {
         match self.catalog.find(name) {
             Some(number) => Ok(number),
@@ -246,7 +246,7 @@ impl StatementReader {
         }
     }
 
-    /// What the relation `number` is.
+    /// The kind of the relation `number`.
     pub fn kind(&self, number: usize) -> RelationKind {
         match self.catalog.relations.get(number) {
             Some(relation) => relation.kind,
@@ -264,17 +264,17 @@ impl StatementReader {
         None
     }
 
-    /// The partitions of `table`, and all of theirs.
+    /// The partitions of `table`, and all partitions of these.
     pub fn partitions_of(&self, table: usize) -> Result<Vec<usize>, AllocError> {
         self.followed(LinkKind::Partition, table)
     }
 
-    /// The children and partitions of `table`, and all of theirs.
+    /// The children and partitions of `table`, and all children and partitions of these.
     pub fn children_of(&self, table: usize) -> Result<Vec<usize>, AllocError> {
         self.followed(LinkKind::Child, table)
     }
 
-    /// The relations to which links of `kind` lead from the relation `from` on, without that one.
+    /// The relations to which links of `kind` lead from the relation `from` on, without `from` itself.
     pub fn followed(&self, kind: LinkKind, from: usize) -> Result<Vec<usize>, AllocError> {
         let mut found = Vec::new(self.alloc);
         let mut next = from;
@@ -308,13 +308,13 @@ impl StatementReader {
         }
     }
 
-    /// Goes on after `IF EXISTS` or `IF NOT EXISTS`, and answers whether it comes next.
+    /// Passes `IF EXISTS` or `IF NOT EXISTS` where one of the two comes next, and answers whether one does.
     pub fn eat_if_exists(&mut self) -> bool {
         self.cursor.eat_all(&["if", "exists"]) || self.cursor.eat_all(&["if", "not", "exists"])
     }
 
-    /// Leaves the catalog as the statement leaves it. Where `is_ended` says that the transaction has ended, its own
-    /// relations are known to others.
+    /// Makes the changes of the statement in the catalog. Where `is_ended` says that the transaction has ended, the relations that it made are known to
+    /// others.
     pub fn settle(&mut self, is_ended: bool) -> Result<(), AllocError> {
         let mut changes = Vec::new(self.alloc);
         std::mem::swap(&mut changes, &mut self.changes);
@@ -329,7 +329,7 @@ impl StatementReader {
         Ok(())
     }
 
-    /// Makes `change` in the catalog and in what is kept beside it.
+    /// Makes `change` in the catalog and in what is kept beside the catalog.
     fn settle_change(&mut self, change: Change) -> Result<(), AllocError> {
         match change {
             Change::Drop(number) => {
@@ -375,7 +375,7 @@ impl StatementReader {
         }
     }
 
-    /// Gives the column `old` of `table` the name `new`, where keys and indexes name it.
+    /// Gives the column `old` of `table` the name `new`, where foreign keys and indexes name the column.
     fn rename_column(&mut self, table: usize, old: &str, new: &str) -> Result<(), AllocError> {
         for key in self.catalog.foreign_keys.iter_mut() {
             if key.table == table {

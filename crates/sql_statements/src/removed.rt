@@ -28,8 +28,8 @@ impl StatementReader {
         self.drop_foreign_keys(table, name.as_str(), is_constraint)
     }
 
-    /// Adds what goes with `column` of `table`: its indexes, those of its children unless `is_only`, and where
-    /// `cascades` is true the foreign keys and views that name it.
+    /// Has the statement drop what goes with `column` of `table`: its indexes, those of its children unless `is_only`, and where `cascades` is true the
+    /// foreign keys and views that name the column.
     fn drop_with_column(
         &mut self,
         table: usize,
@@ -51,7 +51,7 @@ impl StatementReader {
         Ok(())
     }
 
-    /// Adds the sequence that was made with `column` of `table`, which goes with it.
+    /// Has the statement drop the sequence that was made with `column` of `table`.
     fn drop_sequence_of(&mut self, table: usize, column: &str) -> Result<(), SqlFault> {
         let owner = self.name_of_relation(table)?;
         let name = made_name(self.alloc, owner.as_str(), column, "seq")?;
@@ -65,7 +65,7 @@ impl StatementReader {
         Ok(())
     }
 
-    /// Adds the tables whose foreign keys refer to `column` of `table`.
+    /// Has the statement drop the foreign keys that refer to `column` of `table`, and reach their tables.
     fn drop_keys_on(&mut self, table: usize, column: &str) -> Result<(), SqlFault> {
         let mut referring = Vec::new(self.alloc);
         for key in &self.catalog.foreign_keys {
@@ -85,8 +85,7 @@ impl StatementReader {
         Ok(())
     }
 
-    /// Adds the index of the key `name` of `table`, which goes, and where `cascades` is true the foreign keys that
-    /// refer to its columns.
+    /// Has the statement drop the index of the key `name` of `table`, and where `cascades` is true the foreign keys that refer to the columns of the index.
     fn drop_index_of(&mut self, table: usize, name: &str, cascades: bool) -> Result<(), SqlFault> {
         let Some(index) = self.catalog.find(name) else {
             return Ok(());
@@ -105,8 +104,8 @@ impl StatementReader {
         Ok(())
     }
 
-    /// Adds the tables of the foreign keys of `table` that go with `name`, which is a constraint or a column by
-    /// `is_constraint`.
+    /// Has the statement drop the foreign keys of `table` that go with `name`, and reach the tables that these refer to. Whether `name` is a constraint or a
+    /// column, `is_constraint` says.
     fn drop_foreign_keys(
         &mut self,
         table: usize,

@@ -64,7 +64,7 @@ impl StatementReader {
             || cursor.is_mark_ahead(0, "(")
     }
 
-    /// Reads a statement that begins or ends a transaction or a part of one, and answers whether this is one.
+    /// Reads a statement that begins or ends a transaction or a part of one, and answers whether such a statement comes next.
     fn read_control(&mut self) -> bool {
         let cursor = &self.cursor;
         let control = if cursor.is_at_one(&["begin", "start"]) {
@@ -127,7 +127,7 @@ impl StatementReader {
         Err(self.fault_at(0, Defect::UnknownStatement))
     }
 
-    /// Reads what comes after `ALTER TRIGGER`. Which extension a trigger goes with is written beside it, as a comment is.
+    /// Reads what comes after `ALTER TRIGGER`. Where a statement says on which extension a trigger depends, its locks are those of a comment on the trigger.
     fn read_alter_trigger(&mut self) -> Result<(), SqlFault> {
         if self.cursor.has("depends") {
             return self.read_on_table(Form::CommentOnConstraint);

@@ -9,11 +9,11 @@ use sql_locks::{Defect, SqlFault, Word, WordKind, split_words};
 use std::alloc::{AllocError, Global};
 use std::str;
 
-/// A statement of a text: its words without blanks and comments, and where it stands.
+/// A statement of a text: its words without blanks and comments, and where it is in the text.
 #[derive(Debug, Drop)]
 pub struct SqlStatement {
     pub words: Vec<SqlWord>,
-    /// The line on which it begins, from 1.
+    /// The line on which the statement begins, from 1.
     pub line: usize,
     /// How many bytes of the text come before the statement, and before its end.
     pub from: usize,
@@ -37,7 +37,7 @@ pub fn split_statements(alloc: Global, text: &[u8]) -> Result<Vec<SqlStatement>,
     Ok(parted.statements)
 }
 
-/// The fault of `text`, which is no UTF-8: the line and the word that have the first byte that is not.
+/// The fault of `text`, which is no UTF-8: the line and the word that have the first byte that is no UTF-8.
 fn utf8_fault(text: &[u8]) -> SqlFault {
     let mut line = 1usize;
     let mut from = 0usize;
@@ -56,7 +56,7 @@ fn utf8_fault(text: &[u8]) -> SqlFault {
     }
 }
 
-/// How many bytes of `line` come before its first word, words ending at spaces, that is no UTF-8.
+/// How many bytes of `line` come before its first word that is no UTF-8. Words end at spaces.
 fn place_of_bad_word(line: &[u8]) -> usize {
     let mut from = 0usize;
     for word in line.split(|byte| *byte == b' ') {
@@ -68,23 +68,23 @@ fn place_of_bad_word(line: &[u8]) -> usize {
     from
 }
 
-/// Statements, of which the last one is being gathered.
+/// The statements of a text that is being read, and the words of the statement that is being gathered.
 #[derive(Drop)]
 struct Parted {
     statements: Vec<SqlStatement>,
     words: Vec<SqlWord>,
     /// How many bytes of the text were read.
     read: usize,
-    /// How many parentheses are open, and blocks of a function's body.
+    /// How many parentheses are open, and how many blocks of a function's body.
     depth: usize,
     blocks: usize,
-    /// The faults where the outermost of these does not end, while one is open.
+    /// The fault of an outermost parenthesis that does not end, and that of a function's body that does not end, each while it is open.
     parenthesis: Option<SqlFault>,
     body: Option<SqlFault>,
 }
 
 impl Parted {
-    /// No statements, of a text of which nothing was read yet.
+    /// The state before anything of the text was read, with no statements.
     fn new(alloc: Global) -> Self
         ensures words { result.words.items ≡ [] }
         ensures statements { result.statements.items ≡ [] }
@@ -100,7 +100,7 @@ impl Parted {
         }
     }
 
-    /// Reads one more word, `word`.
+    /// Reads `word`, the next word of the text.
     fn take(&mut self, alloc: Global, word: &Word<'_>) -> Result<(), SqlFault>
         ensures said { OnOk result (gathered self.new ≡ gathered self.old ++ said_of (word.now ∷ [])) }
         ensures lines { OnOk result (All IsPlaced self.old.statements.items → All IsPlaced self.new.statements.items) }
@@ -117,7 +117,7 @@ impl Parted {
         }
     }
 
-    /// Adds `word`, which begins at `from`, to the statement.
+    /// Adds `word`, which begins at the place `from` of the text, to the statement that is being gathered.
     fn gather(&mut self, alloc: Global, word: &Word<'_>, from: usize) -> Result<(), SqlFault>
         ensures said { OnOk result (kept_of self.new.words.items ≡ kept_of self.old.words.items ++ said_of (word.now ∷ [])) }
         ensures statements { self.new.statements.items ≡ self.old.statements.items }
@@ -172,7 +172,7 @@ impl Parted {
         Ok(())
     }
 
-    /// Whether `word` opens a block of a function's body: the `ATOMIC` of `BEGIN ATOMIC`, or a `CASE` in there.
+    /// Whether `word` opens a block of a function's body: the `ATOMIC` of `BEGIN ATOMIC`, or a `CASE` in such a block.
     fn opens_block(&self, word: &SqlWord) -> bool {
         match self.words.last() {
             Some(before) => {
@@ -183,7 +183,7 @@ impl Parted {
         }
     }
 
-    /// Ends the last statement, where no semicolon comes after it.
+    /// Ends the last statement of the text, which may have no semicolon after it.
     fn finish(&mut self, alloc: Global) -> Result<(), SqlFault>
         ensures said { OnOk result (kept_of_all self.new.statements.items ≡ gathered self.old) }
         ensures lines { OnOk result (All IsPlaced self.old.statements.items → All IsPlaced self.new.statements.items) }
@@ -198,7 +198,7 @@ impl Parted {
         }
     }
 
-    /// Ends the statement that is gathered: it is added to the statements, if it has a word.
+    /// Ends the statement that is being gathered: it is added to the statements, if it has a word.
     fn end(&mut self, alloc: Global) -> Result<(), AllocError>
         ensures said { OnOk result (kept_of_all self.new.statements.items ≡ gathered self.old) }
         ensures words { self.new.words.items ≡ [] }

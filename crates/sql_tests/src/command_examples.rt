@@ -19,7 +19,7 @@ CREATE RULE r AS ON UPDATE TO scratch DO INSTEAD NOTHING;
 CREATE POLICY p ON accounts USING (true);
 CREATE STATISTICS old_stats ON id, owner FROM accounts;";
 
-/// Of each command, in the order of the table, an example: one statement or several.
+/// For each command, in the order of the table of SQL commands, an example: one statement or several.
 pub static EXAMPLES: [(&str, &str); 105] = [
     ("SELECT", "SELECT * FROM accounts"),
     ("SELECT FOR UPDATE", "SELECT * FROM accounts FOR UPDATE"),

@@ -10,7 +10,7 @@ use std::alloc::Global;
 use std::process::Abort;
 use std::test::Fail;
 
-/// The forms in which the statements of `text` reach relations, behind those of the schema.
+/// The forms in which the statements of `text` reach relations, where those of the schema come first.
 fn forms_of(alloc: Global, text: &str) -> Result<Vec<Form>, SqlFault> {
     let mut reader = StatementReader::new(alloc);
     read_forms(&mut reader, alloc, SCHEMA)?;
@@ -44,7 +44,7 @@ fn are_among(named: ModeSet, modes: ModeSet) -> bool {
     true
 }
 
-/// Whether statements of `forms` have the form of `command`, and the modes that its note names.
+/// Whether statements of `forms` have the form of `command`, and the modes that the command's note names.
 fn is_of(command: &SqlCommand, forms: &[Form]) -> bool {
     has_form(forms, command.form)
         && command.mode().is_some()

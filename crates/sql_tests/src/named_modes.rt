@@ -14,7 +14,7 @@ pub fn named_in(text: &str) -> ModeSet {
     modes
 }
 
-/// The mode that `word` is, with or without a mark behind it.
+/// The mode that `word` names, with or without a punctuation mark after the name.
 fn mode_named(word: &str) -> Option<Mode> {
     let word = word.strip_suffix(',').unwrap_or(word);
     let word = word.strip_suffix(';').unwrap_or(word);
@@ -47,7 +47,7 @@ fn with_parts(modes: ModeSet, parts: &[Part]) -> ModeSet {
     all
 }
 
-/// The word by which the page says the longest work of `forms`.
+/// The word by which docs/POSTGRESQL.md says the longest work of `forms`.
 pub fn longest_work(forms: &[Form]) -> &'static str {
     if has_work(forms, Work::Rewrite) {
         "rewrite"

@@ -3,23 +3,23 @@
 use modes_core::Mode;
 use sql_locks::Form;
 
-/// The forms of a row of the page.
+/// The forms of a row of the tables of SQL statements in docs/POSTGRESQL.md.
 #[derive(Clone, Copy, Debug)]
 pub struct PageForms {
-    /// The statements, as the page has them.
+    /// The row's statements, as docs/POSTGRESQL.md has them.
     pub sql: &'static str,
     pub forms: &'static [Form],
-    /// The modes that the page tells beside those of the forms, though others may wait for them: on an index that nobody uses yet or any more, by a
-    /// try, and on advisory keys.
+    /// The modes that the row names beside those of its forms, though others may wait for them: on an index that nobody uses yet or any more, by a try, and
+    /// on advisory keys.
     pub apart: &'static [Mode],
 }
 
-/// The forms whose mode the statement itself names, so that the page names none.
+/// The forms whose mode the statement itself names, so that docs/POSTGRESQL.md names none.
 pub fn forms_of_named_modes() -> &'static [Form] {
     &NAMED
 }
 
-/// The forms of the rows of table 1 of the page.
+/// The forms of the rows of table 1 of docs/POSTGRESQL.md.
 pub static FORMS_1: [PageForms; 14] = [
     PageForms {
         sql: "SELECT, TABLE, COPY (SELECT ..) TO, DECLARE CURSOR, EXPLAIN of a read",
@@ -93,7 +93,7 @@ pub static FORMS_1: [PageForms; 14] = [
     },
 ];
 
-/// The forms of the rows of table 2 of the page.
+/// The forms of the rows of table 2 of docs/POSTGRESQL.md.
 pub static FORMS_2: [PageForms; 11] = [
     PageForms {
         sql: "CREATE INDEX",
@@ -155,7 +155,7 @@ pub static FORMS_2: [PageForms; 11] = [
     },
 ];
 
-/// The forms of the rows of table 3 of the page.
+/// The forms of the rows of table 3 of docs/POSTGRESQL.md.
 pub static FORMS_3: [PageForms; 27] = [
     PageForms {
         sql: "ADD COLUMN, with no default or a constant one",
@@ -305,7 +305,7 @@ pub static FORMS_3: [PageForms; 27] = [
     },
 ];
 
-/// The forms of the rows of table 4 of the page.
+/// The forms of the rows of table 4 of docs/POSTGRESQL.md.
 pub static FORMS_4: [PageForms; 8] = [
     PageForms {
         sql: "ALTER TABLE .. ATTACH PARTITION",
@@ -349,7 +349,7 @@ pub static FORMS_4: [PageForms; 8] = [
     },
 ];
 
-/// The forms of the rows of table 5 of the page.
+/// The forms of the rows of table 5 of docs/POSTGRESQL.md.
 pub static FORMS_5: [PageForms; 14] = [
     PageForms {
         sql: "CREATE TABLE",
@@ -434,7 +434,7 @@ pub static FORMS_5: [PageForms; 14] = [
     },
 ];
 
-/// The forms of the rows of table 6 of the page.
+/// The forms of the rows of table 6 of docs/POSTGRESQL.md.
 pub static FORMS_6: [PageForms; 16] = [
     PageForms {
         sql: "CREATE TRIGGER",
@@ -528,7 +528,7 @@ pub static FORMS_6: [PageForms; 16] = [
     },
 ];
 
-/// The forms of the rows of table 7 of the page.
+/// The forms of the rows of table 7 of docs/POSTGRESQL.md.
 pub static FORMS_7: [PageForms; 6] = [
     PageForms {
         sql: "VACUUM, with FREEZE too",

@@ -9,7 +9,7 @@ use modes_core::{Mode, ModeSet, conflicts};
 use sql_locks::{Form, FormRow, all_rows};
 use std::process::Abort;
 
-/// Whether `told` are the modes of `forms`, but for those that say no more and those that stand `apart`.
+/// Whether `told` are the modes of `forms`, but for further modes that keep nobody else waiting, and for those of `apart`.
 fn are_modes_of(told: ModeSet, forms: &[Form], apart: &[Mode]) -> bool {
     let modes = modes_of(forms);
     for mode in Mode::ALL {
@@ -23,7 +23,7 @@ fn are_modes_of(told: ModeSet, forms: &[Form], apart: &[Mode]) -> bool {
     true
 }
 
-/// Whether `mode` keeps nobody waiting whom none of `modes` does.
+/// Whether `mode` keeps nobody waiting whom none of `modes` keeps waiting.
 fn says_no_more(mode: Mode, modes: ModeSet) -> bool {
     for other in Mode::ALL {
         if conflicts(mode).has(other) && !conflicts(other).meets(modes) {
@@ -38,17 +38,17 @@ fn is_among(mode: Mode, modes: &[Mode]) -> bool {
     modes.iter().any(|other| other.is_same(mode))
 }
 
-/// Whether the row `sql` of the page, which says `locks` and `work`, tells of the forms `its`.
+/// Whether the row `sql` of docs/POSTGRESQL.md, which says `locks` and `work`, is right for the forms `its`.
 fn tells_of(its: &PageForms, sql: &str, locks: &str, work: &str) -> bool {
     its.sql == sql
         && are_modes_of(named_in(locks), its.forms, its.apart)
         && work.contains(longest_work(its.forms))
 }
 
-/// A row of the page: its statements, what it says of locks, and of work.
+/// A row of the tables of docs/POSTGRESQL.md: its statements, what the row says of locks, and of work.
 type PageRow = (&'static str, &'static str, &'static str);
 
-/// The first of `rows` that does not tell of the forms at its place among `forms`.
+/// The statements of the first of `rows` that is wrong for the forms at its place among `forms`.
 fn first_bad(rows: &[PageRow], forms: &[PageForms]) -> Option<&'static str> {
     for (place, (sql, locks, work)) in rows.iter().enumerate() {
         let is_well = match forms.get(place) {
@@ -62,42 +62,42 @@ fn first_bad(rows: &[PageRow], forms: &[PageForms]) -> Option<&'static str> {
     None
 }
 
-/// Table 1 of the page, and the forms of its rows.
+/// Table 1 of docs/POSTGRESQL.md, and the forms of its rows.
 fn table_1() -> (&'static [PageRow], &'static [PageForms]) {
     (&PAGE_1, &FORMS_1)
 }
 
-/// Table 2 of the page, and the forms of its rows.
+/// Table 2 of docs/POSTGRESQL.md, and the forms of its rows.
 fn table_2() -> (&'static [PageRow], &'static [PageForms]) {
     (&PAGE_2, &FORMS_2)
 }
 
-/// Table 3 of the page, and the forms of its rows.
+/// Table 3 of docs/POSTGRESQL.md, and the forms of its rows.
 fn table_3() -> (&'static [PageRow], &'static [PageForms]) {
     (&PAGE_3, &FORMS_3)
 }
 
-/// Table 4 of the page, and the forms of its rows.
+/// Table 4 of docs/POSTGRESQL.md, and the forms of its rows.
 fn table_4() -> (&'static [PageRow], &'static [PageForms]) {
     (&PAGE_4, &FORMS_4)
 }
 
-/// Table 5 of the page, and the forms of its rows.
+/// Table 5 of docs/POSTGRESQL.md, and the forms of its rows.
 fn table_5() -> (&'static [PageRow], &'static [PageForms]) {
     (&PAGE_5, &FORMS_5)
 }
 
-/// Table 6 of the page, and the forms of its rows.
+/// Table 6 of docs/POSTGRESQL.md, and the forms of its rows.
 fn table_6() -> (&'static [PageRow], &'static [PageForms]) {
     (&PAGE_6, &FORMS_6)
 }
 
-/// Table 7 of the page, and the forms of its rows.
+/// Table 7 of docs/POSTGRESQL.md, and the forms of its rows.
 fn table_7() -> (&'static [PageRow], &'static [PageForms]) {
     (&PAGE_7, &FORMS_7)
 }
 
-/// All tables of the page, with the forms of their rows.
+/// All tables of SQL statements of docs/POSTGRESQL.md, with the forms of their rows.
 fn tables() -> [(&'static [PageRow], &'static [PageForms]); 7] {
     [
         table_1(),
@@ -110,7 +110,7 @@ fn tables() -> [(&'static [PageRow], &'static [PageForms]); 7] {
     ]
 }
 
-/// The first of `rows` whose form stands in no row of the page, though it has a mode of its own.
+/// The statement of the first of `rows` whose form is in no row of docs/POSTGRESQL.md, and is none whose mode the statement itself names.
 fn first_untold(rows: &'static [FormRow]) -> Option<&'static str> {
     for row in rows {
         if !is_told(row.form) {
@@ -120,7 +120,7 @@ fn first_untold(rows: &'static [FormRow]) -> Option<&'static str> {
     None
 }
 
-/// Whether `form` stands in a row of the page, or is one whose mode the statement itself names.
+/// Whether `form` is in a row of docs/POSTGRESQL.md, or is one whose mode the statement itself names.
 fn is_told(form: Form) -> bool {
     for (_, forms) in tables() {
         if is_in(forms, form) {
@@ -130,7 +130,7 @@ fn is_told(form: Form) -> bool {
     has_form(forms_of_named_modes(), form)
 }
 
-/// Whether `form` is one of a row of `rows`.
+/// Whether `form` is one of the forms of a row of `rows`.
 fn is_in(rows: &[PageForms], form: Form) -> bool {
     rows.iter().any(|row| has_form(row.forms, form))
 }

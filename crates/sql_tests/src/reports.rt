@@ -13,13 +13,13 @@ CREATE TABLE rest PARTITION OF days DEFAULT;
 CREATE VIEW rich AS SELECT * FROM customers;
 ";
 
-/// What is said beside the locks where reads wait, and where writes and VACUUM do.
+/// What a report says beside the locks of a statement that keeps reads waiting, and writes and VACUUM too.
 const READS_WAIT: &str =
     "  keeps waiting: reads, row locks and foreign keys' checks, writes, VACUUM and DDL, index builds
   waits behind: a long read, a transaction that locked rows, a busy writer, \
 an autovacuum (which gives way after deadlock_timeout), an index build\n";
 
-/// Statements, and what is said of them up to the sums at the end.
+/// Statements, and what a report says of each of them, up to the sums at its end.
 static SAID: [(&str, &str); 14] = [
     (
         "SELECT * FROM rich;",
@@ -146,10 +146,10 @@ line 2: CREATE TABLE counted (id int DEFAULT nextval('numbers'));
     ),
 ];
 
-/// How many of the statements above say nothing of who waits: there all wait.
+/// The place in `SAID` from which on the texts leave out who waits: all wait for those statements.
 const ALL_WAIT_FROM: usize = 11;
 
-/// Statements that are refused, and what is said of them.
+/// Statements that are refused, and what is said of each of them.
 static REFUSED: [(&str, &str); 26] = [
     (
         "SELECT 1;\nSELECT * FROM nothing_here;",
@@ -248,12 +248,12 @@ static REFUSED: [(&str, &str); 26] = [
 /// How many rows of 1,009 bytes make a statement of more than a megabyte.
 const ROWS: usize = 1040;
 
-/// What is said of `migration`.
+/// What a report says of `migration`.
 fn said(alloc: Global, migration: &str) -> String {
     said_of_bytes(alloc, migration.as_bytes())
 }
 
-/// What is said of the bytes of `migration`.
+/// What a report says of the bytes `migration`.
 fn said_of_bytes(alloc: Global, migration: &[u8]) -> String {
     match make_report(alloc, SCHEMA.as_bytes(), migration, false) {
         Ok(report) => report.text,

@@ -10,7 +10,7 @@ const SCHEMA: &str = "CREATE TABLE customers (id int PRIMARY KEY, name text);
 CREATE TABLE orders (id int PRIMARY KEY, customer int REFERENCES customers);
 CREATE TABLE plain (id int);";
 
-/// Statements of the session `a`, one of database 5, and the lines by which it plays them.
+/// Statements of the session `a`, one of database 5, and the lines by which `a` plays them.
 static PLAYED: [(&str, &str); 15] = [
     (
         "BEGIN; INSERT INTO customers VALUES (1, 'a');",
@@ -74,7 +74,7 @@ static PLAYED: [(&str, &str); 15] = [
     ),
 ];
 
-/// Statements that can't be played, and what is said of them where they stand on line 7 of a script.
+/// Statements that can't be played, and what is said of them where they are on line 7 of a script.
 static BAD: [(&str, &str); 10] = [
     (
         "SELECT * FROM nowhere",
@@ -109,7 +109,7 @@ static BAD: [(&str, &str); 10] = [
     ),
 ];
 
-/// A script of the schema above with the session `a`, one of database 5.
+/// A script whose schema `SCHEMA` was read, with the session `a`, one of database 5.
 fn script_of(alloc: Global) -> Result<SqlScript, Fail> {
     let mut script = SqlScript::new(alloc);
     if script.read_schema(SCHEMA.as_bytes()).is_err() {
@@ -158,7 +158,7 @@ fn statements_that_cant_be_played_are_told(rt: HostRuntime) -> Result<(), Fail> 
     Ok(())
 }
 
-/// What begins each script below, whose transactions have locks of their own.
+/// The first lines of the scripts whose transactions have locks of their own.
 const TRACKED: &str = "schema
 SET lock_scenario.transactions = on;
 CREATE TABLE plain (id int);
@@ -173,7 +173,7 @@ session far 6
 session builder 5
 ";
 
-/// Lines behind these, and the lines that are played for all of them.
+/// Lines that come after `TRACKED` in a script, and the lines that are played for that script.
 static AWAITED: [(&str, &str); 9] = [
     // An index build waits for who has written its table, in its own database, and for nobody else.
     (
@@ -256,7 +256,7 @@ static AWAITED: [(&str, &str); 9] = [
     ),
 ];
 
-/// Lines behind those of statements that work until a later line, and what is played for all of them.
+/// Lines that come after `TRACKED` in a script, with statements that work until a later line, and the lines that are played for that script.
 static WORKED: [(&str, &str); 12] = [
     // The end of a statement comes by its line, and what it made is known to others from then on.
     (
@@ -342,7 +342,7 @@ static WORKED: [(&str, &str); 12] = [
     ),
 ];
 
-/// Adds to `said` the lines that are played for a line that is `heard`.
+/// Adds to `said` the lines that are played for a line of a script, which is `heard`.
 fn push_played(said: &mut String, alloc: Global, heard: Heard) -> Result<(), Fail> {
     if let Heard::Statements(statements) = heard {
         let session = statements.session.as_str();
@@ -354,7 +354,7 @@ fn push_played(said: &mut String, alloc: Global, heard: Heard) -> Result<(), Fai
     Ok(())
 }
 
-/// The lines that are played for the `do` lines of `text`, all of which are good.
+/// The lines that are played for the script `text`. A bad line is written as such.
 fn played_of(alloc: Global, text: &str) -> Result<String, Fail> {
     let mut script = SqlScript::new(alloc);
     let mut said = String::new(alloc);
@@ -367,7 +367,7 @@ fn played_of(alloc: Global, text: &str) -> Result<String, Fail> {
     Ok(said)
 }
 
-/// Fails where other lines are played for the first texts of `scripts`, behind those that begin each script, than the second ones are.
+/// Fails where, for one of `scripts`, other lines are played for `TRACKED` with the first text after it than those of the second text.
 fn compare<H: AllocGlobal + Abort>(rt: &H, scripts: &[(&str, &str)]) -> Result<(), Fail> {
     let alloc = rt.alloc();
     for (lines, want) in scripts {

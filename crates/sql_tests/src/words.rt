@@ -7,7 +7,7 @@ use std::process::Abort;
 use std::rt::Files;
 use std::test::Fail;
 
-/// A reader of a text, which fails where that ends if it is to.
+/// A reader of `text`. If `fails`, it fails where the text ends.
 #[derive(Drop)]
 struct Input<'a> {
     text: &'a [u8],
@@ -23,7 +23,7 @@ impl Read for Input<'_> {
     }
 }
 
-/// A writer that takes nothing.
+/// A writer to which every write fails.
 #[derive(Drop)]
 struct Full;
 
@@ -37,15 +37,15 @@ impl Write for Full {
     }
 }
 
-/// The statements that the words below are tried on: one that keeps nobody waiting but index builds, one that keeps writes waiting, and one
-/// that keeps reads waiting too.
+/// The statements that words are tried on: those of `QUIET` keep nobody waiting but index builds, those of `STOPS_WRITES` keep writes waiting, and those of
+/// `STOPS_READS` keep reads waiting too.
 const QUIET: &str = "CREATE TABLE t (a int);\nCOMMIT;\nINSERT INTO t VALUES (1);";
 
 const STOPS_WRITES: &str = "CREATE TABLE t (a int);\nCREATE INDEX i ON t (a);";
 
 const STOPS_READS: &str = "CREATE TABLE t (a int);\nALTER TABLE t ADD b int;";
 
-/// Words behind `sql`, the statements, the status, and a part of what is written to the output or the errors.
+/// Command lines with words after `sql`, the statements for each, its status, and a part of what it writes to the output or the errors.
 static RUNS: [(&str, &str, u8, &str); 16] = [
     ("lock_scenario sql", QUIET, 0, "keep writes waiting: 0"),
     (
@@ -134,7 +134,7 @@ fn has_part(text: &[u8], part: &str) -> bool {
     text.windows(part.len().max(1)).any(|window| window == part)
 }
 
-/// Tries the words and statements of `row`.
+/// Tries the command line of `row` on the statements of `row`. Fails where the status or the text is another.
 fn try_run<H: AllocGlobal + Files + Abort>(
     rt: &H,
     row: &(&str, &str, u8, &str),

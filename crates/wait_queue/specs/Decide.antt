@@ -34,7 +34,7 @@ RefusedFor Waiting content session tag mode (SimpleDeadlock other) = WaitingAnsw
 RefusedFor kind content session tag mode NoMemory = Unit {0}
 RefusedFor kind content session tag mode _ = ⊥
 
--- Room comes first: a refusal for what stands in the way comes where this is so of the room for the request.
+-- Room comes first: a refusal for what is in the way comes only where there was room for the request.
 abbrev pub IsAfterRoom : Type 0 → Refusal → Type 0
 IsAfterRoom room (Conflict other its how) = room
 IsAfterRoom room (SimpleDeadlock other) = room

@@ -10,19 +10,19 @@ use Rattle.lock_table.specs.Queue.{wait_in}
 use Rattle.wait_queue.specs.declared.queues.Blocker.{Blocker}
 use Rattle.modes_core.specs.Sessions.{most_sessions}
 
--- Who stands in the way of a session that waits on an object.
+-- Who is in the way of a session that waits on an object.
 
--- the waits that stand before the session's own
+-- the waits before the session's own in the queue
 abbrev pub ahead_of : List Wait → ℕ → List Wait
 ahead_of queue session = before_first (λ wait. wait.session == session) queue
 
--- a session that holds, by each mode that is in both sets
+-- a session that holds is in the way once by each mode that is in both sets
 abbrev pub by_modes : ℕ → (Mode → Bool) → (Mode → Bool) → List Blocker
 by_modes other held against =
     flat_map (λ its. if held its && against its then record { session = other; mode = its; how = Held } ∷ [] else []) all_modes
 
--- another session stands in the way by each mode of the object that it holds and that conflicts with the awaited one; nobody
--- stands in its own way
+-- another session is in the way by each mode of the object that it holds and that conflicts with the awaited one; nobody is in
+-- its own way
 abbrev pub holding_of : Content → Tag → ℕ → Mode → ℕ → List Blocker
 holding_of content tag session mode other =
     if other == session then [] else by_modes other (content.holds other tag) (conflict mode)
@@ -36,7 +36,7 @@ lists_below (suc limit) lists = lists_below limit lists ++ lists limit
 abbrev pub holding : Content → Tag → ℕ → Mode → List Blocker
 holding content tag session mode = lists_below most_sessions (holding_of content tag session mode)
 
--- a wait stands in the way by its mode, if that conflicts with the awaited one
+-- a wait is in the way by its mode, if that conflicts with the awaited one
 abbrev pub standing_of : Mode → Wait → List Blocker
 standing_of mode wait = if conflict mode wait.mode then record { session = wait.session; mode = wait.mode; how = Awaited } ∷ [] else []
 
@@ -50,6 +50,6 @@ blockers_of_wait None content tag session = []
 blockers_of_wait (Some wait) content tag session =
     holding content tag session wait.mode ++ standing (ahead_of (content.waits tag) session) wait.mode
 
--- who stands in the way of the session's wait on the object: nobody where it has none there
+-- who is in the way of the session's wait on the object: nobody where it has none there
 abbrev pub blockers_in : Content → Tag → ℕ → List Blocker
 blockers_in content tag session = blockers_of_wait (wait_in (content.waits tag) session) content tag session

@@ -11,14 +11,14 @@ use lock_table::{NoMemory, PartTable, Waiter};
 use modes_core::{How, Mode, ModeSet, SessionId, Tag, conflicts};
 use std::alloc::Global;
 
-/// A session in the way of another one that waits, with the mode by which it is.
+/// A session in the way of another session that waits for an object, with a mode that is the reason.
 #[derive(Clone, Copy, Debug, PartialEq, Eq)]
 pub struct Blocker {
-    /// The session that is in the way.
+    /// The session that is in the way of a waiting session.
     pub session: SessionId,
-    /// The mode by which `session` is in the way.
+    /// The mode that the session in the way holds or awaits, in conflict with the one that the waiting session awaits.
     pub mode: Mode,
-    /// Whether `session` holds that mode, or stands before the other one in the queue.
+    /// Whether the session in the way holds the conflicting mode, or awaits it before the waiting session in the queue.
     pub how: How,
 }
 
@@ -34,10 +34,10 @@ pub fn queue_of<P: PartTable>(alloc: Global, part: &P, tag: &Tag) -> Result<Vec<
     Ok(rows)
 }
 
-/// The sessions in the way of the wait of `session` on `tag` in the content of `part` (`GetBlockerStatusData` in
-/// lock.c, for `pg_blocking_pids`): sessions that hold a mode in conflict with the awaited one, by session and mode,
-/// and then those that await one before it in the queue. Nobody where the session doesn't wait there. Refused only
-/// where memory ran out.
+/// The sessions in the way of the wait of `session` on `tag` in the content of `part` (`GetBlockerStatusData` in lock.c, for
+/// `pg_blocking_pids`): sessions that hold a mode in conflict with the awaited one, by session and mode, and then those that
+/// await such a mode before `session` in the queue. Nobody where `session` doesn't wait on `tag`. Refused only where memory ran
+/// out.
 pub fn blockers_of<P: PartTable>(
     alloc: Global,
     part: &P,
@@ -55,7 +55,8 @@ pub fn blockers_of<P: PartTable>(
     Ok(found)
 }
 
-/// The place of `session` in the queue of `tag` in `part`, counted from the front, and the mode that it awaits there.
+/// The place of `session` in the queue of `tag` in `part`, counted from the front, and the mode that `session` awaits on `tag`,
+/// or `None` where it doesn't wait there.
 fn wait_of<P: PartTable>(part: &P, tag: &Tag, session: SessionId) -> Option<(usize, Mode)>
     ensures none { IfNone result (wait_in ((P.content part.now).waits tag.now) session ≡ None) }
     ensures mode { IfSome result (λ found.
@@ -93,7 +94,7 @@ fn append_holding<P: PartTable>(
     Ok(())
 }
 
-/// Appends `other` to `found` by each mode that it holds on `tag` in `part` in conflict with `mode`, unless it is
+/// Appends `other` to `found` once for each mode in which it holds `tag` in `part` in conflict with `mode`, unless `other` is
 /// `session`.
 fn append_holding_of<P: PartTable>(
     part: &P,
@@ -112,7 +113,7 @@ fn append_holding_of<P: PartTable>(
     append_modes(other, part.held(other, tag), conflicts(mode), found)
 }
 
-/// Appends `other` to `found` by each mode that is in `held` and in `against`, in the order of the modes' numbers.
+/// Appends `other` to `found` as a holder, once for each mode that is in `held` and in `against`, in the order of the modes' numbers.
 fn append_modes(
     other: SessionId,
     held: ModeSet,
@@ -131,7 +132,7 @@ fn append_modes(
     append_mode(other, held, against, Mode::AccessExclusive, found)
 }
 
-/// Appends `other` to `found` by `mode`, if that is in `held` and in `against`.
+/// Appends `other` to `found` as a holder of `mode`, if `mode` is in `held` and in `against`.
 fn append_mode(
     other: SessionId,
     held: ModeSet,

@@ -15,9 +15,9 @@ pub fn awaited_in_conflict<P: PartTable>(part: &P, tag: &Tag, mode: Mode) -> boo
     first_against(part, tag, mode).is_some()
 }
 
-/// Takes the hold of `session` on `tag` in `mode` out of `part` (`UnGrantLock` in lock.c), and answers whether somebody
-/// awaits a mode in conflict with the one released. Where nobody does the release is over, otherwise after a wakeup of
-/// the queue (`PartTable::wake`).
+/// Takes the hold of `session` on `tag` in `mode` out of `part` (`UnGrantLock` in lock.c), and answers whether somebody awaits
+/// `tag` in a mode in conflict with `mode`. Where nobody does, the release is over; otherwise it is over after a wakeup of the
+/// queue (`PartTable::wake`).
 #[inline(always)]
 pub fn take_hold_out<P: PartTable>(part: &mut P, session: SessionId, tag: &Tag, mode: Mode) -> bool
     requires { (P.content part.old).holds session tag.now mode ≡ true }

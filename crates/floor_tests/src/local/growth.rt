@@ -8,7 +8,7 @@ use std::process::Abort;
 
 const ROUNDS: u32 = 100_000;
 
-/// How many entries more a table of this test may ever have room for.
+/// The most rounds in a row in which a table of this test may have room for one more entry.
 const FEW: u32 = 100;
 
 /// The tag of the relation that is taken in `round`.
@@ -16,8 +16,8 @@ fn relation(round: u32) -> Tag {
     Tag::relation(5, round)
 }
 
-/// Takes in `table` the relation of `round`, for which the one of the round before is given back: its slot, which
-/// isn't the last one, is empty from then on.
+/// Acquires in `table` the relation of `round`, and releases that of the round before: the slot of the released one,
+/// which isn't the last slot, is empty from then on.
 fn go_on(rt: &impl Abort, table: &mut LocalTable, round: u32) {
     let taken = acquire(rt, table, relation(round), AccessShare, Owner::Transaction);
     assert!(rt; taken.is_ok(), "{round}");
@@ -26,8 +26,8 @@ fn go_on(rt: &impl Abort, table: &mut LocalTable, round: u32) {
     assert!(rt; given_back == Ok(Unlocked::Released), "{round}");
 }
 
-/// Ends the test unless `table` has room in each round but some in a hundred. Once it is full it uses slots again,
-/// so it soon is full again.
+/// Ends the test where `table` has room for one more entry in more than `FEW` rounds in a row. A full table uses its
+/// empty slots again, and so is soon full again.
 fn expect_few_slots(rt: &impl Abort, table: &mut LocalTable) {
     let mut with_room = 0u32;
     for round in 2..ROUNDS {

@@ -17,7 +17,7 @@ struct Held {
 }
 
 impl Held {
-    /// How often the transaction has it.
+    /// How often the transaction has the object in the mode of this entry, over all levels.
     fn transaction(&self) -> u16 {
         let mut sum = 0u16;
         for level in 0..16usize {
@@ -26,7 +26,7 @@ impl Held {
         sum
     }
 
-    /// Whether neither the session nor its transaction has it.
+    /// Whether neither the session nor its transaction has the object in the mode of this entry.
     fn is_nothing(&self) -> bool {
         self.session == 0 && self.transaction() == 0
     }
@@ -57,7 +57,7 @@ fn place_of(plain: &Plain, tag: Tag, mode: Mode) -> Option<usize> {
     None
 }
 
-/// Acquires `tag` in `mode` for `owner` in the list `plain`, and answers what it is answered.
+/// Acquires `tag` in `mode` for `owner` in the list `plain`, and answers what a local table is to answer.
 fn raise(rt: &impl Abort, plain: &mut Plain, tag: Tag, mode: Mode, owner: Owner) -> Acquired {
     let found = place_of(plain, tag, mode);
     let place = match found {
@@ -88,7 +88,7 @@ fn raise(rt: &impl Abort, plain: &mut Plain, tag: Tag, mode: Mode, owner: Owner)
     }
 }
 
-/// Releases `tag` in `mode` for `owner` in the list `plain`, and answers what it is answered.
+/// Releases `tag` in `mode` for `owner` in the list `plain`, and answers what a local table is to answer.
 fn lower(
     rt: &impl Abort,
     plain: &mut Plain,
@@ -139,7 +139,8 @@ fn left_of(rt: &impl Abort, held: Held, depth: usize, end: End) -> Held {
     left
 }
 
-/// Ends both by `end`, and answers whether `table` gives what `plain` loses, in its order.
+/// Ends `table` and `plain` by `end`, and answers whether `table` gives the entries that `plain` loses, in the order
+/// of `plain`.
 fn end_both(
     rt: &impl Abort,
     alloc: Global,

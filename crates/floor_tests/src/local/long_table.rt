@@ -8,7 +8,8 @@ use std::process::Abort;
 
 const MANY: u32 = 10_000;
 
-/// Whether `owner` is to have `relation`: each relation has an owner, and some have both.
+/// Whether `owner` is to have `relation`: each relation has an owner, and some have both the transaction and the
+/// session.
 fn owns(owner: Owner, relation: u32) -> bool {
     match owner {
         Owner::Transaction => relation % 5 != 0 || relation % 7 == 0,
@@ -16,12 +17,12 @@ fn owns(owner: Owner, relation: u32) -> bool {
     }
 }
 
-/// The relation that is released at `step` of releasing half of them.
+/// The relation that is released at `step` of releasing half of the relations.
 fn released_at(step: u32) -> u32 {
     step.wrapping_mul(3) % MANY
 }
 
-/// Whether `relation` is left after half of them were released.
+/// Whether `relation` is left after half of the relations were released.
 fn is_left(relation: u32) -> bool {
     for step in 0..MANY / 2 {
         if released_at(step) == relation {
@@ -31,7 +32,7 @@ fn is_left(relation: u32) -> bool {
     true
 }
 
-/// Acquires `relation` in `table` for `owner`, if it is one of its own.
+/// Acquires `relation` in `table` for `owner`, if that owner is to have it, and answers whether nothing was refused.
 fn acquire_for(rt: &impl Abort, table: &mut LocalTable, owner: Owner, relation: u32) -> bool {
     let tag = Tag::relation(5, relation);
     !owns(owner, relation) || acquire(rt, table, tag, AccessShare, owner).is_ok()
@@ -51,7 +52,7 @@ fn acquire_all(rt: &impl Abort, table: &mut LocalTable) {
     }
 }
 
-/// Whether the release of `relation` in `table` for `owner`, if it is one of its own, is answered `answer`.
+/// Whether the release of `relation` in `table` for `owner`, if that owner is to have it, is answered `answer`.
 fn release_for(table: &mut LocalTable, owner: Owner, relation: u32, answer: Unlocked) -> bool {
     let tag = Tag::relation(5, relation);
     !owns(owner, relation) || table.drop_one(tag, AccessShare, owner) == Ok(answer)
@@ -83,7 +84,8 @@ fn ends_next(table: &mut LocalTable, relation: u32) -> bool {
     table.end_next(End::Commit) == Some((Tag::relation(5, relation), AccessShare))
 }
 
-/// Commits in `table`, which ends those that are left and not the session's, in the order of making.
+/// Commits in `table`, and ends the test unless that ends just the entries that are left and not the session's, in
+/// the order of making.
 fn commit(rt: &impl Abort, table: &mut LocalTable) {
     for relation in 0..MANY {
         if !owns(Owner::Session, relation) && is_left(relation) {
@@ -113,7 +115,7 @@ fn next_left(from: u32) -> u32 {
     MANY
 }
 
-/// Whether `table` has just what the session has and is left, in the order of making.
+/// Whether `table` has just the relations that are the session's and left, in the order of making.
 fn are_left(table: &LocalTable) -> bool {
     let mut next = next_left(0);
     for entry in table.entries() {

@@ -19,8 +19,7 @@ fn is_noted(index: &PlaceIndex, hash: u32, place: u16) -> bool {
         .is_some()
 }
 
-/// Notes `place`, which is not noted yet, under `hash` in `index`. Where memory is refused, nothing changes and the
-/// next call goes on.
+/// Notes `place`, which is not noted yet, under `hash` in `index`. Where memory is refused, a second attempt is made.
 fn note(rt: &impl Abort, index: &mut PlaceIndex, hash: u32, place: u16) {
     let place = u32::from(place);
     if index.reserve(place).is_err() {
@@ -99,7 +98,7 @@ const NOTED_UNTIL_FORGOTTEN_OR_CLEARED: [Step; 25] = [
     Step::First(5, None),
 ];
 
-/// Does with `index` what `step` says, or looks at it, and answers whether it is as it says.
+/// Does with `index` what `step` says, or looks at `index`, and answers whether that comes out as `step` says.
 fn make(rt: &impl Abort, index: &mut PlaceIndex, step: Step) -> bool {
     match step {
         Step::Note(hash, place) => {
@@ -157,8 +156,8 @@ fn forget_half(rt: &impl Abort, index: &mut PlaceIndex, hashes: u32, odd: u16) {
     }
 }
 
-/// Looks in `index` for all places under `hashes` hashes, of which the odd ones are noted where `odd`, otherwise
-/// none.
+/// Looks in `index` for all places under `hashes` hashes, and ends the test unless just the odd ones are noted where
+/// `odd`, and none otherwise.
 fn find_all(rt: &impl Abort, index: &PlaceIndex, hashes: u32, odd: bool) {
     for place in 0..MANY {
         let is = is_noted(index, hash_of(place, hashes), place);
@@ -188,10 +187,10 @@ fn few_hashes(rt: HostRuntime) {
     forget_by_halves(&rt, &mut index, 3);
 }
 
-/// The hash that each place is noted under, if it is.
+/// For each place the hash that it is noted under, or `None` where it is not noted.
 type Plain = [Option<u32>; 256];
 
-/// Notes all places of a plain list in `index`, and answers that list.
+/// Notes all places of a plain list in `index`, and answers the list.
 fn note_all(rt: &impl Abort, index: &mut PlaceIndex) -> Plain {
     let mut list = [None; 256];
     for place in 0..256u16 {
@@ -202,7 +201,8 @@ fn note_all(rt: &impl Abort, index: &mut PlaceIndex) -> Plain {
     list
 }
 
-/// A hash by `random` or, half of the time, `its`, the one that the place has.
+/// A hash by `random`: half of the time `its`, the hash that a place is noted under, if there is one, and otherwise
+/// any.
 fn hash_by(random: u32, its: Option<u32>) -> u32 {
     let other = (random >> 24) % 40;
     if random >> 20 & 1 == 0 {

@@ -67,7 +67,7 @@ fn lowered(entry: Entry, owner: Owner) -> Option<Entry> {
     })
 }
 
-/// Acquires `tag` in `mode` for `owner` in `list`, and answers what it is answered.
+/// Acquires `tag` in `mode` for `owner` in `list`, and answers what a local table is to answer.
 fn raise(rt: &impl Abort, list: &mut Plain, tag: Tag, mode: Mode, owner: Owner) -> Acquired {
     let Some(place) = place_of(list, tag, mode) else {
         let none = Entry {
@@ -84,7 +84,7 @@ fn raise(rt: &impl Abort, list: &mut Plain, tag: Tag, mode: Mode, owner: Owner) 
     Acquired::AlreadyHeld
 }
 
-/// Releases `tag` in `mode` for `owner` in `list`, and answers what it is answered.
+/// Releases `tag` in `mode` for `owner` in `list`, and answers what a local table is to answer.
 fn lower(
     rt: &impl Abort,
     list: &mut Plain,
@@ -149,8 +149,8 @@ pub(super) fn random_owner(random: u32) -> Owner {
     }
 }
 
-/// Counts `tag` in `mode` once more for `owner` in both `table` and `list` where it is held, and answers whether both
-/// say alike that it is or isn't.
+/// Counts `tag` in `mode` once more for `owner` in both `table` and `list` where it is held, and answers whether
+/// `table` says rightly whether it is.
 fn add_held(
     rt: &impl Abort,
     table: &mut LocalTable,

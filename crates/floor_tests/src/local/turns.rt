@@ -46,7 +46,7 @@ pub enum Answer {
 /// How often a call is made, the call, and what it is answered each time.
 pub type Turn = (u32, Call, Answer);
 
-/// What a list of turns says of `answer`, to an acquire.
+/// The `Answer` that `answer`, to an acquire, is in a list of turns.
 fn acquired(answer: Result<Acquired, Refusal>) -> Answer {
     match answer {
         Ok(Acquired::Granted) => Answer::Granted,
@@ -55,7 +55,7 @@ fn acquired(answer: Result<Acquired, Refusal>) -> Answer {
     }
 }
 
-/// What a list of turns says of `answer`, to a try at a held one.
+/// The `Answer` that `answer`, to `add_held`, is in a list of turns.
 fn counted(answer: Result<bool, Refusal>) -> Answer {
     match answer {
         Ok(true) => Answer::AlreadyHeld,
@@ -64,7 +64,7 @@ fn counted(answer: Result<bool, Refusal>) -> Answer {
     }
 }
 
-/// What a list of turns says of `answer`, of what is known at once.
+/// The `Answer` that `answer`, to `add_at_once`, is in a list of turns.
 fn known(answer: AtOnce) -> Answer {
     match answer {
         AtOnce::AlreadyHeld => Answer::AlreadyHeld,
@@ -73,7 +73,7 @@ fn known(answer: AtOnce) -> Answer {
     }
 }
 
-/// What a list of turns says of `answer`, to a release.
+/// The `Answer` that `answer`, to a release, is in a list of turns.
 fn released(answer: Result<Unlocked, Refusal>) -> Answer {
     match answer {
         Ok(Unlocked::Released) => Answer::Released,
@@ -82,7 +82,8 @@ fn released(answer: Result<Unlocked, Refusal>) -> Answer {
     }
 }
 
-/// What a list of turns says of `answer`, to a release as far as one slot goes.
+/// The `Answer` that `answer`, to `drop_at_once`, is in a list of turns: `Unknown` where one look at a slot doesn't
+/// decide it.
 fn released_at_once(answer: Option<Unlocked>) -> Answer {
     match answer {
         Some(answer) => released(Ok(answer)),
@@ -90,7 +91,7 @@ fn released_at_once(answer: Option<Unlocked>) -> Answer {
     }
 }
 
-/// What a list of turns says of `answer`, to the next step of an end.
+/// The `Answer` that `answer`, to the next step of an end, is in a list of turns.
 fn ended(answer: Option<(Tag, Mode)>) -> Answer {
     match answer {
         Some((tag, mode)) => Answer::Ends(tag, mode),
@@ -107,7 +108,7 @@ fn count(table: &LocalTable) -> u32 {
     number
 }
 
-/// Makes `call` on `table`, and answers what a list of turns says of it.
+/// Makes `call` on `table`, and answers what `table` answered, as a list of turns has it.
 fn make(rt: &impl Abort, table: &mut LocalTable, call: Call) -> Answer {
     match call {
         Call::Acquire(tag, mode, owner) => acquired(acquire(rt, table, tag, mode, owner)),
@@ -127,7 +128,8 @@ fn make(rt: &impl Abort, table: &mut LocalTable, call: Call) -> Answer {
     }
 }
 
-/// Makes the call of `turn` in `table` as often as it says, and answers whether it is answered so each time.
+/// Makes the call of `turn` in `table` as often as `turn` says, and answers whether each answer is the one that
+/// `turn` says.
 fn take(rt: &impl Abort, table: &mut LocalTable, turn: Turn) -> bool {
     let (times, call, answer) = turn;
     for _ in 0..times {

@@ -7,7 +7,7 @@ use lock_table::{NoMemory, PartTable};
 use modes_core::{Mode, SessionId, Tag};
 use std::process::Abort;
 
-/// The object of most tests.
+/// The tag of the object in most tests of lock records.
 pub const OBJECT: Tag = Tag::Relation {
     database: 5,
     relation: 16384,
@@ -18,7 +18,8 @@ pub fn session(rt: &impl Abort, number: u16) -> SessionId {
     SessionId::new(number).expect(rt, "a session number")
 }
 
-/// Whether `session` may ask for `tag` in `mode` in `part`: it neither holds it nor waits. A wait of it ends.
+/// Ends the wait of `session` for `tag` in `part`, if any, and answers whether the session may ask for `tag` in
+/// `mode`: whether it doesn't hold that.
 fn may_ask<P: PartTable>(part: &mut P, session: SessionId, tag: &Tag, mode: Mode) -> bool
     ensures new { result ≡ true → (P.content part.new).holds session tag.now mode ≡ false }
     ensures no_wait { waits_there ((P.content part.new).waits tag.now) session ≡ false }
@@ -29,7 +30,8 @@ fn may_ask<P: PartTable>(part: &mut P, session: SessionId, tag: &Tag, mode: Mode
     !part.held(session, tag).has(mode)
 }
 
-/// Has `session` hold `tag` in `mode` in `part`, unless it does already. Nothing is looked at.
+/// Has `session` hold `tag` in `mode` in `part` without a look for conflicts, and answers whether the session didn't
+/// hold that before.
 pub fn hold<P: PartTable>(
     part: &mut P,
     session: SessionId,
@@ -47,8 +49,8 @@ pub fn hold<P: PartTable>(
     Ok(true)
 }
 
-/// Has `session` hold `tag` in `mode` in `part` where no other session is in the way; otherwise the request is given
-/// up.
+/// Has `session` hold `tag` in `mode` in `part` where it doesn't yet and no other session is in the way, and answers
+/// whether that was so. Otherwise the request is given up.
 pub fn hold_beside<P: PartTable>(
     part: &mut P,
     session: SessionId,

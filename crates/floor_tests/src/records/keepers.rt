@@ -41,7 +41,8 @@ fn session_of(rt: &impl Abort, number: u32) -> SessionId {
     SessionId::new((number % 16) as u16).expect(rt, "a session")
 }
 
-/// Makes a call of both keepers, `plain` and `records`, by `seed`, whose answers are alike.
+/// Makes the call that `seed` chooses on both keepers, `plain` and `records`, and ends the test unless their answers
+/// are alike.
 fn call_both(
     rt: &impl Abort,
     plain: &mut PlainPart,
@@ -106,7 +107,7 @@ fn call_both(
     Ok(())
 }
 
-/// Sees that `plain` and `records` list alike.
+/// Ends the test unless `plain` and `records` list the same rows.
 fn list_both(
     rt: &impl Abort,
     alloc: Global,
@@ -122,7 +123,8 @@ fn list_both(
     Ok(())
 }
 
-/// Makes the calls on `plain` and `records`, and lists both after each hundredth.
+/// Makes all calls of the test on both keepers, `plain` and `records`, and compares their rows after each hundredth
+/// call.
 fn call_in_turn(
     rt: &impl Abort,
     alloc: Global,

@@ -10,12 +10,12 @@ use modes_core::Mode::{AccessExclusive, AccessShare};
 use std::process::Abort;
 use std::test::Fail;
 
-/// What `part` counts of the object.
+/// What `part` counts of the object of most tests, `OBJECT`.
 fn counted(rt: &impl Abort, part: &RecordPart) -> Counts {
     part.counts(&OBJECT).expect(rt, "a lock record")
 }
 
-/// The one of `numbers` at the number of `mode`.
+/// The entry of `numbers` for `mode`: its place is the number of `mode`.
 fn at(numbers: [u16; 9], mode: Mode) -> u16 {
     numbers[usize::from(mode.number())]
 }
@@ -48,7 +48,7 @@ fn two_hold_and_one_waits(rt: HostRuntime) -> Result<(), Fail> {
     Ok(())
 }
 
-/// Has all sessions hold the object in `part`, and all but the first one wait for it.
+/// Has all sessions hold `OBJECT` in `part`, and all but the first session wait for it.
 fn crowd(rt: &impl Abort, part: &mut RecordPart) -> Result<(), NoMemory>
     requires none_begun { part.old.begun ≡ None }
     ensures none_begun { part.new.begun ≡ None }

@@ -4,7 +4,7 @@ use lock_script::{Defect, Fault};
 use std::alloc::{AllocError, Global};
 use std::test::Fail;
 
-/// Each defect, and the text of the fault of line 7 that has it.
+/// Each defect, and the text of the fault that line 7 has the defect.
 const DEFECTS: [(Defect, &str); 15] = [
     (Defect::TooManyLines, "line 7: too many lines"),
     (Defect::LineTooLong, "line 7: line too long"),

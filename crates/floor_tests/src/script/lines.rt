@@ -3,8 +3,8 @@
 use lock_script::{Defect, Fault, LineReader};
 use std::io::{self, ErrorKind, Read};
 
-/// A reader of a text that gives a fixed number of bytes a read, is interrupted before each, and fails where the text
-/// ends if it is to.
+/// A reader of a text that gives a fixed number of bytes a read, is interrupted before each read, and fails at the
+/// end of the text if `fails` says so.
 #[derive(Drop)]
 struct Text<'a> {
     left: &'a [u8],
@@ -27,7 +27,7 @@ impl Read for Text<'_> {
     }
 }
 
-/// A text, whether reading fails at its end, its lines, and the fault after them.
+/// A text, whether reading fails at its end, its lines, and the fault after the lines, if any.
 type Lines = (&'static str, bool, &'static [&'static str], Option<Fault>);
 
 const LINES: [Lines; 6] = [
@@ -63,7 +63,7 @@ fn is_next<R: Read>(reader: &mut LineReader<R>, expected: &str) -> bool {
     }
 }
 
-/// Whether `reader` has no line left, and ends with `fault` if there is one.
+/// Whether `reader` has no line left, and ends with `fault`, or well where `fault` is `None`.
 fn is_over<R: Read>(reader: &mut LineReader<R>, fault: Option<Fault>) -> bool {
     match reader.next_line() {
         Ok(None) => fault.is_none(),
@@ -72,7 +72,7 @@ fn is_over<R: Read>(reader: &mut LineReader<R>, fault: Option<Fault>) -> bool {
     }
 }
 
-/// Whether the lines of `reader` are `lines`, and `fault` comes after them.
+/// Whether the lines of `reader` are `lines`, and `fault`, if any, comes after them.
 fn are_read<R: Read>(reader: &mut LineReader<R>, lines: &[&str], fault: Option<Fault>) -> bool {
     for line in lines {
         if !is_next(reader, line) {
@@ -82,7 +82,7 @@ fn are_read<R: Read>(reader: &mut LineReader<R>, lines: &[&str], fault: Option<F
     is_over(reader, fault)
 }
 
-/// Whether the text of `row` is read as it says, by a reader that gives up to `most` bytes at a time.
+/// Whether the text of `row` is read as `row` says, by a reader that gives up to `most` bytes at a time.
 fn is_read(row: Lines, most: usize) -> bool {
     let (text, fails, lines, fault) = row;
     let mut reader = LineReader::new(Text {

@@ -74,7 +74,7 @@ fn in_two_threads<B: Board<PlainPart> + Send, R: Threads + Wait + Sync>(
 enum SideBySide {
     /// The two sessions take one partition over and over.
     Together,
-    /// One comes for a lock as the other one puts it.
+    /// One session comes for a lightweight lock as the other session puts it back.
     Latecomer,
 }
 
@@ -140,7 +140,7 @@ fn who_comes_for_a_lock_as_it_is_put_is_not_left_asleep(rt: HostRuntime) -> Resu
 }
 
 /// Takes partition 3 by `board`, that of a session that has nothing, and puts it back, twice. Answers what the
-/// session's wait word shows then.
+/// session's wait word shows after that.
 fn keep_twice<T: PartTable, B: Board<T>, R: Wait>(rt: &R, board: &mut B) -> u64
     requires blank { B.view board.old ≡ blank_account }
     requires stack { B.stack board.old ≡ nothing_due }

@@ -12,9 +12,9 @@ use std::process::Abort;
 use std::sync::Wait;
 use std::test::Fail;
 
-/// Sets two modes of a relation in the first slot by `board`, that of a session that has nothing, one after the other,
-/// and answers the number that the slot shows then; `None` where somebody has counted a strong lock of the relation's
-/// index.
+/// Sets two modes of a relation in the first slot by `board`, that of a session that has nothing, one after the
+/// other, and answers the number that the slot shows after that; `None` where somebody has counted a strong lock of
+/// the relation's index.
 fn set_twice<T: PartTable, B: Board<T>, R: Wait>(rt: &R, board: &mut B) -> Option<u64>
     requires blank { B.view board.old ≡ blank_account }
     requires stack { B.stack board.old ≡ nothing_due }
@@ -39,8 +39,8 @@ fn set_twice<T: PartTable, B: Board<T>, R: Wait>(rt: &R, board: &mut B) -> Optio
     Some(board.load_slot(own, 0).number())
 }
 
-/// Shares the lock of its own slots by `board`, that of a session that has nothing, and answers what it sees then: its
-/// database, and the number of its last slot. The lock is given back.
+/// Shares the lock of a session's own slots by `board`, that of a session that has nothing, and answers what the
+/// session sees meanwhile: its database, and the number of its last slot. The lock is given back.
 fn read_shared<T: PartTable, B: Board<T>, R: Wait>(rt: &R, board: &mut B) -> (u64, u64)
     requires blank { B.view board.old ≡ blank_account }
     requires stack { B.stack board.old ≡ nothing_due }
@@ -60,7 +60,7 @@ fn read_shared<T: PartTable, B: Board<T>, R: Wait>(rt: &R, board: &mut B) -> (u6
 }
 
 /// Counts a strong lock on a relation by `board`, that of a session that has nothing, and answers what the relation's
-/// counter shows then.
+/// strong lock counter shows after that.
 fn count_once<T: PartTable, B: Board<T>>(board: &mut B) -> u64
     requires blank { B.view board.old ≡ blank_account }
 {

@@ -13,29 +13,31 @@ use std::process::Abort;
 /// What is done to a part by the session of a number, or seen in it.
 #[derive(Clone, Copy)]
 pub enum Step {
-    /// The session comes to hold the object.
+    /// The session with this number comes to hold the object in this mode.
     Holds(u16, Tag, Mode),
-    /// The session comes to wait, at this place of the object's queue.
+    /// The session with this number comes to wait for this mode, at this place of the object's queue.
     Waits(u16, Tag, Mode, usize),
-    /// A hold of it is taken out.
+    /// The hold of the session with this number on the object, in this mode, is taken out.
     Releases(u16, Tag, Mode),
-    /// The session leaves the object's queue, in which it waited for this mode, or for none.
+    /// The session with this number leaves the object's queue, in which it waited for this mode, or for none.
     Leaves(u16, Tag, Option<Mode>),
-    /// A wakeup of the object grants these, in this order.
+    /// A wakeup of the object's queue grants these sessions these modes, in this order.
     Wakes(Tag, &'static [(u16, Mode)]),
-    /// The object's queue has the waits of these, from the front.
+    /// The object's queue has the waits of the sessions with these numbers, from the front.
     Queue(Tag, &'static [u16]),
-    /// The first in the object's queue waits for this mode, and held it in the modes of this mask as it joined.
+    /// The first session in the object's queue waits for this mode, and held the object in the modes of this mask as
+    /// it joined.
     First(Tag, Mode, u16),
-    /// The session holds the object in the modes of this mask.
+    /// The session with this number holds the object in the modes of this mask.
     Has(u16, Tag, u16),
-    /// The session would meet this one with this mode, which is the first that holds one in conflict.
+    /// A request of the first session for the object in the first mode meets the second session, which holds the
+    /// second mode: the first hold in conflict.
     Meets(u16, Tag, Mode, u16, Mode),
-    /// The answer to the session if it asked for the mode.
+    /// The answer that the session with this number would get if it asked for this mode on the object.
     Asks(u16, Tag, Mode, Told),
 }
 
-/// What a session is answered that may wait.
+/// The answer to the request of a session that may wait.
 #[derive(Clone, Copy)]
 pub enum Told {
     Granted,
@@ -45,7 +47,8 @@ pub enum Told {
     Deadlock(u16),
 }
 
-/// Begins the request of `session` in `part` for `tag` in `mode`, which may be made.
+/// Begins the request of `session` in `part` for `tag` in `mode`. Where the request may not be made, the test ends by
+/// `rt`.
 fn begins_once<P: PartTable>(
     rt: &impl Abort,
     part: &mut P,
@@ -63,8 +66,8 @@ fn begins_once<P: PartTable>(
     part.begin(session, tag, mode)
 }
 
-/// Begins the request of `session` in `part` for `tag` in `mode`, at the second attempt where there was no memory:
-/// all is as before then.
+/// Begins the request of `session` in `part` for `tag` in `mode`. Where memory is refused, nothing changes and a
+/// second attempt is made.
 fn begins<P: PartTable>(
     rt: &impl Abort,
     part: &mut P,
@@ -142,8 +145,8 @@ pub fn queue_is<P: PartTable>(part: &P, tag: &Tag, numbers: &[u16]) -> bool {
     part.waiter(tag, numbers.len()).is_none()
 }
 
-/// Whether the first in the queue of `tag` in `part` waits for `mode`, and held it in the modes of the mask `held` as
-/// it joined.
+/// Whether the first session in the queue of `tag` in `part` waits for `mode`, and held `tag` in the modes of the
+/// mask `held` as it joined.
 fn first_is<P: PartTable>(part: &P, tag: &Tag, mode: Mode, held: u16) -> bool {
     match part.waiter(tag, 0) {
         Some(first) => first.mode == mode && first.held.mask() == held,
@@ -160,7 +163,8 @@ fn meant(rt: &impl Abort, told: Told) -> Answer {
     }
 }
 
-/// Does with `part` what `step` says, or looks at what it says, and answers whether it is as it says.
+/// Does with `part` what `step` says, or looks at what `step` names, and answers whether that comes out as `step`
+/// says.
 fn make<P: PartTable>(rt: &impl Abort, part: &mut P, step: Step) -> Result<bool, NoMemory>
     requires none_begun { P.begun part.old ≡ None }
     ensures none_begun { P.begun part.new ≡ None }

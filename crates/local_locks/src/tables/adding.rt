@@ -13,9 +13,9 @@ use crate::{Acquired, AtOnce, Entry};
 use modes_core::{Mode, Owner, Refusal, Tag};
 
 impl LocalTable {
-    /// Counts `tag` and `mode`, if it is held already, once more for `owner`, in one look, and answers whether it is
-    /// held (`LockAcquireExtended` in lock.c where it finds a local lock with `nLocks` above 0). Refused where that
-    /// owner's count is full; nothing has changed then.
+    /// Counts `tag` in `mode` once more for `owner`, if the session has it already, and answers whether the session
+    /// has it, in one look (`LockAcquireExtended` in lock.c where it finds a local lock with `nLocks` above 0).
+    /// Refused where the count of `owner` is full; nothing has changed then.
     #[inline(always)]
     pub fn add_held(&mut self, tag: &Tag, mode: Mode, owner: Owner) -> Result<bool, Refusal>
         ensures held { (result ≡ Ok true) ↔ ((has_entry self.old.entries tag.now mode ≡ true)
@@ -38,9 +38,9 @@ impl LocalTable {
         }
     }
 
-    /// Does the work of `add_held` for `tag`, `mode` and `owner` as far as the first place of the index goes, which
-    /// mostly shows whether the object is held in the mode, and where: `AtOnce::Unknown` says nothing, and `add_held`
-    /// goes on from there. With neither a loop nor a call in it, it is short enough to be inlined into each caller.
+    /// Does the work of `add_held` for `tag`, `mode` and `owner` as far as the first place of the index shows whether
+    /// `tag` is held in `mode`, as it mostly does. `AtOnce::Unknown` says nothing of that and leaves all as it is.
+    /// With neither a loop nor a call, this is short enough to be inlined into each caller.
     #[inline(always)]
     pub fn add_at_once(&mut self, tag: &Tag, mode: Mode, owner: Owner) -> AtOnce
         ensures held { result ≡ AtOnce.AlreadyHeld → (has_entry self.old.entries tag.now mode ≡ true)
@@ -101,8 +101,8 @@ impl LocalTable {
         Ok(true)
     }
 
-    /// Makes room for one more acquire of `tag` in `mode` by `owner`, which `add` then enters. Refused where the
-    /// count or the table is full, or memory ran out; the entries are as before then.
+    /// Makes room for one more acquire of `tag` in `mode` by `owner`, for `add` to enter. Refused where the count of
+    /// `owner` or the table is full, or memory ran out. The entries don't change.
     pub fn reserve(&mut self, tag: Tag, mode: Mode, owner: Owner) -> Result<(), Refusal>
         ensures ok { OnOk result (IsReserved self.new tag mode owner) }
 
@@ -137,8 +137,8 @@ impl LocalTable {
         }
     }
 
-    /// Makes room for one more entry, which `add_new` then enters, with no look for it: `reserve` for an object and
-    /// mode of which `add_held` answered that they have none.
+    /// Makes room for one more entry, for `add_new` to enter. Does what `reserve` does, without a look, for an object
+    /// and mode of which `add_held` answered that the session hasn't them.
     #[inline(always)]
     pub fn reserve_new(&mut self) -> Result<(), Refusal>
         ensures allowed { OnOk result (length self.new.entries < self.new.max_local) }
@@ -184,8 +184,8 @@ impl LocalTable {
         used < self.slots.capacity() && used < self.index.places()
     }
 
-    /// Makes room for one more entry: uses slots again whose entries are gone, and grows only where more than half
-    /// of all slots have entries.
+    /// Makes room for one more entry: uses slots again whose entries are gone, and lets the table grow only where
+    /// more than half of all slots have entries.
     #[cold]
     #[inline(never)]
     fn make_room(&mut self) -> Result<(), Refusal>
@@ -237,7 +237,8 @@ impl LocalTable {
         Ok(())
     }
 
-    /// Where the entries of half of the slots that are used up are gone, moves the others together.
+    /// Moves the entries down over the empty slots, so that these can be used again, where no more than half of the
+    /// slots used so far have entries.
     fn use_slots_again(&mut self)
         ensures used { self.new.room ≡ 0 → IsCrowded self.old.slots self.old.entries }
         ensures slots { self.new.slots ≡ self.old.slots }
@@ -275,7 +276,7 @@ impl LocalTable {
         }
     }
 
-    /// Enters the first acquire of `tag` in `mode` by `owner`, for which room was reserved, with no look for it
+    /// Enters the first acquire of `tag` in `mode` by `owner`, for which room was reserved, with no look for an entry
     /// (`GrantLockLocal` in lock.c after `LockAcquireExtended` made the entry).
     #[inline(always)]
     pub fn add_new(&mut self, tag: &Tag, mode: Mode, owner: Owner)
@@ -297,8 +298,8 @@ impl LocalTable {
         }
     }
 
-    /// Does the work of `add_new` for any `tag`, `mode` and `owner`: a call of its own, so that of a relation no
-    /// more than its two numbers are copied.
+    /// Does the work of `add_new` for any `tag`, `mode` and `owner`: a call of its own, so that where `tag` is a
+    /// relation `add_new` copies only its two numbers.
     #[inline(never)]
     fn add_new_object(&mut self, tag: &Tag, mode: Mode, owner: Owner)
         requires new { has_entry self.old.entries tag.now mode ≡ false }
@@ -313,7 +314,7 @@ impl LocalTable {
         self.enter(*tag, key_hash(tag, mode), mode, owner);
     }
 
-    /// Does the work of `add_new` for `tag`, `mode` and `owner` where `hash`, that of the object and mode, is known.
+    /// Does the work of `add_new` for `tag`, `mode` and `owner` where `hash`, the hash of `tag` and `mode`, is known.
     #[inline(always)]
     fn enter(&mut self, tag: Tag, hash: u32, mode: Mode, owner: Owner)
         requires hashed { hash ≡ key_hash tag mode }

@@ -11,9 +11,9 @@ use crate::slots::{settle, settle_inner, take_ended, tidy};
 use modes_core::{Mode, Tag};
 
 impl LocalTable {
-    /// Goes on with `end`: gives the next object and mode, in the order of making, that the end takes away, or
-    /// `None` once there is no other (the loop of `LockReleaseAll` in lock.c). The step that gives `None` ends the
-    /// innermost level, or all of them.
+    /// Goes on with `end`: answers the next object and mode, in the order of making, that `end` takes away from the
+    /// session, or `None` once there is no other (the loop of `LockReleaseAll` in lock.c). The step that answers
+    /// `None` ends the innermost level of the transaction, or all levels where `end` is not `End::Inner`.
     #[inline(always)]
     pub fn end_next(&mut self, end: End) -> Option<(Tag, Mode)>
         requires nested { end ≡ End.Inner → 1 < level_of self.old }
@@ -42,7 +42,8 @@ impl LocalTable {
         }
     }
 
-    /// Goes on with `end`, of the transaction or of the session.
+    /// Goes on with `end`, of the transaction or of the session: answers the next object and mode that `end` takes
+    /// away, or `None` once there is no other.
     #[inline(always)]
     fn end_transaction(&mut self, end: End) -> Option<(Tag, Mode)>
         requires whole { end ≢ End.Inner }
@@ -82,7 +83,8 @@ impl LocalTable {
         Some(key)
     }
 
-    /// Goes on with the end of the innermost level (`LockReleaseCurrentOwner` in lock.c).
+    /// Goes on with the end of the innermost level of the transaction (`LockReleaseCurrentOwner` in lock.c): answers
+    /// the next object and mode that this end takes away, or `None` once there is no other.
     #[cold]
     #[inline(never)]
     fn end_innermost(&mut self) -> Option<(Tag, Mode)>

@@ -67,10 +67,10 @@ impl Taken {
 #[derive(Drop)]
 pub struct Round {
     pub job: Job,
-    /// How many threads have come, and how many have ended.
+    /// How many threads of the round have come. How many have ended is `ended`.
     came: AtomicU64,
     ended: AtomicU64,
-    /// What those threads took that have ended.
+    /// What those threads of the round took that have ended.
     taken: Mutex<Taken>,
 }
 
@@ -95,13 +95,12 @@ impl Round {
         self.wait_for_all(rt, &self.came);
     }
 
-    /// Waits by `rt` until all threads have ended, so that this one keeps what it holds while others list it.
+    /// Waits by `rt` until all threads have ended, so that the calling thread keeps what it holds while others list it.
     pub fn leave<R: Clock>(&self, rt: &R) {
         self.wait_for_all(rt, &self.ended);
     }
 
-    /// Adds one to `counted`, and waits until that is the number of threads. Nobody waits for ever for a thread that
-    /// couldn't be started.
+    /// Adds one to `counted`, and waits until the count is the number of threads. Nobody waits for ever for a thread that couldn't be started.
     fn wait_for_all<R: Clock>(&self, rt: &R, counted: &AtomicU64) {
         counted.fetch_add(1, Ordering::SeqCst);
         for _ in 0..LOOKS {

@@ -9,29 +9,30 @@ use lock_table::{NoMemory, PartTable};
 use lw_word::LwMode;
 use modes_core::{Mode, SessionId, Tag, USUAL_SESSIONS, is_strong};
 
-/// How many strong locks a session may have counted.
+/// The most strong locks that one session may have counted.
 const MOST_COUNTED: usize = 65_536;
 
-/// The position past every session.
+/// The position of a counted strong lock whose session has gone past every session.
 const ALL_PASSED: u16 = 64;
 
 impl CountedBy {
-    /// Whether this is the strong lock that `session` has counted, of `mode` on `tag`.
+    /// Whether this counted strong lock is that of `session` for `mode` on `tag`.
     fn is_by(&self, session: SessionId, tag: Tag, mode: Mode) -> bool
         ensures { result ≡ is_by session tag mode self.now }
     {
         self.session == session && self.tag.is_same(tag) && self.mode.is_same(mode)
     }
 
-    /// Whether this is the strong lock that `session` has counted, of `mode` on `tag`, and past just the sessions
-    /// below `position`.
+    /// Whether this counted strong lock is that of `session` for `mode` on `tag`, and `session` has gone past just
+    /// the sessions below `position`.
     fn is_by_at(&self, session: SessionId, position: u16, tag: Tag, mode: Mode) -> bool
         ensures { result ≡ is_by_at session position tag mode self.now }
     {
         self.is_by(session, tag, mode) && self.position == position
     }
 
-    /// The counted lock one past `owner`, if it is that of `session` for `mode` on `tag` and the owner is next.
+    /// This counted strong lock, with `owner` passed too if it is that of `session` for `mode` on `tag` and `owner`
+    /// is the next session to pass.
     fn passed(self, session: SessionId, owner: SessionId, tag: Tag, mode: Mode) -> Self
         ensures { result ≡ passed_by session owner tag mode self }
     {
@@ -48,7 +49,8 @@ impl CountedBy {
     }
 }
 
-/// Takes what `session` has counted of `mode` on `tag` one past `owner`, where the owner is next.
+/// Has the strong lock that `session` has counted for `mode` on `tag` in `counted` go past `owner`, where `owner` is
+/// the next session to pass.
 fn pass(counted: &mut [CountedBy], session: SessionId, owner: SessionId, tag: Tag, mode: Mode)
     ensures { counted.new ≡ map (passed_by session owner tag mode) counted.old }
 {
@@ -57,7 +59,7 @@ fn pass(counted: &mut [CountedBy], session: SessionId, owner: SessionId, tag: Ta
     }
 }
 
-/// Takes out what `session` has counted of `mode` on `tag`.
+/// Takes the strong lock that `session` has counted for `mode` on `tag` out of `counted`.
 fn uncounted(counted: &mut Vec<CountedBy>, session: SessionId, tag: Tag, mode: Mode)
     ensures { counted.new.items ≡ filter (λ c. not (is_by session tag mode c)) counted.old.items }
 {
@@ -78,9 +80,9 @@ impl Machine {
     ghost use Rattle.lock_model.specs.Shows.{Shows, ShowsSafe, Follows};
     ghost use Rattle.lock_model.specs.CountedLists.{counter, counted_for, holds_fast, may_count, has_or_awaits, may_uncount, slots_show, may_pass, may_load_counter, reads_zero};
 
-    /// Counts for `session` a strong lock of `mode` on `tag` that is not counted yet, past nobody
-    /// (`BeginStrongLockAcquire` in lock.c). After `NoMemory`, which comes only where the list was full, the machine
-    /// shows what it showed.
+    /// Counts for `session` a strong lock of `mode` on `tag` that is not counted yet and has gone past no session
+    /// (`BeginStrongLockAcquire` in lock.c). After `NoMemory`, which comes only where the list of counted locks was
+    /// full, the machine shows what it showed before.
     pub fn count(&mut self, session: SessionId, tag: Tag, mode: Mode) -> Result<(), NoMemory>
         requires within { session < usual_sessions }
         requires shown { ShowsSafe self.old }
@@ -99,8 +101,8 @@ impl Machine {
         Ok(())
     }
 
-    /// Takes the count of `mode` on `tag` back, which `session` neither has nor awaits (`AbortStrongLockAcquire` in
-    /// lock.c).
+    /// Takes back the strong lock that `session` has counted for `mode` on `tag`, where `session` neither has nor
+    /// awaits that lock (`AbortStrongLockAcquire` in lock.c).
     pub fn uncount(&mut self, session: SessionId, tag: Tag, mode: Mode)
         requires within { session < usual_sessions }
         requires shown { ShowsSafe self.old }
@@ -111,9 +113,9 @@ impl Machine {
         }
     }
 
-    /// Puts the lock of the slots of `owner`, which `session` holds, and goes past `owner`, which is next and has no
-    /// slot on `tag`, a strong lock in `mode` being asked for (a turn of the loop of `FastPathTransferRelationLocks`
-    /// in lock.c).
+    /// Puts back the lock of the slots of `owner`, which `session` holds, and has the strong lock that `session` has
+    /// counted for `mode` on `tag` go past `owner`, which is the next session to pass and has no slot for `tag` (a
+    /// turn of the loop of `FastPathTransferRelationLocks` in lock.c).
     pub fn put_passing(&mut self, session: SessionId, owner: SessionId, tag: Tag, mode: Mode)
         requires within { session < usual_sessions }
         requires shown { ShowsSafe self.old }
@@ -128,8 +130,9 @@ impl Machine {
         }
     }
 
-    /// Loads the strong lock counter at `index`, which must show `shown`. Where it is 0 and `session` holds the lock
-    /// of its own slots, it may set slots for objects of this index (`LockAcquireExtended` in lock.c).
+    /// Loads the strong lock counter at `index`, which must show `shown`, for `session`. Where `shown` is 0 and
+    /// `session` holds the lock of its own slots, `session` may set slots for objects of this index
+    /// (`LockAcquireExtended` in lock.c).
     pub fn load_strong(&mut self, session: SessionId, index: u16, shown: u64)
         requires within { session < usual_sessions }
         ensures { Follows self.old session (Step.LoadStrong index shown) self.new }
@@ -139,22 +142,22 @@ impl Machine {
         }
     }
 
-    /// Whether `session` may be granted `mode` on `tag`, or await it: a strong one must be counted, and past each
-    /// session.
+    /// Whether `session` may be granted `mode` on `tag`, or await it: a strong lock must be counted by `session`, and
+    /// have gone past each session.
     pub fn is_counted_for(&self, session: SessionId, tag: Tag, mode: Mode) -> bool
         ensures { result ≡ counted_for self.now session tag mode }
     {
         !is_strong(tag, mode) || self.is_counted_at(session, ALL_PASSED, tag, mode)
     }
 
-    /// Whether `session` has counted nothing.
+    /// Whether `session` has counted no strong lock.
     pub fn counts_nothing(&self, session: SessionId) -> bool
         ensures { result ≡ (count_by (λ c. c.session == session) self.now.counted.items == 0) }
     {
         self.how_many_counted(session) == 0
     }
 
-    /// Whether `session` may count `mode` on `tag`.
+    /// Whether `session` may count the strong lock of `mode` on `tag`.
     fn may_count(&self, session: SessionId, tag: Tag, mode: Mode) -> bool
         requires within { session < usual_sessions }
         ensures { result ≡ may_count self.now session tag mode }
@@ -165,7 +168,7 @@ impl Machine {
             && self.how_many_counted(session) < MOST_COUNTED
     }
 
-    /// Whether `session` may count `mode` on `tag` no more.
+    /// Whether `session` may take back the strong lock that it has counted for `mode` on `tag`.
     fn may_uncount(&self, session: SessionId, tag: Tag, mode: Mode) -> bool
         requires within { session < usual_sessions }
         requires shown { ShowsSafe self.now }
@@ -189,7 +192,7 @@ impl Machine {
             && !self.slots_show(owner, tag)
     }
 
-    /// Whether `session` may load the counter at `index`, and it shows `shown`.
+    /// Whether `session` may load the strong lock counter at `index`, and the counter shows `shown`.
     fn may_load_counter(&self, session: SessionId, index: u16, shown: u64) -> bool
         requires within { session < usual_sessions }
         ensures { result ≡ may_load_counter self.now session index shown }
@@ -197,7 +200,8 @@ impl Machine {
         self.makes_steps(session) && index < 1024 && shown == self.counter(index)
     }
 
-    /// Whether `session` reads the counter at `index`, which shows `shown`, as 0, and may set slots then.
+    /// Whether `session` may load the strong lock counter at `index`, which shows `shown`, and may set slots by that:
+    /// `shown` is 0 and `session` holds the lock of its own slots.
     fn reads_zero(&self, session: SessionId, index: u16, shown: u64) -> bool
         requires within { session < usual_sessions }
         ensures { result ≡ reads_zero self.now session index shown }
@@ -207,7 +211,7 @@ impl Machine {
             && self.holds_fast(session, session)
     }
 
-    /// What the strong lock counter at `index` shows: how much is counted at its index.
+    /// What the strong lock counter at `index` shows: how many strong locks are counted at `index`.
     fn counter(&self, index: u16) -> u64
         ensures { result ≡ counter self.now index }
     {
@@ -226,8 +230,8 @@ impl Machine {
         self.locks.fast_holders[usize::from(owner.number())][usize::from(session.number())]
     }
 
-    /// Puts the lock of the slots of `owner` back, which `session` holds exclusively: a counter that it read as 0
-    /// permits no more slot to be set once its own lock is put.
+    /// Puts back the lock of the slots of `owner`, which `session` holds exclusively. Where `owner` is `session`, the
+    /// counter that `session` has read as 0 lets it set no more slot.
     fn free_fast(&mut self, session: SessionId, owner: SessionId)
         requires within { session < usual_sessions }
         requires exists { owner < usual_sessions }
@@ -255,7 +259,7 @@ impl Machine {
         }
     }
 
-    /// Whether `session` has `mode` on `tag`, in a content or in a slot, or awaits it.
+    /// Whether `session` has `mode` on `tag`, in the content of a partition or in a slot, or awaits it.
     fn has_or_awaits(&self, session: SessionId, tag: Tag, mode: Mode) -> bool
         requires within { session < usual_sessions }
         requires shown { ShowsSafe self.now }
@@ -294,14 +298,15 @@ impl Machine {
         self.counted.iter().filter(|c| c.session == session).count()
     }
 
-    /// Whether `session` has counted `mode` on `tag`.
+    /// Whether `session` has counted the strong lock of `mode` on `tag`.
     fn is_counted(&self, session: SessionId, tag: Tag, mode: Mode) -> bool
         ensures { result ≡ list_any (is_by session tag mode) self.now.counted.items }
     {
         self.counted.iter().any(|c| c.is_by(session, tag, mode))
     }
 
-    /// Whether `session` has counted `mode` on `tag`, and is past just the sessions below `position`.
+    /// Whether `session` has counted the strong lock of `mode` on `tag`, and has gone with it past just the sessions
+    /// below `position`.
     pub fn is_counted_at(&self, session: SessionId, position: u16, tag: Tag, mode: Mode) -> bool
         ensures { result ≡ list_any (is_by_at session position tag mode) self.now.counted.items }
     {

@@ -15,28 +15,29 @@ use modes_core::{Mode, SessionId};
 pub struct InHand {
     /// The session that has the partition in hand.
     pub holder: SessionId,
-    /// The move that the session has made on the content, if any.
+    /// The move that the holder has made on the content of the partition in hand, if any.
     pub recorded: Option<Move>,
-    /// Of each session number whether that move granted its session, whose wait word is not yet marked so.
+    /// For each session number, whether the recorded move granted that session and its wait word is not yet marked
+    /// granted.
     pub unmarked: [bool; 1024],
 }
 
 impl InHand {
-    /// Whether the wait words of all sessions whom the recorded move granted are marked.
+    /// Whether the wait words of all sessions whom the recorded move granted are marked granted.
     pub fn none_unmarked(&self) -> bool
         ensures { result ≡ none_unmarked self.now.unmarked }
     {
         !self.unmarked.contains(&true)
     }
 
-    /// Whether the recorded move granted `session` and its wait word is not yet marked.
+    /// Whether the recorded move granted `session` and its wait word is not yet marked granted.
     pub fn is_unmarked(&self, session: SessionId) -> bool
         ensures { result ≡ is_unmarked_in self.now.unmarked session }
     {
         self.unmarked[usize::from(session.number())]
     }
 
-    /// Whether `done` is the recorded move.
+    /// Whether `done` is the move that is recorded in this hand.
     pub fn has_made(&self, done: &Move) -> bool
         ensures { result ≡ has_made self.now.recorded done.now }
     {
@@ -46,8 +47,8 @@ impl InHand {
         }
     }
 
-    /// Whether a mode may be moved from the slot `slot` of `owner` to the content: no move is recorded, or the adopt
-    /// of this slot.
+    /// Whether a mode may be moved from the slot `slot` of `owner` to the content in hand: no move is recorded, or
+    /// the recorded one is the adopt of this slot.
     pub fn may_adopt(&self, owner: u16, slot: u8) -> bool
         ensures { result ≡ may_adopt self.now.recorded owner slot }
     {
@@ -66,7 +67,8 @@ impl Machine {
     ghost use Rattle.lock_world.specs.WaitWord.{wait_state, granted_word};
     ghost use Rattle.lock_model.specs.Shows.{hand_of};
 
-    /// The hand that has `partition`, where `session` makes steps of its own and has it.
+    /// The hand of `session` that has `partition`, or `None` where `session` hasn't the partition in hand or makes no
+    /// steps of its own.
     pub fn hand_of(&self, session: SessionId, partition: u8) -> Option<InHand>
         requires within { session < usual_sessions }
         ensures { result ≡ hand_of self.now session partition }
@@ -88,7 +90,8 @@ impl Machine {
         }
     }
 
-    /// Sets the word of `partition` to `held`, and its content is in the hand of `session`.
+    /// Sets the word of `partition` to `held`, and puts the partition's content into the hand of `session`, with no
+    /// move recorded.
     pub fn set_held(&mut self, session: SessionId, partition: u8, held: LwWord)
         requires { partition < 16 }
         ensures { self.new ≡ record self.old {
@@ -108,7 +111,8 @@ impl Machine {
         });
     }
 
-    /// Records the move `done` in `hand`, which has `partition`, with those of `unmarked` whom it granted unmarked.
+    /// Records the move `done` in `hand`, which has `partition`; `unmarked` says for each session number whether
+    /// `done` granted that session and its wait word is not yet marked granted.
     pub fn record(&mut self, partition: u8, hand: InHand, done: Move, unmarked: [bool; 1024])
         requires { partition < 16 }
         ensures { self.new ≡ record self.old {
@@ -125,8 +129,8 @@ impl Machine {
         });
     }
 
-    /// Marks the wait of `other`, which the move `done` in `hand` granted in `partition`: its wait word goes from
-    /// waiting to granted, and what is left of `unmarked` has it no more.
+    /// Marks the wait of `other`, which the move `done` in `hand` granted in `partition`: the wait word of `other`
+    /// goes from waiting to granted, and `hand` records `done` with those of `unmarked` but `other`.
     pub fn mark(
         &mut self,
         partition: u8,
@@ -159,7 +163,8 @@ impl Machine {
         self.words.waits[index] += 1;
     }
 
-    /// Puts the word of `partition`, and its content is at home.
+    /// Puts back the word of `partition`, which is held exclusively, and takes the partition's content out of the
+    /// hand that has it.
     pub fn set_free(&mut self, partition: u8)
         requires { partition < 16 }
         ensures { self.new ≡ record self.old {
@@ -183,7 +188,7 @@ pub fn is_among(woken: &[(SessionId, Mode)], session: SessionId) -> bool
     woken.iter().any(|(other, _)| *other == session)
 }
 
-/// The sessions in `woken`, by number: none of their grants is marked yet.
+/// For each session number, whether `woken` has that session: no grant is marked yet.
 pub fn unmarked_of(woken: &[(SessionId, Mode)]) -> [bool; 1024]
     ensures { (session : ℕ) → is_unmarked_in result session ≡ names_in woken.now session }
 {

@@ -13,8 +13,8 @@ impl Machine {
     ghost use Rattle.lock_model.specs.Shows.{Follows};
     ghost use Rattle.lock_model.specs.ListWords.{may_lock_list, has_list};
 
-    /// Locks the wait list of the lightweight lock `word`, where nobody has locked it and `session` has locked no other
-    /// (`LWLockWaitListLock` in lwlock.c).
+    /// Locks the wait list of the lightweight lock `word` for `session`, where nobody has locked that list and
+    /// `session` has locked no other one (`LWLockWaitListLock` in lwlock.c).
     pub fn lock_list(&mut self, session: SessionId, word: Word)
         requires within { session < usual_sessions }
         ensures { Follows self.old session (Step.LockList word) self.new }
@@ -27,8 +27,8 @@ impl Machine {
         }
     }
 
-    /// Unlocks the wait list of the lock in `word`, which `session` has in hand; has-waiters and release-ok remain
-    /// set where `has_waiters` and `release_ok` say so (`LWLockWaitListUnlock`).
+    /// Unlocks the wait list of the lightweight lock `word`, which `session` has locked; has-waiters and release-ok
+    /// remain set where `has_waiters` and `release_ok` say so (`LWLockWaitListUnlock` in lwlock.c).
     pub fn unlock_list(
         &mut self,
         session: SessionId,
@@ -49,7 +49,8 @@ impl Machine {
         }
     }
 
-    /// Sets release-ok in `word`, which showed `shown` before, for `session` (`LWLockAcquire`, once it was woken).
+    /// Sets release-ok in `word`, which showed `shown` before, for `session` (`LWLockAcquire` in lwlock.c, once the
+    /// session was woken).
     pub fn set_release_ok(&mut self, session: SessionId, word: Word, shown: u64)
         requires within { session < usual_sessions }
         ensures { Follows self.old session (Step.SetReleaseOk word shown) self.new }
@@ -62,8 +63,8 @@ impl Machine {
         }
     }
 
-    /// Sets has-waiters in `word`, that of the lock whose wait list `session` has in hand, which showed `shown`
-    /// before (`LWLockQueueSelf`).
+    /// Sets has-waiters in `word`, which showed `shown` before: the word of the lock whose wait list `session` has
+    /// locked (`LWLockQueueSelf` in lwlock.c).
     pub fn set_has_waiters(&mut self, session: SessionId, word: Word, shown: u64)
         requires within { session < usual_sessions }
         ensures { Follows self.old session (Step.SetHasWaiters word shown) self.new }
@@ -76,7 +77,7 @@ impl Machine {
         }
     }
 
-    /// Whether `session` may lock a wait list that nobody has.
+    /// Whether `session` makes steps and has locked no wait list, so that it may lock one.
     fn may_lock_list(&self, session: SessionId) -> bool
         requires within { session < usual_sessions }
         ensures { result ≡ may_lock_list self.now session }
@@ -84,7 +85,7 @@ impl Machine {
         self.makes_steps(session) && self.lists.has_list[usize::from(session.number())].is_none()
     }
 
-    /// Whether `session` makes steps, and has the wait list of `lock` in hand.
+    /// Whether `session` makes steps, and has locked the wait list of `lock`.
     fn has_list(&self, session: SessionId, lock: u16) -> bool
         requires within { session < usual_sessions }
         ensures { result ≡ has_list self.now session lock }
@@ -124,7 +125,7 @@ impl Machine {
         }
     }
 
-    /// Unlocks the wait list of the lock of `partition`, which `session` has in hand; has-waiters and release-ok
+    /// Unlocks the wait list of the lock of `partition`, which `session` has locked; has-waiters and release-ok
     /// remain set where `has_waiters` and `release_ok` say so.
     fn unlock_partition_list(
         &mut self,
@@ -145,7 +146,7 @@ impl Machine {
         }
     }
 
-    /// Unlocks the wait list of the lock of the fast-path slots of `owner`, which `session` has in hand; has-waiters
+    /// Unlocks the wait list of the lock of the fast-path slots of `owner`, which `session` has locked; has-waiters
     /// and release-ok remain set where `has_waiters` and `release_ok` say so.
     fn unlock_fast_list(
         &mut self,
@@ -197,8 +198,8 @@ impl Machine {
         }
     }
 
-    /// Sets has-waiters in the word of the lock of `partition`, which showed `shown` before and whose list `session`
-    /// has in hand.
+    /// Sets has-waiters in the word of the lock of `partition`, which showed `shown` before and whose wait list
+    /// `session` has locked.
     fn set_partition_has_waiters(&mut self, session: SessionId, partition: u8, shown: u64)
         requires within { session < usual_sessions }
         ensures { Follows self.old session (Step.SetHasWaiters (Word.Partition partition) shown) self.new }
@@ -213,7 +214,7 @@ impl Machine {
     }
 
     /// Sets has-waiters in the word of the lock of the fast-path slots of `owner`, which showed `shown` before and
-    /// whose list `session` has in hand.
+    /// whose wait list `session` has locked.
     fn set_fast_has_waiters(&mut self, session: SessionId, owner: SessionId, shown: u64)
         requires within { session < usual_sessions }
         ensures { Follows self.old session (Step.SetHasWaiters (Word.Fast owner) shown) self.new }

@@ -9,7 +9,7 @@ use lw_word::{LwMode, LwWaiter};
 use modes_core::{SessionId, USUAL_SESSIONS};
 
 impl Sleeper {
-    /// Whether `session` waits for `lock`.
+    /// Whether this sleeper is `session`, waiting for `lock`.
     fn is_at(&self, lock: u16, session: SessionId) -> bool
         ensures { result ≡ is_at lock session self.now }
     {
@@ -17,7 +17,7 @@ impl Sleeper {
     }
 }
 
-/// Takes `session` out of the list of `lock` in `sleepers`.
+/// Takes `session` out of the wait list of `lock` in `sleepers`.
 fn take_out(sleepers: &mut Vec<Sleeper>, lock: u16, session: SessionId)
     ensures { sleepers.new.items ≡ filter (λ sleeper. not (is_at lock session sleeper)) sleepers.old.items }
 {
@@ -34,8 +34,9 @@ impl Machine {
     ghost use Rattle.lock_model.specs.Shows.{Shows, ShowsSafe, Follows};
     ghost use Rattle.lock_model.specs.SleeperLists.{list_to_change, waits_at, may_tell, may_load_sleep, sees_no_sleep};
 
-    /// Puts `session` at the end of the wait list that it has in hand, as one that wants `mode` (`LWLockQueueSelf`
-    /// in lwlock.c). After `NoMemory`, which comes only where the list was full, the machine shows what it showed.
+    /// Puts `session` at the end of the wait list that it has locked, as one that wants `mode` (`LWLockQueueSelf` in
+    /// lwlock.c). After `NoMemory`, which comes only where the list of sleepers was full, the machine shows what it
+    /// showed before.
     pub fn join_list(&mut self, session: SessionId, mode: LwMode) -> Result<(), NoMemory>
         requires within { session < usual_sessions }
         requires shown { ShowsSafe self.old }
@@ -58,7 +59,8 @@ impl Machine {
         Ok(())
     }
 
-    /// Takes `session` out of the wait list that it has in hand, where it is in it (`LWLockDequeueSelf` in lwlock.c).
+    /// Takes `session` out of the wait list that it has locked, where the session is in that list
+    /// (`LWLockDequeueSelf` in lwlock.c).
     pub fn leave_list(&mut self, session: SessionId)
         requires within { session < usual_sessions }
         requires shown { ShowsSafe self.old }
@@ -75,8 +77,8 @@ impl Machine {
         }
     }
 
-    /// Takes `other` off the wait list that `session` has in hand, to be woken later (the first loop of
-    /// `LWLockWakeup` in lwlock.c).
+    /// Takes `other` off the wait list that `session` has locked, to be woken later (the first loop of `LWLockWakeup`
+    /// in lwlock.c).
     pub fn take_off(&mut self, session: SessionId, other: SessionId)
         requires within { session < usual_sessions }
         requires shown { ShowsSafe self.old }
@@ -117,8 +119,8 @@ impl Machine {
         }
     }
 
-    /// Loads the sleep word of `session`, which must show `shown`: where that is 0, the session is in no list (the
-    /// sleep in `LWLockAcquire` in lwlock.c).
+    /// Loads the sleep word of `session`, which must show `shown`: where `shown` is 0, the session is in no wait list
+    /// (the sleep in `LWLockAcquire` in lwlock.c).
     pub fn load_sleep(&mut self, session: SessionId, shown: u8)
         requires within { session < usual_sessions }
         requires shown { ShowsSafe self.old }
@@ -130,7 +132,8 @@ impl Machine {
         }
     }
 
-    /// The lock whose wait list `session` has in hand, where it makes steps.
+    /// The lock whose wait list `session` has locked, or `None` where there is no such lock or the session makes no
+    /// steps.
     fn list_to_change(&self, session: SessionId) -> Option<u16>
         requires within { session < usual_sessions }
         ensures { result ≡ list_to_change self.now session }
@@ -142,7 +145,7 @@ impl Machine {
         }
     }
 
-    /// Whether `session` is in the list of `lock`, and its sleep word shows waiting.
+    /// Whether `session` is in the wait list of `lock`, and its sleep word shows waiting.
     fn waits_at(&self, lock: u16, session: SessionId) -> bool
         requires within { session < usual_sessions }
         ensures { result ≡ waits_at self.now lock session }
@@ -150,7 +153,7 @@ impl Machine {
         self.stands_at(lock, session) && self.lists.sleep[usize::from(session.number())] == 1
     }
 
-    /// Whether `session` is in the list of `lock`.
+    /// Whether `session` is in the wait list of `lock`.
     fn stands_at(&self, lock: u16, session: SessionId) -> bool
         ensures { result ≡ list_any (is_at lock session) self.now.lists.sleepers.items }
     {
@@ -160,7 +163,7 @@ impl Machine {
             .any(|sleeper| sleeper.is_at(lock, session))
     }
 
-    /// Whether `session` has `other` to wake, which it took off.
+    /// Whether `session` makes steps, and has taken `other` off a wait list and not woken it yet.
     fn may_tell(&self, session: SessionId, other: SessionId) -> bool
         requires within { session < usual_sessions }
         requires exists { other < usual_sessions }
@@ -172,7 +175,7 @@ impl Machine {
             && self.lists.sleep[whose] == 2
     }
 
-    /// Whether `session` may load its sleep word, and it shows `shown`.
+    /// Whether `session` may load its sleep word, and the word shows `shown`.
     fn may_load_sleep(&self, session: SessionId, shown: u8) -> bool
         requires within { session < usual_sessions }
         ensures { result ≡ may_load_sleep self.now session shown }
@@ -180,7 +183,8 @@ impl Machine {
         self.makes_steps(session) && shown == self.lists.sleep[usize::from(session.number())]
     }
 
-    /// Whether `session`, whose sleep word shows `shown`, sees by it that it is in no list.
+    /// Whether `session` may load its sleep word, which shows `shown`, and sees by `shown` that it is in no wait
+    /// list.
     fn sees_no_sleep(&self, session: SessionId, shown: u8) -> bool
         requires within { session < usual_sessions }
         ensures { result ≡ sees_no_sleep self.now session shown }

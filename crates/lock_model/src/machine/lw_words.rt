@@ -31,7 +31,7 @@ fn is_held_in(word: LwWord, mode: LwMode) -> bool
     }
 }
 
-/// `word` with one holder less in `mode`, or as it is where nobody holds the lock so.
+/// `word` with one holder less in `mode`, or as it is where nobody holds the lock in `mode`.
 pub fn put(word: LwWord, mode: LwMode) -> LwWord
     ensures { result ≡ put_in mode word }
 {

@@ -16,12 +16,12 @@ use lock_table::{Move, NoMemory, PartTable, PlainPart};
 use modes_core::{Mode, SessionId, Tag};
 use wait_queue::{remove_waiter, take_hold_out};
 
-/// A part after a move, and those whose waits the move granted.
+/// The content of a partition after a move, and those whose waits the move granted.
 #[derive(Drop)]
 pub struct MovedPart {
     /// The partition's content after the move.
     pub part: PlainPart,
-    /// Whether the move ended by a wakeup, and granted the waits of those whom `part` names then.
+    /// Whether the move ended by a wakeup, which granted the waits of the sessions that `part` names as woken.
     pub wakes: bool,
 }
 
@@ -45,8 +45,8 @@ impl MovedPart {
     }
 }
 
-/// `part` once the hold of `session` on `tag` in `mode` is released, with those woken whom that lets go. Nothing
-/// where it has no such hold.
+/// `part` once the hold of `session` on `tag` in `mode` is released and the waits are granted that this lets go on.
+/// `None` where `session` has no such hold.
 pub fn after_release(
     part: &PlainPart,
     session: SessionId,
@@ -70,8 +70,8 @@ pub fn after_release(
     }))
 }
 
-/// `part` once the wait of `session` has left the queue of `tag`, with those woken whom that lets go. Nothing where
-/// it has no wait there.
+/// `part` once the wait of `session` has left the queue of `tag` and the waits are granted that this lets go on.
+/// `None` where `session` has no wait in that queue.
 pub fn after_leaving(
     part: &PlainPart,
     session: SessionId,
@@ -98,8 +98,8 @@ impl Machine {
     ghost use Rattle.lock_model.specs.MovedPart.{IsMoved};
     ghost use Rattle.lock_model.specs.Shows.{IsOwnFor, CannotMake};
 
-    /// What the release or the leave `done` of `session` makes of `partition`. Nothing where the session may not
-    /// make it.
+    /// What the release or the leave `done` of `session` makes of `partition`. `None` where `session` may not make
+    /// that move.
     pub fn after_move(
         &self,
         session: SessionId,

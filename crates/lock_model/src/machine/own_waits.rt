@@ -32,8 +32,8 @@ impl Machine {
         }
     }
 
-    /// Whether `session` may ask for `mode` on `tag`: it waits for nothing, and hasn't the hold, in no content and
-    /// in no slot.
+    /// Whether `session` may ask for `mode` on `tag`: it waits for nothing, and has that hold neither in a content
+    /// nor in a slot.
     pub fn may_ask(&self, session: SessionId, tag: Tag, mode: Mode) -> bool
         requires within { session < usual_sessions }
         requires shown { ShowsSafe self.now }
@@ -71,7 +71,7 @@ impl Machine {
         self.waits.seen[index] = false;
     }
 
-    /// The wait of `session` is over, by its own account and by its wait word.
+    /// Ends the wait of `session`, by its own account and by its wait word.
     pub fn end_wait(&mut self, session: SessionId)
         requires within { session < usual_sessions }
         ensures { self.new ≡ record self.old {

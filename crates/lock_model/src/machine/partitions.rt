@@ -14,8 +14,8 @@ impl Machine {
     ghost use Rattle.lock_table.specs.declared.moves.Move.{Move};
     ghost use Rattle.lock_model.specs.Shows.{ShowsSafe, Follows, HasUnmoved, is_over};
 
-    /// Takes `word` exclusively, where nobody has it: that of a partition, with its content, or that of the
-    /// fast-path slots of `session` (`LWLockAcquire` with `LW_EXCLUSIVE` in lwlock.c).
+    /// Takes `word` exclusively for `session`, where nobody has it: that of a partition, with the partition's
+    /// content, or that of any session's fast-path slots (`LWLockAcquire` with `LW_EXCLUSIVE` in lwlock.c).
     pub fn take_exclusive(&mut self, session: SessionId, word: Word)
         requires within { session < usual_sessions }
         ensures { Follows self.old session (Step.TakeExclusive word) self.new }
@@ -28,8 +28,8 @@ impl Machine {
         }
     }
 
-    /// Puts `word` back, with the move `done` that `session` has made on the partition that the word guards: none
-    /// with another word (`LWLockRelease` in lwlock.c).
+    /// Puts back `word`, which `session` holds exclusively, with the move `done` that `session` makes on the content
+    /// of the partition; `done` is no move where `word` is that of fast-path slots (`LWLockRelease` in lwlock.c).
     pub fn put_exclusive(
         &mut self,
         session: SessionId,
@@ -67,8 +67,8 @@ impl Machine {
         }
     }
 
-    /// Puts `partition`, which `session` has in hand, back: with the move `done` that is recorded in the hand, or
-    /// with one that is made as it is put.
+    /// Puts back `partition`, which `session` has in hand, with the move `done`, which is recorded in the hand or
+    /// made as the partition is put.
     fn put_partition(
         &mut self,
         session: SessionId,
@@ -105,7 +105,8 @@ impl Machine {
         }
     }
 
-    /// Puts `partition`, which `session` has in hand, back with the move `done`, which is made as it is put.
+    /// Puts back `partition`, which `session` has in hand with no move recorded, with the move `done`, which is made
+    /// as the partition is put.
     fn put_made(&mut self, session: SessionId, partition: u8, done: Move) -> Result<(), NoMemory>
         requires within { session < usual_sessions }
         requires shown { ShowsSafe self.old }

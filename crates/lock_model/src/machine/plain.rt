@@ -6,7 +6,7 @@ use modes_core::{Mode, ModeSet, SessionId, Tag};
 /// Where a hold is recorded.
 #[derive(Clone, Copy, Debug, PartialEq, Eq, PartialOrd, Ord)]
 pub enum Spot {
-    /// In a fast-path slot of its session.
+    /// In the fast-path slot at this place, one of those of the hold's session.
     Slot(u8),
     /// In the lock table, not in a slot.
     Table,

@@ -58,7 +58,7 @@ pub fn gather_waits(alloc: Global, parts: &[PlainPart]) -> Result<Vec<QueuedWait
     Ok(waits)
 }
 
-/// Appends the holds of `part` to `list`. Each request is held there once at most.
+/// Appends the holds of `part` to `list`. Each request is held once at most in `part`.
 fn append_holds(part: &PlainPart, list: &mut Vec<Hold>) -> Result<(), NoMemory>
     ensures added { OnOk result (list.new.items ≡ list.old.items ++ map table_hold_of part.now.holds) }
     ensures each_once { EachOnce part.now.holds part.now.waits }

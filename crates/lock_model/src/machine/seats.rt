@@ -39,8 +39,8 @@ impl Machine {
         }
     }
 
-    /// Joins the seat of `session` to that of `joiner`, which keeps it apart, or closes the session where there is
-    /// none.
+    /// Joins the seat of `session` to that of `joiner`, which keeps `session` apart, or closes `session` where
+    /// `joiner` is `None`.
     pub fn join_seat(&mut self, session: SessionId, joiner: Option<SessionId>)
         requires within { session < usual_sessions }
         ensures { Follows self.old session (Step.JoinSeat joiner) self.new }
@@ -93,7 +93,7 @@ impl Machine {
         }
     }
 
-    /// Whether `session` has no wait list in hand and is in none.
+    /// Whether `session` has locked no wait list and is in none.
     fn has_no_list(&self, session: SessionId) -> bool
         requires within { session < usual_sessions }
         ensures { result ≡ has_no_list self.now session }
@@ -102,7 +102,7 @@ impl Machine {
         self.lists.has_list[index].is_none() && self.lists.stands[index].is_none()
     }
 
-    /// Whether `session` has taken somebody off a wait list and not woken it.
+    /// Whether `session` has taken another session off a wait list and not woken it.
     fn owes_a_telling(&self, session: SessionId) -> bool
         requires within { session < usual_sessions }
         ensures { result ≡ owes_a_telling self.now session }
@@ -131,7 +131,7 @@ impl Machine {
             .any(|joiner| joiner.is_some_and(|other| other == session))
     }
 
-    /// Whether `session` has a hold.
+    /// Whether `session` has a hold in the content of a partition.
     fn has_a_hold(&self, session: SessionId) -> bool
         ensures { result
             ≡ list_any (λ part. list_any (λ hold. hold.session == session) part.holds) self.now.contents.parts.items }

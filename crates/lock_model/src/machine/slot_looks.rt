@@ -8,7 +8,7 @@ use super::state::Machine;
 use lw_word::SlotWord;
 use modes_core::{Mode, SessionId, Tag, is_eligible};
 
-/// Whether one of `slots` shows the mode of `relation`.
+/// Whether one of `slots` shows `mode` for `relation`.
 fn some_slot_shows(slots: &[SlotWord], relation: u32, mode: Mode) -> bool
     ensures { result ≡ list_any (λ word. shows word relation mode) slots.now }
 {

@@ -34,7 +34,7 @@ fn some_slot_is_of(slots: &[SlotWord], relation: u32) -> bool
     slots.iter().any(|word| is_slot_of(*word, relation))
 }
 
-/// Whether the slot at `place` is of the group of `relation`, of `groups`.
+/// Whether the slot at `place` is in the group of `relation`, where each session has `groups` groups of slots.
 fn may_use(groups: u8, relation: u32, place: usize) -> bool
     requires { 0 < groups }
     ensures { result ≡ may_use groups relation place }
@@ -85,8 +85,9 @@ impl Machine {
         }
     }
 
-    /// Puts the lock of the slots of `owner` back, which `session` holds exclusively, with `done`, which is no move
-    /// (`LWLockRelease` in lwlock.c). With its own lock put, a counter that was read as 0 counts no more.
+    /// Puts back the lock of the slots of `owner`, which `session` holds exclusively, with `done`, which is no move
+    /// (`LWLockRelease` in lwlock.c). Where `owner` is `session`, the counter that `session` has read as 0 lets it
+    /// set no more slot.
     pub fn put_fast(&mut self, session: SessionId, owner: SessionId, done: Move)
         requires within { session < usual_sessions }
         ensures { Follows self.old session (Step.PutExclusive (Word.Fast owner) done) self.new }
@@ -116,14 +117,14 @@ impl Machine {
         has_a_mark(self.locks.fast_holders.as_slice(), session)
     }
 
-    /// Loads `word` for `session`, which must show `shown`: any slot, any session's database, or the lock of its own
-    /// slots. No step of the machine keeps what a load showed.
+    /// Loads `word`, which must show `shown`, for `session`: any slot, any session's database, or the lock of the
+    /// session's own slots. No step of the machine keeps what a load showed.
     pub fn load_word(&mut self, session: SessionId, word: Word, shown: u64)
         ensures { Follows self.old session (Step.LoadWord word shown) self.new }
     {}
 
-    /// Sets `mode` on the relation of `tag` in `slot` of `session`, with the lock of its slots held, after its
-    /// counter was read as 0 (`FastPathGrantRelationLock` in lock.c).
+    /// Sets `mode` on the relation of `tag` in `slot` of `session`, with the lock of its slots held, after the strong
+    /// lock counter of `tag` was read as 0 (`FastPathGrantRelationLock` in lock.c).
     pub fn set_slot(&mut self, session: SessionId, slot: u8, tag: Tag, mode: Mode)
         requires within { session < usual_sessions }
         requires shown { ShowsSafe self.old }
@@ -179,7 +180,7 @@ impl Machine {
         self.makes_steps(session) && self.locks.fast_holders[index][index]
     }
 
-    /// Whether `session` has read the counter of `tag` as 0, and may set slots for that.
+    /// Whether `session` has read the strong lock counter of `tag` as 0, and still may set slots by that.
     fn has_read_zero(&self, session: SessionId, tag: Tag) -> bool
         requires within { session < usual_sessions }
         ensures { result ≡ is_number (index_of tag) (slice_index_or self.now.fast_path.zeros session None) }

@@ -21,9 +21,9 @@ pub struct Numbers {
     pub issued: u16,
     /// How many groups of fast-path slots each session has.
     pub groups: u8,
-    /// Whether the session of this number is open.
+    /// For each session number, whether that session is open.
     pub live: [bool; 64],
-    /// Of each session the one that keeps it apart, if any.
+    /// For each session number, the session that keeps that one apart, if any.
     pub kept_by: [Option<SessionId>; 64],
 }
 
@@ -38,19 +38,19 @@ pub struct Words {
     pub waits: [u8; 1024],
 }
 
-/// Who has which lightweight locks: of each lock a mark for each session. Who holds a partition's exclusively,
-/// the hands say.
+/// Who has which lightweight locks: for each lock a mark for each session. Who holds a partition's lock exclusively
+/// is not in these marks: the hands of `Contents` say it.
 #[derive(Clone, Copy)]
 pub struct Locks {
-    /// Who holds the lock of a session's fast-path slots exclusively.
+    /// For each session, who holds the lock of its fast-path slots exclusively: a mark for each session.
     pub fast_holders: [[bool; 64]; 64],
-    /// Who shares the lock of a session's fast-path slots.
+    /// For each session, who shares the lock of its fast-path slots: a mark for each session.
     pub fast_sharers: [[bool; 64]; 64],
-    /// Who shares the lock of a partition.
+    /// For each partition, who shares its lock: a mark for each session.
     pub partition_sharers: [[bool; 64]; 16],
 }
 
-/// Whether `marks` has one of `session`, of any lock.
+/// Whether `marks`, which has for each lock a mark for each session, shows any lock to be that of `session`.
 pub fn has_a_mark(marks: &[[bool; 64]], session: SessionId) -> bool
     requires within { session < usual_sessions }
     ensures { result ≡ has_a_mark session marks.now }
@@ -63,7 +63,7 @@ pub fn has_a_mark(marks: &[[bool; 64]], session: SessionId) -> bool
 /// The contents of the partitions.
 #[derive(Drop)]
 pub struct Contents {
-    /// The partitions that are in a session's hand.
+    /// For each partition, the hand that has its content, if any.
     pub hands: [Option<InHand>; 16],
     /// The content of each partition.
     pub parts: Vec<PlainPart>,
@@ -72,9 +72,9 @@ pub struct Contents {
 /// The waits of the sessions by their own account.
 #[derive(Clone, Copy)]
 pub struct OwnWaits {
-    /// The wait of each session, until it has cleared its wait word.
+    /// The wait of each session, until the session has cleared its wait word.
     pub awaited: [Option<Awaited>; 64],
-    /// Whether the session has seen its wait word show that this wait was granted.
+    /// For each session, whether it has seen its wait word show that its wait was granted.
     pub seen: [bool; 64],
 }
 
@@ -85,7 +85,8 @@ pub struct FastPath {
     pub databases: [u32; 64],
     /// The words of each session's slots, with places for those of eight groups.
     pub slots: [[SlotWord; 128]; 64],
-    /// The index of the counter that a session has read as 0, for as long as that lets it set a slot.
+    /// For each session, the index of the strong lock counter that it has read as 0, for as long as that lets it set
+    /// a slot.
     pub zeros: [Option<u16>; 64],
 }
 
@@ -115,7 +116,7 @@ pub struct CountedBy {
     pub tag: Tag,
     /// The mode of the strong lock.
     pub mode: Mode,
-    /// The session is past each one below this number.
+    /// The session of the strong lock has gone past each session below this number.
     pub position: u16,
 }
 
@@ -123,7 +124,8 @@ pub struct CountedBy {
 /// whose slots the lock guards and 1 more.
 #[derive(Clone, Copy, Debug)]
 pub struct Sleeper {
-    /// The number of the lock.
+    /// The number of the lightweight lock that the session waits for: twice the partition, or twice the session whose
+    /// slots the lock guards and 1 more.
     pub lock: u16,
     /// The session that waits, and how it wants to take the lock.
     pub waiter: LwWaiter,
@@ -136,18 +138,18 @@ pub struct Lists {
     pub sleep: [u8; 64],
     /// Which session waits for which lightweight lock, in the order of joining.
     pub sleepers: Vec<Sleeper>,
-    /// The lock whose list each session has in hand.
+    /// For each session, the number of the lightweight lock whose wait list it has locked, if any.
     pub has_list: [Option<u16>; 64],
-    /// The lock in whose list each session is, by its own account.
+    /// For each session, the number of the lightweight lock in whose wait list it is by its own account, if any.
     pub stands: [Option<u16>; 64],
-    /// Whom each session has taken off a list and not woken yet.
+    /// For each session, whom it has taken off a wait list and not woken yet: a mark for each session.
     pub off: [[bool; 64]; 64],
 }
 
 impl Lists {
     ghost use Rattle.std.specs.Prelude.{◌≡◌, replicate, [], false, None};
 
-    /// Lists, with room from `alloc`, in which nobody waits and none is in hand.
+    /// Lists, with room from `alloc`, in which nobody waits and none of which is locked.
     fn empty(alloc: Global) -> Self
         ensures sleep { result.sleep ≡ replicate 64 0 }
         ensures sleepers { result.sleepers.items ≡ [] }

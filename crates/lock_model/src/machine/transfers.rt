@@ -13,8 +13,9 @@ impl Machine {
     ghost use Rattle.lock_model.specs.Transfers.{is_in_slot, may_transfer};
 
     /// Moves `mode`, which the slot `slot` of `owner` has, to the content of `tag` in the hand of `session`, where
-    /// the owner is next on the way of the strong lock and the lock of its slots is held (the inner loop of
-    /// `FastPathTransferRelationLocks` in lock.c). After `NoMemory` the machine shows what it showed.
+    /// `owner` is the next session that the strong lock of `session` has to pass and the lock of the slots of `owner`
+    /// is held (the inner loop of `FastPathTransferRelationLocks` in lock.c). After `NoMemory` the machine shows what
+    /// it showed before.
     pub fn transfer_slot(
         &mut self,
         session: SessionId,

@@ -34,8 +34,8 @@ impl Machine {
         }
     }
 
-    /// Loads the wait word of `session`, which must show `shown`: where it shows that the wait was granted, the
-    /// session has seen it.
+    /// Loads the wait word of `session`, which must show `shown`: where `shown` says that the wait was granted, the
+    /// session has seen its grant.
     pub fn load_wait(&mut self, session: SessionId, shown: u8)
         requires within { session < usual_sessions }
         ensures { Follows self.old session (Step.LoadWait shown) self.new }
@@ -93,8 +93,9 @@ impl Machine {
         }
     }
 
-    /// Clears the wait word of `session`, where it has seen its grant, or has the partition in hand and its wait is
-    /// in the queue no more. With `leaving`, this step may take the wait out.
+    /// Clears the wait word of `session`, where the session has seen its grant, or has the partition in hand and its
+    /// wait is in the queue no more. With `leaving`, the session has the partition in hand, and its wait is taken out
+    /// of the queue unless that leave is recorded already.
     pub fn clear_wait(&mut self, session: SessionId, leaving: bool)
         requires within { session < usual_sessions }
         requires shown { ShowsSafe self.old }
@@ -174,8 +175,8 @@ impl Machine {
         Ok(())
     }
 
-    /// Makes the move `done` of `session` in `hand`, which has `partition`, where it grants the wait of `other`, and
-    /// marks that one first.
+    /// Makes the move `done` of `session` in `hand`, which has `partition`, where `done` grants the wait of `other`,
+    /// and marks that wait granted.
     fn mark_first(
         &mut self,
         session: SessionId,
@@ -220,7 +221,7 @@ impl Machine {
     }
 
     /// Takes the wait of `session` out of the queue of `tag`, and clears its wait word. Where that leave is recorded
-    /// already, it only clears the word.
+    /// already, only the word is cleared.
     fn leave_queue(&mut self, session: SessionId, tag: Tag)
         requires within { session < usual_sessions }
         requires shown { ShowsSafe self.old }

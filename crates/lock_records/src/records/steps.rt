@@ -23,7 +23,8 @@ impl Records {
     ghost use Rattle.lock_table.specs.Queue.{awaits_mode, remove_wait, conflicts_with_some};
     ghost use Rattle.lock_records.specs.View.{content_of};
 
-    /// Whether `mode` on `tag` is free to go for `session`, behind waits for the modes `ahead`.
+    /// Whether `session` can be granted `mode` on `tag` behind waits for the modes `ahead`: `mode` conflicts with
+    /// none of `ahead`, and with no hold of another session.
     pub(super) fn is_free(&self, session: SessionId, tag: &Tag, mode: Mode, ahead: ModeSet) -> bool
         ensures free { result ≡ true →
             (conflicts_with_some mode (set_has ahead) ≡ false)
@@ -37,7 +38,7 @@ impl Records {
         self.conflict_of(session, tag, mode).is_none()
     }
 
-    /// What `conflict_of` answers `session` for `tag` in `mode`: a function of its own, called seldom.
+    /// The answer of `conflict_of` for `session`, `tag` and `mode`: a function of its own, called seldom.
     #[cold]
     #[inline(never)]
     pub(super) fn conflict_by_look(
@@ -51,7 +52,7 @@ impl Records {
         self.conflict_of(session, tag, mode)
     }
 
-    /// Where the queue record of `tag` is, if somebody awaits it.
+    /// The place of the queue record of `tag`, or `None` where nobody awaits the object.
     pub(super) fn queue_of(&self, tag: &Tag) -> Option<usize>
         ensures found { IfSome result (IsQueueAt self.now.queues tag.now) }
         ensures absent { IfNone result ((content_of self.now).waits tag.now ≡ []) }
@@ -62,7 +63,7 @@ impl Records {
         }
     }
 
-    /// The wait at `place` of the queue of `tag`, counted from the front.
+    /// The wait at `place` of the wait queue of `tag`, counted from 0 at the front, if there is one.
     pub(super) fn waiter_of(&self, tag: &Tag, place: usize) -> Option<Waiter>
         ensures wait { option_map shown_wait result ≡ slice_get ((content_of self.now).waits tag.now) place }
         ensures countable { length ((content_of self.now).waits tag.now) ≤ usize.MAX }
@@ -108,14 +109,14 @@ impl Records {
         );
     }
 
-    /// Forgets whom the last wakeup granted.
+    /// Forgets which waits the last wakeup granted.
     pub(super) fn forget_woken(&mut self)
         ensures { self.new ≡ record self.old { woken = [] } }
     {
         self.woken.clear();
     }
 
-    /// Notes last among those woken that the wait of `session` for `mode` was granted.
+    /// Adds to the list of granted waits, at its end, that of `session` for `mode`.
     pub(super) fn note_woken(&mut self, session: SessionId, mode: Mode)
         requires { length self.old.woken < self.old.capacity.woken }
         ensures { self.new ≡ record self.old { woken = self.old.woken ++ (session, mode) ∷ [] } }
@@ -123,7 +124,8 @@ impl Records {
         self.woken.push_reserved((session, mode));
     }
 
-    /// Appends the content's rows to `rows`, in no order. After a refusal some may be there.
+    /// Appends to `rows` a row for each hold and each wait of the partition, in no order. After a refusal some rows
+    /// may have been added.
     pub(super) fn push_rows(&self, rows: &mut Vec<TableRow>) -> Result<(), NoMemory>
         ensures ok { OnOk result (AppendsRows rows.old.items rows.new.items
             (λ row. if has_row (content_of self.now) row then 1 else 0)) }

@@ -9,14 +9,14 @@ use crate::part_table::PartTable;
 use crate::waits::Waiter;
 use modes_core::{Mode, ModeSet, Tag, conflicts};
 
-/// How far a walk along a queue came.
+/// How far a walk along an object's wait queue came.
 #[derive(Clone, Copy)]
 pub struct Walk {
-    /// The waiter that ended the walk, or none where the walk passed the whole queue.
+    /// The waiter that ended the walk along the wait queue, or none where the walk passed the whole queue.
     pub met: Option<Waiter>,
-    /// How many waiters the walk passed.
+    /// How many waiters the walk along the wait queue passed.
     pub place: usize,
-    /// The modes that the passed waiters await.
+    /// The awaited modes of the waiters that the walk along the wait queue passed.
     pub ahead: ModeSet,
 }
 
@@ -27,8 +27,8 @@ pub fn is_against(mode: Mode, modes: ModeSet) -> bool
     modes.meets(conflicts(mode))
 }
 
-/// Walks along the queue of `tag`, from its front up to the first waiter whose mode conflicts with one of `modes`
-/// (the loop over `waitProcs` of `ProcSleep` in proc.c).
+/// Walks along the wait queue of `tag` in `part`, from the front up to the first waiter whose mode conflicts with one of
+/// `modes` (the loop over `waitProcs` of `ProcSleep` in proc.c).
 #[inline(always)]
 pub fn walk_until<P: PartTable>(part: &P, tag: &Tag, modes: ModeSet) -> Walk
     ensures { WalksUntil (set_has modes) ((P.content part.now).waits tag.now) result }
@@ -53,7 +53,7 @@ pub fn walk_until<P: PartTable>(part: &P, tag: &Tag, modes: ModeSet) -> Walk
     }
 }
 
-/// The first waiter in the queue of `tag` that awaits a mode in conflict with `mode`.
+/// The first waiter in the queue of `tag` in `part` that awaits a mode in conflict with `mode`.
 #[inline(always)]
 pub fn first_against<P: PartTable>(part: &P, tag: &Tag, mode: Mode) -> Option<Waiter>
     ensures { option_map shown_wait result ≡ first_waiter ((P.content part.now).waits tag.now) mode }

@@ -45,7 +45,7 @@ pub record HasList (w : World) (session lock : ℕ) : Type 0 where
   pub steps : MakesSteps w.numbers session
   pub in_hand : w.sessions.has_list session ≡ Some lock
 
--- Unlocking it; of the flags those go that are not to stay (LWLockWaitListUnlock).
+-- Unlocking the list in hand; of the flags those go that are not to stay (LWLockWaitListUnlock).
 abbrev pub after_unlocking_partition_list : World → ℕ → ℕ → Bool → Bool → World
 after_unlocking_partition_list w session partition has_waiters release_ok =
     with_lists w (set_at w.words.partition partition (list_unlocked_word (w.words.partition partition) has_waiters release_ok)) w.words.fast
@@ -57,7 +57,7 @@ after_unlocking_fast_list w session owner has_waiters release_ok =
     with_lists w w.words.partition (set_at w.words.fast owner (list_unlocked_word (w.words.fast owner) has_waiters release_ok))
     (sleepers w) (set_at w.sessions.has_list session None)
 
--- Changing the list in hand, or telling those who were taken off one, leaves words and hands.
+-- Changing the list in hand, or telling a session that was taken off a list, leaves words and hands as they are.
 abbrev pub with_sleepers : World → Sleepers → World
 with_sleepers w s = with_lists w w.words.partition w.words.fast s w.sessions.has_list
 
@@ -70,7 +70,7 @@ pub record MayJoinList (w : World) (session lock : ℕ) : Type 0 where
 abbrev pub after_joining_list : World → ℕ → ℕ → LwMode → World
 after_joining_list w session lock mode = with_sleepers w (after_joining (sleepers w) lock (record { session = session; mode = mode }))
 
--- Leaving it (LWLockDequeueSelf).
+-- Leaving the list in hand (LWLockDequeueSelf).
 pub record MayLeaveList (w : World) (session lock : ℕ) : Type 0 where
   pub has : HasList w session lock
   pub stands : stands_in session (w.words.list lock) ≡ true
@@ -80,7 +80,7 @@ pub record MayLeaveList (w : World) (session lock : ℕ) : Type 0 where
 abbrev pub after_leaving_the_list : World → ℕ → ℕ → World
 after_leaving_the_list w session lock = with_sleepers w (after_leaving_list (sleepers w) lock session)
 
--- Taking another session off it, which is to be told later (the first loop of LWLockWakeup).
+-- Taking another session off the list in hand, which is to be told later (the first loop of LWLockWakeup).
 pub record MayTakeOff (w : World) (session other lock : ℕ) : Type 0 where
   pub another : other ≢ session
   pub has : HasList w session lock

@@ -12,7 +12,7 @@ pub record MayShare (numbers : Numbers) (word : ℕ) (shares : ℕ → ℕ → B
   pub free : IsFreeToShare word
   pub new : shares session lock ≡ false
 
--- Giving it back.
+-- Giving back a word that the session shares.
 pub record MayUnshare (numbers : Numbers) (shares : ℕ → ℕ → Bool) (session lock : ℕ) : Type 0 where
   pub steps : MakesSteps numbers session
   pub sharing : shares session lock ≡ true

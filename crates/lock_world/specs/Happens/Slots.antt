@@ -49,7 +49,7 @@ after_taking_fast w session owner =
 abbrev pub HappensTakingFast : World → ℕ → ℕ → World → Type 0
 HappensTakingFast w session owner v = MayTakeFast w session owner × (v ≡ after_taking_fast w session owner)
 
--- Putting it. A counter read as 0 before permits no more slot to be set once its own lock is put.
+-- Putting the lock of a session's slots. A counter read as 0 before permits no more slot to be set once its own lock is put.
 pub record MayPutFast (w : World) (session owner : ℕ) : Type 0 where
   pub steps : MakesSteps w.numbers session
   pub holding : w.sessions.holds_fast session owner ≡ true

@@ -47,7 +47,7 @@ pub data Owes (w : Waking) (lock session : ℕ) : Type 0 where
   must_try : w.tries session ≡ Some lock → Owes w lock session
   must_set_ok : HasOkToSet w lock session → Owes w lock session
 
--- somebody has
+-- some session has the lock, or something to do for those who wait for it
 abbrev pub IsOwed : Waking → ℕ → Type 0
 IsOwed w lock = (session : ℕ) × Owes w lock session
 

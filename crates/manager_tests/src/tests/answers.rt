@@ -12,7 +12,7 @@ pub fn expect_answer<R: Abort>(rt: &R, answer: Answer, expected: Answer) {
     assert_eq!(rt; answer, expected);
 }
 
-/// Ends the test where what was done isn't a request that is answered `expected`.
+/// Ends the test unless a session made a request that was answered `expected`, as `answer` says.
 pub fn expect_acted<R: Abort>(rt: &R, answer: Option<Answer>, expected: Answer) {
     match answer {
         Some(answer) => expect_answer(rt, answer, expected),
@@ -34,13 +34,13 @@ fn expect_with<R: Abort>(rt: &R, is_right: bool, tag: Tag, mode: Mode, what: &st
     assert!(rt; is_right, "{mode} of {tag} is {what}");
 }
 
-/// Ends the test where a request for `mode` on `tag` wasn't granted.
+/// Ends the test where `answer`, to a request for `mode` on `tag`, isn't a grant.
 pub fn expect_granted<R: Abort>(rt: &R, answer: Answer, tag: Tag, mode: Mode) {
     let is_granted = answer == Ok(Acquired::Granted);
     expect_with(rt, is_granted, tag, mode, "taken");
 }
 
-/// Ends the test where a release of `mode` on `tag` wasn't the last one of the mode.
+/// Ends the test where `answer`, to a release of `mode` on `tag`, isn't that of the last release of the mode.
 pub fn expect_released<R: Abort>(rt: &R, answer: Result<Unlocked, Refusal>, tag: Tag, mode: Mode) {
     let is_released = answer == Ok(Unlocked::Released);
     expect_with(rt, is_released, tag, mode, "given back");

@@ -17,18 +17,18 @@ use std::process::Abort;
 use std::sync::Wait;
 use std::thread::{Threads, for_each_mut};
 
-/// The holder, the one that waits, and the one that asks, by their numbers.
+/// How many sessions a race has: by number, the holder, the session that waits, and the one that asks it to cancel.
 pub const SESSIONS: u32 = 3;
 
 /// What the three threads of a race have together.
 #[derive(Drop)]
 struct Ring {
     rounds: u32,
-    /// Where all three meet, twice a round.
+    /// Where all three threads of a race meet, twice a round.
     all: Gate,
     /// Where the holder and the one that asks meet once the wait shows.
     two: Gate,
-    /// How often the wait was granted, and how often cancelled.
+    /// How often the wait of the race was granted, and how often cancelled.
     wins: Wins,
     waiter: SessionId,
 }
@@ -86,7 +86,8 @@ fn ask<T: PartTable, B: Board<T>, R: Wait>(
     session.ask_cancel(ring.waiter);
 }
 
-/// Takes with `session`, where `number` says that it is the holder, what the one that waits is to wait for.
+/// Takes with `session`, where `number` says that it is the holder, the mode that is to be in the way of the session
+/// that waits.
 fn prepare<T: PartTable, B: Board<T>, R: Abort + Wait>(
     rt: &R,
     session: &mut OwnSession<T, B>,

@@ -33,7 +33,7 @@ fn tag(number: u32) -> Tag {
     }
 }
 
-/// The session at this place takes a mode on the object of this number.
+/// A request: the session at this place takes this mode on the object of this number, for this owner.
 type Take = (usize, u32, Mode, Owner);
 
 /// What the sessions take, in this order.
@@ -60,8 +60,8 @@ pub type Numbers = (u64, u64, u64);
 /// What the audits count once one, two and three sessions have taken their locks.
 static TAKEN: [Numbers; 3] = [(3, 2, 1), (4, 4, 1), (4, 7, 3)];
 
-/// Once all have committed: in slots the first one has two of its own and the second one has one, in the table each
-/// has one.
+/// What the audit counts once all have committed: in slots the first session has two modes and the second one has one,
+/// in the table each has one.
 const COMMITTED: Numbers = (3, 3, 2);
 
 pub const NOTHING: Numbers = (0, 0, 0);
@@ -127,8 +127,8 @@ fn audit<T: PartTable, B: Board<T>, D: Desk<OwnSession<T, B>>, R: Abort + Wait>(
     desk.audit(rt, sessions)
 }
 
-/// Ends the test where an audit doesn't count `expected`, at the second attempt where there was no memory, since
-/// after the first one all is as before.
+/// Ends the test where an audit doesn't count `expected`, at the second attempt where there was no memory, since a
+/// failed attempt changes nothing.
 pub fn count<T: PartTable, B: Board<T>, D: Desk<OwnSession<T, B>>, R: Abort + Wait>(
     rt: &R,
     desk: &mut D,
@@ -149,7 +149,7 @@ pub fn count<T: PartTable, B: Board<T>, D: Desk<OwnSession<T, B>>, R: Abort + Wa
     expect_counted(rt, counted, expected);
 }
 
-/// Opens the session at `place`, which takes what is for it.
+/// Opens the session at `place`, which takes the modes that are for the session.
 fn open_and_take<T: PartTable, B: Board<T>, D: Desk<OwnSession<T, B>>, R: Abort + Wait>(
     rt: &R,
     desk: &mut D,
@@ -241,7 +241,8 @@ pub fn granted_in(rows: &[TableRow]) -> u64 {
     rows.iter().filter(|row| row.granted).count() as u64
 }
 
-/// How much `listing` shows, and `strong`, how much is counted at all strong lock counters.
+/// What `listing` shows as an audit counts it: the modes in slots, those in the table, and `strong`, the sum of all
+/// strong lock counters.
 fn numbers_of(listing: &Listing, strong: u64) -> Numbers {
     (
         listing.fast.len() as u64,
@@ -274,7 +275,7 @@ fn list_at_last<T: PartTable, B: Board<T>, R: Abort + Wait>(
     }
 }
 
-/// What `session` sees of all.
+/// What a listing and the strong lock counters show `session` of all sessions, as an audit counts it.
 fn look<T: PartTable, B: Board<T>, R: Abort + Wait>(
     rt: &R,
     session: &mut OwnSession<T, B>,
@@ -286,7 +287,7 @@ fn look<T: PartTable, B: Board<T>, R: Abort + Wait>(
     numbers_of(&listing, strong)
 }
 
-/// What the last of `sessions` sees of all.
+/// What a listing and the strong lock counters show the last of `sessions` of all, as an audit counts it.
 fn look_last<T: PartTable, B: Board<T>, D: Desk<OwnSession<T, B>>, R: Abort + Wait>(
     rt: &R,
     desk: &D,

@@ -57,7 +57,8 @@ pub fn try_until_busy<T: PartTable, B: Board<T>, R: Abort + Wait>(
     }
 }
 
-/// Takes a strong mode, for which `session` has the slots' locks of all sessions in hand in turn, and gives it back.
+/// Takes a strong mode with `session`, and gives it back. On the way the session has the slots' locks of all sessions
+/// in hand in turn.
 fn go_past_slots<T: PartTable, B: Board<T>, R: Abort + Wait>(rt: &R, session: &mut OwnSession<T, B>)
     ensures seat { B.seat session.new.board ≡ B.seat session.old.board }
 {
@@ -81,8 +82,8 @@ pub fn take_until_seen<T: PartTable, B: Board<T>, R: Abort + Wait>(
     }
 }
 
-/// Has one session of `pair` go past the slots of the other, until that one finds them busy. At the end nothing
-/// is held.
+/// Has one session of `pair` go past the slots of the other, until the other one finds its slots busy. At the end
+/// nothing is held.
 pub fn find_slots_busy<B: Board<Part> + Send, R: Abort + Threads + Wait + Sync>(
     rt: &R,
     pair: Pair<Part, B>,

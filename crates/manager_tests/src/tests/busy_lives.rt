@@ -39,7 +39,7 @@ const FIRST: u32 = 20_000;
 /// What the threads show each other.
 #[derive(Drop)]
 struct Shown {
-    /// Which connection comes, or is there. What those before it held is released.
+    /// Which connection comes, or is there. What earlier connections held is released.
     life: AtomicU32,
     /// How often a strong mode met what a connection held, and how often nothing.
     wins: Wins,
@@ -58,7 +58,7 @@ impl Shown {
     }
 }
 
-/// The database of the connection numbered `life`: those that follow each other are to different ones.
+/// The database of the connection numbered `life`: connections that follow each other are to different databases.
 fn database_of(life: u32) -> u32 {
     if life % 2 == 0 { 5 } else { 6 }
 }
@@ -68,8 +68,8 @@ fn table_of(life: u32) -> Tag {
     Tag::relation(database_of(life), FIRST.saturating_add(life))
 }
 
-/// Whether a row that says that `session` has or awaits `tag` is another session's, or of a connection from that
-/// numbered `first` to that numbered `last`.
+/// Whether a listed hold or wait of `session` on `tag` is one of another session than the lent one, or of a connection
+/// from that numbered `first` to that numbered `last`.
 fn is_of_those(session: SessionId, tag: Tag, first: u32, last: u32) -> bool {
     if session.number() != LENT || tag == TABLE {
         return true;
@@ -96,8 +96,8 @@ fn are_of_those(listing: &Listing, first: u32, last: u32) -> bool {
     are
 }
 
-/// Ends the test unless a cancel for a life that was over, and then one for the life that there was, were answered
-/// `over` and `now`.
+/// Ends the test unless a cancel for a life that was over, and then one for the life that goes on, were answered `over`
+/// and `now`.
 fn expect_asked<R: Abort>(rt: &R, over: Asked, now: Asked) {
     assert!(rt; over == Asked::NotWaiting);
     assert!(rt; now == Asked::Waiting);
@@ -195,7 +195,7 @@ fn live_once<T: PartTable, B: Board<T>, D: Desk<OwnSession<T, B>>, R: Abort + Wa
     shown.watch.rounds.fetch_add(1, Ordering::SeqCst);
 }
 
-/// Has `lives` connections come and go, one after another, and says that it is over.
+/// Has `lives` connections come and go, one after another, and then shows the other threads that all is over.
 fn serve<T: PartTable, B: Board<T>, D: Desk<OwnSession<T, B>>, R: Abort + Wait>(
     rt: &R,
     shown: &Shown,

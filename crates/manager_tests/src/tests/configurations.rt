@@ -4,8 +4,8 @@ use lock_manager::{Config, Manager, Refusal};
 use std::process::Abort;
 use std::test::Fail;
 
-/// How many sessions, with how many entries and groups of slots each, and whether a usual manager and a server's can
-/// have all of them.
+/// A configuration: how many sessions, with how many entries and groups of slots each, and whether a usual manager and
+/// a server's can have that.
 static CONFIGURATIONS: [(u32, u32, u32, bool, bool); 17] = [
     (0, 8, 1, false, false),
     (65, 8, 1, false, true),

@@ -57,7 +57,7 @@ impl<'a> Watch for &'a Steps {
 
 const DATABASE: u32 = 5;
 
-/// How many entries the session may have.
+/// How many entries the counted session may have.
 const MAX_LOCAL: u32 = 2;
 
 const TABLE: Tag = Tag::Relation {
@@ -77,7 +77,8 @@ const OBJECT: Tag = Tag::Object {
     sub_object: 0,
 };
 
-/// A call is made this number of times, is answered this each time, and does something on the board, or nothing.
+/// A counted call: how many times it is made, the call, what each is answered, and whether each does something on the
+/// board.
 type CountedCall = (u32, Call, Answer, bool);
 
 static CALLS: [CountedCall; 26] = [
@@ -150,7 +151,7 @@ static CALLS: [CountedCall; 26] = [
     (1, Held(TABLE), Modes(0), false),
 ];
 
-/// Makes the call at `place` of the list with `session`, and counts its steps.
+/// Makes the call at `place` of the list of counted calls with `session`, and counts its steps.
 fn make_counted<T: PartTable, B: Board<T>, R: Abort + Wait>(
     rt: &R,
     session: &mut OwnSession<T, B>,
@@ -166,7 +167,7 @@ fn make_counted<T: PartTable, B: Board<T>, R: Abort + Wait>(
     assert_eq!(rt; steps.made() != before, is_step, "call {place}");
 }
 
-/// Makes all calls of the list with `session`, and counts their steps.
+/// Makes all counted calls with `session`, and counts their steps.
 fn make_all<T: PartTable, B: Board<T>, R: Abort + Wait>(
     rt: &R,
     session: &mut OwnSession<T, B>,
@@ -205,8 +206,8 @@ fn one_thread(alloc: Global) -> Result<OneThread<PlainPart>, Fail>
     }
 }
 
-/// Makes all calls of the list in a session over `board`, of which nothing was asked yet, and counts what is done on
-/// it.
+/// Makes all counted calls in a session over `board`, on which nothing was done yet, and counts what each does on the
+/// board.
 fn make_all_over<T: PartTable, B: Board<T> + Drop, R: Abort + Wait>(
     rt: &R,
     alloc: Global,
@@ -229,7 +230,7 @@ fn make_all_over<T: PartTable, B: Board<T> + Drop, R: Abort + Wait>(
     Ok(())
 }
 
-/// Makes all calls of the list over a board for one thread.
+/// Makes all counted calls over a board for one thread.
 pub fn make_all_on_one_thread<R: Abort + Wait>(rt: &R, alloc: Global) -> Result<(), Fail> {
     make_all_over::<PlainPart, OneThread<PlainPart>, R>(rt, alloc, one_thread(alloc)?)
 }

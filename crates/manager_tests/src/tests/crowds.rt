@@ -65,7 +65,7 @@ pub const AT_ONE_OBJECT: Crowd = Crowd {
     rounds: 5,
 };
 
-/// How many words there are of those that have ended, a bit each.
+/// How many words, with a bit for each session, show which sessions of a crowd have ended.
 const WORDS: usize = 16;
 
 /// How often the watchdog looks in vain before it gives up, with `PAUSE` milliseconds between.

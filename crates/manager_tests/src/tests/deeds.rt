@@ -42,12 +42,12 @@ pub enum Deed {
 #[derive(Drop)]
 struct Shown {
     deeds: (Deed, Deed),
-    /// In which round of a race they are.
+    /// In which round of a race the two threads are.
     round: u32,
     gate: Gate,
     /// How many of the two threads have ended.
     ended: AtomicU64,
-    /// Whether the first one was the first to end.
+    /// Whether the first thread was the first to end.
     is_first_ahead: AtomicBool,
     /// Whether the slots were found busy.
     is_busy: AtomicBool,
@@ -86,15 +86,15 @@ impl Shown {
 /// How two that did something side by side have ended.
 #[derive(Clone, Copy)]
 pub struct Ended {
-    /// What each was answered, if it was a request.
+    /// What each of the two was answered, if it was a request.
     pub of_first: Option<Answer>,
     pub of_second: Option<Answer>,
-    /// Whether the first one was the first to end.
+    /// Whether the first of the two was the first to end.
     pub is_first_ahead: bool,
 }
 
-/// Does with `session` what the one on `side` is to do, once both have begun. Answers what a request was answered,
-/// if it is one.
+/// Does with `session` what the session on `side` is to do, once both sides have begun. If that is a request, answers
+/// what it was answered.
 fn act<T: PartTable, B: Board<T>, R: Abort + Wait>(
     rt: &R,
     shown: &Shown,
@@ -109,7 +109,7 @@ fn act<T: PartTable, B: Board<T>, R: Abort + Wait>(
     answer
 }
 
-/// Does `deed` with `session`. Answers what a request was answered, if it is one.
+/// Does `deed` with `session`. If it is a request, answers what that was answered.
 fn do_deed<T: PartTable, B: Board<T>, R: Abort + Wait>(
     rt: &R,
     shown: &Shown,

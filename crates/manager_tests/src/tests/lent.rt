@@ -17,7 +17,7 @@ use std::sync::Wait;
 /// How many sessions there are: as many as a server's manager can have.
 pub const SESSIONS: u32 = MOST_SESSIONS;
 
-/// How many times the pool lends all of them.
+/// How many times the pool lends all sessions.
 const LIVES: u32 = 3;
 
 /// Ends the test unless `lent` is the session numbered `number`, in the life numbered `life`.

@@ -16,7 +16,8 @@ use std::sync::Wait;
 /// How many local entries each session has in its fast-path slots.
 const BY_SLOT: u32 = 16;
 
-/// How many sessions there are, and how many entries each has. Each takes more than its slots have room for.
+/// How many sessions a manager has, and how many entries each of them has. Each takes more modes than it has room for
+/// in slots.
 #[derive(Clone, Copy, Debug)]
 pub struct Limits {
     pub sessions: u32,

@@ -12,7 +12,7 @@ use std::sync::Wait;
 
 pub const MANY: u32 = 200;
 
-/// Shares many objects with `session`, which it names neither in rising nor in falling order.
+/// Shares many objects with `session`, which asks for them neither in rising nor in falling order.
 fn share_many<T: PartTable, B: Board<T>, R: Abort + Wait>(rt: &R, session: &mut OwnSession<T, B>)
     ensures seat { B.seat session.new.board ≡ B.seat session.old.board }
 {

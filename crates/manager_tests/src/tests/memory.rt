@@ -83,7 +83,7 @@ fn list_at_last<T: PartTable, B: Board<T>, R: Abort + Wait>(
     listing.expect(rt, "one want of memory at most")
 }
 
-/// Gives `tag` in `mode` back.
+/// Gives `tag` in `mode` back with `session`.
 fn give_back<T: PartTable, B: Board<T>, R: Abort + Wait>(
     rt: &R,
     session: &mut OwnSession<T, B>,
@@ -134,14 +134,14 @@ const TABLE: Tag = Tag::Relation {
 /// How many times a strong mode is asked for.
 const TRANSFERS: u32 = 6;
 
-/// How many locks more are in its partition each time: so its list has to grow now for the first mode that is
-/// moved, now for the second one, now for the strong mode itself.
+/// How many locks more the second session has in the partition of the table at each transfer. So the list of holds
+/// grows now for the first mode that is moved, now for the second one, now for the strong mode.
 const BESIDE: u32 = 3;
 
 /// How many entries the second session has at the end.
 pub const MOVED: u32 = TRANSFERS * BESIDE + 1;
 
-/// How many rows of slots show the table in `mode`.
+/// How many of `rows`, those of slots, show the table in `mode`.
 fn count_in_slots(rows: &[SlotRow], mode: Mode) -> u32 {
     let mut shown = 0u32;
     for row in rows {

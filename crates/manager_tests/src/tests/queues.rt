@@ -23,7 +23,7 @@ use std::thread::{Threads, for_each_mut};
 /// How many sessions sleep in the queue, beside the one that holds the table.
 pub const MANY: u32 = 32;
 
-/// The mode that all wait for, and how many of them were woken.
+/// What the threads share: the mode that all wait for, whether the table is taken, and how many sessions were woken.
 #[derive(Drop)]
 struct Tally {
     mode: Mode,
@@ -33,8 +33,9 @@ struct Tally {
 }
 
 impl Tally {
-    /// Counts that one more was woken, the session numbered `number`. Where each is woken by the one before it, as
-    /// many were as that number says: the holder's is 0, and those in the queue follow in its order.
+    /// Counts that the session numbered `number` was woken. Where each is woken by the one before it, ends the test
+    /// unless `number` is how many were woken so far: the holder has the number 0, and the queue is in the order of the
+    /// numbers.
     fn wake<R: Abort>(&self, rt: &R, number: SessionId) {
         let before = self.woken.fetch_add(1, Ordering::SeqCst);
         if self.mode == Mode::AccessExclusive {

@@ -47,7 +47,7 @@ impl Race {
     }
 }
 
-/// In which round of a race the two threads are, where they begin it, and how often each side has won.
+/// A round of a race: its number, where the two threads begin it, and how often each side has won.
 #[derive(Drop)]
 struct Round<'a> {
     number: u32,
@@ -319,7 +319,7 @@ fn ask_before_sleep<B: Board<Part> + Send, R: Abort + Threads + Wait + Sync>(
     pair
 }
 
-/// Plays one round of `race` with `pair`, after which both hold what they held.
+/// Plays one round of `race` with `pair`, after which both hold what they held before.
 fn race_once<B: Board<Part> + Send, R: Abort + Threads + Wait + Sync>(
     rt: &R,
     pair: Pair<Part, B>,

@@ -129,8 +129,8 @@ fn end_one<T: PartTable, B: Board<T>, R: Abort + Wait>(
     }
 }
 
-/// Ends the transaction of `session`, which lets `waiting` go on only where it `is_last`, and puts it behind those that
-/// have `ended`.
+/// Ends the transaction of `session`, which lets `waiting` go on only where it `is_last`, and puts that session after
+/// those that have `ended`.
 fn end_next<T: PartTable, B: Board<T>, D: Desk<OwnSession<T, B>>, R: Abort + Wait>(
     rt: &R,
     desk: &D,
@@ -150,8 +150,8 @@ fn end_next<T: PartTable, B: Board<T>, D: Desk<OwnSession<T, B>>, R: Abort + Wai
     waiting
 }
 
-/// Ends the transactions of all `sessions`, the last one first, and puts these behind those that have `ended`. `waiting`
-/// waits until the last of them has ended.
+/// Ends the transactions of all `sessions`, the last one first, and puts these sessions after those that have `ended`.
+/// `waiting` waits until the last of them has ended.
 fn end_all<T: PartTable, B: Board<T>, D: Desk<OwnSession<T, B>>, R: Abort + Wait>(
     rt: &R,
     desk: &D,
@@ -173,8 +173,8 @@ fn end_all<T: PartTable, B: Board<T>, D: Desk<OwnSession<T, B>>, R: Abort + Wait
     waiting
 }
 
-/// Ends the transactions of all `sessions`, for which `waiting` waits, and puts its session behind them once it was
-/// granted.
+/// Ends the transactions of all `sessions`, for which `waiting` waits, and puts its session after them once the wait
+/// was granted.
 fn end_before<T: PartTable, B: Board<T>, D: Desk<OwnSession<T, B>>, R: Abort + Wait>(
     rt: &R,
     alloc: Global,

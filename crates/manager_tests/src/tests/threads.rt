@@ -28,7 +28,7 @@ type Holders = [Modes; 4];
 #[derive(Clone, Copy)]
 pub struct Plan {
     rounds: u32,
-    /// How many objects, or relations, the sessions ask for, 1 to 4.
+    /// How many objects, or relations, the sessions ask for, from 1 to 4.
     objects: u32,
     relations: bool,
     ghost some: { 1 ≤ objects },

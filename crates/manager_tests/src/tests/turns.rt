@@ -103,7 +103,7 @@ fn listed(answer: Result<Listing, Refusal>) -> Answer {
     }
 }
 
-/// The tag of the relation that is asked for the time `time`.
+/// The tag of the relation that is asked for in the call numbered `time` of a turn.
 fn relation(time: u32) -> Tag {
     Tag::relation(5, 16_384 | time)
 }
@@ -126,7 +126,7 @@ fn acquire_in_looks<T: PartTable, B: Board<T>, R: Wait>(
     })
 }
 
-/// Makes `call` with `session` the time `time`, and answers as a list of turns says it.
+/// Makes `call` with `session` as the call numbered `time` of a turn, and answers as a list of turns says it.
 fn make<T: PartTable, B: Board<T>, R: Wait>(
     rt: &R,
     session: &mut OwnSession<T, B>,

@@ -220,7 +220,7 @@ fn act<B: Board<Part> + Send, R: Abort + Clock + Threads + Wait + Sync + Print>(
     }
 }
 
-/// Has the list `sessions` do what `crew` does, which comes back.
+/// Has the sessions of the list `sessions` do what `crew` does, and answers the list.
 fn act_all<B: Board<Part> + Send, R: Abort + Clock + Threads + Wait + Sync + Print>(
     rt: &R,
     mut sessions: Vec<OwnSession<Part, B>>,

@@ -22,15 +22,17 @@ pub const SESSIONS: u32 = 4;
 
 const LISTINGS: u32 = 1_000;
 
-/// How often a session disturbs the next one while it has its own hold, which so lasts longer than a listing takes.
+/// How often a session disturbs the next one while it has its own hold, so that the hold lasts longer than a listing
+/// takes.
 const DISTURBANCES: u32 = 8;
 
-/// What each session says of its hold on its relation, by numbers that rise.
+/// What each session shows of the hold on its own relation, by numbers that rise.
 #[derive(Drop)]
 struct Words {
-    /// Odd from before it asks for the hold until it has given it back, or was refused.
+    /// For each session a number that is odd from before the session asks for its hold until it has given that back, or
+    /// was refused.
     may_hold: [AtomicU64; 4],
-    /// Odd from when it has the hold until before it gives it back.
+    /// For each session a number that is odd from when the session has its hold until before it gives that back.
     holds: [AtomicU64; 4],
     /// Whether the first session has listed for the last time.
     is_over: AtomicBool,
@@ -175,7 +177,7 @@ fn look(words: &[AtomicU64; 4]) -> [u64; 4] {
     ]
 }
 
-/// Lists once with `session`, and looks at what was so before and after, by `words`.
+/// Lists once with `session`, and checks the rows by what `words` showed before and after.
 fn list_once<T: PartTable, B: Board<T>, R: Abort + Wait>(
     rt: &R,
     words: &Words,

@@ -2,7 +2,7 @@
 //! here).
 use crate::rows::Row;
 
-/// `an_upgrade_of_two_shared_locks.scn`.
+/// The script `scenarios/an_upgrade_of_two_shared_locks.scn`, with what it prints.
 const AN_UPGRADE_OF_TWO_SHARED_LOCKS: Row<'static> = (
     0,
     "\
@@ -36,7 +36,7 @@ anna: committed
     "",
 );
 
-/// `a_deadlock_over_two_tables.scn`.
+/// The script `scenarios/a_deadlock_over_two_tables.scn`, with what it prints.
 const A_DEADLOCK_OVER_TWO_TABLES: Row<'static> = (
     0,
     "\
@@ -84,5 +84,5 @@ rows 2
     "",
 );
 
-/// All of them.
+/// All scripts of this theme, each with what it prints.
 pub static ROWS: [Row<'static>; 2] = [AN_UPGRADE_OF_TWO_SHARED_LOCKS, A_DEADLOCK_OVER_TWO_TABLES];

@@ -2,7 +2,7 @@
 //! here).
 use crate::rows::Row;
 
-/// `a_lock_timeout_that_saves_the_readers.scn`.
+/// The script `scenarios/a_lock_timeout_that_saves_the_readers.scn`, with what it prints.
 const A_LOCK_TIMEOUT_THAT_SAVES_THE_READERS: Row<'static> = (
     0,
     "\
@@ -63,7 +63,7 @@ alter: committed
     "",
 );
 
-/// `a_retry_loop_of_a_migration.scn`.
+/// The script `scenarios/a_retry_loop_of_a_migration.scn`, with what it prints.
 const A_RETRY_LOOP_OF_A_MIGRATION: Row<'static> = (
     0,
     "\
@@ -124,7 +124,7 @@ web: committed
     "",
 );
 
-/// `an_autovacuum_that_gives_way.scn`.
+/// The script `scenarios/an_autovacuum_that_gives_way.scn`, with what it prints.
 const AN_AUTOVACUUM_THAT_GIVES_WAY: Row<'static> = (
     0,
     "\
@@ -193,7 +193,7 @@ web: committed
     "",
 );
 
-/// `a_partition_detached_concurrently.scn`.
+/// The script `scenarios/a_partition_detached_concurrently.scn`, with what it prints.
 const A_PARTITION_DETACHED_CONCURRENTLY: Row<'static> = (
     0,
     "\
@@ -269,7 +269,7 @@ detach: committed
     "",
 );
 
-/// `a_build_behind_a_forgotten_transaction.scn`.
+/// The script `scenarios/a_build_behind_a_forgotten_transaction.scn`, with what it prints.
 const A_BUILD_BEHIND_A_FORGOTTEN_TRANSACTION: Row<'static> = (
     0,
     "\
@@ -340,7 +340,7 @@ vacuum: released
     "",
 );
 
-/// All of them.
+/// All scripts of this theme, each with what it prints.
 pub static ROWS: [Row<'static>; 5] = [
     A_LOCK_TIMEOUT_THAT_SAVES_THE_READERS,
     A_RETRY_LOOP_OF_A_MIGRATION,

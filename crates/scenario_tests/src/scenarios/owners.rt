@@ -2,7 +2,7 @@
 //! here).
 use crate::rows::Row;
 
-/// `an_alter_in_a_savepoint.scn`.
+/// The script `scenarios/an_alter_in_a_savepoint.scn`, with what it prints.
 const AN_ALTER_IN_A_SAVEPOINT: Row<'static> = (
     0,
     "\
@@ -50,7 +50,7 @@ migration: committed
     "",
 );
 
-/// `a_lock_that_outlives_its_transaction.scn`.
+/// The script `scenarios/a_lock_that_outlives_its_transaction.scn`, with what it prints.
 const A_LOCK_THAT_OUTLIVES_ITS_TRANSACTION: Row<'static> = (
     0,
     "\
@@ -91,7 +91,7 @@ other: granted after waiting
     "",
 );
 
-/// `two_workers_of_a_job_queue.scn`.
+/// The script `scenarios/two_workers_of_a_job_queue.scn`, with what it prints.
 const TWO_WORKERS_OF_A_JOB_QUEUE: Row<'static> = (
     0,
     "\
@@ -152,7 +152,7 @@ anna: closed
     "",
 );
 
-/// All of them.
+/// All scripts of this theme, each with what it prints.
 pub static ROWS: [Row<'static>; 3] = [
     AN_ALTER_IN_A_SAVEPOINT,
     A_LOCK_THAT_OUTLIVES_ITS_TRANSACTION,

@@ -2,7 +2,7 @@
 //! here).
 use crate::rows::Row;
 
-/// `fast_path_in_a_listing.scn`.
+/// The script `scenarios/fast_path_in_a_listing.scn`, with what it prints.
 const FAST_PATH_IN_A_LISTING: Row<'static> = (
     0,
     "\
@@ -68,7 +68,7 @@ rows 2
     "",
 );
 
-/// `sixteen_slots_and_one_more.scn`.
+/// The script `scenarios/sixteen_slots_and_one_more.scn`, with what it prints.
 const SIXTEEN_SLOTS_AND_ONE_MORE: Row<'static> = (
     0,
     "\
@@ -169,7 +169,7 @@ rows 0
     "",
 );
 
-/// `an_alter_moves_slots.scn`.
+/// The script `scenarios/an_alter_moves_slots.scn`, with what it prints.
 const AN_ALTER_MOVES_SLOTS: Row<'static> = (
     0,
     "\
@@ -237,7 +237,7 @@ alter: committed
     "",
 );
 
-/// `another_relation_with_the_same_counter.scn`.
+/// The script `scenarios/another_relation_with_the_same_counter.scn`, with what it prints.
 const ANOTHER_RELATION_WITH_THE_SAME_COUNTER: Row<'static> = (
     0,
     "\
@@ -288,7 +288,7 @@ rows 3
     "",
 );
 
-/// All of them.
+/// All scripts of this theme, each with what it prints.
 pub static ROWS: [Row<'static>; 4] = [
     FAST_PATH_IN_A_LISTING,
     SIXTEEN_SLOTS_AND_ONE_MORE,

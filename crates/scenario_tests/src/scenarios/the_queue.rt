@@ -2,7 +2,7 @@
 //! here).
 use crate::rows::Row;
 
-/// `alter_behind_a_long_read.scn`.
+/// The script `scenarios/alter_behind_a_long_read.scn`, with what it prints.
 const ALTER_BEHIND_A_LONG_READ: Row<'static> = (
     0,
     "\
@@ -53,7 +53,7 @@ web2: granted after waiting
     "",
 );
 
-/// `a_convoy_behind_an_idle_transaction.scn`.
+/// The script `scenarios/a_convoy_behind_an_idle_transaction.scn`, with what it prints.
 const A_CONVOY_BEHIND_AN_IDLE_TRANSACTION: Row<'static> = (
     0,
     "\
@@ -115,7 +115,7 @@ idle: committed
     "",
 );
 
-/// `a_migration_that_never_waits.scn`.
+/// The script `scenarios/a_migration_that_never_waits.scn`, with what it prints.
 const A_MIGRATION_THAT_NEVER_WAITS: Row<'static> = (
     0,
     "\
@@ -165,7 +165,7 @@ migration: committed
     "",
 );
 
-/// `an_index_build_stops_the_writers.scn`.
+/// The script `scenarios/an_index_build_stops_the_writers.scn`, with what it prints.
 const AN_INDEX_BUILD_STOPS_THE_WRITERS: Row<'static> = (
     0,
     "\
@@ -233,7 +233,7 @@ builder: released
     "",
 );
 
-/// `an_index_built_concurrently.scn`.
+/// The script `scenarios/an_index_built_concurrently.scn`, with what it prints.
 const AN_INDEX_BUILT_CONCURRENTLY: Row<'static> = (
     0,
     "\
@@ -302,7 +302,7 @@ vacuum: released
     "",
 );
 
-/// `an_alter_behind_an_index_build.scn`.
+/// The script `scenarios/an_alter_behind_an_index_build.scn`, with what it prints.
 const AN_ALTER_BEHIND_AN_INDEX_BUILD: Row<'static> = (
     0,
     "\
@@ -365,7 +365,7 @@ web: committed
     "",
 );
 
-/// `two_index_builds_over_two_writers.scn`.
+/// The script `scenarios/two_index_builds_over_two_writers.scn`, with what it prints.
 const TWO_INDEX_BUILDS_OVER_TWO_WRITERS: Row<'static> = (
     0,
     "\
@@ -428,7 +428,7 @@ late: committed
     "",
 );
 
-/// `a_dump_against_a_truncate.scn`.
+/// The script `scenarios/a_dump_against_a_truncate.scn`, with what it prints.
 const A_DUMP_AGAINST_A_TRUNCATE: Row<'static> = (
     0,
     "\
@@ -481,7 +481,7 @@ shop: committed
     "",
 );
 
-/// `an_insert_checks_a_foreign_key.scn`.
+/// The script `scenarios/an_insert_checks_a_foreign_key.scn`, with what it prints.
 const AN_INSERT_CHECKS_A_FOREIGN_KEY: Row<'static> = (
     0,
     "\
@@ -524,7 +524,7 @@ report: committed
     "",
 );
 
-/// `a_holder_passes_the_queue.scn`.
+/// The script `scenarios/a_holder_passes_the_queue.scn`, with what it prints.
 const A_HOLDER_PASSES_THE_QUEUE: Row<'static> = (
     0,
     "\
@@ -589,7 +589,7 @@ alter: committed
     "",
 );
 
-/// `object_lock.scn`.
+/// The script `scenarios/object_lock.scn`, with what it prints.
 const OBJECT_LOCK: Row<'static> = (
     0,
     "\
@@ -619,7 +619,7 @@ a: you don't own a lock of type ExclusiveLock
     "",
 );
 
-/// All of them.
+/// All scripts of this theme, each with what it prints.
 pub static ROWS: [Row<'static>; 11] = [
     ALTER_BEHIND_A_LONG_READ,
     A_CONVOY_BEHIND_AN_IDLE_TRANSACTION,

@@ -11,7 +11,7 @@ pub(super) enum Choice {
     Of(usize),
     /// The order has ended: no session that has lines left can go on.
     Ended,
-    /// The order is given up: its rest is run in another one's place.
+    /// The order is given up: another one that ends alike is run in its place.
     GivenUp,
 }
 
@@ -55,7 +55,7 @@ impl Orders<'_> {
         Choice::Ended
     }
 
-    /// Whose line comes next in the next order of all.
+    /// Whose line comes next where all orders are run, one after another.
     fn choose_untried(&mut self) -> Result<Choice, AllocError>
         ensures { KeepsOrder self.old self.new }
     {
@@ -81,7 +81,7 @@ impl Orders<'_> {
         }
     }
 
-    /// Whose line comes next in an order that is drawn: each session that can go on as likely as it has lines left.
+    /// Whose line comes next in an order that is drawn: a session that can go on is the more likely the more lines it has left.
     fn draw(&mut self) -> Choice
         ensures { KeepsOrder self.old self.new }
     {
@@ -103,7 +103,7 @@ impl Orders<'_> {
         Choice::Ended
     }
 
-    /// How many lines `session` has left, if it can go on.
+    /// How many lines `session` has left if it can go on, and else none.
     fn lines_to_draw(&self, session: usize) -> usize {
         if !self.can_go_on(session) {
             return 0;
@@ -117,7 +117,7 @@ impl Orders<'_> {
         lines.saturating_sub(taken)
     }
 
-    /// Whether `session` has a line left, doesn't wait, and names no session there that is closed.
+    /// Whether `session` has a line left, doesn't wait, and names in that line no session that is closed.
     fn can_go_on(&self, session: usize) -> bool {
         let Some(line) = self.next_line_of(session) else {
             return false;
@@ -131,8 +131,8 @@ impl Orders<'_> {
         }
     }
 
-    /// Whether the next line of `session` could have come before a line of a later session, with no line between that
-    /// it has to do with: then the order in which it does ends alike, and comes earlier.
+    /// Whether the next line of `session` could have come before a line of a later session, with no line from that one on that it has to do with. If so, the
+    /// order in which it comes before ends alike, and is run earlier.
     fn comes_late(&self, session: usize) -> bool {
         let Some(line) = self.order.taken.get(session).copied() else {
             return false;
@@ -153,8 +153,8 @@ impl Orders<'_> {
         false
     }
 
-    /// Whether with the next line of `session` the next line of an earlier one comes late for good: no line is left
-    /// that it has to do with.
+    /// Whether the next line of `session`, if it comes now, has the next line of an earlier session come late for good: no line is left that the earlier
+    /// session's line has to do with.
     fn passes_one_over(&self, session: usize) -> bool {
         let Some(own) = self.order.taken.get(session).copied() else {
             return false;

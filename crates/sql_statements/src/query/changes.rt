@@ -7,8 +7,8 @@ use sql_locks::{Defect, Form, SqlFault};
 use std::alloc::AllocError;
 
 impl Query {
-    /// Reads in `reader` the first word of a statement or a query, with the relation that it changes, and answers whether
-    /// this is one.
+    /// Reads in `reader` the first word of a statement or a query, with the relation that the statement changes, and answers whether the next word was such a
+    /// first word.
     pub(super) fn read_verb(&mut self, reader: &mut StatementReader) -> Result<bool, SqlFault> {
         if reader.cursor.eat("select") {
             self.level.is_query = true;
@@ -65,8 +65,8 @@ impl Query {
         reader.add_checks(form, reading.target)
     }
 
-    /// Adds to `reader` the indexes that an `INSERT` of `reading` looks at where it says what to do on a conflict,
-    /// unless it says nothing of which one.
+    /// Has the query reach the indexes of the table of `reading`, into which an `INSERT` of `reader` puts rows, where its `ON CONFLICT` names columns or a
+    /// constraint.
     fn read_conflict(
         &mut self,
         reader: &StatementReader,
@@ -89,7 +89,7 @@ impl Query {
     }
 }
 
-/// Whether `target` has by `reader` a rule for a change of rows of `form`.
+/// Whether `target` has a rule for the change of rows that `form` is, among the rules that `reader` knows.
 fn has_rule(reader: &StatementReader, form: Form, target: usize) -> bool {
     let kind = match form {
         Form::Insert => AttachedKind::InsertRule,

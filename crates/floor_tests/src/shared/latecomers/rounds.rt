@@ -82,9 +82,9 @@ fn mixed(seed: u64) -> u64 {
 pub struct Rounds {
     /// The last round in which the lock was held.
     held: AtomicU64,
-    /// The last one in which the other session came for it.
+    /// The last round in which the other session came for the lock.
     came: AtomicU64,
-    /// The last one in which the other session had it too.
+    /// The last round in which the other session had the lock too.
     over: AtomicU64,
     /// For how many looks the lock is held.
     looks: AtomicU64,
@@ -101,7 +101,8 @@ impl Rounds {
         }
     }
 
-    /// Holds the lock for some looks once the other session comes in `round`, and answers whether that came soon.
+    /// Holds the lock for some looks once the other session comes in `round`, and answers whether that session came
+    /// soon.
     pub fn hold<R: Abort + Clock>(&self, rt: &R, round: u64) -> bool {
         self.held.store(round, Ordering::SeqCst);
         let is_soon = comes_soon(&self.came, round);
@@ -118,8 +119,8 @@ impl Rounds {
         is_soon
     }
 
-    /// Ends the test unless the lock was put back, and the other session has had it too, in `round`. Where that
-    /// `came_soon`, how soon it had the lock says for how long the lock is held in the next round.
+    /// Ends the test unless the lock was put back, and the other session has had it too, in `round`. Where the other
+    /// session `came_soon`, how soon it had the lock decides for how long the lock is held in the next round.
     pub fn expect_over<R: Abort + Clock>(&self, rt: &R, round: u64, came_soon: bool) {
         let is_soon = comes_soon(&self.over, round);
         assert!(rt;
@@ -144,7 +145,7 @@ impl Rounds {
         self.came.store(round, Ordering::SeqCst);
     }
 
-    /// Notes that the one that came has had the lock in `round`.
+    /// Notes that the session that came for the lock has had it in `round`.
     pub fn end(&self, round: u64) {
         self.over.store(round, Ordering::SeqCst);
     }
