@@ -92,13 +92,13 @@ module _ {T : Type 0} (content : T → Content) (begun : T → Option Request) (
     safe = r.safe;
     is_limit = r.is_limit;
     are_groups = r.are_groups;
-    few = r.few;
-    some_groups = r.some_groups;
-    few_groups = r.few_groups;
+    few = r.shown.few;
+    some_groups = r.shown.some_groups;
+    few_groups = r.shown.few_groups;
     makes = record { live = history_of.live; by_itself = history_of.kept_by ∙ ap (λ sessions. keeper sessions 0) is };
     account = history_of.account;
-    none_beyond = r.none_beyond;
-    few_counted = r.few_counted;
+    none_beyond = r.shown.none_beyond;
+    few_counted = r.shown.few_counted;
   }
 
   pub ruled-noted :
@@ -120,17 +120,19 @@ module _ {T : Type 0} (content : T → Content) (begun : T → Option Request) (
         safe = event-safe r.world event noted.after r.safe noted.happens;
         is_limit = ap (λ (n : Numbers). n.limit) noted.numbers ∙ r.is_limit;
         are_groups = ap (λ (n : Numbers). n.groups) noted.numbers ∙ r.are_groups;
-        few = r.few;
-        some_groups = r.some_groups;
-        few_groups = r.few_groups;
-        words = subst (WordsAreShown sizes table) (sym noted.words) shown;
-        none_beyond = subst (NoneBeyondSlots sizes.groups) (sym noted.words) noted.none_beyond;
-        few_counted = λ k. elim (cases_eq k x.number) [
-          | inl same ↦ subst (λ n. length (noted.after.sessions.counted n) ≤ most_counted) (sym same) noted.few_counted
-          | inr other ↦ subst (λ (a : Account). length a.fast.counted ≤ most_counted) (sym (left k other)) (r.few_counted k)
-        ];
-        contents = home;
-        lists = lists;
+        shown = record {
+          few = r.shown.few;
+          some_groups = r.shown.some_groups;
+          few_groups = r.shown.few_groups;
+          of_words = subst (WordsAreShown sizes table) (sym noted.words) shown;
+          none_beyond = subst (NoneBeyondSlots sizes.groups) (sym noted.words) noted.none_beyond;
+          few_counted = λ k. elim (cases_eq k x.number) [
+            | inl same ↦ subst (λ n. length (noted.after.sessions.counted n) ≤ most_counted) (sym same) noted.few_counted
+            | inr other ↦ subst (λ (a : Account). length a.fast.counted ≤ most_counted) (sym (left k other)) (r.shown.few_counted k)
+          ];
+          of_contents = home;
+          of_lists = lists;
+        };
         seats = seats-noted content r.world noted.after s.views id view x others mark at is noted.numbers left noted.account
             r.safe.but_slots.table.carriers.numbers.live_is_issued r.seats;
         closed = subst (λ (n : Numbers). OpenerHasClosed (slice_set s.views id (noting view mark)) n) (sym noted.numbers)
@@ -258,14 +260,7 @@ module _ {T : Type 0} (content : T → Content) (begun : T → Option Request) (
         safe = r.safe;
         is_limit = r.is_limit;
         are_groups = r.are_groups;
-        few = r.few;
-        some_groups = r.some_groups;
-        few_groups = r.few_groups;
-        words = r.words;
-        none_beyond = r.none_beyond;
-        few_counted = r.few_counted;
-        contents = r.contents;
-        lists = r.lists;
+        shown = r.shown;
         seats = seats-noted content w w s.views id view x others mark at is refl (λ k other. refl) now young r.seats;
         closed = opener-set w.numbers s.views id view (noting view mark) at refl (λ n says. says) r.closed;
         wakes = wakes-seen mark seen;

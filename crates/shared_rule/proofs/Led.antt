@@ -16,7 +16,7 @@ use Rattle.shared_rule.specs.Led.{Led, LedBy, LedTo, KeepsOthers}
 use Rattle.shared_rule.specs.declared.history.History.{History}
 use Rattle.shared_rule.specs.Seats.{behind_of}
 use Rattle.shared_rule.specs.Audits.{IsFurther}
-use Rattle.shared_rule.specs.Plays.{account_at, number_at, quiet_at, todo_at, owed_at, HasSession, IsSameSeat}
+use Rattle.shared_rule.specs.Plays.{Side, account_at, number_at, quiet_at, todo_at, owed_at, HasSession, IsSameSeat}
 use Rattle.shared_rule.specs.Quiet.{Quiet, first_quiet, quiet_noted}
 use Rattle.shared_rule.specs.Owed.{first_owed, owed_noted}
 use Rattle.shared_rule.specs.Todos.{Todo, first_todo, todo_noted, todo_looked, todo_leaving, todo_told, todo_setting_ok, is_off_list_in_hand}
@@ -167,3 +167,13 @@ led-further content before after a led = record {
   free = λ was. led.todo ∙ was;
   owed = led.owed;
 }
+
+-- A step whose mark is that of the number which it found.
+pub led-marked :
+    {T : Type 0} {content : T → Content} {before after : Seat (Kept T) (View T)} {mark its : ℕ → Mark T} (found : ℕ) → HasSession before.me.0 → IsSameSeat before after
+    → after.me ≡ (noting before.me.0 (mark found), before.me.1) → mark ≡ its → ((owed : List ℕ) → owed_noted owed (its found) ≡ owed)
+    → LedBy content before after (noted content (number_at before) (account_at content before) (its found))
+    (quiet_noted (quiet_at before) (its found)) (todo_noted (number_at before) (account_at content before).lists (todo_at before) (its found))
+led-marked {T} {content} {before} {after} {mark} {its} found has seat side same wakes =
+    led-noted content before after (its found) has seat
+    (ap (λ (me : Side T). me.0) side ∙ ap (λ (m : ℕ → Mark T). noting before.me.0 (m found)) same) wakes

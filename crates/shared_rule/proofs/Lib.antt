@@ -31,6 +31,7 @@ pub mod Led
 pub mod Acquires
 pub mod Waiting
 pub mod Idle
+pub mod AtRest
 pub mod TakenOff
 pub mod Queueing
 pub mod Woken

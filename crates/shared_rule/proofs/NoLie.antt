@@ -150,6 +150,6 @@ module _ {T : Type 0} (content : T → Content) (begun : T → Option Request) (
   load-shows = elim (r.steps.at_seat (record { number = number; marks = LoadedStrong index shown ∷ marks }) stands) [
     | inl told ↦
         last-load number (opening sizes.sessions sizes.groups) r.events r.world index shown told.0 r.run no-other (told.2 ∙ ap (λ last. told.0 ++ last ∷ []) told.3)
-        ∙ sym (r.words.word (Strong index) (within, tt))
+        ∙ sym (r.shown.of_words.word (Strong index) (within, tt))
     | inr looked ↦ absurd (no-look index shown looked.0)
   ]

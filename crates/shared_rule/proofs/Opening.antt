@@ -88,28 +88,30 @@ module _ {T : Type 0} (content : T → Content) (begun : T → Option Request) (
     safe = opening-safe sizes.sessions sizes.groups (omega (arith, few));
     is_limit = refl;
     are_groups = refl;
-    few = few;
-    some_groups = some_groups;
-    few_groups = few_groups;
-    words = shown;
-    none_beyond = λ _ _ _. refl;
-    few_counted = λ session. omega arith;
-    contents = λ p exists.
-        let part = new.new p exists in
-        record {
-          part = part.part;
-          at_home = at_map some slots (content_shelf_of p) (kept.Part part.part) (get-there slots (content_shelf_of p) (kept.Part part.part) part.is_there);
-          is_content = part.blank.is_empty;
-          none_begun = part.blank.none_begun;
-        };
-    lists = λ lock within nobody.
-        let there = new.empty lock within in
-        record {
-          list = there.list;
-          at_home = at_map some slots (list_shelf_of lock) (kept.List there.list) (get-there slots (list_shelf_of lock) (kept.List there.list) there.is_there);
-          is_list = ap (λ (list : Waiting). list.waiters) there.empty;
-          has_room = ap (λ (list : Waiting). list.room) there.empty;
-        };
+    shown = record {
+      few = few;
+      some_groups = some_groups;
+      few_groups = few_groups;
+      of_words = shown;
+      none_beyond = λ _ _ _. refl;
+      few_counted = λ session. omega arith;
+      of_contents = λ p exists.
+          let part = new.new p exists in
+          record {
+            part = part.part;
+            at_home = at_map some slots (content_shelf_of p) (kept.Part part.part) (get-there slots (content_shelf_of p) (kept.Part part.part) part.is_there);
+            is_content = part.blank.is_empty;
+            none_begun = part.blank.none_begun;
+          };
+      of_lists = λ lock within nobody.
+          let there = new.empty lock within in
+          record {
+            list = there.list;
+            at_home = at_map some slots (list_shelf_of lock) (kept.List there.list) (get-there slots (list_shelf_of lock) (kept.List there.list) there.is_there);
+            is_list = ap (λ (list : Waiting). list.waiters) there.empty;
+            has_room = ap (λ (list : Waiting). list.room) there.empty;
+          };
+    };
     seats = opening-seats;
     closed = λ seat view number there says. subst (λ (z : View T). ClosedAreCounted (opening sizes.sessions sizes.groups).numbers z.closed) (only-one seat view there).1 none-closed;
     wakes = record {

@@ -1,8 +1,10 @@
-use Rattle.std.proofs.Common.{◌≡◌, ℕ, List, [], ◌∷◌, refl, ap}
+use Rattle.std.proofs.Common.{◌≡◌, ◌*◌, ◌/◌, ℕ, List, [], ◌∷◌, refl, ap, ◌∙◌, arith}
 use Rattle.std.specs.Prelude.{if◌then◌else◌}
 use Rattle.std.proofs.lemmas.Bool.{eq-eqb}
 use Rattle.atomic_table.specs.Table.{rest}
 use Rattle.shared_rule.specs.declared.kept.Kept.{Kept}
+use Rattle.shared_rule.specs.declared.kept.Kept.TheVariants.{Nothing}
+use Rattle.shared_rule.specs.Layout.{content_shelf_of}
 use Rattle.shared_rule.specs.Boards.{parts_in_hand, shelves_out, Stack, stack_taking}
 use Rattle.shared_rule.specs.Owed.{waking}
 
@@ -24,3 +26,10 @@ waking-first other rest = ap (λ b. if b then rest else other ∷ waking rest ot
 pub rest-out : {T : Type 0} (slots : List (ℕ × Kept T)) → slots ≡ shelves_out (parts_in_hand slots) → rest slots ≡ shelves_out (parts_in_hand (rest slots))
 rest-out [] out = refl
 rest-out (last ∷ others) out = ap rest out
+
+-- So they are where one more came in hand.
+pub more-out : {T : Type 0} (part : ℕ) (slots : List (ℕ × Kept T)) → slots ≡ shelves_out (parts_in_hand slots)
+    → ((content_shelf_of part, Nothing) ∷ slots) ≡ shelves_out (parts_in_hand ((content_shelf_of part, Nothing) ∷ slots))
+more-out part slots out =
+    let back : part ≡ 8 * part / 8 = omega (arith) in
+    ap (λ others. (content_shelf_of part, Nothing) ∷ others) out ∙ ap (λ p. (content_shelf_of p, Nothing) ∷ shelves_out (parts_in_hand slots)) back

@@ -92,3 +92,10 @@ AreFree (history ∷ others) = IsFree (history ∷ []) × AreFree others
 abbrev pub StaysLone : {T : Type 0} → View T → View T → Type 0
 StaysLone before after =
     (number : ℕ) → before ≡ lone number (first_marks before.sessions) → after ≡ lone number (first_marks after.sessions)
+
+-- What a board keeps between two calls: its seat is that of one session with this number, which is idle, and the contents that are
+-- off their shelves are those of the partitions in hand.
+pub record IsAtRest {T : Type 0} (number : ℕ) (view : View T) (shelves : List (ℕ × Kept T)) : Type 0 where
+  pub lone : view ≡ lone number (first_marks view.sessions)
+  pub out : shelves ≡ shelves_out (parts_in_hand shelves)
+  pub idle : IsIdle view.sessions

@@ -11,6 +11,7 @@ use Rattle.lock_table.specs.Content.{Content}
 use Rattle.lock_world.specs.declared.events.Event.{Event}
 use Rattle.lock_world.specs.declared.events.Step.TheVariants.{JoinSeat}
 use Rattle.lock_world.specs.World.{World, Words, Contents, Hand, Numbers, opening}
+use Rattle.lock_world.specs.Counted.{Counted}
 use Rattle.lock_world.specs.SafeWorld.{SafeWorld}
 use Rattle.lock_table.specs.Total.{how_many}
 use Rattle.lock_world.specs.SlotHolds.{group_size, most_groups}
@@ -254,6 +255,18 @@ pub record WakesAreKept {T : Type 0} (sizes : TableSizes) (views : List (View T)
 
 -- The rule, by the content that a keeper stands for and the request that is begun in it.
 module _ {T : Type 0} (content : T → Content) (begun : T → Option Request) where
+  -- What the words of a table of these sizes and its shelves show: these words, contents and wait lists, within the table's bounds.
+  pub record IsShown (sizes : TableSizes) (table : List ℕ) (homes : List (maybe.Option (Kept T)))
+      (words : Words) (contents : Contents) (counted : ℕ → List Counted) (has_list : ℕ → Option ℕ) : Type 0 where
+    pub few : sizes.sessions ≤ most_sessions
+    pub some_groups : 0 < sizes.groups
+    pub few_groups : sizes.groups ≤ most_groups
+    pub of_words : WordsAreShown sizes table words
+    pub none_beyond : NoneBeyondSlots sizes.groups words
+    pub few_counted : (session : ℕ) → length (counted session) ≤ most_counted
+    pub of_contents : ContentsAreHome content begun homes contents
+    pub of_lists : ListsAreHome sizes.sessions homes has_list words.list
+
   -- The rule of the table: its words, its contents and all histories show a World that is safe.
   pub record Ruled (sizes : TableSizes) (state : State (Kept T) (View T)) : Type 0 where
     pub world : World
@@ -268,14 +281,7 @@ module _ {T : Type 0} (content : T → Content) (begun : T → Option Request) w
     pub safe : SafeWorld world
     pub is_limit : world.numbers.limit ≡ sizes.sessions
     pub are_groups : world.numbers.groups ≡ sizes.groups
-    pub few : sizes.sessions ≤ most_sessions
-    pub some_groups : 0 < sizes.groups
-    pub few_groups : sizes.groups ≤ most_groups
-    pub words : WordsAreShown sizes state.words world.words
-    pub none_beyond : NoneBeyondSlots sizes.groups world.words
-    pub few_counted : (session : ℕ) → length (world.sessions.counted session) ≤ most_counted
-    pub contents : ContentsAreHome content begun state.homes world.contents
-    pub lists : ListsAreHome sizes.sessions state.homes world.sessions.has_list world.words.list
+    pub shown : IsShown sizes state.words state.homes world.words world.contents world.sessions.counted world.sessions.has_list
     pub seats : SeatsAreShown content state.views world
     pub closed : OpenerHasClosed state.views world.numbers
     pub wakes : WakesAreKept sizes state.views events world

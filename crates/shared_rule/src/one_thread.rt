@@ -3,10 +3,9 @@
 ghost use Rattle.std.specs.Prelude.{◌≡◌, ◌<◌, ◌≤◌, ℕ, List, [], ◌∷◌, None, IfOk, IfErr};
 ghost use Rattle.lock_world.specs.SlotHolds.{most_groups};
 ghost use Rattle.shared_rule.specs.Layout.{IsSized};
-ghost use Rattle.shared_rule.specs.History.{blank_account, first_account, lone};
+ghost use Rattle.shared_rule.specs.History.{blank_account, first_account};
 ghost use Rattle.shared_rule.specs.Opening.{AreNew};
-ghost use Rattle.shared_rule.specs.Boards.{Seated, nothing_due, parts_in_hand, shelves_out, first_marks};
-ghost use Rattle.shared_rule.specs.Boards.{IsIdle};
+ghost use Rattle.shared_rule.specs.Boards.{Seated, nothing_due, parts_in_hand, IsAtRest};
 ghost use Rattle.shared_rule.specs.Owed.{first_owed};
 ghost use Rattle.shared_rule.specs.Quiet.{first_quiet};
 ghost use Rattle.modes_core.specs.Sessions.{most_sessions};
@@ -37,9 +36,7 @@ pub struct OneThread<T: PartTable> {
     ghost fits: { IsSized sizes table.shared.table_id },
     ghost sized: { sizes ≡ table.shared.key },
     ghost exists: { number < sizes.sessions },
-    ghost lone: { seat.me.0 ≡ lone number (first_marks seat.me.0.sessions) },
-    ghost out: { seat.me.1 ≡ shelves_out (parts_in_hand seat.me.1) },
-    ghost idle: { IsIdle seat.me.0.sessions },
+    ghost rests: { IsAtRest number seat.me.0 seat.me.1 },
 }
 
 impl<T: PartTable> OneThread<T> {

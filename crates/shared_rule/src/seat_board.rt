@@ -5,8 +5,7 @@ ghost use Rattle.shared_rule.specs.Layout.{IsSized};
 ghost use Rattle.shared_rule.specs.History.{first_account, lone};
 ghost use Rattle.shared_rule.specs.Plays.{FitsTable};
 ghost use Rattle.shared_rule.specs.Seats.{DoNotConflict, MayBeKeptApartBy};
-ghost use Rattle.shared_rule.specs.Boards.{Seated, nothing_due, parts_in_hand, shelves_out, first_marks};
-ghost use Rattle.shared_rule.specs.Boards.{IsIdle};
+ghost use Rattle.shared_rule.specs.Boards.{Seated, nothing_due, parts_in_hand, first_marks, IsIdle, IsAtRest};
 ghost use Rattle.shared_rule.specs.Owed.{first_owed};
 ghost use Rattle.shared_rule.specs.Quiet.{first_quiet};
 
@@ -32,9 +31,7 @@ pub struct SeatBoard<'a, T: PartTable> {
     ghost fits: { IsSized sizes table.now.table_id },
     ghost sized: { sizes ≡ table.now.key },
     ghost exists: { number < sizes.sessions },
-    ghost lone: { seat.me.0 ≡ lone number (first_marks seat.me.0.sessions) },
-    ghost out: { seat.me.1 ≡ shelves_out (parts_in_hand seat.me.1) },
-    ghost idle: { IsIdle seat.me.0.sessions },
+    ghost rests: { IsAtRest number seat.me.0 seat.me.1 },
 }
 
 impl<'a, T: PartTable> SeatBoard<'a, T> {

@@ -30,7 +30,7 @@ use Rattle.modes_core.specs.Sessions.{most_sessions}
 module _ {T : Type 0} (content : T → Content) (begun : T → Option Request) (sizes : TableSizes) (s : State (Kept T) (View T)) (r : Ruled content begun sizes s) (id : ℕ) (view : View T) (at : get_elem? s.views id ≡ some view)
     (x : History T) (others : List (History T)) (is : view.sessions ≡ x ∷ others) (issued : ℕ) (are : AreAll issued view) where
   few : sizes.sessions < 2 ^ 24
-  few = let most = r.few in omega (arith, most)
+  few = let most = r.shown.few in omega (arith, most)
 
   first : slice_get view.sessions 0 ≡ Some x
   first = ap (λ (xs : List (History T)). slice_get xs 0) is
@@ -42,20 +42,22 @@ module _ {T : Type 0} (content : T → Content) (begun : T → Option Request) (
   all-known (Database k) exists = tt
   all-known (Slot k slot) exists = λ contents has.
       slots-among content r.world sizes r.events few (leads-runs (opening sizes.sessions sizes.groups) r.events r.world r.run) r.safe s.views id issued view at r.seats r.closed are x first contents
-      (subst (λ (xs : List (History T)). HasAllInHand (first_account content xs) contents) is has) k slot (let within = exists.0 in let few_groups = r.few_groups in omega (arith, within, few_groups))
+      (subst (λ (xs : List (History T)). HasAllInHand (first_account content xs) contents) is has) k slot (let within = exists.0 in let few_groups = r.shown.few_groups in omega (arith, within, few_groups))
   all-known (Wait k) exists = tt
   all-known (Strong index) exists =
-      let most_limit : r.world.numbers.limit ≤ most_sessions = subst (λ n. n ≤ most_sessions) (sym r.is_limit) r.few in
-      let most = counter-most r.world.numbers.limit r.world.sessions.counted index most_limit r.few_counted in
+      let most_limit : r.world.numbers.limit ≤ most_sessions = subst (λ n. n ≤ most_sessions) (sym r.is_limit) r.shown.few in
+      let most = counter-most r.world.numbers.limit r.world.sessions.counted index most_limit r.shown.few_counted in
       let shown = r.safe.counters.shown index in
       (counters-among content r.world sizes r.events few (leads-runs (opening sizes.sessions sizes.groups) r.events r.world r.run) r.safe s.views id issued view at r.seats r.closed are index, omega (arith, shown, most))
   all-known (Sleep k) exists = tt
 
 module _ {T : Type 0} (content : T → Content) (begun : T → Option Request) (sizes : TableSizes) (slots id : ℕ) (me : Side T) (x : History T) (others : List (History T)) (is : me.0.sessions ≡ x ∷ others) where
   -- A load that tells what is known of the number found.
-  pub looks_over_at : (word : Word) → IsInTable sizes word → (i : ℕ) → i ≡ index_of_word sizes.sessions word → (mark : ℕ → Mark T) → NamesNoOther word mark → IsAlwaysLawful content sizes x word (λ _. Unit {0}) (λ n. n) mark
+  pub looks_over_at :
+      (word : Word) → IsInTable sizes word → (i : ℕ) → i ≡ index_of_word sizes.sessions word → (mark its : ℕ → Mark T) → mark ≡ its → NamesNoOther word mark
+      → IsAlwaysLawful content sizes x word (λ _. Unit {0}) (λ n. n) its
       → Allows (Ruled content begun sizes) slots id me i (λ n. n) (LookedOver content mark (step slots i 0 0 none) me)
-  looks_over_at word exists i at mark names lawful =
+  looks_over_at word exists i at mark its same names lawful =
       subst (λ k. Allows (Ruled content begun sizes) slots id me k (λ n. n) (LookedOver content mark (step slots k 0 0 none) me)) (sym at) here where
         here : Allows (Ruled content begun sizes) slots id me (index_of_word sizes.sessions word) (λ n. n) (LookedOver content mark (step slots (index_of_word sizes.sessions word) 0 0 none) me)
         here s r many at_view below =
@@ -63,13 +65,14 @@ module _ {T : Type 0} (content : T → Content) (begun : T → Option Request) (
               noting me.0 (mark n),
               keeps,
               tt,
-              rule-after content begun sizes slots id me x others is word exists (λ k. k) mark (λ _. Unit {0}) lawful s r at_view n below refl tt,
+              rule-after content begun sizes slots id me x others is word exists (λ k. k) mark (λ _. Unit {0})
+                  (subst (IsAlwaysLawful content sizes x word (λ _. Unit {0}) (λ k. k)) (sym same) lawful) s r at_view n below refl tt,
               (
                 refl,
                 (λ other issued named are.
                     let its : other ≡ word = names n other named in
                     subst (λ o. KnowsOfAll content me.0 o n) (sym its)
-                    (subst (KnowsOfAll content me.0 word) (sym (r.words.word word exists)) (all-known content begun sizes s r id me.0 at_view x others is issued are word exists))),
+                    (subst (KnowsOfAll content me.0 word) (sym (r.shown.of_words.word word exists)) (all-known content begun sizes s r id me.0 at_view x others is issued are word exists))),
               ),
             )
 

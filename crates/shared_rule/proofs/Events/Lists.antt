@@ -52,9 +52,9 @@ module _ {T : Type 0} (content : T → Content) (begun : T → Option Request) (
     | inl unlocked ↦
         let w : World = r.world in
         let steps = ruled-steps content begun sizes s r id me.0 x others at_view is in
-        let shown : word_in w.words (word_of_lock lock) ≡ n = sym (r.words.word (word_of_lock lock) (lock-word_there sizes lock there)) in
+        let shown : word_in w.words (word_of_lock lock) ≡ n = sym (r.shown.of_words.word (word_of_lock lock) (lock-word_there sizes lock there)) in
         let free : word_in w.words (word_of_lock lock) / 2 ^ 28 % 2 ≡ 0 = ap (λ k. k / 2 ^ 28 % 2) shown ∙ unlocked in
-        let home = r.lists (lock_number lock) (lock-below sizes.sessions lock there) (unlocked-in_no_hand w r.safe lock free) in
+        let home = r.shown.of_lists (lock_number lock) (lock-below sizes.sessions lock there) (unlocked-in_no_hand w r.safe lock free) in
         let changes = locking-noted content sizes x lock w steps there may free fits nobody home.list.value.waiters home.is_list in
         let none_had : w.sessions.has_list x.number ≡ None = no_list-known (w.sessions.has_list x.number) w.words.list
         (ap (λ (b : Account). b.lists.in_hand) (sym steps.account) ∙ may.no_list) in (
@@ -65,12 +65,12 @@ module _ {T : Type 0} (content : T → Content) (begun : T → Option Request) (
               (set_word w.words (word_of_lock lock) (list_locked_word (word_in w.words (word_of_lock lock)))) (slice_set s.words at_word (bit_or n (2 ^ 28)))
               (slice_set s.homes (list_shelf_of (lock_number lock)) none) changes.noted
               (subst (λ k. WordsAreShown sizes (slice_set s.words at_word (list_locked_word k)) (set_word w.words (word_of_lock lock) (list_locked_word (word_in w.words (word_of_lock lock))))) shown
-              (words-set sizes r.some_groups s.words w.words (word_of_lock lock) (list_locked_word (word_in w.words (word_of_lock lock))) r.words (lock-word_there sizes lock there)))
+              (words-set sizes r.shown.some_groups s.words w.words (word_of_lock lock) (list_locked_word (word_in w.words (word_of_lock lock))) r.shown.of_words (lock-word_there sizes lock there)))
               (subst (ContentsAreHome content begun (slice_set s.homes (list_shelf_of (lock_number lock)) none)) (sym changes.contents)
-              (contents-beside content begun s.homes (lock_number lock) none w.contents r.contents))
+              (contents-beside content begun s.homes (lock_number lock) none w.contents r.shown.of_contents))
               (subst (λ has. ListsAreHome sizes.sessions (slice_set s.homes (list_shelf_of (lock_number lock)) none) has changes.noted.after.words.list) (sym changes.has_list)
               (subst (ListsAreHome sizes.sessions (slice_set s.homes (list_shelf_of (lock_number lock)) none) (set_at w.sessions.has_list x.number (Some (lock_number lock)))) (sym changes.list)
-              (list-taken sizes.sessions s.homes w.sessions.has_list w.words.list (lock_number lock) x.number none_had r.lists))),
+              (list-taken sizes.sessions s.homes w.sessions.has_list w.words.list (lock_number lock) x.number none_had r.shown.of_lists))),
           (
             (λ _ other also same.
                 let one : lock ≡ other = same-lock sizes.sessions sizes.sessions lock other there also same in
@@ -95,7 +95,7 @@ module _ {T : Type 0} (content : T → Content) (begun : T → Option Request) (
       tt,
       subst (λ k. Ruled content begun sizes (record { words = slice_set s.words at_word k; homes = s.homes; views = slice_set s.views id (noting me.0 (mark.SawListLocked (lock_number lock))) })) (sym (or-locked n locked))
           (looks-only content begun sizes id at_word me.0 x others is s r at_view (mark.SawListLocked (lock_number lock))
-          (sees_list_locked (lock_number lock) refl (shown-locked r.world lock n (sym (r.words.word (word_of_lock lock) (lock-word_there sizes lock there))) locked) fits)),
+          (sees_list_locked (lock_number lock) refl (shown-locked r.world lock n (sym (r.shown.of_words.word (word_of_lock lock) (lock-word_there sizes lock there))) locked) fits)),
       (
         (λ unlocked. absurd (locked unlocked)),
         (λ _ other also same.
@@ -120,7 +120,7 @@ module _ {T : Type 0} (content : T → Content) (begun : T → Option Request) (
       let n : ℕ = slice_index s.words at_word in
       let number : ℕ = lock_number lock in
       let steps = ruled-steps content begun sizes s r id me.0 x others at_view is in
-      let shown : word_in w.words (word_of_lock lock) ≡ n = sym (r.words.word (word_of_lock lock) (lock-word_there sizes lock there)) in
+      let shown : word_in w.words (word_of_lock lock) ≡ n = sym (r.shown.of_words.word (word_of_lock lock) (lock-word_there sizes lock there)) in
       let mine : ListInHand = record { lock = number; waiters = list.value.waiters } in
       let known' : (account w x.number).lists.in_hand ≡ Some mine = ap (λ (b : Account). b.lists.in_hand) (sym steps.account) ∙ known in
       let its = known-list (w.sessions.has_list x.number) w.words.list mine known' in
@@ -136,13 +136,13 @@ module _ {T : Type 0} (content : T → Content) (begun : T → Option Request) (
             (put_back s.homes me.1) changes.noted
             (subst (λ k. WordsAreShown sizes (slice_set s.words at_word (list_unlocked_word k has_waiters release_ok))
             (set_word w.words (word_of_lock lock) (list_unlocked_word (word_in w.words (word_of_lock lock)) has_waiters release_ok))) shown
-            (words-set sizes r.some_groups s.words w.words (word_of_lock lock) (list_unlocked_word (word_in w.words (word_of_lock lock)) has_waiters release_ok) r.words (lock-word_there sizes lock there)))
+            (words-set sizes r.shown.some_groups s.words w.words (word_of_lock lock) (list_unlocked_word (word_in w.words (word_of_lock lock)) has_waiters release_ok) r.shown.of_words (lock-word_there sizes lock there)))
             (subst (λ (h : List (maybe.Option (Kept T))). ContentsAreHome content begun h changes.noted.after.contents) (sym back)
-            (subst (ContentsAreHome content begun homes) (sym changes.contents) (contents-beside content begun s.homes number (some (kept.List list)) w.contents r.contents)))
+            (subst (ContentsAreHome content begun homes) (sym changes.contents) (contents-beside content begun s.homes number (some (kept.List list)) w.contents r.shown.of_contents)))
             (subst (λ (h : List (maybe.Option (Kept T))). ListsAreHome sizes.sessions h changes.noted.after.sessions.has_list changes.noted.after.words.list) (sym back)
             (subst (λ had. ListsAreHome sizes.sessions homes had changes.noted.after.words.list) (sym changes.has_list)
             (subst (ListsAreHome sizes.sessions homes (set_at w.sessions.has_list x.number None)) (sym changes.list)
-            (list-put sizes.sessions s.homes w.sessions.has_list w.words.list number x.number list (many ∙ sized) (lock-below sizes.sessions lock there) its.0 (sym its.1) room r.lists)))),
+            (list-put sizes.sessions s.homes w.sessions.has_list w.words.list number x.number list (many ∙ sized) (lock-below sizes.sessions lock there) its.0 (sym its.1) room r.shown.of_lists)))),
         refl,
       )
 
@@ -183,7 +183,7 @@ module _ {T : Type 0} (content : T → Content) (begun : T → Option Request) (
       keeps,
       tt,
       looks-only content begun sizes id at_word me.0 x others is s r at_view (mark.SawHeld (lock_number lock))
-          (sees_held (lock_number lock) refl (shown-held r.world lock n (sym (r.words.word (word_of_lock lock) (lock-word_there sizes lock there))) held) fits),
+          (sees_held (lock_number lock) refl (shown-held r.world lock n (sym (r.shown.of_words.word (word_of_lock lock) (lock-word_there sizes lock there))) held) fits),
       (
         (λ free. absurd (held free)),
         (λ _ sessions other also same.

@@ -183,7 +183,7 @@ module _ {T : Type 0} (content : T → Content) (begun : T → Option Request) (
             (view, carried_after me.1 act))
             (λ hit.
             let w : World = r.world in
-            let shown : w.words.fast owner ≡ old = sym (r.words.word (Fast owner) (tt, inside)) ∙ hit in
+            let shown : w.words.fast owner ≡ old = sym (r.shown.of_words.word (Fast owner) (tt, inside)) ∙ hit in
             let steps = ruled-steps content begun sizes s r id me.0 x others at_view is in
             let sees = makes w steps shown in
             let database : ℕ = w.words.database owner in
@@ -193,9 +193,9 @@ module _ {T : Type 0} (content : T → Content) (begun : T → Option Request) (
               tt,
               ruled-noted content begun sizes s r id me.0 x others at_view is (mark owner database words)
                   (set_word w.words (Fast owner) new) (slice_set s.words at_word new) s.homes sees.noted
-                  (words-set sizes r.some_groups s.words w.words (Fast owner) new r.words (tt, inside))
-                  (subst (ContentsAreHome content begun s.homes) (sym sees.contents) r.contents)
-                  (lists-kept sizes.sessions s.homes w sees.noted.after sees.lists r.lists),
+                  (words-set sizes r.shown.some_groups s.words w.words (Fast owner) new r.shown.of_words (tt, inside))
+                  (subst (ContentsAreHome content begun s.homes) (sym sees.contents) r.shown.of_contents)
+                  (lists-kept sizes.sessions s.homes w sees.noted.after sees.lists r.shown.of_lists),
               (
                 (λ _ sessions k same.
                     let one : owner ≡ k = omega (arith, same) in

@@ -136,7 +136,7 @@ module _ {T : Type 0} (content : T → Content) (begun : T → Option Request) (
   -- What is at home in a partition that is free.
   at_home : (s : State (Kept T) (View T)) (r : Ruled content begun sizes s) → IsHeldByNobody (r.world.words.partition p)
       → IsAtHome content begun (r.world.contents.now p) (get_elem? s.homes (content_shelf_of p))
-  at_home s r free = subst (λ h. IsHomeUnlessInHand content begun h (r.world.contents.now p) (get_elem? s.homes (content_shelf_of p))) (free-in_no_hand r.world r.safe p free) (r.contents p exists)
+  at_home s r free = subst (λ h. IsHomeUnlessInHand content begun h (r.world.contents.now p) (get_elem? s.homes (content_shelf_of p))) (free-in_no_hand r.world r.safe p free) (r.shown.of_contents p exists)
 
   -- Taking it is noted so.
   abbrev taking-noted : (w : World) → Stepper sizes w x.number (told content x.number x.marks) → IsHeldByNobody (w.words.partition p) → MayAttempt (told content x.number x.marks) (todo_told_by x.number x.marks) (partition_lock p) → (part : T) → content part ≡ w.contents.now p
@@ -163,7 +163,7 @@ module _ {T : Type 0} (content : T → Content) (begun : T → Option Request) (
       × Ruled content begun sizes (stepped s (index_of_word sizes.sessions (Partition p)) m id me.1 view act)
       × TookPartition content begun sizes.sessions step me n (view, carried_after me.1 act))
       (λ hit.
-      let shown : r.world.words.partition p ≡ old = sym (r.words.word (Partition p) (exists, tt)) ∙ hit in
+      let shown : r.world.words.partition p ≡ old = sym (r.shown.of_words.word (Partition p) (exists, tt)) ∙ hit in
       let is_free : IsHeldByNobody (r.world.words.partition p) = subst IsHeldByNobody (sym shown) free in
       let home = at_home s r is_free in
       let steps = ruled-steps content begun sizes s r id me.0 x others at is in
@@ -176,10 +176,10 @@ module _ {T : Type 0} (content : T → Content) (begun : T → Option Request) (
             (set_word r.world.words (Partition p) (taken_word (r.world.words.partition p))) (slice_set s.words (index_of_word sizes.sessions (Partition p)) new)
             (slice_set s.homes (content_shelf_of p) none) noted
             (subst (λ k. Rattle.shared_rule.specs.Shown.WordsAreShown sizes (slice_set s.words (index_of_word sizes.sessions (Partition p)) k) (set_word r.world.words (Partition p) (taken_word (r.world.words.partition p)))) next
-            (words-set sizes r.some_groups s.words r.world.words (Partition p) (taken_word (r.world.words.partition p)) r.words (exists, tt)))
+            (words-set sizes r.shown.some_groups s.words r.world.words (Partition p) (taken_word (r.world.words.partition p)) r.shown.of_words (exists, tt)))
             (home-taken content begun s.homes r.world.contents p
-            (record { holder = x.number; taken = r.world.contents.now p; recorded = None; unmarked = λ _. Rattle.std.proofs.Common.false }) r.contents)
-            (lists-beside sizes.sessions s.homes p none r.world.sessions.has_list r.world.words.list exists r.lists),
+            (record { holder = x.number; taken = r.world.contents.now p; recorded = None; unmarked = λ _. Rattle.std.proofs.Common.false }) r.shown.of_contents)
+            (lists-beside sizes.sessions s.homes p none r.world.sessions.has_list r.world.words.list exists r.shown.of_lists),
         (
           (λ _ q within same.
               let one : p ≡ q = omega (arith, same, word) in
@@ -256,7 +256,7 @@ module _ {T : Type 0} (content : T → Content) (begun : T → Option Request) (
       let own = hand-known (r.world.contents.hand p) (r.world.contents.now p) x.number its (subst (λ (a : Account). a.hand p ≡ Some its) steps.account (may_put-in_hand (told content x.number x.marks) its done (content part) may)) in
       let holds : r.world.sessions.holds_partition x.number p ≡ Rattle.std.proofs.Common.true =
       r.safe.but_slots.table.carriers.hands p x.number ∙ ap (λ h. is_hand_of h x.number) own.is_hand ∙ Rattle.std.proofs.Common.eq-eqb own.hand_of.holder x.number own.whose in
-      let shown = r.words.word (Partition p) (exists, tt) in
+      let shown = r.shown.of_words.word (Partition p) (exists, tt) in
       let held : IsHeldExclusively (slice_index s.words (index_of_word sizes.sessions (Partition p))) =
       subst IsHeldExclusively (sym shown) ((r.safe.but_slots.table.promise.words p).held_is_shown x.number holds) in
       let held_there : IsHeldExclusively (r.world.words.partition p) = (r.safe.but_slots.table.promise.words p).held_is_shown x.number holds in
@@ -270,11 +270,11 @@ module _ {T : Type 0} (content : T → Content) (begun : T → Option Request) (
             (set_word r.world.words (Partition p) (put_word (r.world.words.partition p))) (slice_set s.words (index_of_word sizes.sessions (Partition p)) ((slice_index s.words (index_of_word sizes.sessions (Partition p)) + (2 ^ 64 - 2 ^ 24)) % 2 ^ 64))
             (Rattle.atomic_table.specs.Table.put_back s.homes me.1) noted
             (subst (λ k. Rattle.shared_rule.specs.Shown.WordsAreShown sizes (slice_set s.words (index_of_word sizes.sessions (Partition p)) k) (set_word r.world.words (Partition p) (put_word (r.world.words.partition p)))) next
-            (words-set sizes r.some_groups s.words r.world.words (Partition p) (put_word (r.world.words.partition p)) r.words (exists, tt)))
+            (words-set sizes r.shown.some_groups s.words r.world.words (Partition p) (put_word (r.world.words.partition p)) r.shown.of_words (exists, tt)))
             (subst (λ (homes : List (maybe.Option (Kept T))). ContentsAreHome content begun homes noted.after.contents) (sym (ap (Rattle.atomic_table.specs.Table.put_back s.homes) carried))
-            (home-put content begun sizes.sessions s.homes r.world.contents p part many exists none_begun r.contents))
+            (home-put content begun sizes.sessions s.homes r.world.contents p part many exists none_begun r.shown.of_contents))
             (subst (λ (homes : List (maybe.Option (Kept T))). ListsAreHome sizes.sessions homes r.world.sessions.has_list r.world.words.list) (sym (ap (Rattle.atomic_table.specs.Table.put_back s.homes) carried))
-            (lists-beside sizes.sessions s.homes p (some (Part part)) r.world.sessions.has_list r.world.words.list exists r.lists)),
+            (lists-beside sizes.sessions s.homes p (some (Part part)) r.world.sessions.has_list r.world.words.list exists r.shown.of_lists)),
         refl,
       )
 

@@ -234,14 +234,7 @@ module _ {T : Type 0} (content : T → Content) (begun : T → Option Request) (
       safe = r.safe;
       is_limit = r.is_limit;
       are_groups = r.are_groups;
-      few = r.few;
-      some_groups = r.some_groups;
-      few_groups = r.few_groups;
-      words = r.words;
-      none_beyond = r.none_beyond;
-      few_counted = r.few_counted;
-      contents = r.contents;
-      lists = r.lists;
+      shown = r.shown;
       seats = seats_as r.world.numbers.kept_by
           (ap (λ (xs : List (History T)). set_at r.world.numbers.kept_by b (keeper (xs ++ theirs ∷ []) (length xs))) none
           ∙ set_at-same r.world.numbers.kept_by b None (sym shown.kept_by));
@@ -302,14 +295,7 @@ module _ {T : Type 0} (content : T → Content) (begun : T → Option Request) (
         safe = r.safe;
         is_limit = r.is_limit;
         are_groups = r.are_groups;
-        few = r.few;
-        some_groups = r.some_groups;
-        few_groups = r.few_groups;
-        words = r.words;
-        none_beyond = r.none_beyond;
-        few_counted = r.few_counted;
-        contents = r.contents;
-        lists = r.lists;
+        shown = r.shown;
         seats =
             let kept : set_at r.world.numbers.kept_by y.number None ≡ r.world.numbers.kept_by =
             set_at-same r.world.numbers.kept_by y.number None (sym (shown.kept_by ∙ ap (λ (xs : List (History T)). keeper xs 0) is)) in

@@ -29,7 +29,7 @@ use Rattle.shared_rule.specs.Shown.{WordsAreShown, set_word}
 use Rattle.shared_rule.specs.History.{told, noting, first_account, first_number}
 use Rattle.shared_rule.specs.Ruled.{IsHomeUnlessInHand, ContentsAreHome, IsInNoHand, ListIsAtHome, ListsAreHome, Ruled}
 use Rattle.shared_rule.specs.Slots.{HasOrShares, KnowsWord}
-use Rattle.shared_rule.specs.Plays.{Side, Marked, Looked}
+use Rattle.shared_rule.specs.Plays.{Side, Marked, Looked, HasSession}
 use Rattle.shared_rule.proofs.Shown.{words-set}
 use Rattle.shared_rule.specs.Todos.{todo_told_by, flagged_told_by}
 use Rattle.shared_rule.proofs.Frame.{Stepper, IsNoted, IsSeen, ruled-steps, ruled-noted, ruled-looked}
@@ -136,14 +136,14 @@ module _ {T : Type 0} (content : T → Content) (begun : T → Option Request) (
       → Ruled content begun sizes (record { words = slice_set s.words (index_of_word sizes.sessions word) (next n); homes = s.homes; views = slice_set s.views id (noting me.0 (mark n)) })
   rule-after expected lawful s r at n below shows is_so =
       let steps = ruled-steps content begun sizes s r id me.0 x others at is in
-      let now = lawful r.world steps n below (shows ∙ r.words.word word exists) is_so in
+      let now = lawful r.world steps n below (shows ∙ r.shown.of_words.word word exists) is_so in
       ruled-noted content begun sizes s r id me.0 x others at is (mark n)
       (record (set_word r.world.words word (next n)) { list = now.list })
       (slice_set s.words (index_of_word sizes.sessions word) (next n)) s.homes now.noted
       (listed-shown sizes (slice_set s.words (index_of_word sizes.sessions word) (next n)) (set_word r.world.words word (next n)) now.list
-      (words-set sizes r.some_groups s.words r.world.words word (next n) r.words exists))
-      (home-kept content begun s.homes r.world.contents now.noted.after.contents now.home r.contents)
-      (lists-kept sizes.sessions s.homes r.world now.noted.after now.lists r.lists)
+      (words-set sizes r.shown.some_groups s.words r.world.words word (next n) r.shown.of_words exists))
+      (home-kept content begun s.homes r.world.contents now.noted.after.contents now.home r.shown.of_contents)
+      (lists-kept sizes.sessions s.homes r.world now.noted.after now.lists r.shown.of_lists)
 
   -- A fetch-and-add, a fetch-and-subtract, or with `next` as it is a load.
   pub marks : (step : Step (Kept T)) → IsAlwaysLawful content sizes x word (λ _. Unit {0}) next mark
@@ -168,13 +168,14 @@ nothing-changes {T} content begun sizes id i view s r at =
 
 -- What a mark says of a word is so of the word at its index: a play of a mark reads nothing else of its step.
 pub marks_at :
-    {T : Type 0} (content : T → Content) (begun : T → Option Request) (sizes : TableSizes) (slots id : ℕ) (me : Side T) (x : History T) (others : List (History T)) → me.0.sessions ≡ x ∷ others
-    → (word : Word) → IsInTable sizes word → (i : ℕ) → i ≡ index_of_word sizes.sessions word → (next : ℕ → ℕ) (mark : ℕ → Mark T)
-    → IsAlwaysLawful content sizes x word (λ _. Unit {0}) next mark
+    {T : Type 0} {content : T → Content} {begun : T → Option Request} {sizes : TableSizes} {slots : ℕ} (id : ℕ) {me : Side T} (session : HasSession me.0)
+    → (word : Word) → IsInTable sizes word → (i : ℕ) → i ≡ index_of_word sizes.sessions word → (next : ℕ → ℕ) (mark its : ℕ → Mark T) → mark ≡ its
+    → IsAlwaysLawful content sizes session.history word (λ _. Unit {0}) next its
     → Allows (Ruled content begun sizes) slots id me i next (Marked mark (step 0 0 0 0 none) me)
-marks_at {T} content begun sizes slots id me x others is word exists i at next mark lawful =
+marks_at {T} {content} {begun} {sizes} {slots} id {me} session word exists i at next mark its same lawful =
     subst (λ k. Allows (Ruled content begun sizes) slots id me k next (Marked mark (step 0 0 0 0 none) me)) (sym at)
-    (marks content begun sizes slots id me x others is word exists next mark (step 0 0 0 0 none) lawful)
+    (marks content begun sizes slots id me session.history session.others session.sessions word exists next mark (step 0 0 0 0 none)
+    (subst (IsAlwaysLawful content sizes session.history word (λ _. Unit {0}) next) (sym same) lawful))
 
 -- The mark of what is found in this word names no other word.
 abbrev pub NamesNoOther : {T : Type 0} → Word → (ℕ → Mark T) → Type 0
@@ -194,29 +195,32 @@ names-none word mark its same named n other its_other =
 
 -- A load, or a fetch operation, that tells what the account knows of the number found.
 pub looks_at :
-    {T : Type 0} (content : T → Content) (begun : T → Option Request) (sizes : TableSizes) (slots id : ℕ) (me : Side T) (x : History T) (others : List (History T)) → me.0.sessions ≡ x ∷ others
-    → (word : Word) → IsInTable sizes word → (i : ℕ) → i ≡ index_of_word sizes.sessions word → (first : ℕ) (next : ℕ → ℕ) (mark : ℕ → Mark T)
-    → NamesNoOther word mark → IsAlwaysLawful content sizes x word (λ _. Unit {0}) next mark
+    {T : Type 0} {content : T → Content} {begun : T → Option Request} {sizes : TableSizes} {slots : ℕ} (id : ℕ) {me : Side T} (session : HasSession me.0)
+    → (word : Word) → IsInTable sizes word → (i : ℕ) → i ≡ index_of_word sizes.sessions word → (first : ℕ) (next : ℕ → ℕ) (mark its : ℕ → Mark T) → mark ≡ its
+    → NamesNoOther word mark → IsAlwaysLawful content sizes session.history word (λ _. Unit {0}) next its
     → Allows (Ruled content begun sizes) slots id me i next (Looked content mark (step slots i first 0 none) me)
-looks_at {T} content begun sizes slots id me x others is word exists i at first next mark names lawful =
+looks_at {T} {content} {begun} {sizes} {slots} id {me} session word exists i at first next mark its same names lawful =
     subst (λ k. Allows (Ruled content begun sizes) slots id me k next (Looked content mark (step slots k first 0 none)
     me)) (sym at) here where
+      x : History T
+      x = session.history
+
       here : Allows (Ruled content begun sizes) slots id me (index_of_word sizes.sessions word) next
           (Looked content mark (step slots (index_of_word sizes.sessions word) first 0 none) me)
       here s r many at_view below =
           let n : ℕ = slice_index s.words (index_of_word sizes.sessions word) in
-          let steps = ruled-steps content begun sizes s r id me.0 x others at_view is in (
+          let steps = ruled-steps content begun sizes s r id me.0 x session.others at_view session.sessions in (
             noting me.0 (mark n),
             keeps,
             tt,
-            rule-after content begun sizes slots id me x others is word exists next mark (λ _. Unit {0}) lawful s
-                r at_view n below refl tt,
+            rule-after content begun sizes slots id me x session.others session.sessions word exists next mark (λ _. Unit {0})
+                (subst (IsAlwaysLawful content sizes x word (λ _. Unit {0}) next) (sym same) lawful) s r at_view n below refl tt,
             (
               refl,
               (λ other named.
-                  let shown : word_in r.world.words other ≡ n = ap (word_in r.world.words) (names n other named) ∙ sym (r.words.word word exists) in
+                  let shown : word_in r.world.words other ≡ n = ap (word_in r.world.words) (names n other named) ∙ sym (r.shown.of_words.word word exists) in
                   subst (λ (sessions : List (History T)). KnowsWord (first_number sessions)
-                  (first_account content sessions) other n) (sym is)
+                  (first_account content sessions) other n) (sym session.sessions)
                   (subst (λ a. KnowsWord x.number a other n) (sym steps.account)
                   (subst (KnowsWord x.number (account r.world x.number) other) shown
                   (word-known r.world steps.safe x.number other)))),
@@ -225,13 +229,43 @@ looks_at {T} content begun sizes slots id me x others is word exists i at first 
 
 -- A store, which leaves the same mark whatever it found.
 pub stores_at :
-    {T : Type 0} (content : T → Content) (begun : T → Option Request) (sizes : TableSizes) (slots id : ℕ) (me : Side T) (x : History T) (others : List (History T)) → me.0.sessions ≡ x ∷ others
+    {T : Type 0} {content : T → Content} {begun : T → Option Request} {sizes : TableSizes} {slots : ℕ} (id : ℕ) {me : Side T} (session : HasSession me.0)
     → (word : Word) → IsInTable sizes word → (i : ℕ) → i ≡ index_of_word sizes.sessions word → (new : ℕ) (mark : ℕ → Mark T) (left : Mark T) → mark ≡ (λ _. left)
-    → IsAlwaysLawful content sizes x word (λ _. Unit {0}) (λ _. new) (λ _. left)
+    → IsAlwaysLawful content sizes session.history word (λ _. Unit {0}) (λ _. new) (λ _. left)
     → Allows (Ruled content begun sizes) slots id me i (λ _. new) (λ _. Marked mark (step 0 0 0 0 none) me new)
-stores_at {T} content begun sizes slots id me x others is word exists i at new mark left same lawful =
+stores_at {T} {content} {begun} {sizes} {slots} id {me} session word exists i at new mark left same lawful =
     subst (λ (m : ℕ → Mark T). Allows (Ruled content begun sizes) slots id me i (λ _. new) (λ _. Marked m (step 0 0 0 0 none) me new)) (sym same)
-    (marks_at content begun sizes slots id me x others is word exists i at (λ _. new) (λ _. left) lawful)
+    (marks_at id session word exists i at (λ _. new) (λ _. left) (λ _. left) refl lawful)
+
+-- The session's own number is that of its history.
+own-number : {T : Type 0} {view : View T} (session : HasSession view) (number : ℕ) → number ≡ first_number view.sessions → number ≡ session.history.number
+own-number {T} session number own = own ∙ ap (λ (sessions : List (History T)). first_number sessions) session.sessions
+
+-- A step of a session on a word of its own, that of its number: a mark of what is found there,
+pub marks_at_own :
+    {T : Type 0} {content : T → Content} {begun : T → Option Request} {sizes : TableSizes} {slots : ℕ} (id : ℕ) {me : Side T} (session : HasSession me.0)
+    (number : ℕ) → number ≡ first_number me.0.sessions → number < sizes.sessions
+    → (word : ℕ → Word) → ((k : ℕ) → k < sizes.sessions → IsInTable sizes (word k)) → (i : ℕ) → i ≡ index_of_word sizes.sessions (word number)
+    → (next : ℕ → ℕ) (mark its : ℕ → Mark T) → mark ≡ its
+    → IsAlwaysLawful content sizes session.history (word session.history.number) (λ _. Unit {0}) next its
+    → Allows (Ruled content begun sizes) slots id me i next (Marked mark (step 0 0 0 0 none) me)
+marks_at_own {sizes = sizes} id session number own among word exists i at next mark its same lawful =
+    let it = own-number session number own in
+    marks_at id session (word session.history.number) (exists session.history.number (subst (λ n. n < sizes.sessions) it among)) i
+    (at ∙ ap (λ n. index_of_word sizes.sessions (word n)) it) next mark its same lawful
+
+-- and a store.
+pub stores_at_own :
+    {T : Type 0} {content : T → Content} {begun : T → Option Request} {sizes : TableSizes} {slots : ℕ} (id : ℕ) {me : Side T} (session : HasSession me.0)
+    (number : ℕ) → number ≡ first_number me.0.sessions → number < sizes.sessions
+    → (word : ℕ → Word) → ((k : ℕ) → k < sizes.sessions → IsInTable sizes (word k)) → (i : ℕ) → i ≡ index_of_word sizes.sessions (word number)
+    → (new : ℕ) (mark : ℕ → Mark T) (left : Mark T) → mark ≡ (λ _. left)
+    → IsAlwaysLawful content sizes session.history (word session.history.number) (λ _. Unit {0}) (λ _. new) (λ _. left)
+    → Allows (Ruled content begun sizes) slots id me i (λ _. new) (λ _. Marked mark (step 0 0 0 0 none) me new)
+stores_at_own {sizes = sizes} id session number own among word exists i at new mark left same lawful =
+    let it = own-number session number own in
+    stores_at id session (word session.history.number) (exists session.history.number (subst (λ n. n < sizes.sessions) it among)) i
+    (at ∙ ap (λ n. index_of_word sizes.sessions (word n)) it) new mark left same lawful
 
 -- A look at a word that stays as it is.
 pub looks-only :
@@ -244,9 +278,10 @@ looks-only {T} content begun sizes id i view x others is s r at mark seen =
 
 -- A call: a load that leaves its mark, and changes nothing.
 pub calls_at :
-    {T : Type 0} (content : T → Content) (begun : T → Option Request) (sizes : TableSizes) (slots id i : ℕ) (me : Side T) (x : History T) (others : List (History T)) → me.0.sessions ≡ x ∷ others
-    → (mark : ℕ → Mark T) (left : Mark T) → mark ≡ (λ _. left) → ((w : World) → IsSeen w (todo_told_by x.number x.marks) left)
+    {T : Type 0} {content : T → Content} {begun : T → Option Request} {sizes : TableSizes} {slots : ℕ} (id i : ℕ) {me : Side T} (session : HasSession me.0)
+    → (mark : ℕ → Mark T) (left : Mark T) → mark ≡ (λ _. left) → ((w : World) → IsSeen w (todo_told_by session.history.number session.history.marks) left)
     → Allows (Ruled content begun sizes) slots id me i (λ n. n) (Marked mark (step 0 0 0 0 none) me)
-calls_at {T} content begun sizes slots id i me x others is mark left same seen =
+calls_at {T} {content} {begun} {sizes} {slots} id i {me} session mark left same seen =
     subst (λ (m : ℕ → Mark T). Allows (Ruled content begun sizes) slots id me i (λ n. n) (Marked m (step 0 0 0 0 none) me)) (sym same)
-    (λ s r many at below. (noting me.0 left, keeps, tt, looks-only content begun sizes id i me.0 x others is s r at left (seen r.world), refl))
+    (λ s r many at below.
+    (noting me.0 left, keeps, tt, looks-only content begun sizes id i me.0 session.history session.others session.sessions s r at left (seen r.world), refl))

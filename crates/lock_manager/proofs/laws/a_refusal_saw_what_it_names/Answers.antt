@@ -12,7 +12,7 @@ use Rattle.modes_core.specs.Sessions.{most_sessions}
 pub returns : goal.returns
 returns g c =
     λ sizes state rule at place view history there stands seat a b uses left tag mode its other how same decides after told.
-    let few : sizes.sessions ≤ most_sessions = rule.few in
+    let few : sizes.sessions ≤ most_sessions = rule.shown.few in
     let shown = rule.seats.history at place view history there stands in
     let trace : rule.world.sessions.trace seat.number
     ≡ (a.trace ++ decides.steps) ++ Took (partition_of tag) decides.taken ∷ (Episode (partition_of tag) decides.taken decides.put ∷ after) =

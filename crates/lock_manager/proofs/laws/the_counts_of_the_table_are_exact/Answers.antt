@@ -33,8 +33,8 @@ returns c = λ sizes state rule p below at_home.
     let w = rule.world in
     let home : IsAtHome content_of (λ (part : RecordView). part.begun) (w.contents.now p) (get_elem? state.homes (content_shelf_of p)) =
     subst (λ (h : Option Hand). IsHomeUnlessInHand content_of (λ (part : RecordView). part.begun) h (w.contents.now p) (get_elem? state.homes (content_shelf_of p))) at_home
-    (rule.contents p below) in
-    let few : sizes.sessions ≤ most_sessions = rule.few in
+    (rule.shown.of_contents p below) in
+    let few : sizes.sessions ≤ most_sessions = rule.shown.few in
     let limit : w.numbers.limit ≡ sizes.sessions = rule.is_limit in (
       home.part,
       home.at_home,

@@ -1,24 +1,18 @@
-use Rattle.std.proofs.Common.{ℕ, refl, sym, ap, subst}
+use Rattle.std.proofs.Common.{ℕ, refl, ap}
 use Rattle.lock_world.specs.declared.events.Word.TheVariants.{Strong}
 use Rattle.shared_rule.specs.declared.history.Mark.{Mark}
 use Rattle.shared_rule.specs.Looks.{word_looked_at}
-use Rattle.shared_rule.proofs.Events.Words.{IsAlwaysLawful, names-one}
+use Rattle.shared_rule.proofs.Events.Words.{names-one}
 use Rattle.shared_rule.proofs.Events.Loads.{loading_strong-lawful}
 use Rattle.shared_rule.proofs.Events.Gatherings.{looks_over_at}
 use Rattle.shared_rule.proofs.audits.look_over_strong.Goals as goal
 
 pub look_over_as-requires-clause-allowed : goal.look_over_as-requires-clause-allowed
 look_over_as-requires-clause-allowed g c =
-    let content = g.T.PartTable.content in
-    let seat = c.args.seat.now in
     let session = c.requires.session in
-    looks_over_at content g.T.PartTable.begun c.args.words.now.key c.args.words.now.table_id.slots seat.id seat.me
-    session.history session.others session.sessions
-    (Strong c.args.index) (c.requires.within, tt) c.strong_word.result (c.strong_word.ensures.index c.args.words.now.key.sessions) g.M.Marking.mark
-    (names-one (Strong c.args.index) g.M.Marking.mark _ c.requires.mark (λ _. refl))
-    (subst (IsAlwaysLawful content c.args.words.now.key session.history (Strong c.args.index) (λ _. Unit {0}) (λ n. n))
-    (sym c.requires.mark)
-    (loading_strong-lawful content c.args.words.now.key session.history c.args.index c.requires.within))
+    looks_over_at g.T.PartTable.content g.T.PartTable.begun c.args.words.now.key c.args.words.now.table_id.slots c.args.seat.now.id c.args.seat.now.me session.history session.others session.sessions
+    (Strong c.args.index) (c.requires.within, tt) c.strong_word.result (c.strong_word.ensures.index c.args.words.now.key.sessions) g.M.Marking.mark _ c.requires.mark
+    (names-one (Strong c.args.index) g.M.Marking.mark _ c.requires.mark (λ _. refl)) (loading_strong-lawful g.T.PartTable.content c.args.words.now.key c.requires.session.history c.args.index c.requires.within)
 
 pub returns-clause-knows : goal.returns-clause-knows
 returns-clause-knows g c = λ issued are.

@@ -8,7 +8,7 @@ returns g c =
     let well = keeps-well sizes.sessions sizes.groups kept.turns rule.world kept.beside (keeps-in_order sizes.sessions sizes.groups kept.turns rule.world kept.beside kept.run) in
     record {
       world = rule.world;
-      words = rule.words;
+      words = rule.shown.of_words;
       seats = rule.seats;
       beside = kept.beside;
       todo = kept.todo;

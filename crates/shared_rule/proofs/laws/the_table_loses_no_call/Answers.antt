@@ -15,7 +15,7 @@ returns g c =
     let well = keeps-well sizes.sessions sizes.groups kept.turns rule.world kept.beside run in
     record {
       world = rule.world;
-      words = rule.words;
+      words = rule.shown.of_words;
       seats = rule.seats;
       turns = kept.turns;
       beside = kept.beside;

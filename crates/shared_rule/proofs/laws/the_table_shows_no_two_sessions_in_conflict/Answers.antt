@@ -11,14 +11,14 @@ use Rattle.modes_core.specs.Sessions.{most_sessions}
 pub returns : goal.returns
 returns g c =
     λ sizes state rule.
-    let few : sizes.sessions ≤ most_sessions = rule.few in
+    let few : sizes.sessions ≤ most_sessions = rule.shown.few in
     let run = leads-runs (opening sizes.sessions sizes.groups) rule.events rule.world rule.run in
     record {
       world = rule.world;
       events = rule.events;
       run = run;
-      words = rule.words;
-      contents = rule.contents;
+      words = rule.shown.of_words;
+      contents = rule.shown.of_contents;
       seats = rule.seats;
       headline = headline rule.world rule.safe;
       refusals = subst (λ (w : World). RefusalsSawWhatTheyName (opening sizes.sessions sizes.groups ∷ run.0) w) (sym run.2)

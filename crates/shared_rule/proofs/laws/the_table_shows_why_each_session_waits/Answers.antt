@@ -6,8 +6,8 @@ returns g c =
     λ sizes state rule.
     record {
       world = rule.world;
-      words = rule.words;
-      contents = rule.contents;
+      words = rule.shown.of_words;
+      contents = rule.shown.of_contents;
       seats = rule.seats;
       reasons = λ s wait is home. has-reason rule.world rule.safe s wait is home;
     }

@@ -15,7 +15,7 @@ pub returns-clause-at_seat : goal.returns-clause-at_seat
 returns-clause-at_seat g c =
     λ sizes state rule history stood before after entry told.
     let shown = rule.seats.history stood.seat stood.place stood.view history stood.there stood.stands in
-    let few : sizes.sessions ≤ most_sessions = rule.few in
+    let few : sizes.sessions ≤ most_sessions = rule.shown.few in
     let run = leads-runs (opening sizes.sessions sizes.groups) rule.events rule.world rule.run in
     let was = each-told sizes.sessions sizes.groups rule.events run.0 history.number before after entry (opening-safe sizes.sessions sizes.groups (omega (arith, few))) run.1
     (ap (λ (w : World). w.sessions.trace history.number) (sym run.2) ∙ sym (ap (λ (a : Account). a.trace) shown.account) ∙ told) in
@@ -37,7 +37,7 @@ pub returns-clause-closed : goal.returns-clause-closed
 returns-clause-closed g c =
     λ sizes state rule history stood before after entry told.
     let so = rule.closed_so history stood in
-    let few : sizes.sessions ≤ most_sessions = rule.few in
+    let few : sizes.sessions ≤ most_sessions = rule.shown.few in
     let first : World = opening sizes.sessions sizes.groups in
     let rest : List Event = record { session = history.number; step = JoinSeat None } ∷ so.after in
     let one = leads-runs first so.before so.world so.run in

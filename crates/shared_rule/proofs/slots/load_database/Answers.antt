@@ -1,23 +1,16 @@
-use Rattle.std.proofs.Common.{ℕ, refl, sym, ap, subst, inl, inr}
+use Rattle.std.proofs.Common.{ℕ, refl, ap, inl, inr}
 use Rattle.lock_world.specs.declared.events.Word.TheVariants.{Database}
 use Rattle.shared_rule.specs.declared.history.Mark.{Mark}
 use Rattle.shared_rule.specs.Looks.{word_looked_at}
-use Rattle.shared_rule.proofs.Events.Words.{IsAlwaysLawful, names-one, looks_at}
+use Rattle.shared_rule.proofs.Events.Words.{names-one, looks_at}
 use Rattle.shared_rule.proofs.Events.Loads.{loading_database-lawful}
 use Rattle.shared_rule.proofs.slots.load_database.Goals as goal
 
 pub look_as-requires-clause-allowed : goal.look_as-requires-clause-allowed
 look_as-requires-clause-allowed g c =
-    let content = g.T.PartTable.content in
-    let seat = c.args.seat.now in
-    let session = c.requires.session in
-    looks_at content g.T.PartTable.begun c.args.words.now.key c.args.words.now.table_id.slots seat.id seat.me
-    session.history session.others session.sessions
-    (Database c.args.owner) (tt, c.requires.exists) c.database_word.result (c.database_word.ensures.index c.args.words.now.key.sessions)
-    0 (λ n. n) g.M.Marking.mark (names-one (Database c.args.owner) g.M.Marking.mark _ c.requires.mark (λ _. refl))
-    (subst (IsAlwaysLawful content c.args.words.now.key session.history (Database c.args.owner) (λ _. Unit {0})
-    (λ n. n)) (sym c.requires.mark)
-    (loading_database-lawful content c.args.words.now.key session.history c.args.owner))
+    looks_at _ c.requires.session (Database c.args.owner) (tt, c.requires.exists) c.database_word.result (c.database_word.ensures.index c.args.words.now.key.sessions) 0 (λ n. n) g.M.Marking.mark _ c.requires.mark
+    (names-one (Database c.args.owner) g.M.Marking.mark _ c.requires.mark (λ _. refl))
+    (loading_database-lawful g.T.PartTable.content c.args.words.now.key c.requires.session.history c.args.owner)
 
 pub returns-clause-of_slots : goal.returns-clause-of_slots
 returns-clause-of_slots g c = λ slots has. (c.look_as.ensures.knows (Database c.args.owner)

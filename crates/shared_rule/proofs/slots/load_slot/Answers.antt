@@ -1,25 +1,18 @@
-use Rattle.std.proofs.Common.{ℕ, refl, sym, ap, ◌∙◌, subst, inl, inr}
+use Rattle.std.proofs.Common.{ℕ, refl, ap, ◌∙◌, inl, inr}
 use Rattle.lock_world.specs.declared.events.Word.TheVariants.{Slot}
 use Rattle.shared_rule.specs.declared.history.Mark.{Mark}
 use Rattle.shared_rule.specs.Looks.{word_looked_at}
 use Rattle.shared_rule.specs.Layout.{index_of_word}
-use Rattle.shared_rule.proofs.Events.Words.{IsAlwaysLawful, names-one, looks_at}
+use Rattle.shared_rule.proofs.Events.Words.{names-one, looks_at}
 use Rattle.shared_rule.proofs.Events.Loads.{loading_slot-lawful}
 use Rattle.shared_rule.proofs.slots.load_slot.Goals as goal
 
 pub look_as-requires-clause-allowed : goal.look_as-requires-clause-allowed
 look_as-requires-clause-allowed g c =
-    let content = g.T.PartTable.content in
-    let seat = c.args.seat.now in
-    let session = c.requires.session in
-    looks_at content g.T.PartTable.begun c.args.words.now.key c.args.words.now.table_id.slots seat.id seat.me
-    session.history session.others session.sessions
-    (Slot c.args.owner c.args.slot) (c.requires.within, c.requires.exists) c.slot_word.result
+    looks_at _ c.requires.session (Slot c.args.owner c.args.slot) (c.requires.within, c.requires.exists) c.slot_word.result
     (c.slot_word.ensures.index ∙ ap (λ k. index_of_word k (Slot c.args.owner c.args.slot)) c.requires.sessions)
-    0 (λ n. n) g.M.Marking.mark (names-one (Slot c.args.owner c.args.slot) g.M.Marking.mark _ c.requires.mark (λ _. refl))
-    (subst (IsAlwaysLawful content c.args.words.now.key session.history (Slot c.args.owner c.args.slot) (λ _. Unit {0})
-    (λ n. n)) (sym c.requires.mark)
-    (loading_slot-lawful content c.args.words.now.key session.history c.args.owner c.args.slot c.requires.within))
+    0 (λ n. n) g.M.Marking.mark _ c.requires.mark (names-one (Slot c.args.owner c.args.slot) g.M.Marking.mark _ c.requires.mark (λ _. refl))
+    (loading_slot-lawful g.T.PartTable.content c.args.words.now.key c.requires.session.history c.args.owner c.args.slot c.requires.within)
 
 pub returns-clause-of_slots : goal.returns-clause-of_slots
 returns-clause-of_slots g c = λ slots has.

@@ -20,24 +20,13 @@ without-word-requires g c = let may = c.requires.lawful.2 in shown-weak (c.requi
 
 pub store_as-requires-clause-allowed : goal.store_as-requires-clause-allowed
 store_as-requires-clause-allowed g c =
-    let content = g.T.PartTable.content in
-    let seat = c.args.seat.now in
-    let session = c.requires.session in
-    let key = c.args.words.now.key in
     let may = subst (λ (sessions : List (History g.row.T.Denot)). (its : SlotsInHand) × (mine : InHand)
-    × MayTransferBy key.sessions (first_account content sessions) c.args.owner c.args.slot its mine c.args.tag.now
-    c.args.mode c.args.strong
+    × MayTransferBy c.args.words.now.key.sessions (first_account g.T.PartTable.content sessions) c.args.owner c.args.slot its mine c.args.tag.now c.args.mode c.args.strong
     × (c.args.shown ≡ its.word c.args.slot)
-    × (content c.args.content.now ≡ add_hold mine.now c.args.owner c.args.tag.now c.args.mode)) session.sessions
-    c.requires.lawful in
-    let new : word_without c.args.shown c.args.mode ≡ c.number.result = sym c.without-word.ensures.number
-    ∙ sym c.number.ensures in
-    stores_at content g.T.PartTable.begun key c.args.words.now.table_id.slots seat.id seat.me session.history
-    session.others session.sessions
-    (Slot c.args.owner c.args.slot) (c.requires.within, c.requires.exists) c.slot_word.result
-    (c.slot_word.ensures.index ∙ ap (λ k. index_of_word k (Slot c.args.owner c.args.slot)) c.requires.sessions)
-    c.number.result g.M.Marking.mark _ c.requires.mark
-    (subst (λ n. IsAlwaysLawful content key session.history (Slot c.args.owner c.args.slot) (λ _. Unit {0}) (λ _. n)
+    × (g.T.PartTable.content c.args.content.now ≡ add_hold mine.now c.args.owner c.args.tag.now c.args.mode)) c.requires.session.sessions c.requires.lawful in
+    let new : word_without c.args.shown c.args.mode ≡ c.number.result = sym c.without-word.ensures.number ∙ sym c.number.ensures in
+    stores_at _ c.requires.session (Slot c.args.owner c.args.slot) (c.requires.within, c.requires.exists) c.slot_word.result
+    (c.slot_word.ensures.index ∙ ap (λ k. index_of_word k (Slot c.args.owner c.args.slot)) c.requires.sessions) c.number.result g.M.Marking.mark _ c.requires.mark
+    (subst (λ n. IsAlwaysLawful g.T.PartTable.content c.args.words.now.key c.requires.session.history (Slot c.args.owner c.args.slot) (λ _. Unit {0}) (λ _. n)
     (λ _. mark.TransferredSlot c.args.owner c.args.slot c.args.tag.now c.args.mode)) new
-    (transferring-lawful content key session.history c.args.owner c.args.slot may.0 may.1 c.args.tag.now c.args.mode
-    c.args.strong c.args.shown c.requires.within may.2 may.3))
+    (transferring-lawful g.T.PartTable.content c.args.words.now.key c.requires.session.history c.args.owner c.args.slot may.0 may.1 c.args.tag.now c.args.mode c.args.strong c.args.shown c.requires.within may.2 may.3))

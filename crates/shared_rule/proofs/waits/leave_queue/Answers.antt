@@ -1,9 +1,8 @@
-use Rattle.std.proofs.Common.{◌≡◌, ◌<◌, List, map, ap, ◌∙◌, subst}
+use Rattle.std.proofs.Common.{◌≡◌, List, map, ap, ◌∙◌, subst}
 use Rattle.lock_world.specs.declared.events.Word.TheVariants.{Wait}
 use Rattle.shared_rule.specs.declared.history.History.{History}
-use Rattle.shared_rule.specs.Layout.{index_of_word}
 use Rattle.shared_rule.specs.History.{first_account, first_number}
-use Rattle.shared_rule.proofs.Events.Words.{stores_at}
+use Rattle.shared_rule.proofs.Events.Words.{stores_at_own}
 use Rattle.lock_world.specs.Account.{InHand}
 use Rattle.lock_table.specs.Content as contents
 use Rattle.lock_table.specs.Waiter.{whose_and_mode}
@@ -15,15 +14,11 @@ use Rattle.shared_rule.proofs.waits.leave_queue.Goals as goal
 
 pub store_as-requires-clause-allowed : goal.store_as-requires-clause-allowed
 store_as-requires-clause-allowed g c =
-    let content = g.T.PartTable.content in
-    let seat = c.args.seat.now in
-    let session = c.requires.session in
-    let own : c.args.number ≡ session.history.number = c.requires.own ∙ ap (λ (sessions : List (History g.row.T.Denot)). first_number sessions) session.sessions in
-    let exists : session.history.number < c.args.words.now.key.sessions = subst (λ n. n < c.args.words.now.key.sessions) own c.requires.among in
-    let at = (c.wait_word.ensures.index c.args.words.now.key.sessions) ∙ ap (λ n. index_of_word c.args.words.now.key.sessions (Wait n)) own in
-    let may = subst (λ (sessions : List (History g.row.T.Denot)). (wait : OwnWait) × (mine : InHand) × (granted : List contents.Wait) × (c.args.woken.now ≡ map whose_and_mode granted) × MayLeaveBy c.args.words.now.key.sessions (first_number sessions) (first_account content sessions) wait mine granted (content c.args.content.now)) session.sessions c.requires.lawful in
+    let may = subst (λ (sessions : List (History g.row.T.Denot)).
+    (wait : OwnWait) × (mine : InHand) × (granted : List contents.Wait) × (c.args.woken.now ≡ map whose_and_mode granted)
+    × MayLeaveBy c.args.words.now.key.sessions (first_number sessions) (first_account g.T.PartTable.content sessions) wait mine granted (g.T.PartTable.content c.args.content.now)) c.requires.session.sessions c.requires.lawful in
     let marked : g.M.Marking.mark ≡ (λ _. LeftQueue (map (λ (wait : contents.Wait). wait.session) may.2) c.args.content.now) =
     c.requires.mark ∙ ap (λ woken. λ _. LeftQueue woken c.args.content.now) (told-granted c.args.woken.now may.2 may.3) in
-    stores_at content g.T.PartTable.begun c.args.words.now.key c.args.words.now.table_id.slots seat.id seat.me session.history session.others session.sessions
-    (Wait session.history.number) (tt, exists) c.wait_word.result at 0 g.M.Marking.mark _ marked
-    (leaving-lawful content c.args.words.now.key session.history may.0 may.1 may.2 c.args.content.now may.4)
+    stores_at_own _ c.requires.session c.args.number c.requires.own c.requires.among
+    Wait (λ k there. (tt, there)) c.wait_word.result (c.wait_word.ensures.index c.args.words.now.key.sessions) 0 g.M.Marking.mark _ marked
+    (leaving-lawful g.T.PartTable.content c.args.words.now.key c.requires.session.history may.0 may.1 may.2 c.args.content.now may.4)

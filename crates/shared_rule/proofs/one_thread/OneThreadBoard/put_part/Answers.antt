@@ -1,22 +1,14 @@
-use Rattle.std.proofs.Common.{◌≡◌, sym, ap, ◌∙◌, subst}
-use Rattle.lock_world.specs.Account.{Account}
+use Rattle.std.proofs.Common.{◌≡◌, refl, sym, subst}
 use Rattle.shared_rule.specs.Boards.{parts_in_hand, shelves_out}
 use Rattle.shared_rule.proofs.Stacks.{rest-out}
-use Rattle.shared_rule.proofs.Idle.{lists-told, idle-still}
+use Rattle.shared_rule.proofs.AtRest.{rests-lists, led-rests}
 use Rattle.shared_rule.proofs.one_thread.OneThreadBoard.put_part.Goals as goal
 
 pub put_part-requires-clause-idle : goal.put_part-requires-clause-idle
-put_part-requires-clause-idle g c = lists-told g.T.PartTable.content c.args.self.now.seat.me.0.sessions ∙ c.args.self.now.idle.none
+put_part-requires-clause-idle g c = rests-lists g.T.PartTable.content c.args.self.now.rests
 
-pub invariant_of-self-clause-lone : goal.invariant_of-self-clause-lone
-invariant_of-self-clause-lone g c = c.put_part.ensures.led.lone c.args.self.now.number c.args.self.now.lone
-
-pub invariant_of-self-clause-idle : goal.invariant_of-self-clause-idle
-invariant_of-self-clause-idle g c =
-    idle-still g.T.PartTable.content c.args.self.now.seat.me.0.sessions c.put_part.new.seat.me.0.sessions
-    (ap (λ (a : Account). a.lists) c.put_part.ensures.led.account) (c.put_part.ensures.led.todo ∙ c.args.self.now.idle.free) c.args.self.now.idle
-
-pub invariant_of-self-clause-out : goal.invariant_of-self-clause-out
-invariant_of-self-clause-out g c =
-    subst (λ shelves. shelves ≡ shelves_out (parts_in_hand shelves)) (sym c.put_part.ensures.shelves)
-    (rest-out c.args.self.now.seat.me.1 c.args.self.now.out)
+pub invariant_of-self-clause-rests : goal.invariant_of-self-clause-rests
+invariant_of-self-clause-rests g c =
+    let rests = c.args.self.now.rests in
+    led-rests c.put_part.ensures.led refl rests.idle.free
+    (subst (λ shelves. shelves ≡ shelves_out (parts_in_hand shelves)) (sym c.put_part.ensures.shelves) (rest-out c.args.self.now.seat.me.1 rests.out)) rests

@@ -1,16 +1,15 @@
-use Rattle.std.proofs.Common.{ap, ◌∙◌}
-use Rattle.lock_world.specs.Account.{Account}
+use Rattle.std.proofs.Common.{◌≡◌, refl, sym, ap, subst}
+use Rattle.shared_rule.specs.Boards.{parts_in_hand, shelves_out}
 use Rattle.shared_rule.specs.Todos.{todo_attempted}
-use Rattle.shared_rule.proofs.Idle.{lists-told, idle-still}
+use Rattle.shared_rule.proofs.Stacks.{more-out}
+use Rattle.shared_rule.proofs.AtRest.{rests-lists, led-rests}
 use Rattle.shared_rule.proofs.one_thread.OneThreadBoard.take_part.Goals as goal
 
 pub take_part-requires-clause-idle : goal.take_part-requires-clause-idle
-take_part-requires-clause-idle g c = lists-told g.T.PartTable.content c.args.self.now.seat.me.0.sessions ∙ c.args.self.now.idle.none
+take_part-requires-clause-idle g c = rests-lists g.T.PartTable.content c.args.self.now.rests
 
-pub invariant_of-self-clause-lone : goal.invariant_of-self-clause-lone
-invariant_of-self-clause-lone g c = c.take_part.ensures.led.lone c.args.self.now.number c.args.self.now.lone
-
-pub invariant_of-self-clause-idle : goal.invariant_of-self-clause-idle
-invariant_of-self-clause-idle g c =
-    idle-still g.T.PartTable.content c.args.self.now.seat.me.0.sessions c.take_part.new.seat.me.0.sessions
-    (ap (λ (a : Account). a.lists) c.take_part.ensures.led.account) (c.take_part.ensures.led.todo ∙ ap todo_attempted c.args.self.now.idle.free) c.args.self.now.idle
+pub invariant_of-self-clause-rests : goal.invariant_of-self-clause-rests
+invariant_of-self-clause-rests g c =
+    let rests = c.args.self.now.rests in
+    led-rests c.take_part.ensures.led refl (ap todo_attempted rests.idle.free)
+    (subst (λ shelves. shelves ≡ shelves_out (parts_in_hand shelves)) (sym c.take_part.ensures.shelves) (more-out c.args.part c.args.self.now.seat.me.1 rests.out)) rests

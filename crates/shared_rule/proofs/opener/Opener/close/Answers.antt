@@ -25,14 +25,14 @@ returns-clause-closed g c =
     let came : c.into_seat-seat.result.1.me.0 ≡ board.seat.me.0 = ap (λ seat. seat.me.0) c.into_seat-seat.ensures.1 in
     let closed : c.tell_closed.new.opener.me.0.closed ≡ last ∷ had.me.0.closed =
     ap (λ (side : Side g.row.T.Denot). side.0.closed) (c.tell_closed.ensures.side ∙ c.close.ensures.side)
-    ∙ ap (λ (view : View g.row.T.Denot). first_of view.sessions ++ had.me.0.closed) (came ∙ board.lone) in
+    ∙ ap (λ (view : View g.row.T.Denot). first_of view.sessions ++ had.me.0.closed) (came ∙ board.rests.lone) in
     let gathered : c.tell_closed.new.opener.me.0.sessions ≡ had.me.0.sessions =
     ap (λ (side : Side g.row.T.Denot). side.0.sessions) (c.tell_closed.ensures.side ∙ c.close.ensures.side) in
     let table : c.tell_closed.new.opener.table_id ≡ had.table_id = c.tell_closed.ensures.same_seat.table_id ∙ c.close.ensures.same_seat.table_id in
     record {
       last = last;
       number_ = refl;
-      trace_ = ap (λ (view : View g.row.T.Denot). (first_account g.T.PartTable.content view.sessions).trace) (sym board.lone);
+      trace_ = ap (λ (view : View g.row.T.Denot). (first_account g.T.PartTable.content view.sessions).trace) (sym board.rests.lone);
       opener = (λ i. record { table = table i; issued = c.self.inside.issued; limit = c.self.inside.sizes.sessions; groups = c.self.inside.sizes.groups; closed = closed i; gathered = gathered i })
           ∙ ap (λ (old : OpenerState g.row.T.Denot). record old { closed = last ∷ old.closed }) c.self.view_is;
     }
@@ -44,8 +44,8 @@ returns-clause-quiet g c = λ its others is.
     let came : c.into_seat-seat.result.1.me.0 ≡ board.seat.me.0 = ap (λ seat. seat.me.0) c.into_seat-seat.ensures.1 in
     sym (ap (λ (histories : List (History g.row.T.Denot)). first_quiet histories) is)
     ∙ ap (λ (side : Side g.row.T.Denot). first_quiet side.0.closed) (c.tell_closed.ensures.side ∙ c.close.ensures.side)
-    ∙ ap (λ (view : View g.row.T.Denot). first_quiet (first_of view.sessions ++ c.self.inside.seat.me.0.closed)) (came ∙ board.lone)
-    ∙ ap (λ (view : View g.row.T.Denot). first_quiet view.sessions) (sym board.lone)
+    ∙ ap (λ (view : View g.row.T.Denot). first_quiet (first_of view.sessions ++ c.self.inside.seat.me.0.closed)) (came ∙ board.rests.lone)
+    ∙ ap (λ (view : View g.row.T.Denot). first_quiet view.sessions) (sym board.rests.lone)
 
 pub close-requires-clause-wakes_nobody : goal.close-requires-clause-wakes_nobody
 close-requires-clause-wakes_nobody g c =

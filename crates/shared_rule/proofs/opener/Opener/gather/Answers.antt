@@ -16,7 +16,7 @@ invariant_of-self g c =
     let board = c.args.board in
     let side = ap (λ (m : Side g.row.T.Denot). m.0) c.keep_apart.ensures.side in
     let came : c.into_seat-seat.result.1.me.0 ≡ board.seat.me.0 = ap (λ seat. seat.me.0) c.into_seat-seat.ensures.1 in
-    let its : AreFree board.seat.me.0.sessions = free-lone board.seat.me.0 board.number (first_marks board.seat.me.0.sessions) board.lone board.idle (ap (λ (s : Stack). s.owed) c.requires.stack) in (
+    let its : AreFree board.seat.me.0.sessions = free-lone board.seat.me.0 board.number (first_marks board.seat.me.0.sessions) board.rests.lone board.rests.idle (ap (λ (s : Stack). s.owed) c.requires.stack) in (
       ap (λ (view : View g.row.T.Denot). view.next) side ∙ c.self.invariant.0,
       c.self.invariant.1,
       c.self.invariant.2,
@@ -36,12 +36,12 @@ returns-clause-gathered g c =
     let table = c.keep_apart.ensures.same_seat.table_id in
     let closed = ap (λ (view : View g.row.T.Denot). view.closed) side in
     let gathered = ap (λ (view : View g.row.T.Denot). view.sessions) side
-    ∙ ap (λ (view : View g.row.T.Denot). had.me.0.sessions ++ view.sessions) (came ∙ board.lone) in
+    ∙ ap (λ (view : View g.row.T.Denot). had.me.0.sessions ++ view.sessions) (came ∙ board.rests.lone) in
     record {
       last = last;
       number_ = refl;
-      account_ = ap (λ (view : View g.row.T.Denot). first_account g.T.PartTable.content view.sessions) (sym board.lone);
-      quiet_ = ap (λ (view : View g.row.T.Denot). first_quiet view.sessions) (sym board.lone);
+      account_ = ap (λ (view : View g.row.T.Denot). first_account g.T.PartTable.content view.sessions) (sym board.rests.lone);
+      quiet_ = ap (λ (view : View g.row.T.Denot). first_quiet view.sessions) (sym board.rests.lone);
       opener = (λ i. record { table = table i; issued = c.self.inside.issued; limit = c.self.inside.sizes.sessions; groups = c.self.inside.sizes.groups; closed = closed i; gathered = gathered i })
           ∙ ap (λ (old : OpenerState g.row.T.Denot). record old { gathered = old.gathered ++ last ∷ [] }) c.self.view_is;
     }
@@ -49,4 +49,4 @@ returns-clause-gathered g c =
 pub keep_apart-requires-clause-free : goal.keep_apart-requires-clause-free
 keep_apart-requires-clause-free g c =
     subst (λ seat. IsFree seat.me.0.sessions) (sym c.into_seat-seat.ensures.1)
-    (record { idle = c.args.board.idle; wakes_nobody = ap (λ (s : Stack). s.owed) c.requires.stack })
+    (record { idle = c.args.board.rests.idle; wakes_nobody = ap (λ (s : Stack). s.owed) c.requires.stack })

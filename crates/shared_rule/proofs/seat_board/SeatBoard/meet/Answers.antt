@@ -9,7 +9,7 @@ pub returns-clause-told : goal.returns-clause-told
 returns-clause-told g c =
     let seat = c.args.self.now.seat in
     told-of_both g.T.PartTable.content seat.me.0 c.keep_apart.new.seat.me.0 c.args.self.now.number (first_marks seat.me.0.sessions) c.args.other.seat.me.0.sessions
-    c.args.self.now.lone (ap (λ (m : Side g.row.T.Denot). m.0.sessions) c.keep_apart.ensures.side) c.tell_apart.ensures.apart
+    c.args.self.now.rests.lone (ap (λ (m : Side g.row.T.Denot). m.0.sessions) c.keep_apart.ensures.side) c.tell_apart.ensures.apart
 
 pub keep_apart-requires-clause-free : goal.keep_apart-requires-clause-free
-keep_apart-requires-clause-free g c = record { idle = c.args.other.idle; wakes_nobody = ap (λ (s : Stack). s.owed) c.requires.stack }
+keep_apart-requires-clause-free g c = record { idle = c.args.other.rests.idle; wakes_nobody = ap (λ (s : Stack). s.owed) c.requires.stack }
