@@ -1,16 +1,18 @@
-use Rattle.std.proofs.Common.{◌≡◌, ℕ, suc, List, [], ◌∷◌, map, length, refl, sym, ap, ◌∙◌, subst}
-use Rattle.std.specs.Prelude.{Result, Ok, Err}
+use Rattle.std.proofs.Common.{◌≡◌, ℕ, suc, ◌+◌, List, [], ◌∷◌, map, length, refl, sym, ap, ◌∙◌, subst}
+use Rattle.std.specs.Prelude.{Result, Ok, Err, IfOk}
 use Rattle.std.specs.List.{AllZip, AllByRecursion}
 use Rattle.modes_core.specs.declared.refusals.Refusal.{Refusal}
 use Rattle.atomic_table.specs.Seated.{TableId}
 use Rattle.local_locks.specs.Owned.{Owned}
 use Rattle.lock_table.specs.declared.no_memory.NoMemory.{NoMemory}
 use Rattle.lock_world.specs.Account.{Account}
+use Rattle.lock_world.specs.World.{TraceEntry}
 use Rattle.shared_rule.specs.declared.audits.Audit.{Audit}
+use Rattle.shared_rule.specs.Audits.{Counts, CountsTo}
 use Rattle.shared_rule.specs.Boards.{Seated, Stack}
 use Rattle.shared_rule.specs.Quiet.{Quiet}
 use Rattle.lock_manager.specs.Sessions.{SessionView, IsUnchanged}
-use Rattle.lock_manager.specs.Audits.{Audits}
+use Rattle.lock_manager.specs.Audits.{Audits, AuditsBy, entries_owned, strong_owned}
 use Rattle.lock_manager.proofs.Lemmas.Audits.Counts.{owned-entries}
 
 module _ {B : Type 0} (seat : B → Seated) (view : B → Account) (stack : B → Stack) (quiet : B → List Quiet) where
@@ -24,51 +26,44 @@ module _ {B : Type 0} (seat : B → Seated) (view : B → Account) (stack : B �
       (subst (λ zs. Audits seat view stack quiet limit groups zs new result) one
       (subst (λ zs. Audits seat view stack quiet limit groups xs zs result) two audits)))
 
-  -- The answer to the caller says the same.
+  -- Where an audit answers so, another answer that says no more is one of the same counting,
+  counts-answered :
+      {E F : Type 0} (limit groups : ℕ) (before after : List TraceEntry) (result : Result Audit E) (answer : Result Audit F)
+      → ((P : Audit → Type 0) → IfOk result P → IfOk answer P) → Counts limit groups before result after → Counts limit groups before answer after
+  counts-answered limit groups before after result answer says its =
+      let counted = says (CountsTo limit groups its.counters its.word its.contents) its.counted in
+      record { counters = its.counters; word = its.word; contents = its.contents; sixteen = its.sixteen; trace = its.trace; counted = counted }
+
+  -- and of the same audit.
+  audits-answered :
+      {E F : Type 0} (limit groups : ℕ) (first : SessionView B) (others new : List (SessionView B)) (result : Result Audit E) (answer : Result Audit F)
+      → ((P : Audit → Type 0) → IfOk result P → IfOk answer P) → AuditsBy seat view stack quiet limit groups first others new result
+      → AuditsBy seat view stack quiet limit groups first others new answer
+  audits-answered limit groups first others new result answer says audits = record {
+    first_after = audits.first_after;
+    others_after = audits.others_after;
+    sessions = audits.sessions;
+    traced = audits.traced;
+    unchanged = audits.unchanged;
+    counts = counts-answered limit groups (view first.board).trace (view audits.first_after.board).trace result answer says audits.counts;
+    holds = says (λ audit. audit.fast + audit.table ≡ entries_owned owned-entries (first ∷ others)) audits.holds;
+    strong = says (λ audit. audit.strong ≡ strong_owned owned-entries (first ∷ others)) audits.strong;
+  }
+
+  -- The answer to the caller says the same of an audit that counted,
   pub audits-ok : (limit groups : ℕ) (old new : List (SessionView B)) (audit : Audit) → Audits seat view stack quiet {E = NoMemory} limit groups old new (Ok audit) → Audits seat view stack quiet {E = Refusal} limit groups old new (Ok audit)
   audits-ok limit groups [] new audit audits =
       let same : ◌≡◌ {A = Result Audit NoMemory} (Ok audit) (Ok (record { fast = 0; table = 0; strong = 0 })) = audits.1 in
       let is : audit ≡ record { fast = 0; table = 0; strong = 0 } = cc (same) in
       (audits.0, ap (λ (a : Audit). Ok a) is)
-  audits-ok limit groups (s ∷ others) new audit audits = record {
-    first_after = audits.first_after;
-    others_after = audits.others_after;
-    sessions = audits.sessions;
-    traced = audits.traced;
-    unchanged = audits.unchanged;
-    counts = record {
-      counters = audits.counts.counters;
-      word = audits.counts.word;
-      contents = audits.counts.contents;
-      sixteen = audits.counts.sixteen;
-      trace = audits.counts.trace;
-      counted = audits.counts.counted;
-    };
-    holds = audits.holds;
-    strong = audits.strong;
-  }
+  audits-ok limit groups (s ∷ others) new audit audits = audits-answered {E = NoMemory} {F = Refusal} limit groups s others new (Ok audit) (Ok audit) (λ P its. its) audits
 
+  -- and of one that memory ran out for.
   pub audits-err : (limit groups : ℕ) (old new : List (SessionView B)) (e : NoMemory) (refusal : Refusal) → Audits seat view stack quiet {E = NoMemory} limit groups old new (Err e)
       → Audits seat view stack quiet {E = Refusal} limit groups old new (Err refusal)
   audits-err limit groups [] new e refusal audits =
       let never : ◌≡◌ {A = Result Audit NoMemory} (Err e) (Ok (record { fast = 0; table = 0; strong = 0 })) = audits.1 in absurd (cc (never))
-  audits-err limit groups (s ∷ others) new e refusal audits = record {
-    first_after = audits.first_after;
-    others_after = audits.others_after;
-    sessions = audits.sessions;
-    traced = audits.traced;
-    unchanged = audits.unchanged;
-    counts = record {
-      counters = audits.counts.counters;
-      word = audits.counts.word;
-      contents = audits.counts.contents;
-      sixteen = audits.counts.sixteen;
-      trace = audits.counts.trace;
-      counted = tt;
-    };
-    holds = tt;
-    strong = tt;
-  }
+  audits-err limit groups (s ∷ others) new e refusal audits = audits-answered {E = NoMemory} {F = Refusal} limit groups s others new (Err e) (Err refusal) (λ P its. tt) audits
 
   -- They are at the same table, and as many.
   zip-tables : (table : TableId) (old new : List (SessionView B)) → AllZip (IsUnchanged seat view stack quiet) old new → AllByRecursion (λ s. (seat s.board).table ≡ table) old
