@@ -20,7 +20,7 @@ use Rattle.fast_path.specs.declared.use_counts.UseCounts.{UseCounts}
 use Rattle.lock_manager.specs.Advisory.{kept_by_unlock_all, is_unlocked, unlocked_by_all, left_by_unlock_all, is_owned_advisory}
 use Rattle.lock_manager.specs.Releases.{Releases, ReleasesAll}
 use Rattle.lock_manager.specs.Quiet.{QuietOfReleases, quiet_releasing}
-use Rattle.lock_manager.proofs.Lemmas.Unlocked.{after-same, but-left, but-unlocked, change-left, change-unlocked, left-cons, of-found, owned-user, passes, stays, total-found, unlocked-skip}
+use Rattle.lock_manager.proofs.Lemmas.Unlocked.{after-same, at-first, but-apart, but-left, but-unlocked, change-left, change-unlocked, left-cons, owned-user, passes, stays, total-found, unlocked-skip}
 
 -- ---- one count given back
 
@@ -28,15 +28,6 @@ use Rattle.lock_manager.proofs.Lemmas.Unlocked.{after-same, but-left, but-unlock
 abbrev pub session_counts : List Entry → ℕ
 session_counts [] = 0
 session_counts (x ∷ es) = x.session + session_counts es
-
-fewer-but : (es : List Entry) (tag : Tag) (mode : Mode) → session_counts (entries_but es tag mode) ≤ session_counts es
-fewer-but [] tag mode = omega arith
-fewer-but (x ∷ es) tag mode =
-    let rest = fewer-but es tag mode in
-    elim (cases_Bool (is_of tag mode x)) [
-      | inl it ↦ rw it (omega (arith, rest))
-      | inr other ↦ rw other (omega (arith, rest))
-    ]
 
 fewer-change : (es : List Entry) (tag : Tag) (mode : Mode) → session_counts (change (lowered Session) es tag mode) ≤ session_counts es
 fewer-change [] tag mode = omega arith
@@ -47,62 +38,34 @@ fewer-change (x ∷ es) tag mode =
       | inr other ↦ rw other (omega (arith, rest))
     ]
 
-less-but : (es : List Entry) (e : Entry) → find is_owned_advisory es ≡ Some e → session_counts (entries_but es e.tag e.mode) < session_counts es
-less-but [] e found = absurd (let bad : None ≡ Some e = found in cc)
-less-but (x ∷ es) e found =
-    elim (cases_Bool (is_owned_advisory x)) [
-      | inl owned ↦
-          let both : Some x ≡ Some e = rw owned at found in
-          let same : x ≡ e = cc in
-          let some = (owned-user (method_of x.tag) x.session owned).1 in
-          let rest = fewer-but es x.tag x.mode in
-          subst (λ (z : Entry). session_counts (entries_but (x ∷ es) z.tag z.mode) < session_counts (x ∷ es)) same
-          (rw (same_key-refl x.tag x.mode) (omega (arith, some, rest)))
-      | inr none ↦
-          let rest = less-but es e (rw none at found) in
-          elim (cases_Bool (is_of e.tag e.mode x)) [
-            | inl it ↦ rw it (omega (arith, rest))
-            | inr other ↦ rw other (omega (arith, rest))
-          ]
-    ]
+less-but :
+    (es : List Entry) (e : Entry) → IsDistinct are_of_same es → find is_owned_advisory es ≡ Some e
+    → session_counts (entries_but es e.tag e.mode) < session_counts es
+less-but es e once found =
+    at-first e (λ ys. session_counts (entries_but ys e.tag e.mode) < session_counts ys)
+    (λ ys owned apart.
+    let some = (owned-user (method_of e.tag) e.session owned).1 in
+    let rest : session_counts (entries_but ys e.tag e.mode) ≡ session_counts ys = ap session_counts (but-apart e ys apart) in
+    rw (same_key-refl e.tag e.mode) (omega (arith, some, rest)))
+    (λ x ys none other rest. rw other (omega (arith, rest))) es once found
 
 less-change :
-    (es : List Entry) (e : Entry) → find is_owned_advisory es ≡ Some e
+    (es : List Entry) (e : Entry) → IsDistinct are_of_same es → find is_owned_advisory es ≡ Some e
     → session_counts (change (lowered Session) es e.tag e.mode) < session_counts es
-less-change [] e found = absurd (let bad : None ≡ Some e = found in cc)
-less-change (x ∷ es) e found =
-    elim (cases_Bool (is_owned_advisory x)) [
-      | inl owned ↦
-          let both : Some x ≡ Some e = rw owned at found in
-          let same : x ≡ e = cc in
-          let some = (owned-user (method_of x.tag) x.session owned).1 in
-          let rest = fewer-change es x.tag x.mode in
-          subst (λ (z : Entry). session_counts (change (lowered Session) (x ∷ es) z.tag z.mode) < session_counts (x ∷ es)) same
-          (rw (same_key-refl x.tag x.mode) (omega (arith, some, rest)))
-      | inr none ↦
-          let rest = less-change es e (rw none at found) in
-          elim (cases_Bool (is_of e.tag e.mode x)) [
-            | inl it ↦ rw it (omega (arith, rest))
-            | inr other ↦ rw other (omega (arith, rest))
-          ]
-    ]
+less-change es e once found =
+    at-first e (λ ys. session_counts (change (lowered Session) ys e.tag e.mode) < session_counts ys)
+    (λ ys owned apart.
+    let some = (owned-user (method_of e.tag) e.session owned).1 in
+    let rest = fewer-change ys e.tag e.mode in
+    rw (same_key-refl e.tag e.mode) (omega (arith, some, rest)))
+    (λ x ys none other rest. rw other (omega (arith, rest))) es once found
 
 -- how often the session owns the first one
 owned-found :
     (es : List Entry) (e : Entry) → IsDistinct are_of_same es → find is_owned_advisory es ≡ Some e → owner_count_of es e.tag e.mode Session ≡ e.session
-unfolding IsDistinct
-owned-found [] e once found = absurd (let bad : None ≡ Some e = found in cc)
-owned-found (x ∷ es) e once found =
-    elim (cases_Bool (is_owned_advisory x)) [
-      | inl owned ↦
-          let both : Some x ≡ Some e = rw owned at found in
-          let same : x ≡ e = cc in
-          rw (← same) (rw (same_key-refl x.tag x.mode) refl)
-      | inr none ↦
-          let later : find is_owned_advisory es ≡ Some e = rw none at found in
-          let apart : is_of e.tag e.mode x ≡ false = of-found (λ y. are_of_same x y ≡ false) es e once.0 later in
-          rw apart (owned-found es e once.1 later)
-    ]
+owned-found es e once found =
+    at-first e (λ ys. owner_count_of ys e.tag e.mode Session ≡ e.session) (λ ys owned apart. rw (same_key-refl e.tag e.mode) refl)
+    (λ x ys none other rest. rw other rest) es once found
 
 -- One count of the first one, of whose entries these are, is given back.
 module _ (es new : List Entry) (e : Entry) (once : IsDistinct are_of_same es) (counted : All IsCounted es) (found : find is_owned_advisory es ≡ Some e) (less : new ≡ with_one_less es e.tag e.mode Session) where
@@ -142,8 +105,8 @@ module _ (es new : List Entry) (e : Entry) (once : IsDistinct are_of_same es) (c
   pub given-fewer : session_counts new < session_counts es
   given-fewer =
       elim (cases_Bool (total_of es e.tag e.mode == 1)) [
-        | inl last ↦ subst (λ ys. session_counts ys < session_counts es) (sym (taken last)) (less-but es e found)
-        | inr more ↦ subst (λ ys. session_counts ys < session_counts es) (sym (kept more)) (less-change es e found)
+        | inl last ↦ subst (λ ys. session_counts ys < session_counts es) (sym (taken last)) (less-but es e once found)
+        | inr more ↦ subst (λ ys. session_counts ys < session_counts es) (sym (kept more)) (less-change es e once found)
       ]
 
   -- and it is the next one that goes, if it was the last count,

@@ -1,24 +1,31 @@
 use Rattle.lock_manager.specs.Releases.{ReleasesAll}
 use Rattle.lock_manager.specs.Quiet.{QuietOfReleases}
-use Rattle.std.proofs.Common.{◌+◌, [], length, refl, sym, ap, ◌∙◌, subst, arith}
+use Rattle.std.proofs.Common.{◌≡◌, ◌+◌, [], length, refl, sym, ap, ◌∙◌, subst, arith}
 use Rattle.local_locks.specs.Owned.{with_one_less}
 use Rattle.modes_core.specs.declared.sessions.Owner.TheVariants.{Session}
 use Rattle.local_locks.proofs.EntryLaws.{gone-released}
 use Rattle.shared_rule.specs.Boards.{Seated}
 use Rattle.lock_manager.specs.Rest.{IsUseCount}
-use Rattle.lock_manager.proofs.Lemmas.Advisory.{given-back, none-unlocked, none-left, unlocked-few, unlocks-next, unlocks-quiet}
+use Rattle.lock_manager.proofs.Lemmas.Advisory.{GivenBack, given-back, none-unlocked, none-left, unlocked-few, unlocks-next, unlocks-quiet}
 use Rattle.lock_manager.proofs.Lemmas.Quiet.{quiet-over}
 use Rattle.lock_manager.proofs.Lemmas.Rest.Entries.{is_counted-rest, IsAtRest-still_held, IsAtRest-released}
 use Rattle.lock_manager.specs.Advisory.{unlocked_by_all}
+use Rattle.lock_manager.proofs.unlock_all.unlock_all.Given as given
 use Rattle.lock_manager.proofs.unlock_all.unlock_all.Goals as goal
+use Rattle.lock_manager.proofs.unlock_all.unlock_all.Goals.{After-drop_held}
+
+-- What giving one count back makes of the entries.
+one_back : (g : given.Over) (c : goal.After-drop_held g)
+    → c.drop_held.new.self.entries ≡ with_one_less c.locks.own.locals.entries c.in-Some.tag c.in-Some.mode Session
+    → GivenBack c.locks.own.locals.entries c.drop_held.new.self.entries c.in-Some.tag c.in-Some.mode
+one_back g c entries =
+    let owned = c.locks.invariant.kept.well_owned in
+    given-back c.locks.own.locals.entries c.drop_held.new.self.entries c.in-Some.tag c.in-Some.mode owned.once owned.counted (c.in-Some.ensures {u = tt}).first entries
 
 pub release_hold-requires-clause-counted : goal.release_hold-requires-clause-counted
 release_hold-requires-clause-counted g c strong =
-    let its = c.locks.invariant in
-    let old = c.locks.own.locals.entries in
-    let back = given-back old c.drop_held.new.self.entries c.in-Some.tag c.in-Some.mode its.kept.well_owned.once its.kept.well_owned.counted
-    (c.in-Some.ensures {u = tt}).first (c.in-Ok-Released.ensures {u = tt}).entries in
-    is_counted-rest _ _ _ _ _ _ old c.in-Some.tag c.in-Some.mode its.rest strong back.had
+    let had = (one_back g (goal.at.release_hold-requires-clause-counted g c).After-drop_held (c.in-Ok-Released.ensures {u = tt}).entries).had in
+    is_counted-rest _ _ _ _ _ _ c.locks.own.locals.entries c.in-Some.tag c.in-Some.mode c.locks.invariant.rest strong had
 
 pub unreachable-requires : goal.unreachable-requires
 unreachable-requires g c =
@@ -30,16 +37,10 @@ unreachable-requires g c =
     back.some (refused.not_held.0 (cc (refused.no_other)))
 
 pub locks-smaller-in-Ok-Released : goal.locks-smaller-in-Ok-Released
-locks-smaller-in-Ok-Released g c =
-    let its = c.locks.invariant in
-    (given-back c.locks.own.locals.entries c.drop_held.new.self.entries c.in-Some.tag c.in-Some.mode its.kept.well_owned.once its.kept.well_owned.counted
-    (c.in-Some.ensures {u = tt}).first (c.in-Ok-Released.ensures {u = tt}).entries).fewer
+locks-smaller-in-Ok-Released g c = (one_back g (goal.at.locks-smaller-in-Ok-Released g c).After-drop_held (c.in-Ok-Released.ensures {u = tt}).entries).fewer
 
 pub locks-smaller : goal.locks-smaller
-locks-smaller g c =
-    let its = c.locks.invariant in
-    (given-back c.locks.own.locals.entries c.drop_held.new.self.entries c.in-Some.tag c.in-Some.mode its.kept.well_owned.once its.kept.well_owned.counted
-    (c.in-Some.ensures {u = tt}).first (c.in-Ok-StillHeld.ensures {u = tt}).entries).fewer
+locks-smaller g c = (one_back g (goal.at.locks-smaller g c).After-drop_held (c.in-Ok-StillHeld.ensures {u = tt}).entries).fewer
 
 pub locks-preserved-in-Ok-Released : goal.locks-preserved-in-Ok-Released
 locks-preserved-in-Ok-Released g c =
@@ -48,7 +49,7 @@ locks-preserved-in-Ok-Released g c =
     let old = c.locks.own.locals.entries in
     let new = c.drop_held.new.self.entries in
     let dropped = c.in-Ok-Released.ensures {u = tt} in
-    let back = given-back old new c.in-Some.tag c.in-Some.mode its.kept.well_owned.once its.kept.well_owned.counted (c.in-Some.ensures {u = tt}).first dropped.entries in
+    let back = one_back g (goal.at.locks-preserved-in-Ok-Released g c).After-drop_held dropped.entries in
     let gone = gone-released new c.in-Some.tag c.in-Some.mode c.in-Ok-Released.field-0 dropped.answer dropped.well_owned.counted c.in-Ok-Released.field-0-is in
     let next = back.next gone in
     record {
@@ -83,16 +84,14 @@ pub locks-preserved : goal.locks-preserved
 locks-preserved g c =
     let its = c.locks.invariant in
     let seat = g.B.Board.seat c.args.board.now in
-    let old = c.locks.own.locals.entries in
-    let new = c.drop_held.new.self.entries in
     let dropped = c.in-Ok-StillHeld.ensures {u = tt} in
-    let back = given-back old new c.in-Some.tag c.in-Some.mode its.kept.well_owned.once its.kept.well_owned.counted (c.in-Some.ensures {u = tt}).first dropped.entries in
+    let back = one_back g (goal.at.locks-preserved g c).After-drop_held dropped.entries in
     let some = dropped.answer.0 c.in-Ok-StillHeld.field-0-is in
     let same = back.none some in
     record {
       rest =
           IsAtRest-still_held seat.groups seat.limit c.args.own.now.database c.locks.own.uses (g.B.Board.view c.locks.board) (g.B.Board.stack c.locks.board)
-          old new c.in-Some.tag c.in-Some.mode Session its.rest dropped.entries some;
+          c.locks.own.locals.entries c.drop_held.new.self.entries c.in-Some.tag c.in-Some.mode Session its.rest dropped.entries some;
       steps = λ last left others. its.steps last left (subst (λ keys. ReleasesAll seat.groups seat.number (g.B.Board.view c.locks.board) c.locks.own.uses keys last left) same others);
       quiet = λ last left after others. its.quiet last left after
           (subst (λ keys. QuietOfReleases seat.groups seat.number (g.B.Board.view c.locks.board) c.locks.own.uses keys last left (g.B.Board.quiet c.locks.board) after) same others);
