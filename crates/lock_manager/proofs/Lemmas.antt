@@ -2,6 +2,7 @@
 pub mod Rest
 pub mod Requests
 pub mod Releases
+pub mod Moves
 pub mod Waiting
 pub mod Listings
 pub mod Audits

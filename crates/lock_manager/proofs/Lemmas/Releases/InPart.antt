@@ -22,6 +22,7 @@ use Rattle.shared_rule.specs.Episodes.{account_episode}
 use Rattle.shared_rule.proofs.Episodes.{fresh_hand, taken-in_hand, taken-put}
 use Rattle.fast_path.specs.declared.use_counts.UseCounts.{UseCounts}
 use Rattle.lock_manager.specs.Releases.{Wakens, Tells, ReleasesInPart, ReleasesHold, LooksNowhere, FindsNone, Releases, account_released}
+use Rattle.lock_manager.proofs.Lemmas.Moves.{may_make}
 use Rattle.lock_manager.proofs.Lemmas.Releases.Marks.{release-once, release-stood}
 
 -- Releasing a hold in a partition that was just taken.
@@ -31,14 +32,7 @@ module _ (seat : Seated) (a : Account) (p : ℕ) (tag : Tag) (mode : Mode) (take
     (moved : Moves taken seat.number (Release tag mode) granted put) (whose : woken ≡ map whose_and_mode granted) where
   -- The session may make the move,
   may_release : MayMoveBy seat.limit seat.number (account_taking a p taken) p (fresh_hand taken) (Release tag mode) granted put
-  may_release = record {
-    in_hand = taken-in_hand a p taken;
-    unrecorded = refl;
-    object = object;
-    fits = own;
-    counted = tt;
-    moved = moved;
-  }
+  may_release = may_make seat.limit seat.number (account_taking a p taken) p taken put (Release tag mode) granted (taken-in_hand a p taken) object own tt moved
 
   -- and put the partition by it where it lets nobody go,
   pub may_put_released :

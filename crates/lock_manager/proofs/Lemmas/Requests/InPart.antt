@@ -24,6 +24,7 @@ use Rattle.shared_rule.proofs.Episodes.{fresh_hand, taken-in_hand, may_keep}
 use Rattle.shared_rule.specs.Boards.{Stack}
 use Rattle.lock_manager.specs.Rest.{IsIdle}
 use Rattle.lock_manager.specs.Requests.{DecidesInPart, account_awaiting}
+use Rattle.lock_manager.proofs.Lemmas.Moves.{may_make}
 
 -- Deciding a request in its partition.
 
@@ -48,14 +49,7 @@ module _ (limit number : ℕ) (a : Account) (stack : Stack) (p : ℕ) (tag : Tag
   -- with the hold where the request is granted,
   may_grant : Moves taken number (Grant tag mode) [] put → MayPutBy limit number (account_taking a p taken) p (fresh_hand taken) (Grant tag mode) put
   may_grant moved = record {
-    may_move = record {
-      in_hand = taken-in_hand a p taken;
-      unrecorded = refl;
-      object = sym home;
-      fits = (idle.no_wait, new);
-      counted = counted;
-      moved = moved;
-    };
+    may_move = may_make limit number (account_taking a p taken) p taken put (Grant tag mode) [] (taken-in_hand a p taken) (sym home) (idle.no_wait, new) counted moved;
     by_putting = tt;
   }
 
@@ -68,14 +62,7 @@ module _ (limit number : ℕ) (a : Account) (stack : Stack) (p : ℕ) (tag : Tag
 
   -- or with the wait, once the wait word says so,
   may_join : Moves taken number (Join tag mode) [] put → MayMoveBy limit number (account_taking a p taken) p (fresh_hand taken) (Join tag mode) [] put
-  may_join moved = record {
-    in_hand = taken-in_hand a p taken;
-    unrecorded = refl;
-    object = sym home;
-    fits = (idle.no_wait, new);
-    counted = counted;
-    moved = moved;
-  }
+  may_join moved = may_make limit number (account_taking a p taken) p taken put (Join tag mode) [] (taken-in_hand a p taken) (sym home) (idle.no_wait, new) counted moved
 
   pub may_wait :
       (b : Account) → b ≡ account_taking a p taken → Moves taken number (Join tag mode) [] put

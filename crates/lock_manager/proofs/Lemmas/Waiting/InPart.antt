@@ -25,6 +25,7 @@ use Rattle.shared_rule.specs.Lawful.{MayPutPart, MayClearBy}
 use Rattle.shared_rule.proofs.Episodes.{fresh_hand, taken-in_hand}
 use Rattle.lock_manager.specs.Releases.{Wakens, Tells, account_marked}
 use Rattle.lock_manager.specs.Waiting.{IsInWait, FindsGrant, account_cancelled}
+use Rattle.lock_manager.proofs.Lemmas.Moves.{may_make}
 use Rattle.lock_manager.proofs.Lemmas.Releases.Marks.{leave-once, leave-stood}
 
 -- The end of a wait in its partition: it is taken out of the queue, or it was granted.
@@ -108,17 +109,7 @@ module _ (number : ℕ) (a : Account) (stack : Stack) (p : ℕ) (tag : Tag) (mod
     may_put-over limit its c put clears same = (
       fresh_hand taken,
       subst (λ (x : Account). MayPutPart limit its x p (fresh_hand taken) Keep put) {x = account_over} {y = c} (sym (is_over c clears))
-          (inl (record {
-            may_move = record {
-              in_hand = taken-in_hand a p taken;
-              unrecorded = refl;
-              object = tt;
-              fits = tt;
-              counted = tt;
-              moved = (refl, same);
-            };
-            by_putting = tt;
-          })),
+          (inl (record { may_move = may_make limit its account_over p taken put Keep [] (taken-in_hand a p taken) tt tt tt (refl, same); by_putting = tt })),
     )
 
     -- and the wait is over.
@@ -165,14 +156,7 @@ module _ (number : ℕ) (a : Account) (stack : Stack) (p : ℕ) (tag : Tag) (mod
       whose,
       subst (λ (x : Account). MayLeaveBy limit number x wait (fresh_hand taken) granted put) {x = account_taken} {y = b} (sym took) (record {
         is_wait = waits.waits;
-        may_move = record {
-          in_hand = taken-here;
-          unrecorded = refl;
-          object = refl;
-          fits = tt;
-          counted = tt;
-          moved = moved;
-        };
+        may_move = may_make limit number account_taken (partition_of tag) taken put (Leave tag) granted taken-here refl tt tt moved;
       }),
     )
 
@@ -198,14 +182,8 @@ module _ (number : ℕ) (a : Account) (stack : Stack) (p : ℕ) (tag : Tag) (mod
         mine = fresh_hand taken;
         granted = granted;
         whose = whose;
-        may_move = record {
-          in_hand = taken-in_hand a p taken;
-          unrecorded = refl;
-          object = sym home;
-          fits = tt;
-          counted = tt;
-          moved = subst (λ k. Moves taken k (Leave tag) granted put) (sym same_number) moved;
-        };
+        may_move = may_make seat.limit seat.number account_out p taken put (Leave tag) granted (taken-in_hand a p taken) (sym home) tt tt
+            (subst (λ k. Moves taken k (Leave tag) granted put) (sym same_number) moved);
         once = λ session. leave-once taken put number tag granted woken session moved whose (knows.once session tag);
         exist = λ session there. exist session tag (leave-stood taken put number tag granted moved session there);
       });
