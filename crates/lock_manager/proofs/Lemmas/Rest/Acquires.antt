@@ -23,7 +23,7 @@ use Rattle.fast_path.specs.Slots.{count_in, AreCounted}
 use Rattle.fast_path.proofs.GroupCounts.{counted-fewer}
 use Rattle.lock_manager.specs.Rest.{counted_for, account_at_rest, IsUseCount, IsAtRest}
 use Rattle.lock_manager.specs.Requests.{counted_granted, account_granted}
-use Rattle.lock_manager.proofs.Lemmas.Rest.Ends.{own_with-key, with_strong, counted_for-cons}
+use Rattle.lock_manager.proofs.Lemmas.Rest.Ends.{own_with-key, with_strong, counted_for-cons, rest-same}
 
 -- What a session at rest holds and has counted, after one acquire or one release.
 
@@ -72,7 +72,7 @@ rest-new groups limit database uses a stack entries blank none empty nothing =
     }
 
 -- What it has an entry of is counted once more,
-pub held_again :
+held_again :
     (old new : Owned) (tag : Tag) (mode : Mode) (owner : Owner) (answer : Result Bool Refusal) (held : Bool) → answer ≡ Ok held → held ≡ true
     → (answer ≡ Ok true → (has_entry old.entries tag mode ≡ true) × (owner_count_of old.entries tag mode owner < max_count))
     → (answer ≡ Ok true → new.entries ≡ with_one_more old.entries tag mode owner)
@@ -202,23 +202,8 @@ raised-same : (owner : Owner) (e : Entry) → ((raised owner e).tag ≡ e.tag) �
 raised-same Session e = (refl, refl)
 raised-same Transaction e = (refl, refl)
 
--- A session at rest with entries that hold and count the same is at rest with them.
-pub rest-same :
-    (groups limit database : ℕ) (uses : UseCounts) (a : Account) (stack : Stack) (old new : List Entry) → has_entry old ≡ has_entry new → counted_for limit old ≡ counted_for limit new
-    → IsAtRest groups limit database uses a stack old → IsAtRest groups limit database uses a stack new
-rest-same groups limit database uses a stack old new own counted rest = record {
-  account =
-      rest.account
-      ∙ (λ i. record (account_at_rest limit database a.fast.remembered old a.trace) {
-        own = own i;
-        fast = record ((account_at_rest limit database a.fast.remembered old a.trace).fast) { counted = counted i };
-      });
-  use_count = rest.use_count;
-  nothing_left = rest.nothing_left;
-}
-
 -- What is held already may be acquired once more,
-pub rest-held_again :
+rest-held_again :
     (groups limit database : ℕ) (uses : UseCounts) (a : Account) (stack : Stack) (old new : List Entry) (tag : Tag) (mode : Mode) (owner : Owner) → has_entry old tag mode ≡ true
     → new ≡ with_one_more old tag mode owner → IsAtRest groups limit database uses a stack old → IsAtRest groups limit database uses a stack new
 rest-held_again groups limit database uses a stack old new tag mode owner held more rest =
@@ -232,3 +217,14 @@ rest-held_again groups limit database uses a stack old new tag mode owner held m
             at : (b : Bool) → same_key t m tag mode ≡ b → (if b then true else has_entry old t m) ≡ has_entry old t m
             at true is = let same = same_key-from t m tag mode is in sym ((λ i. has_entry old (same.0 i) (same.1 i)) ∙ held)
             at false is = refl
+
+-- as an acquire finds it by its own entries.
+pub rest-again :
+    (groups limit database : ℕ) (uses : UseCounts) (a : Account) (stack : Stack) (old new : Owned) (tag : Tag) (mode : Mode) (owner : Owner)
+    (answer : Result Bool Refusal) (held : Bool) → answer ≡ Ok held → held ≡ true
+    → (answer ≡ Ok true → (has_entry old.entries tag mode ≡ true) × (owner_count_of old.entries tag mode owner < max_count))
+    → (answer ≡ Ok true → new.entries ≡ with_one_more old.entries tag mode owner)
+    → IsAtRest groups limit database uses a stack old.entries → IsAtRest groups limit database uses a stack new.entries
+rest-again groups limit database uses a stack old new tag mode owner answer held ok is entry more rest =
+    let again = held_again old new tag mode owner answer held ok is entry more in
+    rest-held_again groups limit database uses a stack old.entries new.entries tag mode owner again.0 again.1 rest

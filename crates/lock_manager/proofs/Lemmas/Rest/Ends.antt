@@ -128,23 +128,25 @@ uncounting-weak limit (entry ∷ entries) tag mode weak =
       | inr other ↦ uncounting-past limit entry entries entries tag mode other (uncounting-weak limit entries tag mode weak)
     ]
 
--- An end changes no entry's object and mode.
+-- An end changes no entry's object and mode, nor what goes by these.
+as_before :
+    {A : Type 0} (of : Tag → Mode → A) (end : End) (entry : Entry) → of (after_end end entry).tag (after_end end entry).mode ≡ of entry.tag entry.mode
+as_before of Commit entry = refl
+as_before of Abort entry = refl
+as_before of Close entry = refl
+as_before of Inner entry = refl
+
 counted_for-after_end :
     (limit : ℕ) (end : End) (entry : Entry) (entries : List Entry)
     → counted_for limit (after_end end entry ∷ entries) ≡ counted_for limit (entry ∷ entries)
 counted_for-after_end limit end entry entries =
-    counted_for-cons limit (after_end end entry) entries ∙ same end ∙ sym (counted_for-cons limit entry entries) where
-      same : (its : End) → with_strong limit (after_end its entry) (counted_for limit entries) ≡ with_strong limit entry (counted_for limit entries)
-      same Commit = refl
-      same Abort = refl
-      same Close = refl
-      same Inner = refl
+    let list = counted_for limit entries in
+    counted_for-cons limit (after_end end entry) entries
+    ∙ as_before (λ tag mode. if is_strong_on tag mode then record { tag = tag; mode = mode; position = limit } ∷ list else list) end entry
+    ∙ sym (counted_for-cons limit entry entries)
 
 is_of-after_end : (end : End) (entry : Entry) (tag : Tag) (mode : Mode) → is_of tag mode (after_end end entry) ≡ is_of tag mode entry
-is_of-after_end Commit entry tag mode = refl
-is_of-after_end Abort entry tag mode = refl
-is_of-after_end Close entry tag mode = refl
-is_of-after_end Inner entry tag mode = refl
+is_of-after_end end entry tag mode = as_before (λ t m. tag_eq t tag && mode_eq m mode) end entry
 
 -- With the count taken back of what the end takes away next, it is what is counted for the entries left.
 uncounting-next :
@@ -270,11 +272,11 @@ rest-last groups limit database uses end a stack old new none gone at = record {
   nothing_left = at.nothing_left;
 }
 
--- At rest with some entries it is at rest with others of the same objects and modes.
-rest-alike :
+-- A session at rest with entries that hold and count the same is at rest with them.
+pub rest-same :
     (groups limit database : ℕ) (uses : UseCounts) (a : Account) (stack : Stack) (old new : List Entry) → has_entry old ≡ has_entry new → counted_for limit old ≡ counted_for limit new
     → IsAtRest groups limit database uses a stack old → IsAtRest groups limit database uses a stack new
-rest-alike groups limit database uses a stack old new own counted at = record {
+rest-same groups limit database uses a stack old new own counted at = record {
   account =
       at.account
       ∙ (λ i. record (account_at_rest limit database a.fast.remembered old a.trace) {
@@ -285,7 +287,7 @@ rest-alike groups limit database uses a stack old new own counted at = record {
   nothing_left = at.nothing_left;
 }
 
--- So with the entries as an end finds them, which has other counts of them alone,
+-- So it is with the entries as an end finds them, which has other counts of them alone,
 counted-recounted :
     (limit : ℕ) (count : Tag → Mode → ℕ) (entries : List Entry)
     → counted_for limit entries ≡ counted_for limit (map {A = Entry} {B = Entry} (λ entry. record entry { transaction = count entry.tag entry.mode }) entries)
@@ -306,7 +308,7 @@ pub rest-found :
     (groups limit database : ℕ) (uses : UseCounts) (end : End) (a : Account) (stack : Stack) (owned : Owned)
     → IsAtRest groups limit database uses a stack owned.entries → IsAtRest groups limit database uses a stack (found_by end owned)
 rest-found groups limit database uses end a stack owned at =
-    rest-alike groups limit database uses a stack owned.entries (found_by end owned) (λ i t m. sym (has_entry-found end owned t m) i) (counted-found limit end owned) at
+    rest-same groups limit database uses a stack owned.entries (found_by end owned) (λ i t m. sym (has_entry-found end owned t m) i) (counted-found limit end owned) at
 
 -- and once an end has nothing more to take away.
 pub rest-left :

@@ -23,7 +23,7 @@ use Rattle.fast_path.specs.declared.use_counts.UseCounts.{UseCounts}
 use Rattle.lock_manager.specs.Rest.{counted_for, account_at_rest, IsUseCount, IsAtRest}
 use Rattle.lock_manager.specs.Releases.{counted_released, account_released}
 use Rattle.lock_manager.specs.Sessions.{DontConflict}
-use Rattle.lock_manager.proofs.Lemmas.Rest.Acquires.{rest-same}
+use Rattle.lock_manager.proofs.Lemmas.Rest.Ends.{rest-same}
 
 -- A session at rest holds what it has entries for.
 pub own-rest :

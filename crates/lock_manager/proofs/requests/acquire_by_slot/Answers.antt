@@ -2,18 +2,16 @@ use Rattle.std.proofs.Common.{List, refl, ap, sym, ◌∙◌, inl, inr}
 use Rattle.modes_core.specs.Tag.{is_eligible_for}
 use Rattle.local_locks.specs.declared.records.Entry.{Entry}
 use Rattle.local_locks.specs.Owned.{has_entry, with_one_more}
-use Rattle.lock_manager.proofs.Lemmas.Rest.Acquires.{rest-database, held_again, not_held_yet, rest-granted, rest-held_again}
+use Rattle.lock_manager.proofs.Lemmas.Rest.Acquires.{rest-database, not_held_yet, rest-granted, rest-again}
 use Rattle.lock_manager.proofs.Lemmas.Requests.BySlot.{by_slot-account, tried-untouched}
 use Rattle.lock_manager.proofs.Lemmas.Quiet.{quiet-tried}
 use Rattle.lock_manager.proofs.requests.acquire_by_slot.Goals as goal
 
 pub returns-then-branch-clause-rest : goal.returns-then-branch-clause-rest
 returns-then-branch-clause-rest g c =
-    let again =
-    held_again c.args.own.now.locals c.add_held.new.self c.args.tag c.args.mode c.args.owner c.add_held.result c.in_ok-add_held.field-0 (c.in_ok-add_held.was {u = tt}) c.if-branch.true c.add_held.ensures.held.0
-    c.add_held.ensures.entries in
-    rest-held_again (g.B.Board.seat c.args.board.now).groups (g.B.Board.seat c.args.board.now).limit c.args.own.now.database c.args.own.now.uses (g.B.Board.view c.args.board.now) (g.B.Board.stack c.args.board.now) c.args.own.now.locals.entries
-    c.add_held.new.self.entries c.args.tag c.args.mode c.args.owner again.0 again.1 c.requires.rest
+    rest-again (g.B.Board.seat c.args.board.now).groups (g.B.Board.seat c.args.board.now).limit c.args.own.now.database c.args.own.now.uses (g.B.Board.view c.args.board.now) (g.B.Board.stack c.args.board.now)
+    c.args.own.now.locals c.add_held.new.self c.args.tag c.args.mode c.args.owner c.add_held.result c.in_ok-add_held.field-0 (c.in_ok-add_held.was {u = tt}) c.if-branch.true
+    c.add_held.ensures.held.0 c.add_held.ensures.entries c.requires.rest
 
 pub add_new-requires-clause-new : goal.add_new-requires-clause-new
 add_new-requires-clause-new g c =
