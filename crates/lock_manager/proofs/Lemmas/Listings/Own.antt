@@ -14,6 +14,7 @@ use Rattle.lock_table.specs.OwnWait.{OwnWait, is_for}
 use Rattle.lock_table.specs.WholeContent.{whole_of}
 use Rattle.lock_world.specs.declared.events.Word.TheVariants.{Database, Slot}
 use Rattle.lock_world.specs.Account.{Account}
+use Rattle.lock_world.specs.AccountFacts.{KnowsContent}
 use Rattle.lock_world.specs.AccountSteps.{account_taking}
 use Rattle.lock_world.specs.Happens.{last_of}
 use Rattle.lock_world.specs.SlotHolds.{slot_holds, relation_of, OneSlotEach, InUseHasDatabase}
@@ -32,8 +33,8 @@ use Rattle.lock_table.proofs.PartitionRows.{waits-foreign}
 
 -- ---- what the caller knows of the contents that it takes
 
--- What the caller knows is known after a partition was taken as before.
-pub caller-taking :
+-- What the caller knows is known after a partition was taken as before,
+caller-taking :
     (number its : ℕ) (a taking : Account) (p : ℕ) (content : Content) (q : ℕ) (contents : List Content) → its ≡ number
     → taking ≡ account_taking a p content
     → AreOfCaller its taking.own taking.awaited taking.fast.database taking.fast.remembered q contents
@@ -41,6 +42,17 @@ pub caller-taking :
 caller-taking number its a taking p content q contents same took of_caller =
     subst (λ (x : Account). AreOfCaller number x.own x.awaited x.fast.database x.fast.remembered q contents) took
     (subst (λ (n : ℕ). AreOfCaller n taking.own taking.awaited taking.fast.database taking.fast.remembered q contents) same of_caller)
+
+-- and with what it knows of that partition.
+pub caller-first :
+    (number its : ℕ) (a taking : Account) (p : ℕ) (content : Content) (contents : List Content) → its ≡ number
+    → taking ≡ account_taking a p content → KnowsContent number a p content
+    → AreOfCaller its taking.own taking.awaited taking.fast.database taking.fast.remembered (p + 1) contents
+    → AreOfCaller number a.own a.awaited a.fast.database a.fast.remembered p (content ∷ contents)
+caller-first number its a taking p content contents same took knows others = (
+  record { stand = knows.own_stand; its_holds = knows.its_holds; no_wait = knows.no_wait },
+  caller-taking number its a taking p content (p + 1) contents same took others,
+)
 
 caller-at :
     (number : ℕ) (own : Tag → Mode → Bool) (awaited : Option OwnWait) (database : ℕ) (remembered : ℕ → ℕ)

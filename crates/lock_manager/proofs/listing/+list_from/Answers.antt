@@ -2,7 +2,7 @@ use Rattle.std.proofs.Common.{arith, ◌+◌, ◌∷◌, ◌∙◌, ap, sym}
 use Rattle.lock_table.proofs.PartitionRows.{rows-then, rows-refused}
 use Rattle.shared_rule.proofs.Episodes.{may_keep-since, kept-since}
 use Rattle.lock_manager.specs.Listings.{listing_steps}
-use Rattle.lock_manager.proofs.Lemmas.Listings.Own.{caller-taking}
+use Rattle.lock_manager.proofs.Lemmas.Listings.Own.{caller-first}
 use Rattle.shared_rule.specs.Boards.{Seated, Stack}
 use Rattle.lock_manager.proofs.listing.+list_from.Goals as goal
 use Rattle.lock_manager.proofs.listing.+list_from.Goals.{then-is_ok, else-is_ok}
@@ -26,16 +26,10 @@ returns-clause-listed g t c =
       contents = content ∷ listed.contents;
       last = omega (arith, listed.last);
       of_partitions = (record { holds = c.take_part-content.ensures.knows.holds_of_it; waits = c.take_part-content.ensures.knows.waits_of_it }, listed.of_partitions);
-      of_caller = (
-        record {
-          stand = c.take_part-content.ensures.knows.own_stand;
-          its_holds = c.take_part-content.ensures.knows.its_holds;
-          no_wait = c.take_part-content.ensures.knows.no_wait;
-        },
-        caller-taking (g.B.Board.seat c.args.board.now).number (g.B.Board.seat c.take_part-content.new.self).number
-            (g.B.Board.view c.args.board.now) (g.B.Board.view c.take_part-content.new.self) c.args.part content (c.args.part + 1) listed.contents
-            (ap (λ (s : Seated). s.number) c.take_part-content.ensures.seat) c.take_part-content.ensures.view listed.of_caller,
-      );
+      of_caller =
+          caller-first (g.B.Board.seat c.args.board.now).number (g.B.Board.seat c.take_part-content.new.self).number
+          (g.B.Board.view c.args.board.now) (g.B.Board.view c.take_part-content.new.self) c.args.part content listed.contents
+          (ap (λ (s : Seated). s.number) c.take_part-content.ensures.seat) c.take_part-content.ensures.view c.take_part-content.ensures.knows listed.of_caller;
       account =
           kept-since (g.B.Board.view c.args.board.now) (g.B.Board.view c.take_part-content.new.self) (g.B.Board.view c.list_from-listed.new.board) (g.B.Board.view c.put_part.new.self)
           c.args.part content (listing_steps (c.args.part + 1) listed.contents) (c.requires.none_in_hand c.args.part (omega arith)) c.take_part-content.ensures.view listed.account c.put_part.ensures.view;

@@ -4,11 +4,14 @@ use Rattle.lock_world.specs.SlotHolds.{OneSlotEach, AreInGroups}
 use Rattle.shared_rule.specs.Boards.{Seated}
 use Rattle.fast_path.specs.Rows.{rows_of_all, loads_of_all}
 use Rattle.lock_manager.specs.declared.listing.Listing.{Listing}
+use Rattle.lock_manager.specs.Rest.{IsAtRest}
 use Rattle.lock_manager.specs.Listings.{listing_steps, AreOfCaller}
 use Rattle.lock_table.proofs.PartitionRows.{rows-ok}
 use Rattle.lock_manager.proofs.Lemmas.Listings.Own.{lists-own, misses-none}
 use Rattle.lock_manager.proofs.Lemmas.Rest.Reads.{rest-read_slots, rest-read}
+use Rattle.lock_manager.proofs.listing.list.Given as given
 use Rattle.lock_manager.proofs.listing.list.Goals as goal
+use Rattle.lock_manager.proofs.listing.list.Goals.{After-list_table}
 
 pub returns-then-is_err-clause-rest : goal.returns-then-is_err-clause-rest
 returns-then-is_err-clause-rest g c =
@@ -18,8 +21,11 @@ returns-then-is_err-clause-rest g c =
     (g.B.Board.stack c.args.board.now) (g.B.Board.stack c.slot_rows.new.board) c.args.own.now.locals.entries
     c.slot_rows.ensures.stack c.requires.rest _ listed.no_more listed.account
 
-pub returns-in-Ok-clause-rest : goal.returns-in-Ok-clause-rest
-returns-in-Ok-clause-rest g c =
+-- Once the table is read too the session is in no call.
+rest_table : (g : given.Over) (c : goal.After-list_table g)
+    → IsAtRest (g.B.Board.seat c.args.board.now).groups (g.B.Board.seat c.args.board.now).limit c.args.own.now.database c.args.own.now.uses
+    (g.B.Board.view c.list_table.new.board) (g.B.Board.stack c.list_table.new.board) c.args.own.now.locals.entries
+rest_table g c =
     let listed = c.slot_rows.ensures.listed in
     rest-read (g.B.Board.seat c.args.board.now).groups (g.B.Board.seat c.args.board.now).limit c.args.own.now.database c.args.own.now.uses
     (g.B.Board.view c.slot_rows.new.board) (g.B.Board.view c.list_table.new.board)
@@ -31,18 +37,11 @@ returns-in-Ok-clause-rest g c =
     c.slot_rows.ensures.stack c.requires.rest _ listed.no_more listed.account)
     c.list_table.ensures.account
 
+pub returns-in-Ok-clause-rest : goal.returns-in-Ok-clause-rest
+returns-in-Ok-clause-rest g c = rest_table g (goal.at.returns-in-Ok-clause-rest g c).After-list_table
+
 pub returns-in-Err-clause-rest : goal.returns-in-Err-clause-rest
-returns-in-Err-clause-rest g c =
-    let listed = c.slot_rows.ensures.listed in
-    rest-read (g.B.Board.seat c.args.board.now).groups (g.B.Board.seat c.args.board.now).limit c.args.own.now.database c.args.own.now.uses
-    (g.B.Board.view c.slot_rows.new.board) (g.B.Board.view c.list_table.new.board)
-    (g.B.Board.stack c.slot_rows.new.board) (g.B.Board.stack c.list_table.new.board) c.args.own.now.locals.entries
-    c.list_table.ensures.stack
-    (rest-read_slots (g.B.Board.seat c.args.board.now).groups (g.B.Board.seat c.args.board.now).limit c.args.own.now.database c.args.own.now.uses
-    (g.B.Board.view c.args.board.now) (g.B.Board.view c.slot_rows.new.board)
-    (g.B.Board.stack c.args.board.now) (g.B.Board.stack c.slot_rows.new.board) c.args.own.now.locals.entries
-    c.slot_rows.ensures.stack c.requires.rest _ listed.no_more listed.account)
-    c.list_table.ensures.account
+returns-in-Err-clause-rest g c = rest_table g (goal.at.returns-in-Err-clause-rest g c).After-list_table
 
 pub returns-in-Ok-clause-listed : goal.returns-in-Ok-clause-listed
 returns-in-Ok-clause-listed g c =
