@@ -12,7 +12,8 @@ use std::alloc::AllocFailed;
 use std::sync::Wait;
 
 /// Opens `number` sessions of `database` at `desk`, in the order of their numbers, and appends them to `crew`. Where all session numbers are given out, or
-/// memory runs out, the call ends with that refusal: the sessions opened until then are open, and in `crew`.
+/// memory runs out, the call ends with that refusal: the sessions opened until then are open, and in `crew`, but for one that `crew` had no room for, which is
+/// closed again.
 pub fn open_sessions<T: PartTable, B: Board<T>, D: Desk<OwnSession<T, B>>, R: Wait>(
     rt: &R,
     desk: &mut D,
@@ -32,37 +33,13 @@ pub fn open_sessions<T: PartTable, B: Board<T>, D: Desk<OwnSession<T, B>>, R: Wa
     ensures no_other { IfErr result (λ refusal. (refusal ≡ Refusal.NoMoreSessions) ⊎ (refusal ≡ Refusal.NoMemory)) }
 {
     'sessions: for opened in 0..number {
-        open_behind(rt, desk, crew, database)?;
-    }
-    Ok(())
-}
-
-// Opens one, and puts it behind the others. It is closed again where there is no memory to keep it.
-fn open_behind<T: PartTable, B: Board<T>, D: Desk<OwnSession<T, B>>, R: Wait>(
-    rt: &R,
-    desk: &mut D,
-    crew: &mut Vec<OwnSession<T, B>>,
-    database: u32,
-) -> Result<(), Refusal>
-    requires seats { SeatsAre B.seat D.seat }
-    requires own { AreOf B.seat (D.manager desk.old) crew.old.items }
-    ensures manager { D.manager desk.new ≡ D.manager desk.old }
-    ensures own { AreOf B.seat (D.manager desk.old) crew.new.items }
-    ensures live { D.live desk.new + length crew.old.items ≡ D.live desk.old + length crew.new.items }
-    ensures added { AddsOf D.database_of database crew.old.items crew.new.items }
-    ensures one_more { IfOk result (λ _. length crew.new.items ≡ length crew.old.items + 1) }
-    ensures issued { OnOk result (D.issued desk.new ≡ D.issued desk.old + 1) }
-    ensures no_more { IsErrOf result Refusal.NoMoreSessions → D.issued desk.new ≡ (D.manager desk.old).limit }
-    ensures no_other { IfErr result (λ refusal. (refusal ≡ Refusal.NoMoreSessions) ⊎ (refusal ≡ Refusal.NoMemory)) }
-{
-    let session = desk.open(database)?;
-    match append_session(crew, session) {
-        Ok(()) => Ok(()),
-        Err(session) => {
+        let session = desk.open(database)?;
+        if let Err(session) = append_session(crew, session) {
             desk.close(rt, session);
-            Err(Refusal::NoMemory)
+            return Err(Refusal::NoMemory);
         }
     }
+    Ok(())
 }
 
 /// Appends `session` to `list`. Where memory runs out `session` comes back, and `list` is as before: a session can't be dropped, and `Vec::push` hands back,
