@@ -19,12 +19,18 @@ use Rattle.lock_world.specs.SlotHolds.{slot_holds, used_in}
 use Rattle.fast_path.specs.declared.use_counts.UseCounts.{UseCounts}
 use Rattle.fast_path.specs.Slots.{group_of_tag, group_loads, count_in, counting}
 use Rattle.fast_path.specs.Releases.{IsUnused, ClearsSlot}
-use Rattle.shared_rule.specs.Boards.{Seated}
+use Rattle.shared_rule.specs.Boards.{Seated, Stack}
 use Rattle.shared_rule.specs.Episodes.{account_episode}
 use Rattle.shared_rule.specs.Lawful.{MayPutPart}
 use Rattle.shared_rule.specs.History.{in_hand, is_among, sessions_told, taken_of}
 
 -- Releases of holds, as the session's trace has them.
+
+-- The partition is the one taken last of those in hand, and the session owes nobody a wake.
+pub record IsLastTaken (stack : Stack) (partition : ℕ) : Type 0 where
+  pub others : List ℕ
+  pub parts : stack.parts ≡ partition ∷ others
+  pub none_owed : stack.owed ≡ []
 
 -- The sessions whom a move in a partition in hand lets go, each once, by this content: they are still to be told. Each is one of those
 -- that there can be.

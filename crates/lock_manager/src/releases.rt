@@ -1,6 +1,6 @@
 //! Releases, over any board.
 
-ghost use Rattle.std.specs.Prelude.{◌≡◌, ◌<◌, ℕ, true, false, List, [], ◌∷◌, None};
+ghost use Rattle.std.specs.Prelude.{◌≡◌, ◌<◌, true, false, [], None};
 ghost use Rattle.modes_core.specs.Tag.{is_strong_on};
 ghost use Rattle.lock_world.specs.SlotHolds.{slot_holds};
 ghost use Rattle.local_locks.specs.Owned.{level_of, found_by, ended_by, left_by, outer_after, IsWellOwned};
@@ -12,7 +12,7 @@ ghost use Rattle.shared_rule.specs.Lawful.{IsGrantingIn};
 ghost use Rattle.shared_rule.specs.Boards.{stack_putting};
 ghost use Rattle.lock_manager.specs.Rest.{IsIdle, IsUseCount, IsAtRest};
 ghost use Rattle.lock_manager.specs.Sessions.{KeepsOwn};
-ghost use Rattle.lock_manager.specs.Releases.{Tells, MayWake, WakesAndPuts, ReleasesInPart, ReleasesHold, Releases, ReleasesAll};
+ghost use Rattle.lock_manager.specs.Releases.{IsLastTaken, Tells, MayWake, WakesAndPuts, ReleasesInPart, ReleasesHold, Releases, ReleasesAll};
 ghost use Rattle.lock_manager.specs.Releases.{account_released};
 ghost use Rattle.lock_manager.specs.Quiet.{QuietOfReleases, quiet_releasing};
 
@@ -145,8 +145,7 @@ fn wake_and_put<T: PartTable, B: Board<T>>(
     requires exists { part < 16 }
     requires grants { IsGrantingIn part done.now }
     requires none_begun { T.begun content ≡ None }
-    requires in_hand { (others : List ℕ) × ((B.stack board.old).parts ≡ part ∷ others) }
-    requires none_owed { (B.stack board.old).owed ≡ [] }
+    requires in_hand { IsLastTaken (B.stack board.old) part }
     requires wait_is_over { WaitIsOver (B.view board.old).awaited part done.now }
     requires lawful { MayWake (B.seat board.old) (B.view board.old) part done.now tag.now (T.content content) }
     ensures account { WakesAndPuts (B.view board.old) part done.now tag.now (T.content content) (B.view board.new) }
@@ -169,8 +168,7 @@ pub fn put_with_woken<T: PartTable, B: Board<T>>(board: &mut B, part: u8, done: 
     requires exists { part < 16 }
     requires grants { IsGrantingIn part done.now }
     requires none_begun { T.begun content ≡ None }
-    requires in_hand { (others : List ℕ) × ((B.stack board.old).parts ≡ part ∷ others) }
-    requires none_owed { (B.stack board.old).owed ≡ [] }
+    requires in_hand { IsLastTaken (B.stack board.old) part }
     requires wait_is_over { WaitIsOver (B.view board.old).awaited part done.now }
     requires lawful { Tells (B.seat board.old) (B.view board.old) part done.now (T.woken content) (T.content content) }
     ensures account { B.view board.new ≡

@@ -11,7 +11,7 @@ loop-other-init g c = record {
       c.woken-woken.result.now (g.T.PartTable.content c.args.content) c.requires.lawful c.woken-woken.ensures;
   seat = refl;
   quiet = refl;
-  stack = owed-none (g.B.Board.stack c.args.board.now) c.woken-woken.result.now c.requires.none_owed;
+  stack = owed-none (g.B.Board.stack c.args.board.now) c.woken-woken.result.now c.requires.in_hand.none_owed;
 }
 
 -- At a turn the session is the first of those left.
@@ -66,8 +66,8 @@ loop-session-preserved g c = record {
 
 pub put_part-requires-clause-in_hand : goal.put_part-requires-clause-in_hand
 put_part-requires-clause-in_hand g c = (
-  c.requires.in_hand.0,
-  ap (λ (s : Stack). s.parts) c.loop-session.invariant.stack ∙ c.requires.in_hand.1,
+  c.requires.in_hand.others,
+  ap (λ (s : Stack). s.parts) c.loop-session.invariant.stack ∙ c.requires.in_hand.parts,
 )
 
 -- After the loops all are marked, and nobody is owed a wake.
@@ -98,7 +98,7 @@ pub returns-clause-stack : goal.returns-clause-stack
 returns-clause-stack g c =
     c.put_part.ensures.stack
     ∙ ap stack_putting (woken-all (g.B.Board.stack c.args.board.now) (g.B.Board.stack c.loop-session.board) c.woken-woken.result.now
-    c.loop-session.session-index (omega arith) c.requires.none_owed c.loop-session.invariant.stack)
+    c.loop-session.session-index (omega arith) c.requires.in_hand.none_owed c.loop-session.invariant.stack)
 
 pub returns-clause-seat : goal.returns-clause-seat
 returns-clause-seat g c = c.put_part.ensures.seat ∙ c.loop-session.invariant.seat ∙ c.loop-other.invariant.seat
