@@ -1,10 +1,15 @@
-use Rattle.std.proofs.Common.{◌∙◌, sym, ap, subst, inl}
+use Rattle.std.proofs.Common.{◌≡◌, ◌∙◌, sym, ap, subst, inl}
 use Rattle.modes_core.specs.Tag.{is_eligible_for}
 use Rattle.shared_rule.specs.Boards.{Seated}
+use Rattle.fast_path.specs.Slots.{count_in, group_of_tag}
+use Rattle.fast_path.specs.Quiet.{quiet_ungranting}
 use Rattle.lock_manager.specs.Releases.{ReleasesHold}
+use Rattle.lock_manager.specs.Quiet.{quiet_releasing}
 use Rattle.lock_manager.proofs.Lemmas.Releases.InPart.{looks-nowhere, looks-found, table-released}
 use Rattle.lock_manager.proofs.Lemmas.Quiet.{releasing-looks, releasing-nowhere}
+use Rattle.lock_manager.proofs.releases.release_hold.Given as given
 use Rattle.lock_manager.proofs.releases.release_hold.Goals as goal
+use Rattle.lock_manager.proofs.releases.release_hold.Goals.{After-ungrant}
 
 pub returns-then-not-is_eligible-clause-steps : goal.returns-then-not-is_eligible-clause-steps
 returns-then-not-is_eligible-clause-steps g c =
@@ -34,16 +39,20 @@ returns-then-not-is_eligible-clause-quiet g c =
     ∙ sym (releasing-nowhere seat.groups seat.number (g.B.Board.view c.args.board.now) c.args.uses.now c.args.tag.now c.args.mode (g.B.Board.quiet c.args.board.now)
     (ap (λ database. is_eligible_for database c.args.tag.now c.args.mode) c.requires.database ∙ sym c.if-not-is_eligible.ensures))
 
+-- Where the session looked in its slots they are those of that look.
+quiet_looked : (g : given.Over) (c : goal.After-ungrant g)
+    → quiet_releasing (g.B.Board.seat c.args.board.now).groups (g.B.Board.seat c.args.board.now).number (g.B.Board.view c.args.board.now) c.args.uses.now
+    c.args.tag.now c.args.mode (g.B.Board.quiet c.args.board.now)
+    ≡ quiet_ungranting (g.B.Board.seat c.args.board.now).number
+    (count_in c.args.uses.now (group_of_tag (g.B.Board.seat c.args.board.now).groups c.args.tag.now)) (g.B.Board.quiet c.args.board.now)
+quiet_looked g c =
+    let seat = g.B.Board.seat c.args.board.now in
+    releasing-looks seat.groups seat.number (g.B.Board.view c.args.board.now) c.args.uses.now c.args.tag.now c.args.mode (g.B.Board.quiet c.args.board.now)
+    (ap (λ database. is_eligible_for database c.args.tag.now c.args.mode) c.requires.database ∙ sym c.if-not-is_eligible.ensures)
+
 pub returns-then-not-ungrant-clause-quiet : goal.returns-then-not-ungrant-clause-quiet
 returns-then-not-ungrant-clause-quiet g c =
-    let seat = g.B.Board.seat c.args.board.now in
-    c.release_in_table-then-not-ungrant.ensures.quiet ∙ c.ungrant.ensures.quiet
-    ∙ sym (releasing-looks seat.groups seat.number (g.B.Board.view c.args.board.now) c.args.uses.now c.args.tag.now c.args.mode (g.B.Board.quiet c.args.board.now)
-    (ap (λ database. is_eligible_for database c.args.tag.now c.args.mode) c.requires.database ∙ sym c.if-not-is_eligible.ensures))
+    c.release_in_table-then-not-ungrant.ensures.quiet ∙ c.ungrant.ensures.quiet ∙ sym (quiet_looked g (goal.at.returns-then-not-ungrant-clause-quiet g c).After-ungrant)
 
 pub returns-else-not-ungrant-clause-quiet : goal.returns-else-not-ungrant-clause-quiet
-returns-else-not-ungrant-clause-quiet g c =
-    let seat = g.B.Board.seat c.args.board.now in
-    c.ungrant.ensures.quiet
-    ∙ sym (releasing-looks seat.groups seat.number (g.B.Board.view c.args.board.now) c.args.uses.now c.args.tag.now c.args.mode (g.B.Board.quiet c.args.board.now)
-    (ap (λ database. is_eligible_for database c.args.tag.now c.args.mode) c.requires.database ∙ sym c.if-not-is_eligible.ensures))
+returns-else-not-ungrant-clause-quiet g c = c.ungrant.ensures.quiet ∙ sym (quiet_looked g (goal.at.returns-else-not-ungrant-clause-quiet g c).After-ungrant)

@@ -1,12 +1,17 @@
-use Rattle.std.proofs.Common.{◌++◌, ◌∷◌, ◌∙◌, [], Ok, Err, refl, subst}
+use Rattle.std.proofs.Common.{◌++◌, ◌∷◌, ◌∙◌, [], Result, Ok, Err, refl, subst}
+use Rattle.modes_core.specs.declared.refusals.Refusal.{Refusal}
 use Rattle.shared_rule.specs.Boards.{Seated}
 use Rattle.fast_path.specs.Transfers.{Transfers, IsCutShort}
 use Rattle.fast_path.specs.declared.use_counts.UseCounts.{UseCounts}
+use Rattle.wait_queue.specs.declared.requests.Decision.{Decision}
+use Rattle.lock_manager.specs.Rest.{IsUseCount}
 use Rattle.lock_manager.specs.Requests.{DecidesInPart}
 use Rattle.fast_path.proofs.Counting.{counted_at}
-use Rattle.lock_manager.proofs.Lemmas.Requests.Whole.{led-transferred, led-decides, led-account, led-refused_steps, led-refused_strong, led-refused_use_count}
+use Rattle.lock_manager.proofs.Lemmas.Requests.Whole.{IsLed, led-transferred, led-decides, led-account, led-refused_steps, led-refused_strong, led-refused_use_count}
 use Rattle.lock_manager.proofs.Lemmas.Requests.Whole.{strong-counted, requests-decided, transferred, cut_short, scanned-use_count, decided-use_count}
+use Rattle.lock_manager.proofs.requests.request_strong.Given as given
 use Rattle.lock_manager.proofs.requests.request_strong.Goals as goal
+use Rattle.lock_manager.proofs.requests.request_strong.Goals.{After-decide_in_part}
 
 -- some use counts, where it doesn't matter which
 some_counts : UseCounts
@@ -21,88 +26,89 @@ returns-then-is_err-clause-use_count g c uses its =
     c.transfer.ensures.transferred in
     scanned-use_count (g.B.Board.seat c.args.board.now).groups before after before.fast.counted cut.steps uses cut.after its
 
+-- Before the episode the strong mode was counted, and what was in its way in slots was moved.
+past : (g : given.Over) (c : goal.After-decide_in_part g)
+    → Transfers (g.B.Board.seat c.args.board.now).groups (g.B.Board.seat c.args.board.now).limit (g.B.Board.view c.args.board.now) c.args.tag.now c.args.mode
+    (g.B.Board.view c.transfer.new.board)
+past g c =
+    let seat = g.B.Board.seat c.args.board.now in
+    transferred seat.groups seat.limit (g.B.Board.view c.args.board.now) c.args.tag.now c.args.mode c.transfer.result (g.B.Board.view c.transfer.new.board)
+    c.is_err.result c.is_err.ensures.value c.if-is_err.false c.transfer.ensures.transferred
+
+led : (g : given.Over) (c : goal.After-decide_in_part g) (uses : UseCounts)
+    → IsLed (g.B.Board.seat c.args.board.now).groups (g.B.Board.seat c.args.board.now).limit (g.B.Board.view c.args.board.now) uses c.args.tag.now c.args.mode
+    ((g.B.Board.view c.args.board.now).fast.counted ++ counted_at c.args.tag.now c.args.mode (g.B.Board.seat c.args.board.now).limit ∷ [])
+    (g.B.Board.view c.transfer.new.board) uses
+led g c uses =
+    led-transferred (g.B.Board.seat c.args.board.now).groups (g.B.Board.seat c.args.board.now).limit (g.B.Board.view c.args.board.now)
+    (g.B.Board.view c.transfer.new.board) uses c.args.tag.now c.args.mode c.requires.strong (past g c)
+
+-- The episode, by the number that the session had before.
+decides : (g : given.Over) (c : goal.After-decide_in_part g) (result : Result Decision Refusal)
+    → DecidesInPart c.args.kind (g.B.Board.seat c.transfer.new.board).number (g.B.Board.view c.transfer.new.board) c.args.tag.now c.args.mode result
+    (g.B.Board.view c.decide_in_part.new.board)
+    → DecidesInPart c.args.kind (g.B.Board.seat c.args.board.now).number (g.B.Board.view c.transfer.new.board) c.args.tag.now c.args.mode result
+    (g.B.Board.view c.decide_in_part.new.board)
+decides g c result decided =
+    subst (λ (s : Seated). DecidesInPart c.args.kind s.number (g.B.Board.view c.transfer.new.board) c.args.tag.now c.args.mode result
+    (g.B.Board.view c.decide_in_part.new.board)) c.transfer.ensures.seat decided
+
+scanned : (g : given.Over) (c : goal.After-decide_in_part g) (uses : UseCounts)
+    → IsUseCount (g.B.Board.seat c.args.board.now).groups (g.B.Board.view c.args.board.now) uses
+    → IsUseCount (g.B.Board.seat c.args.board.now).groups (g.B.Board.view c.transfer.new.board) uses
+scanned g c uses its =
+    scanned-use_count (g.B.Board.seat c.args.board.now).groups (g.B.Board.view c.args.board.now) (g.B.Board.view c.transfer.new.board)
+    ((g.B.Board.view c.args.board.now).fast.counted ++ counted_at c.args.tag.now c.args.mode (g.B.Board.seat c.args.board.now).limit ∷ [])
+    (past g c).steps uses (past g c).after its
+
 pub returns-in-Ok-clause-steps : goal.returns-in-Ok-clause-steps
 returns-in-Ok-clause-steps g c uses =
-    let seat = g.B.Board.seat c.args.board.now in
+    let at = (goal.at.returns-in-Ok-clause-steps g c).After-decide_in_part in
     let before = g.B.Board.view c.args.board.now in
-    let between = g.B.Board.view c.transfer.new.board in
-    let past : Transfers seat.groups seat.limit before c.args.tag.now c.args.mode between =
-    transferred seat.groups seat.limit before c.args.tag.now c.args.mode c.transfer.result between c.is_err.result c.is_err.ensures.value c.if-is_err.false c.transfer.ensures.transferred in
-    requests-decided c.args.kind seat before (g.B.Board.view c.decide_in_part.new.board) uses uses c.args.tag.now c.args.mode (Ok c.in-Ok.decision)
-    (led-decides c.args.kind seat before between (g.B.Board.view c.decide_in_part.new.board) uses uses c.args.tag.now c.args.mode
-    (before.fast.counted ++ counted_at c.args.tag.now c.args.mode seat.limit ∷ [])
-    (led-transferred seat.groups seat.limit before between uses c.args.tag.now c.args.mode c.requires.strong past) (Ok c.in-Ok.decision)
-    (subst (λ (s : Seated). DecidesInPart c.args.kind s.number between c.args.tag.now c.args.mode (Ok c.in-Ok.decision) (g.B.Board.view c.decide_in_part.new.board))
-    c.transfer.ensures.seat c.in-Ok.ensures.decided))
+    let after = g.B.Board.view c.decide_in_part.new.board in
+    requests-decided c.args.kind (g.B.Board.seat c.args.board.now) before after uses uses c.args.tag.now c.args.mode (Ok c.in-Ok.decision)
+    (led-decides c.args.kind (g.B.Board.seat c.args.board.now) before (g.B.Board.view c.transfer.new.board) after uses uses c.args.tag.now c.args.mode _
+    (led g at uses) (Ok c.in-Ok.decision) (decides g at (Ok c.in-Ok.decision) c.in-Ok.ensures.decided))
 
 pub returns-in-Ok-clause-account : goal.returns-in-Ok-clause-account
 returns-in-Ok-clause-account g c =
-    let seat = g.B.Board.seat c.args.board.now in
+    let at = (goal.at.returns-in-Ok-clause-account g c).After-decide_in_part in
     let before = g.B.Board.view c.args.board.now in
-    let between = g.B.Board.view c.transfer.new.board in
-    let past : Transfers seat.groups seat.limit before c.args.tag.now c.args.mode between =
-    transferred seat.groups seat.limit before c.args.tag.now c.args.mode c.transfer.result between c.is_err.result c.is_err.ensures.value c.if-is_err.false c.transfer.ensures.transferred in
-    led-account c.args.kind seat before between (g.B.Board.view c.decide_in_part.new.board) some_counts some_counts c.args.tag.now c.args.mode
-    (before.fast.counted ++ counted_at c.args.tag.now c.args.mode seat.limit ∷ [])
-    (led-transferred seat.groups seat.limit before between some_counts c.args.tag.now c.args.mode c.requires.strong past)
-    (strong-counted seat.limit before.fast.counted c.args.tag.now c.args.mode c.requires.strong) c.in-Ok.decision
-    (subst (λ (s : Seated). DecidesInPart c.args.kind s.number between c.args.tag.now c.args.mode (Ok c.in-Ok.decision) (g.B.Board.view c.decide_in_part.new.board))
-    c.transfer.ensures.seat c.in-Ok.ensures.decided)
+    led-account c.args.kind (g.B.Board.seat c.args.board.now) before (g.B.Board.view c.transfer.new.board) (g.B.Board.view c.decide_in_part.new.board)
+    some_counts some_counts c.args.tag.now c.args.mode _ (led g at some_counts)
+    (strong-counted (g.B.Board.seat c.args.board.now).limit before.fast.counted c.args.tag.now c.args.mode c.requires.strong) c.in-Ok.decision
+    (decides g at (Ok c.in-Ok.decision) c.in-Ok.ensures.decided)
 
 pub returns-in-Ok-clause-use_count : goal.returns-in-Ok-clause-use_count
 returns-in-Ok-clause-use_count g c uses its =
-    let before = g.B.Board.view c.args.board.now in
-    let between = g.B.Board.view c.transfer.new.board in
-    let past : Transfers (g.B.Board.seat c.args.board.now).groups (g.B.Board.seat c.args.board.now).limit before c.args.tag.now c.args.mode between =
-    transferred (g.B.Board.seat c.args.board.now).groups (g.B.Board.seat c.args.board.now).limit before c.args.tag.now c.args.mode c.transfer.result between c.is_err.result c.is_err.ensures.value c.if-is_err.false
-    c.transfer.ensures.transferred in
-    decided-use_count c.args.kind (g.B.Board.seat c.args.board.now).groups (g.B.Board.seat c.transfer.new.board).number between (g.B.Board.view c.decide_in_part.new.board) c.args.tag.now c.args.mode (Ok c.in-Ok.decision) uses
-    c.in-Ok.ensures.decided
-    (scanned-use_count (g.B.Board.seat c.args.board.now).groups before between (before.fast.counted ++ counted_at c.args.tag.now c.args.mode (g.B.Board.seat c.args.board.now).limit ∷ []) past.steps uses past.after its)
+    let at = (goal.at.returns-in-Ok-clause-use_count g c).After-decide_in_part in
+    decided-use_count c.args.kind (g.B.Board.seat c.args.board.now).groups (g.B.Board.seat c.transfer.new.board).number (g.B.Board.view c.transfer.new.board)
+    (g.B.Board.view c.decide_in_part.new.board) c.args.tag.now c.args.mode (Ok c.in-Ok.decision) uses c.in-Ok.ensures.decided (scanned g at uses its)
 
 pub returns-in-Err-clause-steps : goal.returns-in-Err-clause-steps
 returns-in-Err-clause-steps g c uses =
+    let at = (goal.at.returns-in-Err-clause-steps g c).After-decide_in_part in
     let seat = g.B.Board.seat c.args.board.now in
     let before = g.B.Board.view c.args.board.now in
-    let between = g.B.Board.view c.transfer.new.board in
-    let past : Transfers seat.groups seat.limit before c.args.tag.now c.args.mode between =
-    transferred seat.groups seat.limit before c.args.tag.now c.args.mode c.transfer.result between c.is_err.result c.is_err.ensures.value c.if-is_err.false c.transfer.ensures.transferred in
     requests-decided c.args.kind seat before (g.B.Board.view c.sub_strong.new.self) uses uses c.args.tag.now c.args.mode (Err c.in-Err.refusal)
-    (led-refused_steps c.args.kind seat before between (g.B.Board.view c.decide_in_part.new.board) uses uses c.args.tag.now c.args.mode
-    (before.fast.counted ++ counted_at c.args.tag.now c.args.mode seat.limit ∷ [])
-    (led-transferred seat.groups seat.limit before between uses c.args.tag.now c.args.mode c.requires.strong past) c.in-Err.refusal
-    (subst (λ (s : Seated). DecidesInPart c.args.kind s.number between c.args.tag.now c.args.mode (Err c.in-Err.refusal) (g.B.Board.view c.decide_in_part.new.board))
-    c.transfer.ensures.seat c.in-Err.ensures.decided)
+    (led-refused_steps c.args.kind seat before (g.B.Board.view c.transfer.new.board) (g.B.Board.view c.decide_in_part.new.board) uses uses c.args.tag.now
+    c.args.mode _ (led g at uses) c.in-Err.refusal (decides g at (Err c.in-Err.refusal) c.in-Err.ensures.decided)
     (g.B.Board.view c.sub_strong.new.self) c.sub_strong.ensures.view)
 
 pub returns-in-Err-clause-account : goal.returns-in-Err-clause-account
 returns-in-Err-clause-account g c =
-    let seat = g.B.Board.seat c.args.board.now in
-    let before = g.B.Board.view c.args.board.now in
-    let between = g.B.Board.view c.transfer.new.board in
-    let past : Transfers seat.groups seat.limit before c.args.tag.now c.args.mode between =
-    transferred seat.groups seat.limit before c.args.tag.now c.args.mode c.transfer.result between c.is_err.result c.is_err.ensures.value c.if-is_err.false c.transfer.ensures.transferred in
-    led-refused_strong c.args.kind seat before between (g.B.Board.view c.decide_in_part.new.board) some_counts some_counts c.args.tag.now c.args.mode
-    (before.fast.counted ++ counted_at c.args.tag.now c.args.mode seat.limit ∷ [])
-    (led-transferred seat.groups seat.limit before between some_counts c.args.tag.now c.args.mode c.requires.strong past) c.in-Err.refusal
-    (subst (λ (s : Seated). DecidesInPart c.args.kind s.number between c.args.tag.now c.args.mode (Err c.in-Err.refusal) (g.B.Board.view c.decide_in_part.new.board))
-    c.transfer.ensures.seat c.in-Err.ensures.decided)
-    (g.B.Board.view c.sub_strong.new.self) c.sub_strong.ensures.view refl c.requires.not_counted
+    let at = (goal.at.returns-in-Err-clause-account g c).After-decide_in_part in
+    led-refused_strong c.args.kind (g.B.Board.seat c.args.board.now) (g.B.Board.view c.args.board.now) (g.B.Board.view c.transfer.new.board)
+    (g.B.Board.view c.decide_in_part.new.board) some_counts some_counts c.args.tag.now c.args.mode _ (led g at some_counts) c.in-Err.refusal
+    (decides g at (Err c.in-Err.refusal) c.in-Err.ensures.decided) (g.B.Board.view c.sub_strong.new.self) c.sub_strong.ensures.view refl c.requires.not_counted
 
 pub returns-in-Err-clause-use_count : goal.returns-in-Err-clause-use_count
 returns-in-Err-clause-use_count g c uses its =
+    let at = (goal.at.returns-in-Err-clause-use_count g c).After-decide_in_part in
     let seat = g.B.Board.seat c.args.board.now in
-    let before = g.B.Board.view c.args.board.now in
-    let between = g.B.Board.view c.transfer.new.board in
-    let past : Transfers seat.groups seat.limit before c.args.tag.now c.args.mode between =
-    transferred seat.groups seat.limit before c.args.tag.now c.args.mode c.transfer.result between c.is_err.result c.is_err.ensures.value c.if-is_err.false c.transfer.ensures.transferred in
-    led-refused_use_count c.args.kind seat before between (g.B.Board.view c.decide_in_part.new.board) some_counts some_counts c.args.tag.now c.args.mode
-    (before.fast.counted ++ counted_at c.args.tag.now c.args.mode seat.limit ∷ [])
-    (led-transferred seat.groups seat.limit before between some_counts c.args.tag.now c.args.mode c.requires.strong past) c.in-Err.refusal
-    (subst (λ (s : Seated). DecidesInPart c.args.kind s.number between c.args.tag.now c.args.mode (Err c.in-Err.refusal) (g.B.Board.view c.decide_in_part.new.board))
-    c.transfer.ensures.seat c.in-Err.ensures.decided)
-    (g.B.Board.view c.sub_strong.new.self) c.sub_strong.ensures.view seat.groups uses
-    (scanned-use_count (g.B.Board.seat c.args.board.now).groups before between (before.fast.counted ++ counted_at c.args.tag.now c.args.mode seat.limit ∷ []) past.steps uses past.after its)
+    led-refused_use_count c.args.kind seat (g.B.Board.view c.args.board.now) (g.B.Board.view c.transfer.new.board) (g.B.Board.view c.decide_in_part.new.board)
+    some_counts some_counts c.args.tag.now c.args.mode _ (led g at some_counts) c.in-Err.refusal (decides g at (Err c.in-Err.refusal) c.in-Err.ensures.decided)
+    (g.B.Board.view c.sub_strong.new.self) c.sub_strong.ensures.view seat.groups uses (scanned g at uses its)
 
 -- Its quiet steps.
 

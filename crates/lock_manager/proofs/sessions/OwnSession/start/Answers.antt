@@ -3,7 +3,9 @@ use Rattle.wait_queue.specs.declared.requests.Kind.TheVariants.{Waiting}
 use Rattle.lock_manager.specs.declared.sessions.Own.{Own}
 use Rattle.lock_manager.specs.Acquires.{IsRefusedForMemory}
 use Rattle.lock_manager.specs.Quiet.{QuietOfAcquire}
+use Rattle.lock_manager.proofs.sessions.OwnSession.start.Given as given
 use Rattle.lock_manager.proofs.sessions.OwnSession.start.Goals as goal
+use Rattle.lock_manager.proofs.sessions.OwnSession.start.Goals.{After-acquire}
 
 pub returns-in-Err-clause-no_memory : goal.returns-in-Err-clause-no_memory
 returns-in-Err-clause-no_memory g c is =
@@ -14,36 +16,25 @@ returns-in-Err-clause-no_memory g c is =
     c.deref_mut.ensures.value (c.in-Err.ensures.no_memory is) in
     subst (λ s. IsRefusedForMemory g.B.Board.view Waiting (g.B.Board.seat s.board) s.owned s.uses c.args.tag c.args.mode s.board board left) c.self.view_is own
 
--- Its quiet steps are those of the acquire.
+-- The quiet steps are those of the acquire, whatever it was answered.
+quiet_acquired : (g : given.Over) (c : goal.After-acquire g)
+    → QuietOfAcquire (g.B.Board.seat c.args.self.board) (g.B.Board.view c.args.self.board) c.args.self.uses c.args.tag c.args.mode (g.B.Board.quiet c.args.self.board)
+    (g.B.Board.quiet c.acquire.new.board)
+quiet_acquired g c =
+    let board = c.acquire.new.board in
+    let own = subst
+    (λ (own : Own). QuietOfAcquire (g.B.Board.seat c.self.inside.board) (g.B.Board.view c.self.inside.board) own.uses c.args.tag c.args.mode (g.B.Board.quiet c.self.inside.board) (g.B.Board.quiet board))
+    c.deref_mut.ensures.value c.acquire.ensures.quiet in
+    subst (λ s. QuietOfAcquire (g.B.Board.seat s.board) (g.B.Board.view s.board) s.uses c.args.tag c.args.mode (g.B.Board.quiet s.board) (g.B.Board.quiet board)) c.self.view_is own
 
 pub returns-in-Ok-Granted-clause-quiet : goal.returns-in-Ok-Granted-clause-quiet
-returns-in-Ok-Granted-clause-quiet g c =
-    let board = c.acquire.new.board in
-    let own = subst
-    (λ (own : Own). QuietOfAcquire (g.B.Board.seat c.self.inside.board) (g.B.Board.view c.self.inside.board) own.uses c.args.tag c.args.mode (g.B.Board.quiet c.self.inside.board) (g.B.Board.quiet board))
-    c.deref_mut.ensures.value c.acquire.ensures.quiet in
-    subst (λ s. QuietOfAcquire (g.B.Board.seat s.board) (g.B.Board.view s.board) s.uses c.args.tag c.args.mode (g.B.Board.quiet s.board) (g.B.Board.quiet board)) c.self.view_is own
+returns-in-Ok-Granted-clause-quiet g c = quiet_acquired g (goal.at.returns-in-Ok-Granted-clause-quiet g c).After-acquire
 
 pub returns-in-Ok-AlreadyHeld-clause-quiet : goal.returns-in-Ok-AlreadyHeld-clause-quiet
-returns-in-Ok-AlreadyHeld-clause-quiet g c =
-    let board = c.acquire.new.board in
-    let own = subst
-    (λ (own : Own). QuietOfAcquire (g.B.Board.seat c.self.inside.board) (g.B.Board.view c.self.inside.board) own.uses c.args.tag c.args.mode (g.B.Board.quiet c.self.inside.board) (g.B.Board.quiet board))
-    c.deref_mut.ensures.value c.acquire.ensures.quiet in
-    subst (λ s. QuietOfAcquire (g.B.Board.seat s.board) (g.B.Board.view s.board) s.uses c.args.tag c.args.mode (g.B.Board.quiet s.board) (g.B.Board.quiet board)) c.self.view_is own
+returns-in-Ok-AlreadyHeld-clause-quiet g c = quiet_acquired g (goal.at.returns-in-Ok-AlreadyHeld-clause-quiet g c).After-acquire
 
 pub returns-in-Ok-Queued-clause-quiet : goal.returns-in-Ok-Queued-clause-quiet
-returns-in-Ok-Queued-clause-quiet g c =
-    let board = c.acquire.new.board in
-    let own = subst
-    (λ (own : Own). QuietOfAcquire (g.B.Board.seat c.self.inside.board) (g.B.Board.view c.self.inside.board) own.uses c.args.tag c.args.mode (g.B.Board.quiet c.self.inside.board) (g.B.Board.quiet board))
-    c.deref_mut.ensures.value c.acquire.ensures.quiet in
-    subst (λ s. QuietOfAcquire (g.B.Board.seat s.board) (g.B.Board.view s.board) s.uses c.args.tag c.args.mode (g.B.Board.quiet s.board) (g.B.Board.quiet board)) c.self.view_is own
+returns-in-Ok-Queued-clause-quiet g c = quiet_acquired g (goal.at.returns-in-Ok-Queued-clause-quiet g c).After-acquire
 
 pub returns-in-Err-clause-quiet : goal.returns-in-Err-clause-quiet
-returns-in-Err-clause-quiet g c =
-    let board = c.acquire.new.board in
-    let own = subst
-    (λ (own : Own). QuietOfAcquire (g.B.Board.seat c.self.inside.board) (g.B.Board.view c.self.inside.board) own.uses c.args.tag c.args.mode (g.B.Board.quiet c.self.inside.board) (g.B.Board.quiet board))
-    c.deref_mut.ensures.value c.acquire.ensures.quiet in
-    subst (λ s. QuietOfAcquire (g.B.Board.seat s.board) (g.B.Board.view s.board) s.uses c.args.tag c.args.mode (g.B.Board.quiet s.board) (g.B.Board.quiet board)) c.self.view_is own
+returns-in-Err-clause-quiet g c = quiet_acquired g (goal.at.returns-in-Err-clause-quiet g c).After-acquire
