@@ -96,6 +96,16 @@ last-only : (old old1 new1 : OpenerState PartView) (number : ℕ) (a : Account) 
 last-only old old1 new1 number a q none gathers first is =
     is ∙ ap (λ xs. first ∷ behind_of xs) (ap (λ (o : OpenerState PartView). o.gathered) gathers.opener ∙ ap (λ xs. xs ++ gathers.last ∷ []) none)
 
+-- The last one of those gathered is sent back: the others stay, and its account is the one that its marks show,
+abbrev SendsLast : OpenerState PartView → OpenerState PartView → Account → Type 0
+SendsLast old new a =
+    (before : List (History PartView)) (last : History PartView) → old.gathered ≡ before ++ last ∷ []
+    → (new ≡ record old { gathered = before }) × (a ≡ told content_of last.number last.marks)
+
+-- with the quiet steps that these marks show.
+abbrev TellsQuiet : OpenerState PartView → List Quiet → Type 0
+TellsQuiet old quiet = (before : List (History PartView)) (last : History PartView) → old.gathered ≡ before ++ last ∷ [] → quiet ≡ quiet_told last.marks
+
 -- ---- sessions
 
 abbrev pub owned-entries : {B : Type 0} → SessionView B → List Entry
@@ -128,17 +138,30 @@ module _ {B : Type 0} (seat : B → Seated) (view : B → Account) (stack : B �
       ap (λ (a : Account). length a.fast.counted) own.0.0.account ∙ length-counted (seat s.board).limit s.owned.entries in
       omega (arith, rest, one, whole, here)
 
-  -- One more was gathered, and is sent back as it was.
+  -- One more was gathered, and its account is sent back as it was.
+  sent-back :
+      (old old1 new1 new2 : OpenerState PartView) (result : Result Audit NoMemory) (number : ℕ) (a a2 : Account) (q : List Quiet) (rest after1 : List (SessionView B))
+      (g : History PartView) (gs : List (History PartView)) → old.gathered ≡ g ∷ gs → (gathers : HasGathered content_of number a q old old1)
+      → (counts : CountsWith seat view stack quiet old1 rest result new1 after1) → SendsLast new1 new2 a2
+      → (new2 ≡ record new1 { gathered = counts.first ∷ gs }) × (a2 ≡ told content_of gathers.last.number gathers.last.marks)
+  sent-back old old1 new1 new2 result number a a2 q rest after1 g gs some gathers counts left =
+      left (counts.first ∷ gs) gathers.last (last-of old old1 new1 number a q g gs some gathers counts.first counts.gathered)
+
+  pub view-back :
+      (old old1 new1 new2 : OpenerState PartView) (result : Result Audit NoMemory) (number : ℕ) (a a2 : Account) (q : List Quiet) (rest after1 : List (SessionView B))
+      (g : History PartView) (gs : List (History PartView)) → old.gathered ≡ g ∷ gs → HasGathered content_of number a q old old1
+      → CountsWith seat view stack quiet old1 rest result new1 after1 → SendsLast new1 new2 a2 → a2 ≡ a
+  view-back old old1 new1 new2 result number a a2 q rest after1 g gs some gathers counts left =
+      (sent-back old old1 new1 new2 result number a a2 q rest after1 g gs some gathers counts left).1 ∙ gathers.account_
+
   module _ (old old1 new1 new2 : OpenerState PartView) (result : Result Audit NoMemory) (s s2 : SessionView B) (rest sessions after1 after : List (SessionView B))
       (is : sessions ≡ rest ++ s ∷ []) (is_after : after ≡ after1 ++ s2 ∷ []) (g : History PartView) (gs : List (History PartView)) (some : old.gathered ≡ g ∷ gs)
       (gathers : HasGathered content_of (seat s.board).number (view s.board) (quiet s.board) old old1) (counts : CountsWith seat view stack quiet old1 rest result new1 after1)
-      (left : (before : List (History PartView)) (last : History PartView) → new1.gathered ≡ before ++ last ∷ []
-      → (new2 ≡ record new1 { gathered = before }) × (view s2.board ≡ told content_of last.number last.marks))
-      (left_quiet : (before : List (History PartView)) (last : History PartView) → new1.gathered ≡ before ++ last ∷ [] → quiet s2.board ≡ quiet_told last.marks)
+      (left : SendsLast new1 new2 (view s2.board)) (left_quiet : TellsQuiet new1 (quiet s2.board))
       (same_seat : seat s2.board ≡ seat s.board) (nothing : stack s2.board ≡ nothing_due) (rests : IsResting seat view stack s) (well : IsWellOwned s.owned)
       (database : s2.database ≡ s.database) (uses : s2.uses ≡ s.uses) (owned : s2.owned ≡ s.owned) where
     back : (new2 ≡ record new1 { gathered = counts.first ∷ gs }) × (view s2.board ≡ told content_of gathers.last.number gathers.last.marks)
-    back = left (counts.first ∷ gs) gathers.last (last-of old old1 new1 (seat s.board).number (view s.board) (quiet s.board) g gs some gathers counts.first counts.gathered)
+    back = sent-back old old1 new1 new2 result (seat s.board).number (view s.board) (view s2.board) (quiet s.board) rest after1 g gs some gathers counts left
 
     back-quiet : quiet s2.board ≡ quiet_told gathers.last.marks
     back-quiet = left_quiet (counts.first ∷ gs) gathers.last (last-of old old1 new1 (seat s.board).number (view s.board) (quiet s.board) g gs some gathers counts.first counts.gathered)
@@ -171,7 +194,7 @@ module _ {B : Type 0} (seat : B → Seated) (view : B → Account) (stack : B �
     adds (Ok audit) up = subst (λ xs. AddsUp xs audit) all up
     adds (Err e) up = tt
 
-    pub unchanged-last : IsUnchanged seat view stack quiet s s2
+    unchanged-last : IsUnchanged seat view stack quiet s s2
     unchanged-last = record {
       seat_ = same_seat;
       view_ = back.1 ∙ gathers.account_;
@@ -206,35 +229,48 @@ module _ {B : Type 0} (seat : B → Seated) (view : B → Account) (stack : B �
     }
 
   -- The first one was gathered, and is sent back last.
-  module _ (old old1 new1 new2 : OpenerState PartView) (result : Result Audit NoMemory) (s s2 : SessionView B) (rest sessions after1 after : List (SessionView B))
-      (is : sessions ≡ rest ++ s ∷ []) (is_after : after ≡ after1 ++ s2 ∷ []) (none : old.gathered ≡ [])
-      (gathers : HasGathered content_of (seat s.board).number (view s.board) (quiet s.board) old old1) (counts : CountsWith seat view stack quiet old1 rest result new1 after1)
-      (left : (before : List (History PartView)) (last : History PartView) → new1.gathered ≡ before ++ last ∷ []
-      → (new2 ≡ record new1 { gathered = before }) × (view s2.board ≡ told content_of last.number last.marks))
-      (left_quiet : (before : List (History PartView)) (last : History PartView) → new1.gathered ≡ before ++ last ∷ [] → quiet s2.board ≡ quiet_told last.marks)
-      (same_seat : seat s2.board ≡ seat s.board) (nothing : stack s2.board ≡ nothing_due) (rests : IsResting seat view stack s) (well : IsWellOwned s.owned)
-      (database : s2.database ≡ s.database) (uses : s2.uses ≡ s.uses) (owned : s2.owned ≡ s.owned) where
-    back_first : (new2 ≡ record new1 { gathered = [] }) × (view s2.board ≡ told content_of counts.first.number counts.first.marks)
-    back_first = left [] counts.first (last-only old old1 new1 (seat s.board).number (view s.board) (quiet s.board) none gathers counts.first counts.gathered)
-
-    back_first-quiet : quiet s2.board ≡ quiet_told counts.first.marks
-    back_first-quiet = left_quiet [] counts.first (last-only old old1 new1 (seat s.board).number (view s.board) (quiet s.board) none gathers counts.first counts.gathered)
+  module _ (old old1 new1 new2 : OpenerState PartView) (result : Result Audit NoMemory) (number : ℕ) (a a2 : Account) (q : List Quiet)
+      (rest after1 : List (SessionView B)) (none : old.gathered ≡ []) (gathers : HasGathered content_of number a q old old1)
+      (counts : CountsWith seat view stack quiet old1 rest result new1 after1) (left : SendsLast new1 new2 a2) where
+    back_first : (new2 ≡ record new1 { gathered = [] }) × (a2 ≡ told content_of counts.first.number counts.first.marks)
+    back_first = left [] counts.first (last-only old old1 new1 number a q none gathers counts.first counts.gathered)
 
     only : old1.gathered ≡ gathers.last ∷ []
     only = ap (λ (o : OpenerState PartView). o.gathered) gathers.opener ∙ ap (λ xs. xs ++ gathers.last ∷ []) none
 
-    first-is : first_account content_of old1.gathered ≡ view s.board
+    first-is : first_account content_of old1.gathered ≡ a
     first-is = ap (first_account content_of) only ∙ gathers.account_
 
-    last-is : first_account content_of new1.gathered ≡ view s2.board
+    last-is : first_account content_of new1.gathered ≡ a2
     last-is = ap (first_account content_of) counts.gathered ∙ sym back_first.1
 
-    pub traced-first : HasTraced seat view stack quiet s s2
+    -- Its account is as it was, but for the trace,
+    pub view-traced : a2 ≡ record a { trace = a2.trace }
+    view-traced = back_first.1 ∙ counts.account ∙ (λ i. record (first-is i) { trace = ap (λ (b : Account). b.trace) last-is i })
+
+    -- and the opener is as it was.
+    pub opener-back : new2 ≡ old
+    opener-back =
+        back_first.0 ∙ (λ i. record (counts.opener i) { gathered = [] }) ∙ (λ i. record (gathers.opener i) { gathered = [] }) ∙ (λ i. record old { gathered = sym none i })
+
+  module _ (old old1 new1 new2 : OpenerState PartView) (result : Result Audit NoMemory) (s s2 : SessionView B) (rest sessions after1 after : List (SessionView B))
+      (is : sessions ≡ rest ++ s ∷ []) (is_after : after ≡ after1 ++ s2 ∷ []) (none : old.gathered ≡ [])
+      (gathers : HasGathered content_of (seat s.board).number (view s.board) (quiet s.board) old old1) (counts : CountsWith seat view stack quiet old1 rest result new1 after1)
+      (left : SendsLast new1 new2 (view s2.board)) (left_quiet : TellsQuiet new1 (quiet s2.board))
+      (same_seat : seat s2.board ≡ seat s.board) (nothing : stack s2.board ≡ nothing_due) (rests : IsResting seat view stack s) (well : IsWellOwned s.owned)
+      (database : s2.database ≡ s.database) (uses : s2.uses ≡ s.uses) (owned : s2.owned ≡ s.owned) where
+    back_first-quiet : quiet s2.board ≡ quiet_told counts.first.marks
+    back_first-quiet = left_quiet [] counts.first (last-only old old1 new1 (seat s.board).number (view s.board) (quiet s.board) none gathers counts.first counts.gathered)
+
+    one : old1.gathered ≡ gathers.last ∷ []
+    one = only old old1 new1 new2 result (seat s.board).number (view s.board) (view s2.board) (quiet s.board) rest after1 none gathers counts left
+
+    traced-first : HasTraced seat view stack quiet s s2
     traced-first = record {
       seat_ = same_seat;
-      view_ = back_first.1 ∙ counts.account ∙ (λ i. record (first-is i) { trace = ap (λ (a : Account). a.trace) last-is i });
+      view_ = view-traced old old1 new1 new2 result (seat s.board).number (view s.board) (view s2.board) (quiet s.board) rest after1 none gathers counts left;
       stack_ = nothing ∙ sym rests.nothing_left;
-      quiet_ = back_first-quiet ∙ counts.first_quiet_ ∙ ap first_quiet only ∙ gathers.quiet_;
+      quiet_ = back_first-quiet ∙ counts.first_quiet_ ∙ ap first_quiet one ∙ gathers.quiet_;
       database = database;
       uses = uses;
       owned = owned;
@@ -245,7 +281,7 @@ module _ {B : Type 0} (seat : B → Seated) (view : B → Account) (stack : B �
 
     all-are : gathered_in content_of old1.gathered ++ map (gathered_of seat view stack quiet) (reverse rest) ≡ map (gathered_of seat view stack quiet) (s ∷ reverse rest)
     all-are =
-        ap (λ xs. gathered_in content_of xs ++ map (gathered_of seat view stack quiet) (reverse rest)) only
+        ap (λ xs. gathered_in content_of xs ++ map (gathered_of seat view stack quiet) (reverse rest)) one
         ∙ (λ i. record { number = gathers.number_ i; account = gathers.account_ i } ∷ map (gathered_of seat view stack quiet) (reverse rest))
 
     holds-of : (r : Result Audit NoMemory) → IfOk r (AddsUp (gathered_in content_of old1.gathered ++ map (gathered_of seat view stack quiet) (reverse rest)))
@@ -271,14 +307,12 @@ module _ {B : Type 0} (seat : B → Seated) (view : B → Account) (stack : B �
           traced = traced-first;
           unchanged = zip-reverse (IsUnchanged seat view stack quiet) rest after1 counts.unchanged;
           counts =
-              subst (λ (t : List TraceEntry). Counts old.limit old.groups (view s.board).trace result t) (ap (λ (a : Account). a.trace) last-is)
-              (subst (λ (t : List TraceEntry). Counts old.limit old.groups t result (first_account content_of new1.gathered).trace) (ap (λ (a : Account). a.trace) first-is)
+              subst (λ (t : List TraceEntry). Counts old.limit old.groups (view s.board).trace result t) (ap (λ (a : Account). a.trace)
+              (last-is old old1 new1 new2 result (seat s.board).number (view s.board) (view s2.board) (quiet s.board) rest after1 none gathers counts left))
+              (subst (λ (t : List TraceEntry). Counts old.limit old.groups t result (first_account content_of new1.gathered).trace) (ap (λ (a : Account). a.trace)
+              (first-is old old1 new1 new2 result (seat s.board).number (view s.board) (view s2.board) (quiet s.board) rest after1 none gathers counts left))
               (subst (λ (o : OpenerState PartView). Counts o.limit o.groups (first_account content_of old1.gathered).trace result
               (first_account content_of new1.gathered).trace) gathers.opener counts.counts));
           holds = holds-of result counts.adds_up;
           strong = strong-of result counts.adds_up;
         })
-
-    pub opener-back : new2 ≡ old
-    opener-back =
-        back_first.0 ∙ (λ i. record (counts.opener i) { gathered = [] }) ∙ (λ i. record (gathers.opener i) { gathered = [] }) ∙ (λ i. record old { gathered = sym none i })

@@ -1,6 +1,7 @@
-use Rattle.std.proofs.Common.{◌≡◌, ℕ, suc, ◌+◌, List, [], ◌∷◌, map, length, refl, sym, ap, ◌∙◌, subst}
+use Rattle.std.proofs.Common.{◌≡◌, ℕ, suc, ◌+◌, List, [], ◌∷◌, map, length, reverse, refl, sym, ap, ◌∙◌, subst}
 use Rattle.std.specs.Prelude.{Result, Ok, Err, IfOk}
 use Rattle.std.specs.List.{AllZip, AllByRecursion}
+use Rattle.std.proofs.lemmas.List.{reverse-reverse}
 use Rattle.modes_core.specs.declared.refusals.Refusal.{Refusal}
 use Rattle.atomic_table.specs.Seated.{TableId}
 use Rattle.local_locks.specs.Owned.{Owned}
@@ -25,6 +26,15 @@ module _ {B : Type 0} (seat : B → Seated) (view : B → Account) (stack : B �
       (subst (λ n. Audits seat view stack quiet limit n old new result) same_groups
       (subst (λ zs. Audits seat view stack quiet limit groups zs new result) one
       (subst (λ zs. Audits seat view stack quiet limit groups xs zs result) two audits)))
+
+  -- So it is of lists that were turned round for the audit, and turned back.
+  pub audits-turned :
+      {E : Type 0} (limit limit' groups groups' : ℕ) (given turned left back : List (SessionView B)) (result : Result Audit E)
+      → limit ≡ limit' → groups ≡ groups' → turned ≡ reverse given → back ≡ reverse left
+      → Audits seat view stack quiet limit groups (reverse turned) (reverse left) result → Audits seat view stack quiet limit' groups' given back result
+  audits-turned limit limit' groups groups' given turned left back result same same_groups before after audits =
+      audits-as limit limit' groups groups' (reverse turned) given (reverse left) back result same same_groups
+      (ap reverse before ∙ reverse-reverse given) (sym after) audits
 
   -- Where an audit answers so, another answer that says no more is one of the same counting,
   counts-answered :

@@ -5,7 +5,7 @@ use Rattle.shared_rule.specs.Boards.{Seated}
 use Rattle.shared_rule.specs.Openers.{OpenerState}
 use Rattle.std.proofs.Common.{◌≤◌}
 use Rattle.lock_manager.proofs.Lemmas.Audits.Lists.{no_wait-rest, kept_apart-rest, rest-traced, all-before}
-use Rattle.lock_manager.proofs.Lemmas.Audits.Counts.{may_count-first, traced-first, audits-first, opener-back}
+use Rattle.lock_manager.proofs.Lemmas.Audits.Counts.{may_count-first, view-traced, audits-first, opener-back}
 use Rattle.lock_manager.proofs.audit.audit_all.Goals as goal
 use Rattle.modes_core.specs.Sessions.{most_sessions}
 
@@ -31,15 +31,10 @@ push_reserved-requires g c =
 
 pub invariant_of-push_reserved : goal.invariant_of-push_reserved
 invariant_of-push_reserved g c =
-    let is = c.in-Some.ensures.items ∙ ap (λ x. c.pop.new.self.items ++ x ∷ []) (sym c.session.view_is) in
     let same_seat = c.send_back-board.ensures.seat ∙ c.gather-absent.ensures.absent in
-    let e = (traced-first _ _ _ _ c.args.numbers.now c.gather-absent.new.self c.audit_others-counted.new.numbers c.send_back-board.new.self c.audit_others-counted.result
-    (record { board = c.session.inside.board; database = c.session.inside.own.value.database; uses = c.session.inside.own.value.uses; owned = c.session.inside.own.value.locals })
-    (record { board = c.send_back-board.result; database = c.session.inside.own.value.database; uses = c.session.inside.own.value.uses; owned = c.session.inside.own.value.locals })
-    c.pop.new.self.items c.args.sessions.now.items c.audit_others-counted.new.sessions.items
-    (c.audit_others-counted.new.sessions.items ++ record { board = c.send_back-board.result; database = c.session.inside.own.value.database; uses = c.session.inside.own.value.uses; owned = c.session.inside.own.value.locals } ∷ [])
-    is refl c.requires.none_gathered c.gather-absent.ensures.gathered c.audit_others-counted.ensures.counts c.send_back-board.ensures.left c.send_back-board.ensures.quiet
-    same_seat c.send_back-board.ensures.stack c.session.invariant.0 c.session.invariant.3 refl refl refl).view_ in (
+    let e = view-traced _ _ _ _ c.args.numbers.now c.gather-absent.new.self c.audit_others-counted.new.numbers c.send_back-board.new.self c.audit_others-counted.result _ _ _ _
+    c.pop.new.self.items c.audit_others-counted.new.sessions.items c.requires.none_gathered c.gather-absent.ensures.gathered c.audit_others-counted.ensures.counts
+    c.send_back-board.ensures.left in (
       rest-traced _ _ _ _ _ _ _ _ _ same_seat e (c.send_back-board.ensures.stack ∙ sym c.session.invariant.0.nothing_left) c.session.invariant.0,
       subst (λ n. n ≤ most_sessions) (sym (ap (λ (s : Seated). s.limit) same_seat)) c.session.invariant.1,
       c.session.invariant.2,
@@ -60,12 +55,6 @@ returns-clause-audited g c =
 
 pub returns-clause-numbers : goal.returns-clause-numbers
 returns-clause-numbers g c =
-    let is = c.in-Some.ensures.items ∙ ap (λ x. c.pop.new.self.items ++ x ∷ []) (sym c.session.view_is) in
-    let same_seat = c.send_back-board.ensures.seat ∙ c.gather-absent.ensures.absent in
-    opener-back _ _ _ _ c.args.numbers.now c.gather-absent.new.self c.audit_others-counted.new.numbers c.send_back-board.new.self c.audit_others-counted.result
-    (record { board = c.session.inside.board; database = c.session.inside.own.value.database; uses = c.session.inside.own.value.uses; owned = c.session.inside.own.value.locals })
-    (record { board = c.send_back-board.result; database = c.session.inside.own.value.database; uses = c.session.inside.own.value.uses; owned = c.session.inside.own.value.locals })
-    c.pop.new.self.items c.args.sessions.now.items c.audit_others-counted.new.sessions.items
-    c.push_reserved.new.self.items
-    is c.push_reserved.ensures.items c.requires.none_gathered c.gather-absent.ensures.gathered c.audit_others-counted.ensures.counts c.send_back-board.ensures.left c.send_back-board.ensures.quiet
-    same_seat c.send_back-board.ensures.stack c.session.invariant.0 c.session.invariant.3 refl refl refl
+    opener-back _ _ _ _ c.args.numbers.now c.gather-absent.new.self c.audit_others-counted.new.numbers c.send_back-board.new.self c.audit_others-counted.result _ _ _ _
+    c.pop.new.self.items c.audit_others-counted.new.sessions.items c.requires.none_gathered c.gather-absent.ensures.gathered c.audit_others-counted.ensures.counts
+    c.send_back-board.ensures.left
