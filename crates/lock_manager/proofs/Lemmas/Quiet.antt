@@ -3,7 +3,7 @@ use Rattle.std.proofs.lemmas.Bool.{cond-true, cond-false}
 use Rattle.modes_core.specs.declared.modes.Mode.{Mode}
 use Rattle.modes_core.specs.declared.tags.Tag.{Tag}
 use Rattle.modes_core.specs.declared.refusals.Refusal.{Refusal}
-use Rattle.modes_core.specs.declared.refusals.Refusal.TheVariants.{Conflict, NoMemory, LocalFull, CountFull, SimpleDeadlock, Cancelled, NotHeld, Busy, SlotsFull, StrongCounted, NotEligible, NoMoreSessions, BadConfig, TooDeep, NoNested}
+use Rattle.modes_core.specs.declared.refusals.Refusal.TheVariants.{SlotsFull, StrongCounted}
 use Rattle.modes_core.specs.Tag.{is_eligible_for}
 use Rattle.local_locks.specs.declared.ends.End.{End}
 use Rattle.local_locks.specs.declared.records.Entry.{Entry}
@@ -30,39 +30,14 @@ quiet-refused seat a b uses left tag mode SlotsFull before after eligible full s
     OfTable (record { weak = eligible-weak a.fast.database tag mode eligible; not_tried = inr full.full; quiet = same })
 quiet-refused seat a b uses left tag mode StrongCounted before after eligible found same =
     OfTry (record { eligible = eligible; room = found.0 }) (inl same)
-quiet-refused seat a b uses left tag mode (Conflict other its how) before after eligible none same = absurd none
-quiet-refused seat a b uses left tag mode NoMemory before after eligible none same = absurd none
-quiet-refused seat a b uses left tag mode LocalFull before after eligible none same = absurd none
-quiet-refused seat a b uses left tag mode CountFull before after eligible none same = absurd none
-quiet-refused seat a b uses left tag mode (SimpleDeadlock other) before after eligible none same = absurd none
-quiet-refused seat a b uses left tag mode Cancelled before after eligible none same = absurd none
-quiet-refused seat a b uses left tag mode NotHeld before after eligible none same = absurd none
-quiet-refused seat a b uses left tag mode Busy before after eligible none same = absurd none
-quiet-refused seat a b uses left tag mode NotEligible before after eligible none same = absurd none
-quiet-refused seat a b uses left tag mode NoMoreSessions before after eligible none same = absurd none
-quiet-refused seat a b uses left tag mode BadConfig before after eligible none same = absurd none
-quiet-refused seat a b uses left tag mode TooDeep before after eligible none same = absurd none
-quiet-refused seat a b uses left tag mode NoNested before after eligible none same = absurd none
+quiet-refused seat a b uses left tag mode _ before after eligible none same = absurd none
 
 -- An acquire by the fast path alone that is refused.
 pub quiet-tried :
     (number : ℕ) (tag : Tag) (mode : Mode) (refusal : Refusal) (before after : List Quiet)
     → after ≡ quiet_granting number tag mode (Err refusal) before → QuietOfAcquireBySlot number tag mode before after
 quiet-tried number tag mode StrongCounted before after same = inr (inl same)
-quiet-tried number tag mode SlotsFull before after same = inl same
-quiet-tried number tag mode (Conflict other its how) before after same = inl same
-quiet-tried number tag mode NoMemory before after same = inl same
-quiet-tried number tag mode LocalFull before after same = inl same
-quiet-tried number tag mode CountFull before after same = inl same
-quiet-tried number tag mode (SimpleDeadlock other) before after same = inl same
-quiet-tried number tag mode Cancelled before after same = inl same
-quiet-tried number tag mode NotHeld before after same = inl same
-quiet-tried number tag mode Busy before after same = inl same
-quiet-tried number tag mode NotEligible before after same = inl same
-quiet-tried number tag mode NoMoreSessions before after same = inl same
-quiet-tried number tag mode BadConfig before after same = inl same
-quiet-tried number tag mode TooDeep before after same = inl same
-quiet-tried number tag mode NoNested before after same = inl same
+quiet-tried number tag mode _ before after same = inl same
 
 -- What a wait leaves as they are.
 pub quiet-waited :

@@ -4,7 +4,7 @@ use Rattle.modes_core.specs.declared.modes.Mode.{Mode}
 use Rattle.modes_core.specs.declared.tags.Tag.{Tag}
 use Rattle.modes_core.specs.declared.sessions.Owner.{Owner}
 use Rattle.modes_core.specs.declared.refusals.Refusal.{Refusal}
-use Rattle.modes_core.specs.declared.refusals.Refusal.TheVariants.{Conflict, NoMemory, LocalFull, CountFull, SimpleDeadlock, Cancelled, NotHeld, Busy, SlotsFull, StrongCounted, NotEligible, NoMoreSessions, BadConfig, TooDeep, NoNested}
+use Rattle.modes_core.specs.declared.refusals.Refusal.TheVariants.{NoMemory, LocalFull, CountFull}
 use Rattle.local_locks.specs.Owned.{Owned, has_entry, owner_count_of, max_count}
 use Rattle.wait_queue.specs.declared.requests.Kind.{Kind}
 use Rattle.lock_world.specs.Account.{Account}
@@ -25,18 +25,7 @@ pub begins-refused :
 begins-refused kind seat owned a b uses left tag mode CountFull requests = absurd (requested-not_own kind seat a b uses left tag mode CountFull requests tt)
 begins-refused kind seat owned a b uses left tag mode LocalFull requests = absurd (requested-not_own kind seat a b uses left tag mode LocalFull requests tt)
 begins-refused kind seat owned a b uses left tag mode NoMemory requests = inr requests
-begins-refused kind seat owned a b uses left tag mode (Conflict other its how) requests = requests
-begins-refused kind seat owned a b uses left tag mode (SimpleDeadlock other) requests = requests
-begins-refused kind seat owned a b uses left tag mode Cancelled requests = requests
-begins-refused kind seat owned a b uses left tag mode NotHeld requests = requests
-begins-refused kind seat owned a b uses left tag mode Busy requests = requests
-begins-refused kind seat owned a b uses left tag mode SlotsFull requests = requests
-begins-refused kind seat owned a b uses left tag mode StrongCounted requests = requests
-begins-refused kind seat owned a b uses left tag mode NotEligible requests = requests
-begins-refused kind seat owned a b uses left tag mode NoMoreSessions requests = requests
-begins-refused kind seat owned a b uses left tag mode BadConfig requests = requests
-begins-refused kind seat owned a b uses left tag mode TooDeep requests = requests
-begins-refused kind seat owned a b uses left tag mode NoNested requests = requests
+begins-refused kind seat owned a b uses left tag mode _ requests = requests
 
 -- By what the session owns there was nothing to answer: it has no entry of the mode, its count isn't full, and there was a place.
 pub answers-refused :

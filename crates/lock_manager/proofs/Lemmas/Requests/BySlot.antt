@@ -2,7 +2,7 @@ use Rattle.std.proofs.Common.{◌≡◌, ℕ, true, List, Result, Err, refl, sym
 use Rattle.modes_core.specs.declared.modes.Mode.{Mode}
 use Rattle.modes_core.specs.declared.tags.Tag.{Tag}
 use Rattle.modes_core.specs.declared.refusals.Refusal.{Refusal}
-use Rattle.modes_core.specs.declared.refusals.Refusal.TheVariants.{Conflict, NoMemory, LocalFull, CountFull, SimpleDeadlock, Cancelled, NotHeld, Busy, SlotsFull, StrongCounted, NotEligible, NoMoreSessions, BadConfig, TooDeep, NoNested}
+use Rattle.modes_core.specs.declared.refusals.Refusal.TheVariants.{NoMemory, LocalFull, CountFull, SlotsFull, NotEligible}
 use Rattle.modes_core.specs.Tag.{is_eligible_for}
 use Rattle.lock_world.specs.Account.{Account}
 use Rattle.lock_world.specs.AccountSteps.{own_with}
@@ -41,13 +41,4 @@ tried-untouched P groups number a b uses left tag mode LocalFull tried own full 
 tried-untouched P groups number a b uses left tag mode NotEligible tried own full = absurd tried
 tried-untouched P groups number a b uses left tag mode NoMemory tried own full = absurd tried
 tried-untouched P groups number a b uses left tag mode SlotsFull tried own full = full refl
-tried-untouched P groups number a b uses left tag mode (Conflict other its how) tried own full = absurd own
-tried-untouched P groups number a b uses left tag mode (SimpleDeadlock other) tried own full = absurd own
-tried-untouched P groups number a b uses left tag mode Cancelled tried own full = absurd own
-tried-untouched P groups number a b uses left tag mode NotHeld tried own full = absurd own
-tried-untouched P groups number a b uses left tag mode Busy tried own full = absurd own
-tried-untouched P groups number a b uses left tag mode StrongCounted tried own full = absurd own
-tried-untouched P groups number a b uses left tag mode NoMoreSessions tried own full = absurd own
-tried-untouched P groups number a b uses left tag mode BadConfig tried own full = absurd own
-tried-untouched P groups number a b uses left tag mode TooDeep tried own full = absurd own
-tried-untouched P groups number a b uses left tag mode NoNested tried own full = absurd own
+tried-untouched P groups number a b uses left tag mode _ tried own full = absurd own

@@ -5,7 +5,7 @@ use Rattle.std.proofs.lemmas.Bool.{false≢true, and_right, lt-leb}
 use Rattle.modes_core.specs.declared.modes.Mode.{Mode}
 use Rattle.modes_core.specs.declared.tags.Tag.{Tag}
 use Rattle.modes_core.specs.declared.refusals.Refusal.{Refusal}
-use Rattle.modes_core.specs.declared.refusals.Refusal.TheVariants.{Conflict, NoMemory, LocalFull, CountFull, SimpleDeadlock, Cancelled, NotHeld, Busy, SlotsFull, StrongCounted, NotEligible, NoMoreSessions, BadConfig, TooDeep, NoNested}
+use Rattle.modes_core.specs.declared.refusals.Refusal.TheVariants.{NoMemory, LocalFull, CountFull, SlotsFull, StrongCounted, NotEligible}
 use Rattle.modes_core.specs.Mode.{number_of}
 use Rattle.modes_core.specs.Tag.{partition_of, index_of, is_strong_on, is_eligible_for}
 use Rattle.wait_queue.specs.declared.requests.Kind.{Kind}
@@ -101,19 +101,7 @@ led-refused groups number limit a b uses left tag mode StrongCounted eligible fo
   account = found.1.account;
   same = found.1.same;
 }
-led-refused groups number limit a b uses left tag mode (Conflict other its how) eligible none = absurd none
-led-refused groups number limit a b uses left tag mode NoMemory eligible none = absurd none
-led-refused groups number limit a b uses left tag mode LocalFull eligible none = absurd none
-led-refused groups number limit a b uses left tag mode CountFull eligible none = absurd none
-led-refused groups number limit a b uses left tag mode (SimpleDeadlock other) eligible none = absurd none
-led-refused groups number limit a b uses left tag mode Cancelled eligible none = absurd none
-led-refused groups number limit a b uses left tag mode NotHeld eligible none = absurd none
-led-refused groups number limit a b uses left tag mode Busy eligible none = absurd none
-led-refused groups number limit a b uses left tag mode NotEligible eligible none = absurd none
-led-refused groups number limit a b uses left tag mode NoMoreSessions eligible none = absurd none
-led-refused groups number limit a b uses left tag mode BadConfig eligible none = absurd none
-led-refused groups number limit a b uses left tag mode TooDeep eligible none = absurd none
-led-refused groups number limit a b uses left tag mode NoNested eligible none = absurd none
+led-refused groups number limit a b uses left tag mode _ eligible none = absurd none
 
 -- and a strong one once it is past every session.
 pub led-transferred :
@@ -304,20 +292,7 @@ pub requests-decided :
 requests-decided kind seat a b uses left tag mode (Ok Granted) decides = inr decides
 requests-decided kind seat a b uses left tag mode (Ok Queued) decides = decides
 requests-decided kind seat a b uses left tag mode (Err NoMemory) decides = inr decides
-requests-decided kind seat a b uses left tag mode (Err (Conflict other its how)) decides = decides
-requests-decided kind seat a b uses left tag mode (Err LocalFull) decides = decides
-requests-decided kind seat a b uses left tag mode (Err CountFull) decides = decides
-requests-decided kind seat a b uses left tag mode (Err (SimpleDeadlock other)) decides = decides
-requests-decided kind seat a b uses left tag mode (Err Cancelled) decides = decides
-requests-decided kind seat a b uses left tag mode (Err NotHeld) decides = decides
-requests-decided kind seat a b uses left tag mode (Err Busy) decides = decides
-requests-decided kind seat a b uses left tag mode (Err SlotsFull) decides = decides
-requests-decided kind seat a b uses left tag mode (Err StrongCounted) decides = decides
-requests-decided kind seat a b uses left tag mode (Err NotEligible) decides = decides
-requests-decided kind seat a b uses left tag mode (Err NoMoreSessions) decides = decides
-requests-decided kind seat a b uses left tag mode (Err BadConfig) decides = decides
-requests-decided kind seat a b uses left tag mode (Err TooDeep) decides = decides
-requests-decided kind seat a b uses left tag mode (Err NoNested) decides = decides
+requests-decided kind seat a b uses left tag mode (Err _) decides = decides
 
 -- A conditional request is never queued.
 pub never-queued :
@@ -337,15 +312,4 @@ requested-not_own Conditional seat a b uses left tag mode LocalFull requests own
 requested-not_own Waiting seat a b uses left tag mode LocalFull requests own = requests.refused
 requested-not_own Conditional seat a b uses left tag mode NotEligible requests own = requests.refused
 requested-not_own Waiting seat a b uses left tag mode NotEligible requests own = requests.refused
-requested-not_own kind seat a b uses left tag mode NoMemory requests own = own
-requested-not_own kind seat a b uses left tag mode (Conflict other its how) requests own = own
-requested-not_own kind seat a b uses left tag mode (SimpleDeadlock other) requests own = own
-requested-not_own kind seat a b uses left tag mode Cancelled requests own = own
-requested-not_own kind seat a b uses left tag mode NotHeld requests own = own
-requested-not_own kind seat a b uses left tag mode Busy requests own = own
-requested-not_own kind seat a b uses left tag mode SlotsFull requests own = own
-requested-not_own kind seat a b uses left tag mode StrongCounted requests own = own
-requested-not_own kind seat a b uses left tag mode NoMoreSessions requests own = own
-requested-not_own kind seat a b uses left tag mode BadConfig requests own = own
-requested-not_own kind seat a b uses left tag mode TooDeep requests own = own
-requested-not_own kind seat a b uses left tag mode NoNested requests own = own
+requested-not_own kind seat a b uses left tag mode _ requests own = own
