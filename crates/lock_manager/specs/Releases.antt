@@ -76,15 +76,20 @@ pub record WakesAndPuts (a : Account) (partition : ℕ) (done : Move) (tag : Tag
   pub wakes : Wakes before tag granted after
   pub account : b ≡ account_putting a partition (taken_of (a.hand partition)) after done
 
--- The episode that releases a hold: the content is put once the hold is gone and who may go then is granted. The content
--- taken has each own hold of its partition that is in no slot.
-pub record ReleasesInPart (number : ℕ) (a : Account) (tag : Tag) (mode : Mode) (b : Account) : Type 0 where
+-- A hold is taken out of the object's partition: the content is put once the hold is gone and who may go then is granted, and the account is the one that the
+-- contents taken and put lead to. The content taken has each own hold of its partition that is in no slot.
+pub record TakesHoldOut (leads_to : Content → Content → Account) (number : ℕ) (a : Account) (tag : Tag) (mode : Mode) (b : Account) : Type 0 where
   pub taken : Content
   pub put : Content
   pub granted : List Wait
   pub own_stand : OwnHoldsStand number a.own a.fast.database a.fast.remembered (partition_of tag) taken
   pub moved : Moves taken number (Release tag mode) granted put
-  pub account : b ≡ account_episode a (partition_of tag) taken put (Release tag mode)
+  pub account : b ≡ leads_to taken put
+
+-- The episode that releases a hold.
+abbrev pub ReleasesInPart : ℕ → Account → Tag → Mode → Account → Type 0
+ReleasesInPart number a tag mode b =
+    TakesHoldOut (λ taken put. account_episode a (partition_of tag) taken put (Release tag mode)) number a tag mode b
 
 -- ---- the whole release: `a` and `uses` are the account and the use counts before it, `b` and `left` those after it
 
@@ -101,14 +106,10 @@ account_released a tag mode remembered trace = record a {
 }
 
 -- The whole release of a hold that stands in the table: once that episode is made a strong mode is counted no more.
-pub record ReleasesHold (number : ℕ) (a : Account) (tag : Tag) (mode : Mode) (b : Account) : Type 0 where
-  pub taken : Content
-  pub put : Content
-  pub granted : List Wait
-  pub own_stand : OwnHoldsStand number a.own a.fast.database a.fast.remembered (partition_of tag) taken
-  pub moved : Moves taken number (Release tag mode) granted put
-  pub account : b ≡ account_released a tag mode a.fast.remembered
-      (a.trace ++ Took (partition_of tag) taken ∷ Episode (partition_of tag) taken put ∷ [])
+abbrev pub ReleasesHold : ℕ → Account → Tag → Mode → Account → Type 0
+ReleasesHold number a tag mode b =
+    TakesHoldOut (λ taken put. account_released a tag mode a.fast.remembered
+    (a.trace ++ Took (partition_of tag) taken ∷ Episode (partition_of tag) taken put ∷ [])) number a tag mode b
 
 -- The session looks in its slots: the mode on the object may be in one of them, and by the use count of the relation's group
 -- one of it is in use.
