@@ -9,7 +9,6 @@ ghost use Rattle.fast_path.specs.declared.use_counts.UseCounts.{UseCounts};
 ghost use Rattle.lock_manager.specs.Releases.{ReleasesAll};
 ghost use Rattle.modes_core.specs.Sessions.{most_sessions};
 
-use crate::releases::end_all;
 use crate::sessions::{Own, OwnSession};
 use local_locks::End;
 use lock_table::PartTable;
@@ -51,12 +50,6 @@ impl<T: PartTable, B: Board<T>> OwnSession<T, B> {
         ensures released { (uses : UseCounts) × ReleasesAll (B.seat self.board).groups (B.seat self.board).number
             (B.view self.board) self.uses (ended_by End.Close self.owned.entries) (B.view result) uses }
     {
-        let OwnSession {
-            mut board,
-            mut own,
-            parts: _,
-        } = self;
-        end_all(rt, &mut board, &mut own, End::Close);
-        board
+        self.end(rt)
     }
 }

@@ -23,6 +23,7 @@ ghost use Rattle.wait_queue.specs.Decide.{IsAfterRoom};
 ghost use Rattle.lock_manager.specs.Requests.{HadRoom};
 ghost use Rattle.lock_manager.specs.Acquires.{AnswersByOwned, HasEntryRoom, IsOwnAnswer, IsOwnAnswerBySlot, IsRefusedForMemory, Acquires, AcquiresBySlot};
 ghost use Rattle.lock_manager.specs.Releases.{Releases, ReleasesAll};
+ghost use Rattle.shared_rule.specs.Seats.{MayCloseBy};
 ghost use Rattle.modes_core.specs.Sessions.{most_sessions};
 
 mod levels;
@@ -145,6 +146,26 @@ impl<T: PartTable, B: Board<T>> OwnSession<T, B> {
             own,
             parts: PhantomData,
         }
+    }
+
+    // Ends the session: all that it holds is released, in the order of making, and its board comes back, which may be closed.
+    pub(crate) fn end<R: Wait>(self, rt: &R) -> B
+        ensures released { (left : UseCounts) × ReleasesAll (B.seat self.board).groups (B.seat self.board).number
+            (B.view self.board) self.uses (ended_by End.Close self.owned.entries) (B.view result) left }
+        ensures quiet { (left : UseCounts) × QuietOfReleases (B.seat self.board).groups (B.seat self.board).number
+            (B.view self.board) self.uses (ended_by End.Close self.owned.entries) (B.view result) left
+            (B.quiet self.board) (B.quiet result) }
+        ensures closable { MayCloseBy (B.view result) }
+        ensures stack { B.stack result ≡ nothing_due }
+        ensures seat { B.seat result ≡ B.seat self.board }
+    {
+        let OwnSession {
+            mut board,
+            mut own,
+            parts: _,
+        } = self;
+        end_all(rt, &mut board, &mut own, End::Close);
+        board
     }
 
     /// The number of the session.
@@ -369,12 +390,7 @@ impl<'a> OwnSession<Part, SeatBoard<'a, Part>> {
             (B.seat self.entry.board).number (B.view self.entry.board) self.entry.uses
             (ended_by End.Close self.entry.owned.entries) last left (B.quiet self.entry.board) (quiet_told history.marks) }
     {
-        let OwnSession {
-            mut board,
-            mut own,
-            parts: _,
-        } = self;
-        end_all(rt, &mut board, &mut own, End::Close);
+        let board = self.end(rt);
         opener.take_back(board);
     }
 }
