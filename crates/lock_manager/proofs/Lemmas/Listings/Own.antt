@@ -22,6 +22,7 @@ use Rattle.lock_world.specs.World.{TraceEntry, Loaded, Took, Episode}
 use Rattle.lock_world.proofs.Slots.Eligible.{eligible-is}
 use Rattle.lock_world.proofs.Slots.Remembered.{slot_holds-fewer}
 use Rattle.lock_world.proofs.Unmissed.{seen-or-taken}
+use Rattle.shared_rule.specs.Boards.{Stack, stack_taking}
 use Rattle.fast_path.specs.Rows.{rows_of_all, loads_of_all, times_shown, ReadsSlots}
 use Rattle.fast_path.proofs.LoadsAt.{LoadsAt, loads-at}
 use Rattle.fast_path.proofs.Times.{times-all, times-some}
@@ -30,6 +31,11 @@ use Rattle.lock_table.specs.WholeContent.{content_at}
 use Rattle.lock_manager.specs.Listings.{listing_steps, IsOfCaller, AreOfCaller, times_in_table, times_listed}
 use Rattle.lock_manager.specs.Listings.{LeftItsSlot, ListsOwn, MissesNone}
 use Rattle.lock_table.proofs.PartitionRows.{waits-foreign}
+
+-- A partition that was taken is the one taken last of those in hand, once those taken after it are put.
+pub taken-last :
+    (old taken now : Stack) (partition : ℕ) → taken ≡ stack_taking old partition → now ≡ taken → (others : List ℕ) × (now.parts ≡ partition ∷ others)
+taken-last old taken now partition took same = (old.parts, ap (λ (s : Stack). s.parts) (same ∙ took))
 
 -- ---- what the caller knows of the contents that it takes
 

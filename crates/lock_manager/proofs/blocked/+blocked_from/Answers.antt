@@ -1,25 +1,21 @@
-use Rattle.std.proofs.Common.{arith, ◌≡◌, ℕ, ◌+◌, ◌∷◌, ◌++◌, ◌∙◌, ap, sym}
+use Rattle.std.proofs.Common.{arith, ◌≡◌, ℕ, ◌+◌, ◌∷◌, ◌++◌, ap, sym}
 use Rattle.lock_table.proofs.PartitionRows.{rows-ok}
 use Rattle.shared_rule.proofs.Episodes.{may_keep-since, kept-since}
-use Rattle.shared_rule.specs.Boards.{Seated, Stack}
+use Rattle.shared_rule.specs.Boards.{Seated}
 use Rattle.lock_manager.specs.Listings.{listing_steps, AreOfCaller}
 use Rattle.lock_manager.specs.Blocked.{AppendsBlocked}
 use Rattle.lock_manager.proofs.Lemmas.Blocked.{blocked-more}
-use Rattle.lock_manager.proofs.Lemmas.Listings.Own.{caller-first}
+use Rattle.lock_manager.proofs.Lemmas.Listings.Own.{taken-last, caller-first}
 use Rattle.lock_manager.proofs.blocked.+blocked_from.Given as given
 use Rattle.lock_manager.proofs.blocked.+blocked_from.Goals as goal
 use Rattle.lock_manager.proofs.blocked.+blocked_from.Goals.{After-put_part}
 
 pub put_part-requires-clause-lawful : goal.put_part-requires-clause-lawful
 put_part-requires-clause-lawful g t c =
-    may_keep-since _ _ (g.B.Board.view c.args.board.now) (g.B.Board.view c.take_part-content.new.self) _ c.args.part (g.T.PartTable.content c.take_part-content.result)
-    (listing_steps (c.args.part + 1) c.blocked_from-others.ensures.listed.contents) c.take_part-content.ensures.view c.blocked_from-others.ensures.listed.account
+    may_keep-since _ _ _ (g.B.Board.view c.take_part-content.new.self) _ _ _ _ c.take_part-content.ensures.view c.blocked_from-others.ensures.listed.account
 
 pub put_part-requires-clause-in_hand : goal.put_part-requires-clause-in_hand
-put_part-requires-clause-in_hand g t c = (
-  (g.B.Board.stack c.args.board.now).parts,
-  ap (λ (s : Stack). s.parts) (c.blocked_from-others.ensures.stack ∙ c.take_part-content.ensures.stack),
-)
+put_part-requires-clause-in_hand g t c = taken-last _ _ _ _ c.take_part-content.ensures.stack c.blocked_from-others.ensures.stack
 
 -- What the session knows of itself in the partitions,
 of_caller : (g : given.Over) (t : ℕ) (c : goal.After-put_part g t)

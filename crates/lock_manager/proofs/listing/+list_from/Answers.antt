@@ -1,22 +1,18 @@
-use Rattle.std.proofs.Common.{arith, ◌+◌, ◌∷◌, ◌∙◌, ap, sym}
+use Rattle.std.proofs.Common.{arith, ◌+◌, ◌∷◌, ap, sym}
 use Rattle.lock_table.proofs.PartitionRows.{rows-then, rows-refused}
 use Rattle.shared_rule.proofs.Episodes.{may_keep-since, kept-since}
 use Rattle.lock_manager.specs.Listings.{listing_steps}
-use Rattle.lock_manager.proofs.Lemmas.Listings.Own.{caller-first}
-use Rattle.shared_rule.specs.Boards.{Seated, Stack}
+use Rattle.lock_manager.proofs.Lemmas.Listings.Own.{taken-last, caller-first}
+use Rattle.shared_rule.specs.Boards.{Seated}
 use Rattle.lock_manager.proofs.listing.+list_from.Goals as goal
 use Rattle.lock_manager.proofs.listing.+list_from.Goals.{then-is_ok, else-is_ok}
 
 pub put_part-requires-clause-lawful : goal.put_part-requires-clause-lawful
 put_part-requires-clause-lawful g t c =
-    may_keep-since _ _ (g.B.Board.view c.args.board.now) (g.B.Board.view c.take_part-content.new.self) _ c.args.part (g.T.PartTable.content c.take_part-content.result)
-    (listing_steps (c.args.part + 1) c.list_from-listed.ensures.listed.contents) c.take_part-content.ensures.view c.list_from-listed.ensures.listed.account
+    may_keep-since _ _ _ (g.B.Board.view c.take_part-content.new.self) _ _ _ _ c.take_part-content.ensures.view c.list_from-listed.ensures.listed.account
 
 pub put_part-requires-clause-in_hand : goal.put_part-requires-clause-in_hand
-put_part-requires-clause-in_hand g t c = (
-  (g.B.Board.stack c.args.board.now).parts,
-  ap (λ (s : Stack). s.parts) (c.list_from-listed.ensures.stack ∙ c.take_part-content.ensures.stack),
-)
+put_part-requires-clause-in_hand g t c = taken-last _ _ _ _ c.take_part-content.ensures.stack c.list_from-listed.ensures.stack
 
 pub returns-clause-listed : goal.returns-clause-listed
 returns-clause-listed g t c =
