@@ -133,19 +133,6 @@ fn start<T: PartTable, B: Board<T>, R: Wait>(
     }
 }
 
-/// Asks for `tag` in `mode` with `session`, and waits where something is in the way.
-fn lock<T: PartTable, B: Board<T>, R: Wait>(
-    rt: &R,
-    session: OwnSession<T, B>,
-    tag: Tag,
-    mode: Mode,
-) -> Answered<T, B>
-    ensures seat { KeepsSeat B.seat session result.0 }
-{
-    let (session, answer) = session.lock(rt, tag, mode, Owner::Transaction).into_parts();
-    (session, answer_of(answer))
-}
-
 /// Lists all holds and waits with `session`, and answers how many rows there are.
 fn list<T: PartTable, B: Board<T>, R: Wait>(rt: &R, mut session: OwnSession<T, B>) -> Answered<T, B>
     ensures seat { KeepsSeat B.seat session result.0 }
@@ -172,7 +159,10 @@ pub fn make<T: PartTable, B: Board<T>, R: Wait>(
         Call::Try(tag, mode) => try_lock(rt, session, tag, mode),
         Call::Fast(tag, mode) => try_fast(session, tag, mode),
         Call::Start(tag, mode) => start(rt, session, tag, mode),
-        Call::Lock(tag, mode) => lock(rt, session, tag, mode),
+        Call::Lock(tag, mode) => {
+            let (session, answer) = session.lock(rt, tag, mode, Owner::Transaction).into_parts();
+            (session, answer_of(answer))
+        }
         Call::List => list(rt, session),
     }
 }

@@ -4,7 +4,7 @@ ghost use Rattle.std.specs.Prelude.{◌≡◌};
 ghost use Rattle.lock_manager.specs.Crews.{AreOf, KeepsSeat, SeatsAre};
 
 use crate::allocator::{refuse_all, was_refused};
-use crate::tales::{ANOTHER_TABLE, TABLE, object};
+use crate::tales::{ANOTHER_TABLE, DATABASE, TABLE, object};
 use crate::told::Told;
 use lock_manager::Mode::{AccessExclusive, Exclusive, RowExclusive};
 use lock_manager::{Acquired, Board, Desk, OwnSession, Owner, PartTable, SessionPool};
@@ -13,8 +13,6 @@ use std::sync::Wait;
 
 /// How many connections come and go after the first one.
 pub const LIVES: u32 = 1_000_000;
-
-const DATABASE: u32 = 5;
 
 /// Takes locks with `session`, and leaves them to the end of the session: one by a slot, one on an object, and a strong
 /// mode on a table of the session's own. Answers whether all were granted newly.
@@ -28,31 +26,13 @@ fn take<T: PartTable, B: Board<T>, R: Wait>(rt: &R, session: &mut OwnSession<T, 
     weak == granted && of_object == granted && strong == granted
 }
 
-/// Has a connection come and go at `desk`, with a session of `pool`, and answers whether it got the session and took
-/// its locks.
-fn live_once<T: PartTable, B: Board<T>, D: Desk<OwnSession<T, B>>, R: Wait>(
-    rt: &R,
-    desk: &mut D,
-    pool: &mut SessionPool<T, B>,
-) -> bool
-    requires seats { SeatsAre B.seat D.seat }
-    requires free { AreOf B.seat (D.manager desk.old) pool.old.free }
-    ensures free { AreOf B.seat (D.manager desk.old) pool.new.free }
-    ensures manager { D.manager desk.new ≡ D.manager desk.old }
-{
-    let Ok(mut session) = pool.open(rt, desk, DATABASE) else {
-        return false;
-    };
-    let took = take(rt, &mut session);
-    pool.close(rt, desk, session);
-    took
-}
-
-/// Has as many connections come and go at `desk` as `LIVES` says, one after another, and answers whether each took its locks.
+/// Has `lives` connections come and go at `desk`, one after another, each with a session of `pool`, and answers whether
+/// each got a session and took its locks.
 fn live_often<T: PartTable, B: Board<T>, D: Desk<OwnSession<T, B>>, R: Wait>(
     rt: &R,
     desk: &mut D,
     pool: &mut SessionPool<T, B>,
+    lives: u32,
 ) -> bool
     requires seats { SeatsAre B.seat D.seat }
     requires free { AreOf B.seat (D.manager desk.old) pool.old.free }
@@ -60,8 +40,12 @@ fn live_often<T: PartTable, B: Board<T>, D: Desk<OwnSession<T, B>>, R: Wait>(
     ensures manager { D.manager desk.new ≡ D.manager desk.old }
 {
     let mut all = true;
-    'lives: for _ in 0..LIVES {
-        let took = live_once(rt, desk, pool);
+    'lives: for _ in 0..lives {
+        let Ok(mut session) = pool.open(rt, desk, DATABASE) else {
+            return false;
+        };
+        let took = take(rt, &mut session);
+        pool.close(rt, desk, session);
         all = all && took;
     }
     all
@@ -80,9 +64,9 @@ pub fn tell<T: PartTable, B: Board<T>, D: Desk<OwnSession<T, B>>, R: Wait>(
     let Ok(mut pool) = SessionPool::new(alloc) else {
         return Told::Otherwise;
     };
-    let went = live_once(rt, desk, &mut pool);
+    let went = live_often(rt, desk, &mut pool, 1);
     refuse_all(alloc);
-    let all = live_often(rt, desk, &mut pool);
+    let all = live_often(rt, desk, &mut pool, LIVES);
     let refused = was_refused(alloc);
     pool.end(rt, desk);
     Told::of(refused, false, went && all)

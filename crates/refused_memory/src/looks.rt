@@ -6,20 +6,13 @@ ghost use Rattle.lock_manager.specs.Crews.{KeepsSeat, SeatsAre};
 
 use crate::allocator::{refuse, was_refused};
 use crate::calls::{end_wait, queue};
+use crate::pairs::open_pair;
+use crate::tales::OBJECT;
 use crate::told::Told;
 use lock_manager::Mode::Exclusive;
-use lock_manager::{Board, Desk, OwnSession, Owner, PartTable, Refusal, SessionId, Tag};
+use lock_manager::{Board, Desk, OwnSession, Owner, PartTable, Refusal, SessionId};
 use std::alloc::Global;
 use std::sync::Wait;
-
-const DATABASE: u32 = 5;
-
-const OBJECT: Tag = Tag::Object {
-    database: 5,
-    class: 1_259,
-    object: 16_384,
-    sub_object: 0,
-};
 
 /// A call by which a session looks at waits.
 #[derive(Clone, Copy)]
@@ -112,11 +105,7 @@ pub fn tell<T: PartTable, B: Board<T>, D: Desk<OwnSession<T, B>>, R: Wait>(
     requires seats { SeatsAre B.seat D.seat }
     ensures manager { D.manager desk.new ≡ D.manager desk.old }
 {
-    let Ok(mut first) = desk.open(DATABASE) else {
-        return Told::Otherwise;
-    };
-    let Ok(second) = desk.open(DATABASE) else {
-        desk.close(rt, first);
+    let Some((mut first, second)) = open_pair(rt, desk) else {
         return Told::Otherwise;
     };
     let taken = first.try_lock(rt, OBJECT, Exclusive, Owner::Transaction);

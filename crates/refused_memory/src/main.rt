@@ -11,6 +11,7 @@ mod events;
 mod lives;
 mod looks;
 mod managers;
+mod pairs;
 mod parts;
 mod steady;
 mod stories;

@@ -4,6 +4,7 @@ ghost use Rattle.std.specs.Prelude.{◌≡◌, None, OnErr};
 ghost use Rattle.lock_table.specs.Parts.{IsBlank};
 
 use crate::allocator::{refuse, was_refused};
+use crate::tales::OBJECT;
 use crate::told::Told;
 use local_locks::LocalTable;
 use lock_manager::{Mode, Owner, PartTable, Refusal, SessionId, TableRow, Tag};
@@ -11,13 +12,6 @@ use lock_records::RecordPart;
 use lock_table::PlainPart;
 use std::alloc::Global;
 use wait_queue::{Decision, Kind, decide};
-
-const OBJECT: Tag = Tag::Object {
-    database: 5,
-    class: 1_259,
-    object: 16_384,
-    sub_object: 0,
-};
 
 /// A call of a partition that may take memory.
 #[derive(Clone, Copy)]

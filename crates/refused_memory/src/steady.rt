@@ -4,11 +4,12 @@ ghost use Rattle.std.specs.Prelude.{◌≡◌};
 ghost use Rattle.lock_manager.specs.Crews.{KeepsSeat, SeatsAre};
 
 use crate::allocator::{refuse_all, was_refused};
-use crate::tales::{ANOTHER_TABLE, Hold, TABLE, object};
+use crate::pairs::open_pair;
+use crate::tales::{ANOTHER_TABLE, Hold, OBJECT, TABLE, object};
 use crate::told::Told;
 use lock_manager::Mode::{AccessExclusive, AccessShare, Exclusive, RowExclusive, Share};
 use lock_manager::{
-    Acquired, Board, Desk, OwnSession, OwnWaiting, Owner, PartTable, Polled, Refusal, Started, Tag,
+    Acquired, Board, Desk, OwnSession, OwnWaiting, Owner, PartTable, Polled, Refusal, Started,
     Unlocked,
 };
 use std::alloc::Global;
@@ -16,16 +17,6 @@ use std::sync::Wait;
 
 /// How many rounds two sessions play after the first one.
 pub const ROUNDS: u32 = 100_000;
-
-const DATABASE: u32 = 5;
-
-/// An object that both sessions of a round ask for.
-const OBJECT: Tag = Tag::Object {
-    database: 5,
-    class: 1_259,
-    object: 16_384,
-    sub_object: 0,
-};
 
 /// What a session does in a round.
 #[derive(Clone, Copy)]
@@ -140,23 +131,7 @@ fn hand_over<T: PartTable, B: Board<T>, R: Wait>(
     }
 }
 
-/// Plays a round with `first` and `second`, and answers whether it went as it is to.
-fn go_round<T: PartTable, B: Board<T>, R: Wait>(
-    rt: &R,
-    first: &mut OwnSession<T, B>,
-    second: OwnSession<T, B>,
-) -> (OwnSession<T, B>, bool)
-    ensures first { KeepsSeat B.seat first.old first.new }
-    ensures second { KeepsSeat B.seat second result.0 }
-{
-    let mut second = second;
-    let turned = turns_go(rt, first, &mut second);
-    let (mut second, handed) = hand_over(rt, first, second);
-    second.commit(rt);
-    (second, turned && handed)
-}
-
-/// Plays `rounds` rounds with `first` and `second`.
+/// Plays `rounds` rounds with `first` and `second`, and answers whether they went as they are to.
 fn go_rounds<T: PartTable, B: Board<T>, R: Wait>(
     rt: &R,
     first: &mut OwnSession<T, B>,
@@ -169,9 +144,11 @@ fn go_rounds<T: PartTable, B: Board<T>, R: Wait>(
     let mut second = second;
     let mut all = true;
     'rounds: for _ in 0..rounds {
-        let (back, went) = go_round(rt, first, second);
+        let turned = turns_go(rt, first, &mut second);
+        let (back, handed) = hand_over(rt, first, second);
         second = back;
-        all = all && went;
+        second.commit(rt);
+        all = all && turned && handed;
     }
     (second, all)
 }
@@ -203,11 +180,7 @@ pub fn tell<T: PartTable, B: Board<T>, D: Desk<OwnSession<T, B>>, R: Wait>(
     requires seats { SeatsAre B.seat D.seat }
     ensures manager { D.manager desk.new ≡ D.manager desk.old }
 {
-    let Ok(mut first) = desk.open(DATABASE) else {
-        return Told::Otherwise;
-    };
-    let Ok(second) = desk.open(DATABASE) else {
-        desk.close(rt, first);
+    let Some((mut first, second)) = open_pair(rt, desk) else {
         return Told::Otherwise;
     };
     let (second, told) = go_on(rt, alloc, &mut first, second);

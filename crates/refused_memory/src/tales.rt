@@ -4,6 +4,9 @@ use crate::calls::{Answer, Call};
 use lock_manager::Mode::{AccessExclusive, AccessShare, Exclusive, RowExclusive, Share};
 use lock_manager::{Mode, Tag};
 
+/// The database of all sessions.
+pub const DATABASE: u32 = 5;
+
 /// What a session has: an object and a mode.
 pub type Hold = (Tag, Mode);
 
@@ -38,7 +41,8 @@ pub const ANOTHER_TABLE: Tag = Tag::Relation {
     relation: 16_385,
 };
 
-const OBJECT: Tag = Tag::Object {
+/// An object in a partition that has nothing else.
+pub const OBJECT: Tag = Tag::Object {
     database: 5,
     class: 1_259,
     object: 16_384,

@@ -5,14 +5,11 @@ ghost use Rattle.lock_manager.specs.Crews.{IsOf, KeepsSeat, SeatsAre};
 
 use crate::allocator::{refuse, was_refused};
 use crate::calls::{Answer, end_wait, make, queue};
-use crate::tales::{Hold, TABLE, Tale, object};
+use crate::tales::{DATABASE, Hold, TABLE, Tale, object};
 use crate::told::Told;
 use lock_manager::{Board, Desk, Listing, Mode, OwnSession, Owner, PartTable, SlotRow, TableRow};
 use std::alloc::Global;
 use std::sync::Wait;
-
-/// The database of all sessions.
-const DATABASE: u32 = 5;
 
 /// What is seen before and after a call: the modes that the asking session has the table in, how many rows a listing
 /// has, what the table's strong lock counter shows, and whether the sessions that have the table in the lock table come
@@ -145,27 +142,6 @@ fn with_waiters<T: PartTable, B: Board<T>, D: Desk<OwnSession<T, B>>, R: Wait>(
     }
 }
 
-/// Has the asking session of `tale`, opened at `desk`, take its own objects, and ask with the growth numbered `growth`
-/// refused.
-fn with_asking<T: PartTable, B: Board<T>, D: Desk<OwnSession<T, B>>, R: Wait>(
-    rt: &R,
-    alloc: Global,
-    desk: &mut D,
-    tale: &Tale,
-    growth: u16,
-) -> Told
-    requires seats { SeatsAre B.seat D.seat }
-    ensures manager { D.manager desk.new ≡ D.manager desk.old }
-{
-    let Ok(mut session) = desk.open(DATABASE) else {
-        return Told::Otherwise;
-    };
-    take_own(rt, &mut session, tale.own);
-    let (session, told) = with_waiters(rt, alloc, desk, session, tale, tale.waiters, growth);
-    desk.close(rt, session);
-    told
-}
-
 /// Takes `hold`, if there is one, with `session`, and answers whether the session has it.
 fn take<T: PartTable, B: Board<T>, R: Wait>(
     rt: &R,
@@ -180,8 +156,8 @@ fn take<T: PartTable, B: Board<T>, R: Wait>(
     }
 }
 
-/// Opens at `desk` the other sessions of `tale` from `place` on, which take what they are to have; the asking one
-/// comes after them, with the growth numbered `growth` refused.
+/// Opens at `desk` the other sessions of `tale` from `place` on, which take what they are to have, and after them the
+/// asking one, which takes its own objects and asks with the growth numbered `growth` refused.
 fn with_others<T: PartTable, B: Board<T>, D: Desk<OwnSession<T, B>>, R: Wait>(
     rt: &R,
     alloc: Global,
@@ -194,12 +170,15 @@ fn with_others<T: PartTable, B: Board<T>, D: Desk<OwnSession<T, B>>, R: Wait>(
     requires place { place ≤ 3 }
     ensures manager { D.manager desk.new ≡ D.manager desk.old }
 {
-    if place == 3 {
-        return with_asking(rt, alloc, desk, tale, growth);
-    }
     let Ok(mut session) = desk.open(DATABASE) else {
         return Told::Otherwise;
     };
+    if place == 3 {
+        take_own(rt, &mut session, tale.own);
+        let (session, told) = with_waiters(rt, alloc, desk, session, tale, tale.waiters, growth);
+        desk.close(rt, session);
+        return told;
+    }
     let has = take(rt, &mut session, tale.others[place]);
     let told = with_others(rt, alloc, desk, tale, place + 1, growth);
     desk.close(rt, session);
