@@ -29,42 +29,31 @@ fn place_of(list: &Plain, tag: Tag, mode: Mode) -> Option<usize> {
 
 /// `entry` with one more count of `owner`.
 fn raised(entry: Entry, owner: Owner) -> Entry {
-    let Entry {
-        tag,
-        mode,
-        transaction,
-        session,
-    } = entry;
-    let (transaction, session) = match owner {
-        Owner::Transaction => (transaction.saturating_add(1), session),
-        Owner::Session => (transaction, session.saturating_add(1)),
-    };
-    Entry {
-        tag,
-        mode,
-        transaction,
-        session,
+    match owner {
+        Owner::Transaction => Entry {
+            transaction: entry.transaction.saturating_add(1),
+            ..entry
+        },
+        Owner::Session => Entry {
+            session: entry.session.saturating_add(1),
+            ..entry
+        },
     }
 }
 
 /// `entry` with one count of `owner` less, if it has one.
 fn lowered(entry: Entry, owner: Owner) -> Option<Entry> {
-    let Entry {
-        tag,
-        mode,
-        transaction,
-        session,
-    } = entry;
-    let (transaction, session) = match owner {
-        Owner::Transaction => (transaction.checked_sub(1)?, session),
-        Owner::Session => (transaction, session.checked_sub(1)?),
+    let lowered = match owner {
+        Owner::Transaction => Entry {
+            transaction: entry.transaction.checked_sub(1)?,
+            ..entry
+        },
+        Owner::Session => Entry {
+            session: entry.session.checked_sub(1)?,
+            ..entry
+        },
     };
-    Some(Entry {
-        tag,
-        mode,
-        transaction,
-        session,
-    })
+    Some(lowered)
 }
 
 /// Acquires `tag` in `mode` for `owner` in `list`, and answers what a local table is to answer.
