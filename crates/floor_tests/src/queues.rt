@@ -106,24 +106,8 @@ const A_WAITER_THAT_LEAVES_LETS_OTHERS_GO: [Step; 5] = [
     Step::Leaves(2, true, &[]),
 ];
 
-/// The answer to a request of `session` in `part` for `mode`, of kind `kind`. Where the request may not be made, the
-/// test ends by `rt`.
-fn asked_once<P: PartTable>(
-    rt: &impl Abort,
-    part: &mut P,
-    session: SessionId,
-    mode: Mode,
-    kind: Kind,
-) -> Result<Decision, Refusal>
-    requires { P.begun part.old ≡ None }
-    ensures { P.begun part.new ≡ None }
-{
-    may_ask(rt, part, session, &OBJECT, mode);
-    decide(part, session, &OBJECT, mode, kind)
-}
-
 /// The answer to a request of `session` in `part` for `mode`, of kind `kind`. Where memory is refused, nothing
-/// changes and a second attempt is made.
+/// changes and a second attempt is made. Where the request may not be made, the test ends by `rt`.
 fn asked<P: PartTable>(
     rt: &impl Abort,
     part: &mut P,
@@ -134,8 +118,9 @@ fn asked<P: PartTable>(
     requires { P.begun part.old ≡ None }
     ensures { P.begun part.new ≡ None }
 {
-    match asked_once(rt, part, session, mode, kind) {
-        Err(Refusal::NoMemory) => asked_once(rt, part, session, mode, kind),
+    may_ask(rt, part, session, &OBJECT, mode);
+    match decide(part, session, &OBJECT, mode, kind) {
+        Err(Refusal::NoMemory) => decide(part, session, &OBJECT, mode, kind),
         answer => answer,
     }
 }

@@ -47,27 +47,8 @@ pub enum Told {
     Deadlock(u16),
 }
 
-/// Begins the request of `session` in `part` for `tag` in `mode`. Where the request may not be made, the test ends by
-/// `rt`.
-fn begins_once<P: PartTable>(
-    rt: &impl Abort,
-    part: &mut P,
-    session: SessionId,
-    tag: &Tag,
-    mode: Mode,
-) -> Result<(), NoMemory>
-    requires none_begun { P.begun part.old ≡ None }
-    ensures begun { OnOk result
-        (P.begun part.new ≡ Some (record { session = session; tag = tag.now; mode = mode })) }
-    ensures none_begun { OnErr result (P.begun part.new ≡ None) }
-    ensures no_wait { waits_there ((P.content part.new).waits tag.now) session ≡ false }
-{
-    may_ask(rt, part, session, tag, mode);
-    part.begin(session, tag, mode)
-}
-
 /// Begins the request of `session` in `part` for `tag` in `mode`. Where memory is refused, nothing changes and a
-/// second attempt is made.
+/// second attempt is made. Where the request may not be made, the test ends by `rt`.
 fn begins<P: PartTable>(
     rt: &impl Abort,
     part: &mut P,
@@ -81,26 +62,11 @@ fn begins<P: PartTable>(
     ensures none_begun { OnErr result (P.begun part.new ≡ None) }
     ensures no_wait { waits_there ((P.content part.new).waits tag.now) session ≡ false }
 {
-    match begins_once(rt, part, session, tag, mode) {
+    may_ask(rt, part, session, tag, mode);
+    match part.begin(session, tag, mode) {
         Ok(()) => Ok(()),
-        Err(_) => begins_once(rt, part, session, tag, mode),
+        Err(_) => part.begin(session, tag, mode),
     }
-}
-
-/// Has `session` hold `tag` in `mode` in `part`.
-fn holds<P: PartTable>(
-    rt: &impl Abort,
-    part: &mut P,
-    session: SessionId,
-    tag: &Tag,
-    mode: Mode,
-) -> Result<(), NoMemory>
-    requires none_begun { P.begun part.old ≡ None }
-    ensures none_begun { P.begun part.new ≡ None }
-{
-    begins(rt, part, session, tag, mode)?;
-    part.grant(session, tag, mode);
-    Ok(())
 }
 
 /// Has `session` wait for `tag` in `mode` in `part`, at `place` of its queue.
@@ -171,7 +137,9 @@ fn make<P: PartTable>(rt: &impl Abort, part: &mut P, step: Step) -> Result<bool,
 {
     match step {
         Step::Holds(number, tag, mode) => {
-            holds(rt, part, session(rt, number), &tag, mode)?;
+            let session = session(rt, number);
+            begins(rt, part, session, &tag, mode)?;
+            part.grant(session, &tag, mode);
             Ok(true)
         }
         Step::Waits(number, tag, mode, place) => {
