@@ -1,1 +1,1 @@
-mod Idle
+mod Putting

@@ -4,6 +4,7 @@ ghost use Rattle.std.specs.Prelude.{◌≡◌, ◌<◌, []};
 ghost use Rattle.shared_rule.specs.Boards.{nothing_due};
 ghost use Rattle.shared_rule.specs.History.{blank_account};
 ghost use Rattle.shared_rule.specs.Seats.{MayCloseBy};
+ghost use Rattle.floor_tests.specs.Rests.{Rests, RestsAgain};
 
 use super::latecomers::race;
 use super::{SIZES, empty_shelves, one_thread};
@@ -20,7 +21,7 @@ use std::time::Clock;
 const ROUNDS: u32 = 10_000;
 
 /// Takes partition `part` by `board`, and puts it back as it was.
-pub fn keep_once<T: PartTable, B: Board<T>, R: Wait>(rt: &R, board: &mut B, part: u8)
+fn keep_once<T: PartTable, B: Board<T>, R: Wait>(rt: &R, board: &mut B, part: u8)
     requires exists { part < 16 }
     requires idle { MayCloseBy (B.view board.old) }
     requires none_owed { (B.stack board.old).owed ≡ [] }
@@ -34,11 +35,8 @@ pub fn keep_once<T: PartTable, B: Board<T>, R: Wait>(rt: &R, board: &mut B, part
 
 /// Takes partition 3 by `board` and puts it back as it was, over and over.
 fn keep_often<T: PartTable, B: Board<T>, R: Wait>(rt: &R, board: &mut B)
-    requires idle { MayCloseBy (B.view board.old) }
-    requires stack { B.stack board.old ≡ nothing_due }
-    ensures idle { MayCloseBy (B.view board.new) }
-    ensures stack { B.stack board.new ≡ nothing_due }
-    ensures seat { B.seat board.new ≡ B.seat board.old }
+    requires rests { Rests B.view B.stack board.old }
+    ensures rests { RestsAgain B.view B.stack B.seat board.old board.new }
 {
     'rounds: for _ in 0..ROUNDS {
         keep_once(rt, board, 3);
@@ -51,16 +49,10 @@ fn in_two_threads<B: Board<PlainPart> + Send, R: Threads + Wait + Sync>(
     first: &mut B,
     second: &mut B,
 )
-    requires idle { MayCloseBy (B.view first.old) }
-    requires stack { B.stack first.old ≡ nothing_due }
-    requires its_idle { MayCloseBy (B.view second.old) }
-    requires its_stack { B.stack second.old ≡ nothing_due }
-    ensures idle { MayCloseBy (B.view first.new) }
-    ensures stack { B.stack first.new ≡ nothing_due }
-    ensures seat { B.seat first.new ≡ B.seat first.old }
-    ensures its_idle { MayCloseBy (B.view second.new) }
-    ensures its_stack { B.stack second.new ≡ nothing_due }
-    ensures its_seat { B.seat second.new ≡ B.seat second.old }
+    requires first { Rests B.view B.stack first.old }
+    requires second { Rests B.view B.stack second.old }
+    ensures first { RestsAgain B.view B.stack B.seat first.old first.new }
+    ensures second { RestsAgain B.view B.stack B.seat second.old second.new }
 {
     join_mut(
         rt,
@@ -86,18 +78,11 @@ fn run_both<B: Board<PlainPart> + Send, R: Abort + Clock + Threads + Wait + Sync
     owner: SessionId,
     what: SideBySide,
 )
-    requires exists { owner < (B.seat first.old).limit }
-    requires its_exists { owner < (B.seat second.old).limit }
-    requires idle { MayCloseBy (B.view first.old) }
-    requires stack { B.stack first.old ≡ nothing_due }
-    requires its_idle { MayCloseBy (B.view second.old) }
-    requires its_stack { B.stack second.old ≡ nothing_due }
-    ensures idle { MayCloseBy (B.view first.new) }
-    ensures stack { B.stack first.new ≡ nothing_due }
-    ensures seat { B.seat first.new ≡ B.seat first.old }
-    ensures its_idle { MayCloseBy (B.view second.new) }
-    ensures its_stack { B.stack second.new ≡ nothing_due }
-    ensures its_seat { B.seat second.new ≡ B.seat second.old }
+    requires exists { (owner < (B.seat first.old).limit) × (owner < (B.seat second.old).limit) }
+    requires first { Rests B.view B.stack first.old }
+    requires second { Rests B.view B.stack second.old }
+    ensures first { RestsAgain B.view B.stack B.seat first.old first.new }
+    ensures second { RestsAgain B.view B.stack B.seat second.old second.new }
 {
     match what {
         SideBySide::Together => in_two_threads(rt, first, second),

@@ -103,7 +103,7 @@ impl Rounds {
 
     /// Holds the lock for some looks once the other session comes in `round`, and answers whether that session came
     /// soon.
-    pub fn hold<R: Abort + Clock>(&self, rt: &R, round: u64) -> bool {
+    fn hold<R: Abort + Clock>(&self, rt: &R, round: u64) -> bool {
         self.held.store(round, Ordering::SeqCst);
         let is_soon = comes_soon(&self.came, round);
         assert!(rt;
@@ -121,7 +121,7 @@ impl Rounds {
 
     /// Ends the test unless the lock was put back, and the other session has had it too, in `round`. Where the other
     /// session `came_soon`, how soon it had the lock decides for how long the lock is held in the next round.
-    pub fn expect_over<R: Abort + Clock>(&self, rt: &R, round: u64, came_soon: bool) {
+    fn expect_over<R: Abort + Clock>(&self, rt: &R, round: u64, came_soon: bool) {
         let is_soon = comes_soon(&self.over, round);
         assert!(rt;
             is_soon || comes(rt, &self.over, round),
@@ -137,7 +137,7 @@ impl Rounds {
     }
 
     /// Comes for the lock once it is held in `round`.
-    pub fn come<R: Abort + Clock>(&self, rt: &R, round: u64) {
+    fn come<R: Abort + Clock>(&self, rt: &R, round: u64) {
         assert!(rt;
             comes(rt, &self.held, round),
             "round {round}: nobody holds the lock"
@@ -146,7 +146,50 @@ impl Rounds {
     }
 
     /// Notes that the session that came for the lock has had it in `round`.
-    pub fn end(&self, round: u64) {
+    fn note_over(&self, round: u64) {
         self.over.store(round, Ordering::SeqCst);
+    }
+}
+
+/// What a session does in a race for a lock.
+#[derive(Clone, Copy)]
+pub enum Role {
+    /// It has the lock first, and holds it until the other session comes.
+    Holder,
+    /// It comes for the lock once the other session holds it.
+    Latecomer,
+}
+
+/// A round of a race, as one of its two sessions goes through it.
+#[derive(Clone, Copy)]
+pub struct Round<'a> {
+    pub rounds: &'a Rounds,
+    pub number: u64,
+    pub role: Role,
+}
+
+impl Round<'_> {
+    /// Begins the round, before the session takes the lock.
+    pub fn begin<R: Abort + Clock>(&self, rt: &R) {
+        if let Role::Latecomer = self.role {
+            self.rounds.come(rt, self.number);
+        }
+    }
+
+    /// Stays for as long as the session is to have the lock, which it has. Answers whether it is the holder and the
+    /// other session came soon.
+    pub fn stay<R: Abort + Clock>(&self, rt: &R) -> bool {
+        match self.role {
+            Role::Holder => self.rounds.hold(rt, self.number),
+            Role::Latecomer => false,
+        }
+    }
+
+    /// Ends the round, once the session has put the lock back; `came_soon` is what `stay` answered.
+    pub fn end<R: Abort + Clock>(&self, rt: &R, came_soon: bool) {
+        match self.role {
+            Role::Holder => self.rounds.expect_over(rt, self.number, came_soon),
+            Role::Latecomer => self.rounds.note_over(self.number),
+        }
     }
 }

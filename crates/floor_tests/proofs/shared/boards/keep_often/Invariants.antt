@@ -1,11 +1,5 @@
-use Rattle.std.proofs.Common.{◌≡◌}
-use Rattle.shared_rule.specs.Boards.{nothing_due}
-use Rattle.shared_rule.specs.Seats.{MayCloseBy}
+use Rattle.floor_tests.specs.Rests.{RestsAgain}
 use Rattle.floor_tests.proofs.shared.boards.keep_often.Given as goal
 
 abbrev pub invariant-rounds : goal.invariant-rounds
-invariant-rounds g l = record {
-  idle : MayCloseBy (g.B.Board.view l.board);
-  stack : g.B.Board.stack l.board ≡ nothing_due;
-  seat : g.B.Board.seat l.board ≡ g.B.Board.seat l.fn.board;
-}
+invariant-rounds g l = RestsAgain g.B.Board.view g.B.Board.stack g.B.Board.seat l.fn.board l.board

@@ -1,5 +1,5 @@
 use Rattle.shared_rule.proofs.Stacks.{taken-last}
-use Rattle.floor_tests.proofs.Idle.{may_put, part-put}
+use Rattle.floor_tests.proofs.Putting.{may_put}
 use Rattle.floor_tests.proofs.shared.boards.keep_once.Goals as goal
 
 pub put_part-requires-clause-in_hand : goal.put_part-requires-clause-in_hand
@@ -12,9 +12,3 @@ put_part-requires-clause-lawful g c =
     let seat = g.B.Board.seat c.take_part-content.new.self in
     may_put seat.limit seat.number (g.B.Board.view c.args.board.now) (g.B.Board.view c.take_part-content.new.self) c.args.part
     (g.T.PartTable.content c.take_part-content.result) c.take_part-content.ensures.view
-
-pub returns-clause-idle : goal.returns-clause-idle
-returns-clause-idle g c =
-    part-put (g.B.Board.view c.args.board.now) (g.B.Board.view c.take_part-content.new.self) (g.B.Board.view c.put_part.new.self)
-    c.args.part (g.T.PartTable.content c.take_part-content.result) c.requires.idle c.take_part-content.ensures.view
-    c.put_part.ensures.view

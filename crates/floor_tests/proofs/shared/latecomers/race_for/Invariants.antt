@@ -1,14 +1,8 @@
-use Rattle.std.proofs.Common.{◌≡◌}
-use Rattle.shared_rule.specs.Boards.{nothing_due}
-use Rattle.shared_rule.specs.Seats.{MayCloseBy}
+use Rattle.floor_tests.specs.Rests.{RestsAgain}
 use Rattle.floor_tests.proofs.shared.latecomers.race_for.Given as goal
 
 abbrev pub invariant-beginnings : goal.invariant-beginnings
 invariant-beginnings g l = record {
-  idle : MayCloseBy (g.B.Board.view l.first);
-  stack : g.B.Board.stack l.first ≡ nothing_due;
-  seat : g.B.Board.seat l.first ≡ g.B.Board.seat l.fn.first;
-  its_idle : MayCloseBy (g.B.Board.view l.second);
-  its_stack : g.B.Board.stack l.second ≡ nothing_due;
-  its_seat : g.B.Board.seat l.second ≡ g.B.Board.seat l.fn.second;
+  first : RestsAgain g.B.Board.view g.B.Board.stack g.B.Board.seat l.fn.first l.first;
+  second : RestsAgain g.B.Board.view g.B.Board.stack g.B.Board.seat l.fn.second l.second;
 }

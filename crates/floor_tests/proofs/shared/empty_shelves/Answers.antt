@@ -1,4 +1,0 @@
-use Rattle.floor_tests.proofs.shared.empty_shelves.Goals as goal
-
-pub in_shelves-requires-clause-new : goal.in_shelves-requires-clause-new
-in_shelves-requires-clause-new c = c.in_ok-empty_parts.ensures.empty
