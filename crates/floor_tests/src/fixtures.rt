@@ -1,7 +1,8 @@
-//! What tests of partitions share: objects, sessions, a part to begin with, and what has to be so before a call.
+//! What tests share: objects and sessions, and of partitions a part to begin with, and what has to be so before a call.
 
 ghost use Rattle.std.specs.Prelude.{◌≡◌, true, false, None, IfOk};
-ghost use Rattle.lock_table.specs.Queue.{awaits_mode, waits_there};
+ghost use Rattle.modes_core.specs.declared.modes.Mode.{Mode};
+ghost use Rattle.lock_table.specs.Queue.{awaits_mode, remove_wait, waits_there};
 
 use lock_table::{NoMemory, PartTable, PlainPart};
 use modes_core::{Mode, SessionId, Tag};
@@ -35,6 +36,16 @@ pub fn new_part(alloc: Global) -> Result<PlainPart, NoMemory>
     }
 }
 
+/// Ends the wait of `session` for `tag` in `part`, if any, and answers whether there was one.
+pub fn end_wait<P: PartTable>(part: &mut P, session: SessionId, tag: &Tag) -> bool
+    ensures content { P.content part.new ≡ remove_wait (P.content part.old) session tag.now }
+    ensures no_wait { waits_there ((P.content part.new).waits tag.now) session ≡ false }
+    ensures not_awaited { (mode : Mode) → awaits_mode ((P.content part.new).waits tag.now) session mode ≡ false }
+    ensures begun { P.begun part.new ≡ P.begun part.old }
+{
+    part.leave(session, tag).is_some()
+}
+
 /// Ends the test where `session` holds `tag` in `mode` in `part` already, or waits for it.
 pub fn may_ask<P: PartTable>(
     rt: &impl Abort,
@@ -51,7 +62,7 @@ pub fn may_ask<P: PartTable>(
     if part.held(session, tag).has(mode) {
         panic!(rt; "session {session} holds it already");
     }
-    if part.leave(session, tag).is_some() {
+    if end_wait(part, session, tag) {
         panic!(rt; "session {session} waits already");
     }
 }

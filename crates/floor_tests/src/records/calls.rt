@@ -3,20 +3,10 @@
 ghost use Rattle.std.specs.Prelude.{◌≡◌, ◌≤◌, false, true, None, length};
 ghost use Rattle.lock_table.specs.Queue.{awaits_mode, waits_there};
 
+use crate::fixtures::end_wait;
 use lock_table::{NoMemory, PartTable};
 use modes_core::{Mode, SessionId, Tag};
 use std::process::Abort;
-
-/// The tag of the object in most tests of lock records.
-pub const OBJECT: Tag = Tag::Relation {
-    database: 5,
-    relation: 16384,
-};
-
-/// The session with the number `number`.
-pub fn session(rt: &impl Abort, number: u16) -> SessionId {
-    SessionId::new(number).expect(rt, "a session number")
-}
 
 /// Ends the wait of `session` for `tag` in `part`, if any, and answers whether the session may ask for `tag` in
 /// `mode`: whether it doesn't hold that.
@@ -26,36 +16,29 @@ fn may_ask<P: PartTable>(part: &mut P, session: SessionId, tag: &Tag, mode: Mode
     ensures not_awaited { awaits_mode ((P.content part.new).waits tag.now) session mode ≡ false }
     ensures begun { P.begun part.new ≡ P.begun part.old }
 {
-    part.leave(session, tag);
+    end_wait(part, session, tag);
     !part.held(session, tag).has(mode)
 }
 
-/// Has `session` hold `tag` in `mode` in `part` without a look for conflicts, and answers whether the session didn't
-/// hold that before.
-pub fn hold<P: PartTable>(
-    part: &mut P,
-    session: SessionId,
-    tag: &Tag,
-    mode: Mode,
-) -> Result<bool, NoMemory>
-    requires none_begun { P.begun part.old ≡ None }
-    ensures none_begun { P.begun part.new ≡ None }
-{
-    if !may_ask(part, session, tag, mode) {
-        return Ok(false);
-    }
-    part.begin(session, tag, mode)?;
-    part.grant(session, tag, mode);
-    Ok(true)
+/// What a request comes to.
+#[derive(Clone, Copy)]
+pub enum Outcome {
+    /// A hold, without a look for conflicts.
+    Holds,
+    /// A hold where no other session is in the way. Otherwise the request is given up.
+    HoldsBeside,
+    /// A wait at this place of the queue, or first where there is no wait before that place.
+    Waits(usize),
 }
 
-/// Has `session` hold `tag` in `mode` in `part` where it doesn't yet and no other session is in the way, and answers
-/// whether that was so. Otherwise the request is given up.
-pub fn hold_beside<P: PartTable>(
+/// Has `session` ask for `tag` in `mode` in `part`, which comes to `outcome`, where it doesn't hold that yet. Answers
+/// whether it has got there: whether it didn't hold that before, and the request wasn't given up.
+pub fn ask<P: PartTable>(
     part: &mut P,
     session: SessionId,
     tag: &Tag,
     mode: Mode,
+    outcome: Outcome,
 ) -> Result<bool, NoMemory>
     requires none_begun { P.begun part.old ≡ None }
     ensures none_begun { P.begun part.new ≡ None }
@@ -64,34 +47,22 @@ pub fn hold_beside<P: PartTable>(
         return Ok(false);
     }
     part.begin(session, tag, mode)?;
-    if part.conflict_of(session, tag, mode).is_some() {
-        part.withdraw(session, tag, mode);
-        return Ok(false);
-    }
-    part.grant(session, tag, mode);
-    Ok(true)
-}
-
-/// Has `session` wait for `tag` in `mode` in `part`, at `place` of its queue, or first where there is no wait before
-/// that place.
-pub fn wait<P: PartTable>(
-    part: &mut P,
-    session: SessionId,
-    tag: &Tag,
-    mode: Mode,
-    place: usize,
-) -> Result<bool, NoMemory>
-    requires none_begun { P.begun part.old ≡ None }
-    ensures none_begun { P.begun part.new ≡ None }
-{
-    if !may_ask(part, session, tag, mode) {
-        return Ok(false);
-    }
-    part.begin(session, tag, mode)?;
-    if place > 0 && part.waiter(tag, place - 1).is_some() {
-        part.join(session, tag, mode, place);
-    } else {
-        part.join(session, tag, mode, 0);
+    match outcome {
+        Outcome::Holds => part.grant(session, tag, mode),
+        Outcome::HoldsBeside => {
+            if part.conflict_of(session, tag, mode).is_some() {
+                part.withdraw(session, tag, mode);
+                return Ok(false);
+            }
+            part.grant(session, tag, mode);
+        }
+        Outcome::Waits(place) => {
+            if place > 0 && part.waiter(tag, place - 1).is_some() {
+                part.join(session, tag, mode, place);
+            } else {
+                part.join(session, tag, mode, 0);
+            }
+        }
     }
     Ok(true)
 }

@@ -2,7 +2,7 @@
 
 ghost use Rattle.std.specs.Prelude.{◌≡◌, None};
 
-use super::calls::{are_same, hold, hold_beside, release, wait};
+use super::calls::{Outcome, are_same, ask, release};
 use lock_records::RecordPart;
 use lock_table::{NoMemory, PartTable, PlainPart, TableRow};
 use modes_core::{Mode, SessionId, Tag};
@@ -60,13 +60,13 @@ fn call_both(
     let place = (seed % 5) as usize;
     match seed % 16 {
         0..=4 => {
-            let one = hold_beside(plain, session, &tag, mode)?;
-            let other = hold_beside(records, session, &tag, mode)?;
+            let one = ask(plain, session, &tag, mode, Outcome::HoldsBeside)?;
+            let other = ask(records, session, &tag, mode, Outcome::HoldsBeside)?;
             assert!(rt; one == other, "a request");
         }
         5 => {
-            let one = hold(plain, session, &tag, mode)?;
-            let other = hold(records, session, &tag, mode)?;
+            let one = ask(plain, session, &tag, mode, Outcome::Holds)?;
+            let other = ask(records, session, &tag, mode, Outcome::Holds)?;
             assert!(rt; one == other, "a hold");
         }
         6..=8 => {
@@ -75,8 +75,8 @@ fn call_both(
             assert!(rt; one == other, "a release");
         }
         9..=11 => {
-            let one = wait(plain, session, &tag, mode, place)?;
-            let other = wait(records, session, &tag, mode, place)?;
+            let one = ask(plain, session, &tag, mode, Outcome::Waits(place))?;
+            let other = ask(records, session, &tag, mode, Outcome::Waits(place))?;
             assert!(rt; one == other, "a wait");
         }
         12 => {

@@ -2,7 +2,8 @@
 
 ghost use Rattle.std.specs.Prelude.{◌≡◌, None};
 
-use super::calls::{hold, release, session};
+use super::calls::{Outcome, ask, release};
+use crate::fixtures::session;
 use lock_records::RecordPart;
 use lock_table::{NoMemory, PartTable};
 use modes_core::Mode::{AccessShare, Exclusive};
@@ -23,8 +24,9 @@ fn hold_all(rt: &impl Abort, part: &mut RecordPart) -> Result<(), NoMemory>
     requires none_begun { part.old.begun ≡ None }
     ensures none_begun { part.new.begun ≡ None }
 {
+    let holder = session(rt, 0);
     'objects: for number in 0..OBJECTS {
-        let held = hold(part, session(rt, 0), &object(number), Exclusive)?;
+        let held = ask(part, holder, &object(number), Exclusive, Outcome::Holds)?;
         assert!(rt; held, "a new hold");
     }
     Ok(())

@@ -2,7 +2,9 @@
 
 ghost use Rattle.std.specs.Prelude.{◌≡◌, None, IfOk};
 
-use super::calls::{OBJECT, hold, release, session, wait};
+use super::calls::Outcome::{Holds, Waits};
+use super::calls::{ask, release};
+use crate::fixtures::{OBJECT, session};
 use lock_records::{Counts, RecordPart};
 use lock_table::{NoMemory, PartTable};
 use modes_core::Mode;
@@ -23,9 +25,10 @@ fn at(numbers: [u16; 9], mode: Mode) -> u16 {
 #[test]
 fn two_hold_and_one_waits(rt: HostRuntime) -> Result<(), Fail> {
     let mut part = RecordPart::new(rt.alloc())?;
-    hold(&mut part, session(&rt, 0), &OBJECT, AccessShare)?;
-    hold(&mut part, session(&rt, 1), &OBJECT, AccessShare)?;
-    wait(&mut part, session(&rt, 2), &OBJECT, AccessExclusive, 0)?;
+    let (first, second, third) = (session(&rt, 0), session(&rt, 1), session(&rt, 2));
+    ask(&mut part, first, &OBJECT, AccessShare, Holds)?;
+    ask(&mut part, second, &OBJECT, AccessShare, Holds)?;
+    ask(&mut part, third, &OBJECT, AccessExclusive, Waits(0))?;
     let counts = counted(&rt, &part);
     assert_eq!(&rt; at(counts.granted, AccessShare), 2);
     assert_eq!(&rt; at(counts.requested, AccessShare), 2);
@@ -34,8 +37,8 @@ fn two_hold_and_one_waits(rt: HostRuntime) -> Result<(), Fail> {
     assert_eq!(&rt; counts.requested_total, 3);
     assert_eq!(&rt; counts.grant_mask.mask(), 0x2);
     assert_eq!(&rt; counts.wait_mask.mask(), 0x100);
-    release(&mut part, session(&rt, 0), &OBJECT, AccessShare);
-    release(&mut part, session(&rt, 1), &OBJECT, AccessShare);
+    release(&mut part, first, &OBJECT, AccessShare);
+    release(&mut part, second, &OBJECT, AccessShare);
     part.wake(&OBJECT);
     let counts = counted(&rt, &part);
     assert_eq!(&rt; at(counts.granted, AccessExclusive), 1);
@@ -43,7 +46,7 @@ fn two_hold_and_one_waits(rt: HostRuntime) -> Result<(), Fail> {
     assert_eq!(&rt; at(counts.granted, AccessShare), 0);
     assert_eq!(&rt; counts.grant_mask.mask(), 0x100);
     assert_eq!(&rt; counts.wait_mask.mask(), 0);
-    release(&mut part, session(&rt, 2), &OBJECT, AccessExclusive);
+    release(&mut part, third, &OBJECT, AccessExclusive);
     assert!(&rt; part.counts(&OBJECT).is_none());
     Ok(())
 }
@@ -55,9 +58,10 @@ fn crowd(rt: &impl Abort, part: &mut RecordPart) -> Result<(), NoMemory>
 {
     'sessions: for number in 0..64u16 {
         let its = session(rt, number);
-        hold(part, its, &OBJECT, AccessShare)?;
+        ask(part, its, &OBJECT, AccessShare, Holds)?;
         if number > 0 {
-            wait(part, its, &OBJECT, AccessExclusive, usize::from(number) - 1)?;
+            let place = usize::from(number) - 1;
+            ask(part, its, &OBJECT, AccessExclusive, Waits(place))?;
         }
     }
     Ok(())
