@@ -21,6 +21,14 @@ pub const ANOTHER_OBJECT: Tag = Tag::Object {
     sub_object: 0,
 };
 
+/// The tag of what an application locks by a key of 64 bits.
+pub const ADVISORY: Tag = Tag::Advisory {
+    database: 5,
+    key1: 0,
+    key2: 42,
+    sub: 1,
+};
+
 /// The session with the number `number`.
 pub fn session(rt: &impl Abort, number: u16) -> SessionId {
     SessionId::new(number).expect(rt, "a session number")

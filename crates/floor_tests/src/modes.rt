@@ -1,6 +1,6 @@
 //! Modes, tags, session numbers and refusals: their numbers and texts, and what goes by the fast path.
 
-use crate::fixtures::{ANOTHER_OBJECT, OBJECT};
+use crate::fixtures::{ADVISORY, ANOTHER_OBJECT, OBJECT};
 use modes_core::{
     How, LockMethod, Mode, ModeSet, Refusal, SessionId, Tag, conflicts, is_eligible, is_strong,
 };
@@ -109,14 +109,6 @@ const TAGS: [(Tag, u32, u8, u16, &str); 6] = [
     (ANOTHER_OBJECT, 1793954687, 15, 895, "5/1259/16384/0"),
     (ADVISORY, 144398250, 10, 938, "adv/5/0/42/1"),
 ];
-
-/// The tag of what an application locks by a key of 64 bits.
-const ADVISORY: Tag = Tag::Advisory {
-    database: 5,
-    key1: 0,
-    key2: 42,
-    sub: 1,
-};
 
 /// The tag of a shared relation, which belongs to no one database.
 const SHARED_RELATION: Tag = Tag::Relation {

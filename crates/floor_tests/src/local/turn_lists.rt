@@ -3,241 +3,119 @@
 ghost use Rattle.std.specs.Prelude.{◌≤◌};
 
 use super::acquires::new_table;
-use super::turns::{Answer, Call, Turn, play};
+use super::turns::Answer::{
+    AlreadyHeld, Can, Ends, Granted, IsOver, NotHeld, Number, Refused, Released, StillHeld, Unknown,
+};
+use super::turns::Call::{
+    Acquire, AddAtOnce, AddHeld, CanAdd, Count, DropAtOnce, Entries, Next, Total,
+};
+use super::turns::{Call, Turn, play};
+use crate::fixtures::{ADVISORY, ANOTHER_OBJECT, OBJECT};
 use local_locks::End;
 use modes_core::Mode::{AccessShare, Exclusive, RowExclusive, RowShare, Share};
 use modes_core::Owner::{Session, Transaction};
+use modes_core::Refusal::{CountFull, LocalFull};
 use modes_core::{Refusal, Tag};
 use std::alloc::Global;
 use std::process::Abort;
 
-const FIRST: Tag = Tag::Relation {
-    database: 5,
-    relation: 16384,
-};
-
-const SECOND: Tag = Tag::Relation {
+/// The relation numbered one above `OBJECT`.
+const NEXT_OBJECT: Tag = Tag::Relation {
     database: 5,
     relation: 16385,
 };
 
-const OBJECT: Tag = Tag::Object {
-    database: 5,
-    class: 1259,
-    object: 16384,
-    sub_object: 0,
-};
-
-const ADVISORY: Tag = Tag::Advisory {
-    database: 5,
-    key1: 0,
-    key2: 42,
-    sub: 1,
-};
-
 const ABORT_KEEPS_THE_SESSIONS_ADVISORY_LOCKS: [Turn; 13] = [
-    (
-        1,
-        Call::Acquire(ADVISORY, Exclusive, Session),
-        Answer::Granted,
-    ),
-    (
-        1,
-        Call::Acquire(FIRST, AccessShare, Session),
-        Answer::Granted,
-    ),
-    (
-        1,
-        Call::Acquire(ADVISORY, Exclusive, Transaction),
-        Answer::AlreadyHeld,
-    ),
-    (
-        1,
-        Call::Acquire(ADVISORY, Share, Transaction),
-        Answer::Granted,
-    ),
-    (1, Call::Next(End::Abort), Answer::Ends(FIRST, AccessShare)),
-    (1, Call::Next(End::Abort), Answer::Ends(ADVISORY, Share)),
-    (1, Call::Next(End::Abort), Answer::IsOver),
-    (1, Call::Entries, Answer::Number(1)),
-    (
-        1,
-        Call::Count(ADVISORY, Exclusive, Transaction),
-        Answer::Number(0),
-    ),
-    (
-        1,
-        Call::Count(ADVISORY, Exclusive, Session),
-        Answer::Number(1),
-    ),
-    (1, Call::Next(End::Commit), Answer::IsOver),
-    (1, Call::Next(End::Close), Answer::Ends(ADVISORY, Exclusive)),
-    (1, Call::Next(End::Close), Answer::IsOver),
+    (1, Acquire(ADVISORY, Exclusive, Session), Granted),
+    (1, Acquire(OBJECT, AccessShare, Session), Granted),
+    (1, Acquire(ADVISORY, Exclusive, Transaction), AlreadyHeld),
+    (1, Acquire(ADVISORY, Share, Transaction), Granted),
+    (1, Next(End::Abort), Ends(OBJECT, AccessShare)),
+    (1, Next(End::Abort), Ends(ADVISORY, Share)),
+    (1, Next(End::Abort), IsOver),
+    (1, Entries, Number(1)),
+    (1, Count(ADVISORY, Exclusive, Transaction), Number(0)),
+    (1, Count(ADVISORY, Exclusive, Session), Number(1)),
+    (1, Next(End::Commit), IsOver),
+    (1, Next(End::Close), Ends(ADVISORY, Exclusive)),
+    (1, Next(End::Close), IsOver),
 ];
 
 const COMMIT_KEEPS_WHAT_THE_SESSION_OWNS: [Turn; 13] = [
-    (
-        1,
-        Call::Acquire(FIRST, AccessShare, Transaction),
-        Answer::Granted,
-    ),
-    (
-        1,
-        Call::Acquire(SECOND, RowExclusive, Transaction),
-        Answer::Granted,
-    ),
-    (
-        1,
-        Call::Acquire(SECOND, RowExclusive, Session),
-        Answer::AlreadyHeld,
-    ),
-    (
-        1,
-        Call::Acquire(FIRST, RowShare, Transaction),
-        Answer::Granted,
-    ),
-    (1, Call::Next(End::Commit), Answer::Ends(FIRST, AccessShare)),
-    (1, Call::Next(End::Commit), Answer::Ends(FIRST, RowShare)),
-    (1, Call::Next(End::Commit), Answer::IsOver),
-    (1, Call::Entries, Answer::Number(1)),
-    (
-        1,
-        Call::Count(SECOND, RowExclusive, Transaction),
-        Answer::Number(0),
-    ),
-    (
-        1,
-        Call::Count(SECOND, RowExclusive, Session),
-        Answer::Number(1),
-    ),
-    (
-        1,
-        Call::Next(End::Abort),
-        Answer::Ends(SECOND, RowExclusive),
-    ),
-    (1, Call::Next(End::Abort), Answer::IsOver),
-    (1, Call::Next(End::Close), Answer::IsOver),
+    (1, Acquire(OBJECT, AccessShare, Transaction), Granted),
+    (1, Acquire(NEXT_OBJECT, RowExclusive, Transaction), Granted),
+    (1, Acquire(NEXT_OBJECT, RowExclusive, Session), AlreadyHeld),
+    (1, Acquire(OBJECT, RowShare, Transaction), Granted),
+    (1, Next(End::Commit), Ends(OBJECT, AccessShare)),
+    (1, Next(End::Commit), Ends(OBJECT, RowShare)),
+    (1, Next(End::Commit), IsOver),
+    (1, Entries, Number(1)),
+    (1, Count(NEXT_OBJECT, RowExclusive, Transaction), Number(0)),
+    (1, Count(NEXT_OBJECT, RowExclusive, Session), Number(1)),
+    (1, Next(End::Abort), Ends(NEXT_OBJECT, RowExclusive)),
+    (1, Next(End::Abort), IsOver),
+    (1, Next(End::Close), IsOver),
 ];
 
 const ONE_LOOK_SHOWS_WHAT_A_RELATION_IS_HELD_IN: [Turn; 14] = [
-    (1, Call::CanAdd, Answer::Can(true)),
-    (
-        1,
-        Call::AddAtOnce(FIRST, AccessShare, Transaction),
-        Answer::NotHeld,
-    ),
-    (
-        1,
-        Call::Acquire(FIRST, AccessShare, Transaction),
-        Answer::Granted,
-    ),
-    (
-        1,
-        Call::AddAtOnce(FIRST, AccessShare, Transaction),
-        Answer::AlreadyHeld,
-    ),
-    (
-        1,
-        Call::AddAtOnce(FIRST, AccessShare, Session),
-        Answer::Unknown,
-    ),
-    (
-        1,
-        Call::AddHeld(FIRST, AccessShare, Session),
-        Answer::AlreadyHeld,
-    ),
-    (1, Call::Total(FIRST, AccessShare), Answer::Number(3)),
-    (
-        1,
-        Call::DropAtOnce(FIRST, AccessShare, Transaction),
-        Answer::StillHeld,
-    ),
+    (1, CanAdd, Can(true)),
+    (1, AddAtOnce(OBJECT, AccessShare, Transaction), NotHeld),
+    (1, Acquire(OBJECT, AccessShare, Transaction), Granted),
+    (1, AddAtOnce(OBJECT, AccessShare, Transaction), AlreadyHeld),
+    (1, AddAtOnce(OBJECT, AccessShare, Session), Unknown),
+    (1, AddHeld(OBJECT, AccessShare, Session), AlreadyHeld),
+    (1, Total(OBJECT, AccessShare), Number(3)),
+    (1, DropAtOnce(OBJECT, AccessShare, Transaction), StillHeld),
     // Both owners have it once now.
-    (
-        1,
-        Call::DropAtOnce(FIRST, AccessShare, Transaction),
-        Answer::Unknown,
-    ),
-    (
-        1,
-        Call::Drop(FIRST, AccessShare, Session),
-        Answer::StillHeld,
-    ),
-    (
-        1,
-        Call::DropAtOnce(FIRST, AccessShare, Session),
-        Answer::Unknown,
-    ),
-    (
-        1,
-        Call::DropAtOnce(FIRST, AccessShare, Transaction),
-        Answer::Released,
-    ),
-    (
-        1,
-        Call::DropAtOnce(FIRST, AccessShare, Transaction),
-        Answer::Unknown,
-    ),
-    (1, Call::Entries, Answer::Number(0)),
+    (1, DropAtOnce(OBJECT, AccessShare, Transaction), Unknown),
+    (1, Call::Drop(OBJECT, AccessShare, Session), StillHeld),
+    (1, DropAtOnce(OBJECT, AccessShare, Session), Unknown),
+    (1, DropAtOnce(OBJECT, AccessShare, Transaction), Released),
+    (1, DropAtOnce(OBJECT, AccessShare, Transaction), Unknown),
+    (1, Entries, Number(0)),
 ];
 
 /// Turns that reach both limits: an owner counts to 65,535, and the table of these turns has two entries at most.
 const THE_LIMITS_ARE_KEPT: [Turn; 15] = [
-    (
-        1,
-        Call::Acquire(OBJECT, Share, Transaction),
-        Answer::Granted,
-    ),
+    (1, Acquire(ANOTHER_OBJECT, Share, Transaction), Granted),
     (
         65_534,
-        Call::Acquire(OBJECT, Share, Transaction),
-        Answer::AlreadyHeld,
+        Acquire(ANOTHER_OBJECT, Share, Transaction),
+        AlreadyHeld,
     ),
     (
         1,
-        Call::Acquire(OBJECT, Share, Transaction),
-        Answer::Refused(Refusal::CountFull),
+        Acquire(ANOTHER_OBJECT, Share, Transaction),
+        Refused(CountFull),
     ),
     (
         1,
-        Call::AddHeld(OBJECT, Share, Transaction),
-        Answer::Refused(Refusal::CountFull),
+        AddHeld(ANOTHER_OBJECT, Share, Transaction),
+        Refused(CountFull),
+    ),
+    (1, AddHeld(ANOTHER_OBJECT, Share, Session), AlreadyHeld),
+    (1, Total(ANOTHER_OBJECT, Share), Number(65_536)),
+    (1, Acquire(ANOTHER_OBJECT, Exclusive, Session), Granted),
+    (1, CanAdd, Can(false)),
+    (
+        1,
+        Acquire(ANOTHER_OBJECT, AccessShare, Session),
+        Refused(LocalFull),
     ),
     (
         1,
-        Call::AddHeld(OBJECT, Share, Session),
-        Answer::AlreadyHeld,
-    ),
-    (1, Call::Total(OBJECT, Share), Answer::Number(65_536)),
-    (
-        1,
-        Call::Acquire(OBJECT, Exclusive, Session),
-        Answer::Granted,
-    ),
-    (1, Call::CanAdd, Answer::Can(false)),
-    (
-        1,
-        Call::Acquire(OBJECT, AccessShare, Session),
-        Answer::Refused(Refusal::LocalFull),
+        Call::Drop(ANOTHER_OBJECT, AccessShare, Session),
+        Refused(Refusal::NotHeld),
     ),
     (
         1,
-        Call::Drop(OBJECT, AccessShare, Session),
-        Answer::Refused(Refusal::NotHeld),
+        Call::Drop(ANOTHER_OBJECT, Exclusive, Transaction),
+        Refused(Refusal::NotHeld),
     ),
-    (
-        1,
-        Call::Drop(OBJECT, Exclusive, Transaction),
-        Answer::Refused(Refusal::NotHeld),
-    ),
-    (1, Call::Drop(OBJECT, Share, Session), Answer::StillHeld),
-    (1, Call::Drop(OBJECT, Exclusive, Session), Answer::Released),
-    (1, Call::CanAdd, Answer::Can(true)),
-    (
-        1,
-        Call::Acquire(OBJECT, AccessShare, Session),
-        Answer::Granted,
-    ),
+    (1, Call::Drop(ANOTHER_OBJECT, Share, Session), StillHeld),
+    (1, Call::Drop(ANOTHER_OBJECT, Exclusive, Session), Released),
+    (1, CanAdd, Can(true)),
+    (1, Acquire(ANOTHER_OBJECT, AccessShare, Session), Granted),
 ];
 
 /// Ends the test unless a new table of `max_local` entries answers the calls of `turns` as these say.
