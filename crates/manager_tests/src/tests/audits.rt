@@ -4,9 +4,8 @@
 ghost use Rattle.std.specs.Prelude.{◌≡◌, ◌+◌, ◌-◌, ◌<◌, length};
 ghost use Rattle.lock_manager.specs.Crews.{AreOf, SeatsAre};
 
-use super::answers::expect_granted;
 use super::desk::{append, open};
-use super::memory::is_out_of_memory;
+use super::memory::{list_at_last, take_at_last};
 use lock_manager::Mode::{
     AccessExclusive, AccessShare, RowExclusive, RowShare, Share, ShareRowExclusive,
     ShareUpdateExclusive,
@@ -66,23 +65,6 @@ const COMMITTED: Numbers = (3, 3, 2);
 
 pub const NOTHING: Numbers = (0, 0, 0);
 
-/// Takes `tag` in `mode` for `owner` with `session`, at the second attempt where there was no memory.
-fn take<T: PartTable, B: Board<T>, R: Abort + Wait>(
-    rt: &R,
-    session: &mut OwnSession<T, B>,
-    tag: Tag,
-    mode: Mode,
-    owner: Owner,
-)
-    ensures seat { B.seat session.new.board ≡ B.seat session.old.board }
-{
-    let mut answer = session.try_lock(rt, tag, mode, owner);
-    if is_out_of_memory(&answer) {
-        answer = session.try_lock(rt, tag, mode, owner);
-    }
-    expect_granted(rt, answer, tag, mode);
-}
-
 /// Takes with `session` all that is for the session at `place`.
 fn take_each<T: PartTable, B: Board<T>, R: Abort + Wait>(
     rt: &R,
@@ -94,7 +76,7 @@ fn take_each<T: PartTable, B: Board<T>, R: Abort + Wait>(
     'takes: for at in 0..11 {
         let (whose, number, mode, owner) = TAKES[at];
         if whose == place {
-            take(rt, session, tag(number), mode, owner);
+            take_at_last(rt, session, tag(number), mode, owner);
         }
     }
 }
@@ -260,19 +242,6 @@ fn sum_counters<T: PartTable, B: Board<T>>(session: &mut OwnSession<T, B>) -> u6
         sum = sum.saturating_add(session.strong_count(index));
     }
     sum
-}
-
-/// A listing by `session`, at the second attempt where there was no memory.
-fn list_at_last<T: PartTable, B: Board<T>, R: Abort + Wait>(
-    rt: &R,
-    session: &mut OwnSession<T, B>,
-) -> Listing
-    ensures seat { B.seat session.new.board ≡ B.seat session.old.board }
-{
-    match session.list(rt) {
-        Ok(listing) => listing,
-        Err(_) => session.list(rt).expect(rt, "a listing at last"),
-    }
 }
 
 /// What a listing and the strong lock counters show `session` of all sessions, as an audit counts it.

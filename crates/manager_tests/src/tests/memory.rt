@@ -24,38 +24,41 @@ fn object(number: u32) -> (Tag, Mode) {
 }
 
 /// Whether `answer` says that there was no memory.
-pub fn is_out_of_memory(answer: &Answer) -> bool {
+fn is_out_of_memory(answer: &Answer) -> bool {
     *answer == Err(Refusal::NoMemory)
 }
 
-/// Asks for `tag` in `mode`, and again where there was no memory. A refusal for that leaves what `session` had.
+/// Asks with `session` for `tag` in `mode` for `owner`, and again where there was no memory. A refusal for that leaves
+/// what `session` had.
 fn try_at_last<T: PartTable, B: Board<T>, R: Abort + Wait>(
     rt: &R,
     session: &mut OwnSession<T, B>,
     tag: Tag,
     mode: Mode,
+    owner: Owner,
 ) -> Answer
     ensures seat { B.seat session.new.board ≡ B.seat session.old.board }
 {
     let held = session.held(tag).mask();
-    let answer = session.try_lock(rt, tag, mode, Owner::Session);
+    let answer = session.try_lock(rt, tag, mode, owner);
     if !is_out_of_memory(&answer) {
         return answer;
     }
     assert_eq!(rt; session.held(tag).mask(), held);
-    session.try_lock(rt, tag, mode, Owner::Session)
+    session.try_lock(rt, tag, mode, owner)
 }
 
-/// Takes `tag` in `mode` with `session`, at the second attempt where there was no memory.
-fn take_at_last<T: PartTable, B: Board<T>, R: Abort + Wait>(
+/// Takes `tag` in `mode` for `owner` with `session`, at the second attempt where there was no memory.
+pub fn take_at_last<T: PartTable, B: Board<T>, R: Abort + Wait>(
     rt: &R,
     session: &mut OwnSession<T, B>,
     tag: Tag,
     mode: Mode,
+    owner: Owner,
 )
     ensures seat { B.seat session.new.board ≡ B.seat session.old.board }
 {
-    let answer = try_at_last(rt, session, tag, mode);
+    let answer = try_at_last(rt, session, tag, mode, owner);
     expect_granted(rt, answer, tag, mode);
 }
 
@@ -65,12 +68,12 @@ fn take_many<T: PartTable, B: Board<T>, R: Abort + Wait>(rt: &R, session: &mut O
 {
     for number in 0..MANY {
         let (tag, mode) = object(number);
-        take_at_last(rt, session, tag, mode);
+        take_at_last(rt, session, tag, mode, Owner::Session);
     }
 }
 
 /// A listing by `session`, at the second attempt where there was no memory.
-fn list_at_last<T: PartTable, B: Board<T>, R: Abort + Wait>(
+pub fn list_at_last<T: PartTable, B: Board<T>, R: Abort + Wait>(
     rt: &R,
     session: &mut OwnSession<T, B>,
 ) -> Listing
@@ -221,8 +224,8 @@ fn move_once<T: PartTable, B: Board<T>, R: Abort + Wait>(rt: &R, pair: &mut Pair
     ensures second { B.seat pair.new.second.board ≡ B.seat pair.old.second.board }
 {
     let Pair { first, second } = pair;
-    take_at_last(rt, first, TABLE, Mode::AccessShare);
-    take_at_last(rt, first, TABLE, Mode::RowExclusive);
+    take_at_last(rt, first, TABLE, Mode::AccessShare, Owner::Session);
+    take_at_last(rt, first, TABLE, Mode::RowExclusive, Owner::Session);
     assert_eq!(rt; list_at_last(rt, first).fast.len(), 2);
     ask_for_strong(rt, second, first.id());
     give_back(rt, first, TABLE, Mode::AccessShare);
@@ -240,7 +243,7 @@ fn take_beside<T: PartTable, B: Board<T>, R: Abort + Wait>(
     for place in 0..BESIDE {
         let tag = Tag::relation(5, 32_768 | transfer << 6 | place << 4);
         assert_eq!(rt; tag.partition(), TABLE.partition());
-        take_at_last(rt, session, tag, Mode::ShareUpdateExclusive);
+        take_at_last(rt, session, tag, Mode::ShareUpdateExclusive, Owner::Session);
     }
 }
 
@@ -254,5 +257,11 @@ pub fn move_often<T: PartTable, B: Board<T>, R: Abort + Wait>(rt: &R, pair: &mut
         move_once(rt, pair);
         take_beside(rt, &mut pair.second, transfer);
     }
-    take_at_last(rt, &mut pair.second, TABLE, Mode::AccessExclusive);
+    take_at_last(
+        rt,
+        &mut pair.second,
+        TABLE,
+        Mode::AccessExclusive,
+        Owner::Session,
+    );
 }

@@ -8,10 +8,8 @@ ghost use Rattle.lock_manager.specs.WaitingSessions.{WaitingView};
 use super::audits::{close_counted, count, granted_in};
 use super::desk::{append, open};
 use super::limits::list_all;
-use super::waits::{TABLE, find_still, give_back, queue, take};
-use lock_manager::{
-    Blocker, Desk, MOST_SESSIONS, Mode, OwnSession, OwnWaiting, Polled, QueueRow, Refusal,
-};
+use super::waits::{TABLE, find_granted, find_still, give_back, queue, take};
+use lock_manager::{Blocker, Desk, MOST_SESSIONS, Mode, OwnSession, OwnWaiting, QueueRow, Refusal};
 use lock_table::PartTable;
 use shared_rule::Board;
 use std::alloc::Global;
@@ -192,19 +190,6 @@ fn end_before<T: PartTable, B: Board<T>, D: Desk<OwnSession<T, B>>, R: Abort + W
     let session = find_granted(rt, waiting);
     append(rt, &mut ended, session);
     ended
-}
-
-/// Finds that `waiting` was granted.
-fn find_granted<T: PartTable, B: Board<T>, R: Abort>(
-    rt: &R,
-    waiting: OwnWaiting<T, B>,
-) -> OwnSession<T, B>
-    ensures seat { B.seat result.board ≡ B.seat waiting.board }
-{
-    match waiting.poll() {
-        Polled::Granted(session) => session,
-        _ => panic!(rt; "not granted"),
-    }
 }
 
 /// Has as many sessions of `desk` as there can be share the table in `mode`, which is counted and listed. One of them

@@ -74,6 +74,19 @@ pub fn find_still<T: PartTable, B: Board<T>, R: Abort>(
     waiting
 }
 
+/// Ends the wait of `waiting` by one look, which must find it granted, and answers the session. Else the test ends.
+pub fn find_granted<T: PartTable, B: Board<T>, R: Abort>(
+    rt: &R,
+    waiting: OwnWaiting<T, B>,
+) -> OwnSession<T, B>
+    ensures seat { B.seat result.board ≡ B.seat waiting.board }
+{
+    match waiting.poll() {
+        Polled::Granted(session) => session,
+        _ => panic!(rt; "not granted"),
+    }
+}
+
 /// Asks the session numbered `number` to cancel, with `session`. Ends the test where that isn't answered `asked`.
 pub fn ask<T: PartTable, B: Board<T>, R: Abort>(
     rt: &R,

@@ -5,8 +5,8 @@ ghost use Rattle.std.specs.Prelude.{◌≡◌};
 use super::answers::{Answer, expect_acted, expect_answer, expect_seen};
 use super::deeds::{Deed, act_side_by_side};
 use super::pair::Pair;
-use super::waits::{OWNER, TABLE, ask, find_still, give_back, leave, queue, take};
-use lock_manager::{Acquired, Asked, Mode, OwnSession, OwnWaiting, Part, Polled, Refusal, Started};
+use super::waits::{OWNER, TABLE, ask, find_granted, find_still, give_back, leave, queue, take};
+use lock_manager::{Acquired, Asked, Mode, OwnSession, OwnWaiting, Part, Refusal, Started};
 use lock_table::PartTable;
 use shared_rule::Board;
 use std::process::Abort;
@@ -59,19 +59,6 @@ fn wait_as<T: PartTable, B: Board<T>, R: Abort + Wait>(
     let (session, answer) = waiting.wait(rt).into_parts();
     expect_answer(rt, answer, expected);
     session
-}
-
-/// Ends the wait of `waiting` by one look, which must find it granted, and answers the session. Else the test ends.
-fn find_granted<T: PartTable, B: Board<T>, R: Abort>(
-    rt: &R,
-    waiting: OwnWaiting<T, B>,
-) -> OwnSession<T, B>
-    ensures seat { B.seat result.board ≡ B.seat waiting.board }
-{
-    match waiting.poll() {
-        Polled::Granted(session) => session,
-        _ => panic!(rt; "not granted"),
-    }
 }
 
 /// Has the second session of `pair` wait, be seen and asked to cancel by the first one, which holds, and leave. A

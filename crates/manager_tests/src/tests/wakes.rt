@@ -3,7 +3,7 @@
 ghost use Rattle.std.specs.Prelude.{◌≡◌, IfSome, None};
 ghost use Rattle.lock_manager.specs.Crews.{SeatsAre};
 
-use super::answers::expect_answer;
+use super::answers::{Answer, expect_answer};
 use super::audits::close_counted;
 use super::desk::{append, open};
 use super::races::end_wait;
@@ -39,26 +39,17 @@ fn see_asleep<T: PartTable, B: Board<T>, R: Wait>(
     pause();
 }
 
-/// Asks for the table with `session`, and sleeps until it has it.
-fn sleep_until_granted<T: PartTable, B: Board<T>, R: Abort + Wait>(
+/// Asks for the table with `session`, and sleeps until the wait is over. Ends the test where that isn't answered
+/// `expected`.
+fn sleep_until<T: PartTable, B: Board<T>, R: Abort + Wait>(
     rt: &R,
     session: &mut OwnSession<T, B>,
+    expected: Answer,
 )
     ensures seat { B.seat session.new.board ≡ B.seat session.old.board }
 {
     let answer = session.acquire(rt, TABLE, Mode::AccessShare, OWNER);
-    expect_answer(rt, answer, Ok(Acquired::Granted));
-}
-
-/// Asks for the table with `session`, and sleeps until it is asked to cancel.
-fn sleep_until_asked<T: PartTable, B: Board<T>, R: Abort + Wait>(
-    rt: &R,
-    session: &mut OwnSession<T, B>,
-)
-    ensures seat { B.seat session.new.board ≡ B.seat session.old.board }
-{
-    let answer = session.acquire(rt, TABLE, Mode::AccessShare, OWNER);
-    expect_answer(rt, answer, Err(Refusal::Cancelled));
+    expect_answer(rt, answer, expected);
 }
 
 /// Takes the wait `ahead`, which is lent, out of the queue, once the session numbered `number` sleeps after it in the
@@ -97,7 +88,7 @@ fn leave_side_by_side<B: Board<Part> + Send, R: Abort + Threads + Wait + Sync>(
     let (left, ()) = join_mut(
         rt,
         &mut || leave_once_asleep(rt, holder, ahead, *number),
-        &mut || sleep_until_granted(rt, behind),
+        &mut || sleep_until(rt, behind, Ok(Acquired::Granted)),
     );
     left
 }
@@ -155,7 +146,7 @@ fn ask_side_by_side<B: Board<Part> + Send, R: Abort + Threads + Wait + Sync>(
     join_mut(
         rt,
         &mut || ask_once_asleep(rt, holder, *number),
-        &mut || sleep_until_asked(rt, sleeper),
+        &mut || sleep_until(rt, sleeper, Err(Refusal::Cancelled)),
     );
 }
 
