@@ -12,6 +12,7 @@ mod busy_lives;
 mod configurations;
 mod conflicts;
 mod counted;
+mod crews;
 mod crowds;
 mod deeds;
 mod desk;
@@ -27,6 +28,7 @@ mod queues;
 mod races;
 mod scenes;
 mod servers;
+mod side_by_side;
 mod threads;
 mod turn_lists;
 mod turns;
@@ -37,7 +39,7 @@ mod wakes;
 mod watched;
 mod watches;
 
-use crowds::Crowd;
+use crews::Crew;
 use limits::Limits;
 use lock_manager::{
     Config, Desk, Final, MOST_SESSIONS, Manager, ManagerDesk, Mode, Opener, OwnSession, Part,
@@ -55,7 +57,6 @@ use std::thread::Threads;
 use std::time::Clock;
 use threads::Plan;
 use turn_lists::LISTS;
-use unsteady::Crew;
 
 /// What the sessions of a manager do.
 #[derive(Clone, Copy)]
@@ -67,17 +68,8 @@ enum Story<'a> {
     Audits,
     /// Sessions, as many as `Limits` allows, have all local entries that they may have.
     Holds(Limits),
-    /// This number of sessions ask for the objects of this plan, each in a thread of its own.
-    Asks(u32, Plan),
-    /// All sessions but one sleep in one queue for this mode, each in a thread of its own.
-    Queue(Mode),
-    /// This number of times, one session waits for what another one gives back while a third one asks the first to
-    /// cancel.
-    Asked(u32),
-    /// One session lists while three lock and unlock, each in a thread of its own.
-    Watch,
-    /// Sessions lock and unlock on one partition, or one object, as the `Crowd` says.
-    Crowd(Crowd),
+    /// More than two sessions do what this crew does, each in a thread of its own.
+    OfCrew(Crew),
     /// Sessions, as many as a server's manager can have, share one table in this mode, and one of them waits for it alone.
     SharedByAll(Mode),
     /// Hundreds of sessions wait in one queue, and one release lets them go.
@@ -115,11 +107,7 @@ fn tell<
         Story::GoesOn => memory::go_on(rt, desk),
         Story::Audits => audits::audit_often(rt, alloc, desk),
         Story::Holds(limits) => limits::hold_all(rt, alloc, desk, limits),
-        Story::Asks(number, plan) => threads::ask_in_threads(rt, alloc, desk, number, plan),
-        Story::Queue(mode) => queues::wake_sleepers(rt, alloc, desk, mode),
-        Story::Asked(rounds) => asked::race_at(rt, alloc, desk, rounds),
-        Story::Watch => watches::watch_at(rt, alloc, desk),
-        Story::Crowd(crowd) => crowds::crowd_at(rt, alloc, desk, crowd),
+        Story::OfCrew(crew) => crews::act_at(rt, alloc, desk, crew),
         Story::SharedByAll(mode) => servers::share_among_all(rt, alloc, desk, mode),
         Story::LetsHundredsGo => servers::let_hundreds_go(rt, alloc, desk),
         Story::LendsAll => lent::lend_often(rt, alloc, desk),
@@ -269,7 +257,7 @@ fn races_end_so_where_threads_pause_between_steps(rt: HostRuntime) -> Result<(),
 
 #[test]
 fn many_sessions_do_so_where_threads_pause_between_steps(rt: HostRuntime) -> Result<(), Fail> {
-    for crew in [Crew::Asked(1_000), Crew::Watch, Crew::Crowd] {
+    for crew in [Crew::Asked(1_000), Crew::Watch, Crew::Crowd(crowds::USUAL)] {
         unsteady::act_with_pauses(&rt, rt.alloc(), crew)?;
     }
     Ok(())
@@ -278,15 +266,24 @@ fn many_sessions_do_so_where_threads_pause_between_steps(rt: HostRuntime) -> Res
 #[test]
 fn many_sessions_do_as_the_stories_say(rt: HostRuntime) -> Result<(), Fail> {
     for (sessions, story) in [
-        (4, Story::Asks(4, Plan::of(10_000, 4, false))),
-        (4, Story::Asks(4, Plan::of(10_000, 1, false))),
-        (4, Story::Asks(4, Plan::of(10_000, 1, true))),
-        (8, Story::Asks(8, Plan::of(3_000, 2, true))),
-        (asked::SESSIONS, Story::Asked(1_000)),
-        (watches::SESSIONS, Story::Watch),
-        (queues::MANY + 1, Story::Queue(Mode::AccessExclusive)),
-        (queues::MANY + 1, Story::Queue(Mode::AccessShare)),
-        (crowds::USUAL.sessions, Story::Crowd(crowds::USUAL)),
+        (4, Story::OfCrew(Crew::Asks(4, Plan::of(10_000, 4, false)))),
+        (4, Story::OfCrew(Crew::Asks(4, Plan::of(10_000, 1, false)))),
+        (4, Story::OfCrew(Crew::Asks(4, Plan::of(10_000, 1, true)))),
+        (8, Story::OfCrew(Crew::Asks(8, Plan::of(3_000, 2, true)))),
+        (asked::SESSIONS, Story::OfCrew(Crew::Asked(1_000))),
+        (watches::SESSIONS, Story::OfCrew(Crew::Watch)),
+        (
+            queues::MANY + 1,
+            Story::OfCrew(Crew::Queue(Mode::AccessExclusive)),
+        ),
+        (
+            queues::MANY + 1,
+            Story::OfCrew(Crew::Queue(Mode::AccessShare)),
+        ),
+        (
+            crowds::USUAL.sessions,
+            Story::OfCrew(Crew::Crowd(crowds::USUAL)),
+        ),
         (3, Story::LetGoByCancel),
         (2, Story::WokenAsAsked),
         (1, Story::Lives(10_000)),
@@ -309,8 +306,8 @@ fn a_server_has_a_thousand_sessions(rt: HostRuntime) -> Result<(), Fail> {
         Story::SharedByAll(Mode::AccessShare),
         Story::LetsHundredsGo,
         Story::LendsAll,
-        Story::Crowd(crowds::ON_ONE_PARTITION),
-        Story::Crowd(crowds::AT_ONE_OBJECT),
+        Story::OfCrew(Crew::Crowd(crowds::ON_ONE_PARTITION)),
+        Story::OfCrew(Crew::Crowd(crowds::AT_ONE_OBJECT)),
     ] {
         let config = Config {
             sessions: MOST_SESSIONS,

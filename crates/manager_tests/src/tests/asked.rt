@@ -1,21 +1,19 @@
 //! A session waits in its thread for what another one has, which gives it back while a third one asks it to cancel.
 
 ghost use Rattle.std.specs.Prelude.{◌≡◌};
-ghost use Rattle.lock_manager.specs.Managers.{ManagerView};
-ghost use Rattle.lock_manager.specs.Crews.{AreOf, SeatsAre};
+ghost use Rattle.lock_manager.specs.Crews.{KeepManagers};
 
 use super::answers::Answer;
-use super::audits::close_counted;
-use super::desk::open_many;
 use super::gates::{Gate, Wins};
+use super::side_by_side::{Play, play_side_by_side};
 use super::waits::{OWNER, TABLE, give_back, see_wait, take};
-use lock_manager::{Acquired, Desk, Mode, OwnSession, Part, Refusal, SessionId};
+use lock_manager::{Acquired, Mode, OwnSession, Part, Refusal, SessionId};
 use lock_table::PartTable;
 use shared_rule::Board;
-use std::alloc::Global;
 use std::process::Abort;
 use std::sync::Wait;
-use std::thread::{Threads, for_each_mut};
+use std::thread::Threads;
+use std::time::Clock;
 
 /// How many sessions a race has: by number, the holder, the session that waits, and the one that asks it to cancel.
 pub const SESSIONS: u32 = 3;
@@ -133,39 +131,27 @@ fn play_round<T: PartTable, B: Board<T>, R: Abort + Wait>(
     ring.all.come(rt, 3);
 }
 
-/// Plays all rounds of `session`.
-fn play<T: PartTable, B: Board<T>, R: Abort + Wait>(
-    rt: &R,
-    ring: &Ring,
-    session: &mut OwnSession<T, B>,
-)
-    ensures seat { B.seat session.new.board ≡ B.seat session.old.board }
-{
-    let number = session.id().number();
-    'rounds: for round in 0..ring.rounds {
-        play_round(rt, ring, session, number, round);
+impl Play for Ring {
+    /// Plays all rounds of `session`.
+    fn play<T: PartTable, B: Board<T>, R: Abort + Clock + Wait>(
+        &self,
+        rt: &R,
+        session: &mut OwnSession<T, B>,
+    ) {
+        let number = session.id().number();
+        'rounds: for round in 0..self.rounds {
+            play_round(rt, self, session, number, round);
+        }
     }
 }
 
-/// Plays all rounds of all `sessions`, each in a thread of its own.
-fn play_side_by_side<B: Board<Part> + Send, R: Abort + Threads + Wait + Sync>(
-    rt: &R,
-    ring: &Ring,
-    sessions: &mut [OwnSession<Part, B>],
-)
-    ensures own { (manager : ManagerView) → AreOf B.seat manager sessions.old → AreOf B.seat manager sessions.new }
-{
-    let threads = sessions.len().max(1);
-    for_each_mut(rt, sessions, threads, &|_, session| play(rt, ring, session));
-}
-
 /// Has the three `sessions` race for `rounds` rounds. Both ends of the wait come about.
-pub fn race_three<B: Board<Part> + Send, R: Abort + Threads + Wait + Sync + Print>(
+pub fn race_three<B: Board<Part> + Send, R: Abort + Clock + Threads + Wait + Sync + Print>(
     rt: &R,
     sessions: &mut [OwnSession<Part, B>],
     rounds: u32,
 )
-    ensures own { (manager : ManagerView) → AreOf B.seat manager sessions.old → AreOf B.seat manager sessions.new }
+    ensures own { KeepManagers B.seat sessions.old sessions.new }
 {
     let ring = Ring {
         rounds,
@@ -177,19 +163,4 @@ pub fn race_three<B: Board<Part> + Send, R: Abort + Threads + Wait + Sync + Prin
     play_side_by_side(rt, &ring, sessions);
     ring.wins
         .expect_both(rt, "a release against a request to cancel");
-}
-
-/// Has three sessions of `desk` race for `rounds` rounds.
-pub fn race_at<
-    B: Board<Part> + Send,
-    D: Desk<OwnSession<Part, B>>,
-    R: Abort + Threads + Wait + Sync + Print,
->(rt: &R, alloc: Global, desk: &mut D, rounds: u32)
-    requires seats { SeatsAre B.seat D.seat }
-    ensures manager { D.manager desk.new ≡ D.manager desk.old }
-    ensures live { D.live desk.new ≡ D.live desk.old }
-{
-    let mut sessions = open_many(rt, alloc, desk, SESSIONS);
-    race_three(rt, sessions.as_mut_slice(), rounds);
-    close_counted(rt, desk, sessions);
 }

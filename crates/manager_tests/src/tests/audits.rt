@@ -1,10 +1,10 @@
 //! Audits, with all open sessions lent, beside numbers that were counted by hand, and beside what one of the
 //! sessions sees.
 
-ghost use Rattle.std.specs.Prelude.{◌≡◌, ◌+◌, ◌-◌, ◌<◌, length};
+ghost use Rattle.std.specs.Prelude.{◌≡◌, ◌+◌, ◌-◌, length};
 ghost use Rattle.lock_manager.specs.Crews.{AreOf, SeatsAre};
 
-use super::desk::{append, open};
+use super::desk::{Beginning, append, open_behind};
 use super::memory::{list_at_last, take_at_last};
 use lock_manager::Mode::{
     AccessExclusive, AccessShare, RowExclusive, RowShare, Share, ShareRowExclusive,
@@ -66,7 +66,7 @@ const COMMITTED: Numbers = (3, 3, 2);
 pub const NOTHING: Numbers = (0, 0, 0);
 
 /// Takes with `session` all that is for the session at `place`.
-fn take_each<T: PartTable, B: Board<T>, R: Abort + Wait>(
+pub fn take_each<T: PartTable, B: Board<T>, R: Abort + Wait>(
     rt: &R,
     session: &mut OwnSession<T, B>,
     place: usize,
@@ -131,46 +131,6 @@ pub fn count<T: PartTable, B: Board<T>, D: Desk<OwnSession<T, B>>, R: Abort + Wa
     expect_counted(rt, counted, expected);
 }
 
-/// Opens the session at `place`, which takes the modes that are for the session.
-fn open_and_take<T: PartTable, B: Board<T>, D: Desk<OwnSession<T, B>>, R: Abort + Wait>(
-    rt: &R,
-    desk: &mut D,
-    sessions: &mut Vec<OwnSession<T, B>>,
-    place: usize,
-)
-    requires seats { SeatsAre B.seat D.seat }
-    requires place { place < 3 }
-    requires own { AreOf B.seat (D.manager desk.old) sessions.old.items }
-    ensures manager { D.manager desk.new ≡ D.manager desk.old }
-    ensures own { AreOf B.seat (D.manager desk.old) sessions.new.items }
-    ensures live { D.live desk.new ≡ D.live desk.old + 1 }
-    ensures more { length sessions.new.items ≡ length sessions.old.items + 1 }
-{
-    let mut session = open(rt, desk);
-    take_each(rt, &mut session, place);
-    append(rt, sessions, session);
-    count(rt, desk, sessions, TAKEN[place]);
-}
-
-/// Opens all sessions of `desk`, with an audit after each.
-fn open_each<T: PartTable, B: Board<T>, D: Desk<OwnSession<T, B>>, R: Abort + Wait>(
-    rt: &R,
-    alloc: Global,
-    desk: &mut D,
-) -> Vec<OwnSession<T, B>>
-    requires seats { SeatsAre B.seat D.seat }
-    ensures manager { D.manager desk.new ≡ D.manager desk.old }
-    ensures own { AreOf B.seat (D.manager desk.old) result.items }
-    ensures live { D.live desk.new ≡ D.live desk.old + length result.items }
-{
-    let mut sessions = Vec::new(alloc);
-    count(rt, desk, &mut sessions, NOTHING);
-    'places: for place in 0..3 {
-        open_and_take(rt, desk, &mut sessions, place);
-    }
-    sessions
-}
-
 /// Ends the transactions of all `sessions`, the last one first, by a commit where `is_good`, otherwise by an abort.
 /// Ends the test where an audit doesn't count `expected` after that.
 pub fn end_each<T: PartTable, B: Board<T>, D: Desk<OwnSession<T, B>>, R: Abort + Wait>(
@@ -202,7 +162,8 @@ pub fn end_each<T: PartTable, B: Board<T>, D: Desk<OwnSession<T, B>>, R: Abort +
     ended
 }
 
-/// Has three sessions of `desk` take modes, commit, and abort, and an audit count each time what they have.
+/// Has three sessions of `desk` take modes, one after another, all commit, and all abort, and an audit count each time
+/// what they have.
 pub fn audit_often<T: PartTable, B: Board<T>, D: Desk<OwnSession<T, B>>, R: Abort + Wait>(
     rt: &R,
     alloc: Global,
@@ -212,7 +173,12 @@ pub fn audit_often<T: PartTable, B: Board<T>, D: Desk<OwnSession<T, B>>, R: Abor
     ensures manager { D.manager desk.new ≡ D.manager desk.old }
     ensures live { D.live desk.new ≡ D.live desk.old }
 {
-    let sessions = open_each(rt, alloc, desk);
+    let mut sessions = Vec::new(alloc);
+    count(rt, desk, &mut sessions, NOTHING);
+    'places: for place in 0..3 {
+        open_behind(rt, desk, &mut sessions, Beginning::TakesEach(place));
+        count(rt, desk, &mut sessions, TAKEN[place]);
+    }
     let sessions = end_each(rt, alloc, desk, sessions, true, COMMITTED);
     let sessions = end_each(rt, alloc, desk, sessions, false, NOTHING);
     close_sessions(rt, desk, sessions);

@@ -4,20 +4,17 @@
 
 ghost use Rattle.std.specs.Prelude.{◌≡◌};
 ghost use Rattle.lock_manager.specs.Crews.{KeepManagers};
-ghost use Rattle.lock_manager.specs.Crews.{SeatsAre};
 
 use super::answers::{expect_granted, expect_released};
-use super::audits::close_counted;
-use super::desk::open_many;
 use super::gates::Gate;
-use lock_manager::{Desk, Mode, OwnSession, Owner, Part, Tag};
+use super::side_by_side::{Play, play_side_by_side};
+use lock_manager::{Mode, OwnSession, Owner, Part, Tag};
 use lock_table::PartTable;
 use shared_rule::Board;
-use std::alloc::Global;
 use std::process::Abort;
 use std::sync::Wait;
 use std::sync::atomic::{AtomicBool, AtomicU64, Ordering};
-use std::thread::{Threads, for_each_mut, join_mut, sleep};
+use std::thread::{Threads, join_mut, sleep};
 use std::time::{Clock, Duration};
 
 /// What the sessions of a crowd take.
@@ -138,41 +135,31 @@ fn lock_once<T: PartTable, B: Board<T>, R: Abort + Wait>(
     expect_released(rt, released, tag, Mode::Exclusive);
 }
 
-/// Locks and unlocks with `session` over and over, once all have come, and shows it to the watchdog by `watch`.
-fn lock_often<T: PartTable, B: Board<T>, R: Abort + Clock + Wait>(
-    rt: &R,
-    session: &mut OwnSession<T, B>,
+/// A crowd whose sessions show the watchdog what they do.
+#[derive(Clone, Copy)]
+struct Watched<'a> {
     crowd: Crowd,
-    watch: &Watch,
-)
-    ensures seat { B.seat session.new.board ≡ B.seat session.old.board }
-{
-    let number = u32::from(session.id().number());
-    let tag = object_of(crowd.takes, number);
-    watch.start.come_asleep(rt, u64::from(crowd.sessions));
-    'rounds: for _ in 0..crowd.rounds {
-        lock_once(rt, session, crowd.takes, tag);
-        watch.rounds.fetch_add(1, Ordering::SeqCst);
-    }
-    watch.end(number);
+    watch: &'a Watch,
 }
 
-/// Has each of `sessions` lock and unlock in a thread of its own.
-fn lock_side_by_side<B: Board<Part> + Send, R: Abort + Clock + Threads + Wait + Sync>(
-    rt: &R,
-    sessions: &mut [OwnSession<Part, B>],
-    crowd: Crowd,
-    watch: &Watch,
-)
-    ensures own { KeepManagers B.seat sessions.old sessions.new }
-{
-    let threads = sessions.len().max(1);
-    for_each_mut(
-        rt,
-        sessions,
-        threads,
-        &|_, session| lock_often(rt, session, crowd, watch),
-    );
+impl Play for Watched<'_> {
+    /// Locks and unlocks with `session` over and over, once all have come, and shows it to the watchdog.
+    fn play<T: PartTable, B: Board<T>, R: Abort + Clock + Wait>(
+        &self,
+        rt: &R,
+        session: &mut OwnSession<T, B>,
+    ) {
+        let number = u32::from(session.id().number());
+        let tag = object_of(self.crowd.takes, number);
+        self.watch
+            .start
+            .come_asleep(rt, u64::from(self.crowd.sessions));
+        'rounds: for _ in 0..self.crowd.rounds {
+            lock_once(rt, session, self.crowd.takes, tag);
+            self.watch.rounds.fetch_add(1, Ordering::SeqCst);
+        }
+        self.watch.end(number);
+    }
 }
 
 /// Has each of `sessions` lock and unlock in a thread of its own, and shows to the watchdog that all is over.
@@ -184,7 +171,7 @@ fn lock_until_over<B: Board<Part> + Send, R: Abort + Clock + Threads + Wait + Sy
 )
     ensures own { KeepManagers B.seat sessions.old sessions.new }
 {
-    lock_side_by_side(rt, sessions, crowd, watch);
+    play_side_by_side(rt, &Watched { crowd, watch }, sessions);
     watch.is_over.store(true, Ordering::SeqCst);
 }
 
@@ -240,19 +227,4 @@ pub fn act<B: Board<Part> + Send, R: Abort + Clock + Threads + Wait + Sync>(
     lock_watched(rt, sessions, crowd, &watch);
     let rounds = watch.rounds.load(Ordering::SeqCst);
     assert_eq!(rt; rounds, crowd.all());
-}
-
-/// Has as many sessions of `desk` as `crowd` says lock and unlock what it says.
-pub fn crowd_at<
-    B: Board<Part> + Send,
-    D: Desk<OwnSession<Part, B>>,
-    R: Abort + Clock + Threads + Wait + Sync,
->(rt: &R, alloc: Global, desk: &mut D, crowd: Crowd)
-    requires seats { SeatsAre B.seat D.seat }
-    ensures manager { D.manager desk.new ≡ D.manager desk.old }
-    ensures live { D.live desk.new ≡ D.live desk.old }
-{
-    let mut sessions = open_many(rt, alloc, desk, crowd.sessions);
-    act(rt, sessions.as_mut_slice(), crowd);
-    close_counted(rt, desk, sessions);
 }

@@ -1,11 +1,11 @@
 //! As many local entries as there may be, of one session and of all: granted, counted, listed and given back.
 
-ghost use Rattle.std.specs.Prelude.{◌≡◌, ◌+◌, length};
+ghost use Rattle.std.specs.Prelude.{◌≡◌, length};
 ghost use Rattle.lock_manager.specs.Crews.{AreOf, SeatsAre};
 
 use super::answers::{expect_granted, expect_rows};
 use super::audits::{NOTHING, Numbers, count, end_each};
-use super::desk::{append, open};
+use super::desk::{Beginning, append, open_many};
 use lock_manager::{Desk, Mode, OwnSession, Owner, Refusal, Tag, close_sessions};
 use lock_table::PartTable;
 use shared_rule::Board;
@@ -44,7 +44,7 @@ fn entry(session: u16, number: u32) -> (Tag, Mode) {
 }
 
 /// Takes `entries` modes with `session`, and is refused one more.
-fn fill<T: PartTable, B: Board<T>, R: Abort + Wait>(
+pub fn fill<T: PartTable, B: Board<T>, R: Abort + Wait>(
     rt: &R,
     session: &mut OwnSession<T, B>,
     entries: u32,
@@ -60,44 +60,6 @@ fn fill<T: PartTable, B: Board<T>, R: Abort + Wait>(
     let (tag, mode) = entry(number, entries);
     let answer = session.try_lock(rt, tag, mode, Owner::Transaction);
     assert_eq!(rt; answer, Err(Refusal::LocalFull), "{entries} entries");
-}
-
-/// Opens a session, which takes `entries` modes.
-fn open_full<T: PartTable, B: Board<T>, D: Desk<OwnSession<T, B>>, R: Abort + Wait>(
-    rt: &R,
-    desk: &mut D,
-    sessions: &mut Vec<OwnSession<T, B>>,
-    entries: u32,
-)
-    requires seats { SeatsAre B.seat D.seat }
-    requires own { AreOf B.seat (D.manager desk.old) sessions.old.items }
-    ensures manager { D.manager desk.new ≡ D.manager desk.old }
-    ensures own { AreOf B.seat (D.manager desk.old) sessions.new.items }
-    ensures live { D.live desk.new ≡ D.live desk.old + 1 }
-    ensures more { length sessions.new.items ≡ length sessions.old.items + 1 }
-{
-    let mut session = open(rt, desk);
-    fill(rt, &mut session, entries);
-    append(rt, sessions, session);
-}
-
-/// Opens all sessions that `limits` says, and each takes all that it may have.
-fn open_all<T: PartTable, B: Board<T>, D: Desk<OwnSession<T, B>>, R: Abort + Wait>(
-    rt: &R,
-    alloc: Global,
-    desk: &mut D,
-    limits: Limits,
-) -> Vec<OwnSession<T, B>>
-    requires seats { SeatsAre B.seat D.seat }
-    ensures manager { D.manager desk.new ≡ D.manager desk.old }
-    ensures own { AreOf B.seat (D.manager desk.old) result.items }
-    ensures live { D.live desk.new ≡ D.live desk.old + length result.items }
-{
-    let mut sessions = Vec::new(alloc);
-    'sessions: for _ in 0..limits.sessions {
-        open_full(rt, desk, &mut sessions, limits.entries);
-    }
-    sessions
 }
 
 /// Lists with the last of `sessions` what all have, which is to be `expected`.
@@ -131,7 +93,8 @@ pub fn hold_all<T: PartTable, B: Board<T>, D: Desk<OwnSession<T, B>>, R: Abort +
     ensures manager { D.manager desk.new ≡ D.manager desk.old }
     ensures live { D.live desk.new ≡ D.live desk.old }
 {
-    let mut sessions = open_all(rt, alloc, desk, limits);
+    let begins = Beginning::Fills(limits.entries);
+    let mut sessions = open_many(rt, alloc, desk, limits.sessions, begins);
     let held = limits.held();
     count(rt, desk, &mut sessions, held);
     list_all(rt, desk, &mut sessions, held);

@@ -2,23 +2,21 @@
 //! release.
 
 ghost use Rattle.std.specs.Prelude.{◌≡◌};
-ghost use Rattle.lock_manager.specs.Managers.{ManagerView};
-ghost use Rattle.lock_manager.specs.Crews.{AreOf, SeatsAre};
+ghost use Rattle.lock_manager.specs.Crews.{KeepManagers};
 
 use super::answers::expect_granted;
-use super::audits::close_counted;
-use super::desk::open_many;
+use super::side_by_side::{Play, play_side_by_side};
 use super::waits::{OWNER, TABLE, give_back, see_wait, take};
 use super::wakes::pause;
-use lock_manager::{Desk, Mode, OwnSession, Part, SessionId};
+use lock_manager::{Mode, OwnSession, Part, SessionId};
 use lock_table::PartTable;
 use shared_rule::Board;
-use std::alloc::Global;
 use std::process::Abort;
 use std::sync::Wait;
 use std::sync::atomic::{AtomicBool, AtomicU64, Ordering};
 use std::thread;
-use std::thread::{Threads, for_each_mut};
+use std::thread::Threads;
+use std::time::Clock;
 
 /// How many sessions sleep in the queue, beside the one that holds the table.
 pub const MANY: u32 = 32;
@@ -113,57 +111,35 @@ fn release_once_asleep<T: PartTable, B: Board<T>, R: Abort + Wait>(
     give_back(rt, session, Mode::AccessExclusive);
 }
 
-/// Plays with `session` the part of the holder, or of one that sleeps.
-fn play_part<T: PartTable, B: Board<T>, R: Abort + Wait>(
-    rt: &R,
-    tally: &Tally,
-    session: &mut OwnSession<T, B>,
-)
-    ensures seat { B.seat session.new.board ≡ B.seat session.old.board }
-{
-    if session.id().number() == 0 {
-        release_once_asleep(rt, tally, session);
-    } else {
-        sleep_and_pass_on(rt, tally, session);
+impl Play for Tally {
+    /// Plays with `session` the part of the holder, or of one that sleeps.
+    fn play<T: PartTable, B: Board<T>, R: Abort + Clock + Wait>(
+        &self,
+        rt: &R,
+        session: &mut OwnSession<T, B>,
+    ) {
+        if session.id().number() == 0 {
+            release_once_asleep(rt, self, session);
+        } else {
+            sleep_and_pass_on(rt, self, session);
+        }
     }
 }
 
-/// Has each of `sleepers` do its part in a thread of its own.
-fn sleep_side_by_side<B: Board<Part> + Send, R: Abort + Threads + Wait + Sync>(
+/// Has one of `sessions` take the table and all others wait for it in `mode`. Where that is `AccessExclusiveLock` they
+/// are woken one by one, in the order of their queue, and where it is `AccessShareLock` all by one release.
+pub fn wake_sleepers<B: Board<Part> + Send, R: Abort + Clock + Threads + Wait + Sync>(
     rt: &R,
-    tally: &Tally,
-    sleepers: &mut [OwnSession<Part, B>],
+    sessions: &mut [OwnSession<Part, B>],
+    mode: Mode,
 )
-    ensures own { (manager : ManagerView) → AreOf B.seat manager sleepers.old → AreOf B.seat manager sleepers.new }
+    ensures own { KeepManagers B.seat sessions.old sessions.new }
 {
-    let threads = sleepers.len().max(1);
-    for_each_mut(
-        rt,
-        sleepers,
-        threads,
-        &|_, session| play_part(rt, tally, session),
-    );
-}
-
-/// Has one session of `desk` take the table and all others wait for it in `mode`. Where that is
-/// `AccessExclusiveLock` they are woken one by one, in the order of their queue, and where it is `AccessShareLock`
-/// all by one release.
-pub fn wake_sleepers<
-    B: Board<Part> + Send,
-    D: Desk<OwnSession<Part, B>>,
-    R: Abort + Threads + Wait + Sync,
->(rt: &R, alloc: Global, desk: &mut D, mode: Mode)
-    requires seats { SeatsAre B.seat D.seat }
-    ensures manager { D.manager desk.new ≡ D.manager desk.old }
-    ensures live { D.live desk.new ≡ D.live desk.old }
-{
-    let mut sessions = open_many(rt, alloc, desk, MANY + 1);
     let tally = Tally {
         mode,
         held: AtomicBool::new(false),
         woken: AtomicU64::new(0),
     };
-    sleep_side_by_side(rt, &tally, sessions.as_mut_slice());
+    play_side_by_side(rt, &tally, sessions);
     tally.expect(rt, MANY);
-    close_counted(rt, desk, sessions);
 }

@@ -6,7 +6,7 @@ ghost use Rattle.lock_manager.specs.Crews.{AreOf, SeatsAre};
 ghost use Rattle.lock_manager.specs.WaitingSessions.{WaitingView};
 
 use super::audits::{close_counted, count, granted_in};
-use super::desk::{append, open};
+use super::desk::{Beginning, append, open, open_many};
 use super::limits::list_all;
 use super::waits::{TABLE, find_granted, find_still, give_back, queue, take};
 use lock_manager::{Blocker, Desk, MOST_SESSIONS, Mode, OwnSession, OwnWaiting, QueueRow, Refusal};
@@ -51,44 +51,6 @@ pub fn expect_full<T: PartTable, B: Board<T>, D: Desk<OwnSession<T, B>>, R: Abor
 {
     let is_full = is_full(rt, desk);
     assert!(rt; is_full, "a session more than there can be");
-}
-
-/// Opens a session, which takes the table in `mode`.
-fn open_sharing<T: PartTable, B: Board<T>, D: Desk<OwnSession<T, B>>, R: Abort + Wait>(
-    rt: &R,
-    desk: &mut D,
-    sessions: &mut Vec<OwnSession<T, B>>,
-    mode: Mode,
-)
-    requires seats { SeatsAre B.seat D.seat }
-    requires own { AreOf B.seat (D.manager desk.old) sessions.old.items }
-    ensures manager { D.manager desk.new ≡ D.manager desk.old }
-    ensures own { AreOf B.seat (D.manager desk.old) sessions.new.items }
-    ensures live { D.live desk.new ≡ D.live desk.old + 1 }
-    ensures more { length sessions.new.items ≡ length sessions.old.items + 1 }
-{
-    let mut session = open(rt, desk);
-    take(rt, &mut session, mode);
-    append(rt, sessions, session);
-}
-
-/// Opens all sessions that there can be, and each takes the table in `mode`.
-fn open_all<T: PartTable, B: Board<T>, D: Desk<OwnSession<T, B>>, R: Abort + Wait>(
-    rt: &R,
-    alloc: Global,
-    desk: &mut D,
-    mode: Mode,
-) -> Vec<OwnSession<T, B>>
-    requires seats { SeatsAre B.seat D.seat }
-    ensures manager { D.manager desk.new ≡ D.manager desk.old }
-    ensures own { AreOf B.seat (D.manager desk.old) result.items }
-    ensures live { D.live desk.new ≡ D.live desk.old + length result.items }
-{
-    let mut sessions = Vec::new(alloc);
-    'sessions: for _ in 0..SESSIONS {
-        open_sharing(rt, desk, &mut sessions, mode);
-    }
-    sessions
 }
 
 /// Ends the test unless `found`, who is in the way of a wait, are all sessions but the one that waits.
@@ -204,7 +166,7 @@ pub fn share_among_all<T: PartTable, B: Board<T>, D: Desk<OwnSession<T, B>>, R: 
     ensures manager { D.manager desk.new ≡ D.manager desk.old }
     ensures live { D.live desk.new ≡ D.live desk.old }
 {
-    let mut sessions = open_all(rt, alloc, desk, mode);
+    let mut sessions = open_many(rt, alloc, desk, SESSIONS, Beginning::Takes(mode));
     expect_full(rt, desk);
     let all = u64::from(SESSIONS);
     let held = if mode == Mode::AccessShare {
@@ -309,13 +271,13 @@ pub fn let_hundreds_go<T: PartTable, B: Board<T>, D: Desk<OwnSession<T, B>>, R: 
     ensures manager { D.manager desk.new ≡ D.manager desk.old }
     ensures live { D.live desk.new ≡ D.live desk.old }
 {
-    let mut sessions = Vec::new(alloc);
     let mut holder = open(rt, desk);
     take(rt, &mut holder, Mode::AccessExclusive);
     let waits = open_queue(rt, alloc, desk);
     let last = open_waiting(rt, desk, Mode::AccessExclusive);
     let_go(rt, &mut holder);
     let last = find_still(rt, last, false);
+    let mut sessions = Vec::new(alloc);
     append(rt, &mut sessions, holder);
     end_queue(rt, desk, waits, &mut sessions);
     let last = find_granted(rt, last);

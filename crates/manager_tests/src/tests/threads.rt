@@ -2,21 +2,19 @@
 //! at a time.
 
 ghost use Rattle.std.specs.Prelude.{◌≡◌, ◌<◌, ◌≤◌};
-ghost use Rattle.lock_manager.specs.Managers.{ManagerView};
-ghost use Rattle.lock_manager.specs.Crews.{AreOf, SeatsAre};
+ghost use Rattle.lock_manager.specs.Crews.{KeepManagers};
 
 use super::answers::{expect_granted, expect_released};
-use super::audits::close_counted;
 use super::conflicts::conflicts;
-use super::desk::open_many;
-use lock_manager::{Desk, How, Mode, OwnSession, Owner, Part, Refusal, SessionId, Tag};
+use super::side_by_side::{Play, play_side_by_side};
+use lock_manager::{How, Mode, OwnSession, Owner, Part, Refusal, SessionId, Tag};
 use lock_table::PartTable;
 use shared_rule::Board;
-use std::alloc::Global;
 use std::process::Abort;
 use std::sync::{Mutex, Wait};
 use std::thread;
-use std::thread::{Threads, for_each_mut};
+use std::thread::Threads;
+use std::time::Clock;
 
 /// How many sessions have an object in each mode.
 type Modes = [u32; 8];
@@ -55,6 +53,13 @@ impl Plan {
             Tag::object(5, 1_259, 16_384 | object, 0)
         }
     }
+}
+
+/// What threads that ask have together: their plan, and who was granted what.
+#[derive(Drop)]
+struct Asks {
+    plan: Plan,
+    holders: Mutex<Holders>,
 }
 
 /// Ends the test where `modes` say that somebody has the object numbered `object` in a mode that conflicts with that at
@@ -139,51 +144,31 @@ fn ask<T: PartTable, B: Board<T>, R: Abort + Wait>(
     expect_released(rt, released, tag, mode);
 }
 
-/// Asks with `session` for one mode after another, on one object after another, as `plan` says.
-fn ask_often<T: PartTable, B: Board<T>, R: Abort + Wait>(
-    rt: &R,
-    holders: &Mutex<Holders>,
-    plan: Plan,
-    session: &mut OwnSession<T, B>,
-)
-    ensures seat { B.seat session.new.board ≡ B.seat session.old.board }
-{
-    'rounds: for round in 0..plan.rounds {
-        ask(rt, holders, plan, session, round);
+impl Play for Asks {
+    /// Asks with `session` for one mode after another, on one object after another, as the plan says.
+    fn play<T: PartTable, B: Board<T>, R: Abort + Clock + Wait>(
+        &self,
+        rt: &R,
+        session: &mut OwnSession<T, B>,
+    ) {
+        'rounds: for round in 0..self.plan.rounds {
+            ask(rt, &self.holders, self.plan, session, round);
+        }
     }
 }
 
-/// Has each of `sessions` ask as `plan` says, in a thread of its own.
-fn ask_side_by_side<B: Board<Part> + Send, R: Abort + Threads + Wait + Sync>(
+/// Has all of `sessions` do as `plan` says, and at the end nobody has anything.
+pub fn ask_all<B: Board<Part> + Send, R: Abort + Clock + Threads + Wait + Sync>(
     rt: &R,
-    holders: &Mutex<Holders>,
-    plan: Plan,
     sessions: &mut [OwnSession<Part, B>],
+    plan: Plan,
 )
-    ensures own { (manager : ManagerView) → AreOf B.seat manager sessions.old → AreOf B.seat manager sessions.new }
+    ensures own { KeepManagers B.seat sessions.old sessions.new }
 {
-    let threads = sessions.len().max(1);
-    for_each_mut(
-        rt,
-        sessions,
-        threads,
-        &|_, session| ask_often(rt, holders, plan, session),
-    );
-}
-
-/// Has `number` sessions from `desk` do as `plan` says, and at the end nobody has anything.
-pub fn ask_in_threads<
-    B: Board<Part> + Send,
-    D: Desk<OwnSession<Part, B>>,
-    R: Abort + Threads + Wait + Sync,
->(rt: &R, alloc: Global, desk: &mut D, number: u32, plan: Plan)
-    requires seats { SeatsAre B.seat D.seat }
-    ensures manager { D.manager desk.new ≡ D.manager desk.old }
-    ensures live { D.live desk.new ≡ D.live desk.old }
-{
-    let mut sessions = open_many(rt, alloc, desk, number);
-    let holders = Mutex::new([[0; 8]; 4]);
-    ask_side_by_side(rt, &holders, plan, sessions.as_mut_slice());
-    close_counted(rt, desk, sessions);
-    assert!(rt; holders.into_inner() == [[0; 8]; 4]);
+    let asks = Asks {
+        plan,
+        holders: Mutex::new([[0; 8]; 4]),
+    };
+    play_side_by_side(rt, &asks, sessions);
+    assert!(rt; *asks.holders.lock(rt) == [[0; 8]; 4]);
 }

@@ -2,15 +2,14 @@
 //! of a session, far more often than threads meet there by themselves.
 
 ghost use Rattle.std.specs.Prelude.{◌≡◌, ◌≤◌, All, IfOk};
-ghost use Rattle.lock_manager.specs.Crews.{KeepManagers};
 ghost use Rattle.shared_rule.specs.Opening.{AreNew};
 
+use super::crews::{Crew, act_all};
 use super::desk::append;
 use super::gates::mixed;
 use super::pair::Pair;
 use super::races::{Race, race_often};
 use super::watched::{Watch, WatchedBoard};
-use super::{asked, crowds, watches};
 use lock_manager::{OwnSession, Part};
 use lock_table::{PartTable, empty_parts};
 use modes_core::SessionId;
@@ -79,30 +78,6 @@ impl Watch for Pauses {
 
     fn after(&self) {
         self.pause();
-    }
-}
-
-/// What more than two sessions do.
-#[derive(Clone, Copy)]
-pub enum Crew {
-    /// One session waits for what another one gives back while a third one asks it to cancel, this number of times.
-    Asked(u32),
-    /// One session lists while three lock and unlock.
-    Watch,
-    /// Sessions, as many as there can be, lock and unlock on one partition.
-    Crowd,
-}
-
-impl Crew {
-    /// How many sessions the crew has.
-    fn sessions(self) -> u16
-        ensures few { result ≤ 64 }
-    {
-        match self {
-            Crew::Asked(_) => 3,
-            Crew::Watch => 4,
-            Crew::Crowd => 64,
-        }
     }
 }
 
@@ -205,40 +180,14 @@ fn close_all<'a, R: Wait>(rt: &R, opener: &mut Opener<Part>, mut sessions: Vec<U
     sessions.destroy_empty();
 }
 
-/// Has `sessions` do what `crew` does.
-fn act<B: Board<Part> + Send, R: Abort + Clock + Threads + Wait + Sync + Print>(
-    rt: &R,
-    sessions: &mut [OwnSession<Part, B>],
-    crew: Crew,
-)
-    ensures own { KeepManagers B.seat sessions.old sessions.new }
-{
-    match crew {
-        Crew::Asked(rounds) => asked::race_three(rt, sessions, rounds),
-        Crew::Watch => watches::list_beside(rt, sessions),
-        Crew::Crowd => crowds::act(rt, sessions, crowds::USUAL),
-    }
-}
-
-/// Has the sessions of the list `sessions` do what `crew` does, and answers the list.
-fn act_all<B: Board<Part> + Send, R: Abort + Clock + Threads + Wait + Sync + Print>(
-    rt: &R,
-    mut sessions: Vec<OwnSession<Part, B>>,
-    crew: Crew,
-) -> Vec<OwnSession<Part, B>>
-    ensures own { KeepManagers B.seat sessions.items result.items }
-{
-    act(rt, sessions.as_mut_slice(), crew);
-    sessions
-}
-
-/// Has as many sessions as `crew` has do what it does at a table of their own, on boards that pause.
+/// Has as many sessions as `crew` has, but no more than 64, do what it does at a table of their own, on boards that
+/// pause.
 pub fn act_with_pauses<R: Abort + Clock + Threads + Wait + Sync + Print>(
     rt: &R,
     alloc: Global,
     crew: Crew,
 ) -> Result<(), Fail> {
-    let number = crew.sessions();
+    let number = crew.sessions().min(64) as u16;
     let (table, mut opener) = open_table(alloc, number)?;
     let sessions = open_all(rt, alloc, &table.shared, &mut opener, number);
     let sessions = act_all(rt, sessions, crew);

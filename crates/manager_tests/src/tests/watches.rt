@@ -2,20 +2,18 @@
 //! hold that was there all the while has a row. Strong requests move holds from slots to the table meanwhile.
 
 ghost use Rattle.std.specs.Prelude.{◌≡◌, ◌<◌};
-ghost use Rattle.lock_manager.specs.Managers.{ManagerView};
-ghost use Rattle.lock_manager.specs.Crews.{AreOf, SeatsAre};
+ghost use Rattle.lock_manager.specs.Crews.{KeepManagers};
 
 use super::answers::{expect_granted, expect_released};
-use super::audits::close_counted;
-use super::desk::open_many;
-use lock_manager::{Desk, Listing, Mode, OwnSession, Owner, Part, SessionId, Tag};
+use super::side_by_side::{Play, play_side_by_side};
+use lock_manager::{Listing, Mode, OwnSession, Owner, Part, SessionId, Tag};
 use lock_table::PartTable;
 use shared_rule::Board;
-use std::alloc::Global;
 use std::process::Abort;
 use std::sync::Wait;
 use std::sync::atomic::{AtomicBool, AtomicU64, Ordering};
-use std::thread::{Threads, for_each_mut};
+use std::thread::Threads;
+use std::time::Clock;
 
 /// How many sessions there are, of which the first one lists.
 pub const SESSIONS: u32 = 4;
@@ -229,66 +227,35 @@ fn hold_often<T: PartTable, B: Board<T>, R: Abort + Wait>(
     }
 }
 
-/// Does what `session` at its place is to do.
-fn play<T: PartTable, B: Board<T>, R: Abort + Wait>(
-    rt: &R,
-    words: &Words,
-    session: &mut OwnSession<T, B>,
-)
-    ensures seat { B.seat session.new.board ≡ B.seat session.old.board }
-{
-    if place_of(session.id()) != 0 {
-        hold_often(rt, words, session);
-        return;
+impl Play for Words {
+    /// Has `session`, where it is the first one, list while it has its relation, and any other hold its relation over
+    /// and over.
+    fn play<T: PartTable, B: Board<T>, R: Abort + Clock + Wait>(
+        &self,
+        rt: &R,
+        session: &mut OwnSession<T, B>,
+    ) {
+        if place_of(session.id()) != 0 {
+            hold_often(rt, self, session);
+            return;
+        }
+        let tag = relation(0);
+        let mode = Mode::AccessShare;
+        let answer = session.acquire(rt, tag, mode, Owner::Session);
+        expect_granted(rt, answer, tag, mode);
+        list_often(rt, self, session);
+        let released = session.unlock(rt, tag, mode, Owner::Session);
+        expect_released(rt, released, tag, mode);
     }
-    let tag = relation(0);
-    let mode = Mode::AccessShare;
-    let answer = session.acquire(rt, tag, mode, Owner::Session);
-    expect_granted(rt, answer, tag, mode);
-    list_often(rt, words, session);
-    let released = session.unlock(rt, tag, mode, Owner::Session);
-    expect_released(rt, released, tag, mode);
-}
-
-/// Has each of `sessions` do its part in a thread of its own.
-fn play_side_by_side<B: Board<Part> + Send, R: Abort + Threads + Wait + Sync>(
-    rt: &R,
-    words: &Words,
-    sessions: &mut [OwnSession<Part, B>],
-)
-    ensures own { (manager : ManagerView) → AreOf B.seat manager sessions.old → AreOf B.seat manager sessions.new }
-{
-    let threads = sessions.len().max(1);
-    for_each_mut(
-        rt,
-        sessions,
-        threads,
-        &|_, session| play(rt, words, session),
-    );
 }
 
 /// Has one of `sessions` list while three others lock and unlock.
-pub fn list_beside<B: Board<Part> + Send, R: Abort + Threads + Wait + Sync>(
+pub fn list_beside<B: Board<Part> + Send, R: Abort + Clock + Threads + Wait + Sync>(
     rt: &R,
     sessions: &mut [OwnSession<Part, B>],
 )
-    ensures own { (manager : ManagerView) → AreOf B.seat manager sessions.old → AreOf B.seat manager sessions.new }
+    ensures own { KeepManagers B.seat sessions.old sessions.new }
 {
     let words = Words::new();
     play_side_by_side(rt, &words, sessions);
-}
-
-/// Has a session of `desk` list while three others lock and unlock.
-pub fn watch_at<
-    B: Board<Part> + Send,
-    D: Desk<OwnSession<Part, B>>,
-    R: Abort + Threads + Wait + Sync,
->(rt: &R, alloc: Global, desk: &mut D)
-    requires seats { SeatsAre B.seat D.seat }
-    ensures manager { D.manager desk.new ≡ D.manager desk.old }
-    ensures live { D.live desk.new ≡ D.live desk.old }
-{
-    let mut sessions = open_many(rt, alloc, desk, SESSIONS);
-    list_beside(rt, sessions.as_mut_slice());
-    close_counted(rt, desk, sessions);
 }

@@ -1,9 +1,9 @@
 use Rattle.std.proofs.Common.{◌≡◌, ◌+◌, length}
 use Rattle.lock_manager.specs.Crews.{AreOf}
-use Rattle.manager_tests.proofs.tests.limits.open_all.Given as goal
+use Rattle.manager_tests.proofs.tests.audits.audit_often.Given as goal
 
-abbrev pub invariant-sessions : goal.invariant-sessions
-invariant-sessions g l = record {
+abbrev pub invariant-places : goal.invariant-places
+invariant-places g l = record {
   manager : g.D.Desk.manager l.desk ≡ g.D.Desk.manager l.fn.desk;
   own : AreOf g.B.Board.seat (g.D.Desk.manager l.fn.desk) l.sessions.items;
   live : g.D.Desk.live l.desk ≡ g.D.Desk.live l.fn.desk + length l.sessions.items;
