@@ -1,2 +1,1 @@
--- What loops that take sessions from a pool, and give them back, keep from one pass to the next.
-mod Pools
+pub mod Lemmas

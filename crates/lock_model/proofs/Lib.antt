@@ -1,7 +1,1 @@
-pub mod CountedLists
-pub mod SleeperLists
-pub mod PlainLists
-pub mod SlotRows
-pub mod HoldOrder
-pub mod Shows
-pub mod Follows
+pub mod Lemmas

@@ -1,7 +1,1 @@
-pub mod Bits
-pub mod WordLemmas
-pub mod FlagLemmas
-pub mod StateLemmas
-pub mod WaitLemmas
-pub mod SharersInPlace
-pub mod SlotLemmas
+pub mod Lemmas

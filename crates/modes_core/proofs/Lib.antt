@@ -1,3 +1,1 @@
-mod Masks
-pub mod Laws
-pub mod Equality
+pub mod Lemmas

@@ -1,5 +1,1 @@
-pub mod ChainLaws
-pub mod IndexLaws
-pub mod LastLaws
-pub mod LinkLaws
-pub mod NoteLaws
+pub mod Lemmas

@@ -1,9 +1,1 @@
-pub mod Deeds
-mod Numbers
-mod Hearing
-mod InTurn
-mod Lent
-mod Lines
-mod Playing
-mod Polling
-mod Printing
+pub mod Lemmas

@@ -1,5 +1,1 @@
-mod MergeLemmas
-mod NextLemmas
-mod StepLemmas
-mod StoryLemmas
-mod TurnLemmas
+pub mod Lemmas

@@ -1,4 +1,1 @@
-pub mod Classes
-pub mod FollowLemmas
-pub mod LockLemmas
-pub mod WordLemmas
+pub mod Lemmas

@@ -10,7 +10,7 @@ use crate::faults::Defect;
 use crate::words::WordKind;
 
 /// The kind of the first word of `rest`, and how many bytes the word has.
-#[tactic(auto, using(crate::proofs::Classes::no_tag))]
+#[tactic(auto, using(crate::proofs::Lemmas::Classes::no_tag))]
 pub fn first_word(rest: &[u8]) -> Result<(WordKind, usize), Defect>
     requires { 0 < length rest.now }
     ensures within { IfOk result (λ found. IsWithin found.1 rest.now) }

@@ -1,2 +1,1 @@
-pub mod BoolSteps
-pub mod LockSteps
+pub mod Lemmas

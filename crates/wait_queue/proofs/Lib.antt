@@ -1,3 +1,1 @@
-pub mod DecideLemmas
-pub mod RemovalLemmas
-pub mod BlockerLemmas
+pub mod Lemmas

@@ -12,7 +12,7 @@ use Rattle.modes_core.specs.declared.sessions.Owner.TheVariants.{Session}
 use Rattle.modes_core.specs.Tag.{method_of}
 use Rattle.local_locks.specs.declared.records.Entry.{Entry}
 use Rattle.local_locks.specs.Owned.{is_of, are_of_same, count_in_all, owner_count_of, total_of, has_entry, lowered, change, entries_but, with_one_less, IsCounted}
-use Rattle.local_locks.proofs.EntryLaws.{same_key-refl, owned-entry, has_entry-some, has_entry-with_one_less}
+use Rattle.local_locks.proofs.Lemmas.Entries.{same_key-refl, owned-entry, has_entry-some, has_entry-with_one_less}
 use Rattle.lock_world.specs.Account.{Account}
 use Rattle.shared_rule.specs.Boards.{Seated}
 use Rattle.shared_rule.specs.Quiet.{Quiet}

@@ -5,7 +5,7 @@ use Rattle.lock_table.specs.Moves.{Moves, FitsOwn, IsInPartition}
 use Rattle.lock_world.specs.Account.{Account}
 use Rattle.lock_world.specs.AccountLaw.{MayMoveBy}
 use Rattle.lock_world.specs.Counted.{IsCountedFor}
-use Rattle.shared_rule.proofs.Episodes.{fresh_hand}
+use Rattle.shared_rule.proofs.Lemmas.Episodes.{fresh_hand}
 
 -- A session may make a move in a partition that it has in hand as it came.
 pub may_make :

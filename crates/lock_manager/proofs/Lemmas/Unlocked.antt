@@ -11,7 +11,7 @@ use Rattle.modes_core.specs.declared.sessions.Owner.TheVariants.{Session}
 use Rattle.modes_core.specs.Tag.{method_of}
 use Rattle.local_locks.specs.declared.records.Entry.{Entry}
 use Rattle.local_locks.specs.Owned.{is_of, are_of_same, count_in_all, total_of, lowered, change, entries_but, IsCounted}
-use Rattle.local_locks.proofs.EntryLaws.{same_key-from, same_key-refl, same_key-comm}
+use Rattle.local_locks.proofs.Lemmas.Entries.{same_key-from, same_key-refl, same_key-comm}
 use Rattle.lock_manager.specs.Advisory.{kept_by_unlock_all, after_unlock_all, is_unlocked, unlocked_by_all, left_by_unlock_all, is_owned_advisory}
 
 -- One count of an advisory lock after another is given back.

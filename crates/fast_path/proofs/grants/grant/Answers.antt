@@ -2,7 +2,7 @@ use Rattle.std.proofs.Common.{◌∙◌, ◌∷◌, ap, sym, subst}
 use Rattle.shared_rule.specs.Boards.{Seated}
 use Rattle.shared_rule.specs.Quiet.{TakesSlots}
 use Rattle.fast_path.specs.Grants.{HasOwnSlots}
-use Rattle.fast_path.proofs.GrantSlots.{has_own_slots}
+use Rattle.fast_path.proofs.Lemmas.GrantSlots.{has_own_slots}
 use Rattle.fast_path.proofs.grants.grant.Goals as goal
 
 pub grant_with_slots-requires-clause-in_hand : goal.grant_with_slots-requires-clause-in_hand

@@ -1,11 +1,11 @@
 use Rattle.std.proofs.Common.{◌≡◌, ◌∙◌, ◌∷◌, ℕ, ◌+◌, ◌<◌, IfNone, ap, subst, arith, rules}
 use Rattle.lock_world.specs.SlotHolds.{most_groups, relation_of}
-use Rattle.lock_world.proofs.Slots.Used.{relation-group}
+use Rattle.lock_world.proofs.Lemmas.Slots.Used.{relation-group}
 use Rattle.shared_rule.specs.Boards.{Seated}
 use Rattle.shared_rule.specs.Quiet.{SetsSlot}
 use Rattle.fast_path.specs.Slots.{IsAllInUse, group_of_tag, count_in, counting, one_more_in}
-use Rattle.fast_path.proofs.GrantSlots.{some-unused}
-use Rattle.fast_path.proofs.Granting.{looked-enough, looked-sights, may_put-granted, done-its, done-unused}
+use Rattle.fast_path.proofs.Lemmas.GrantSlots.{some-unused}
+use Rattle.fast_path.proofs.Lemmas.Grants.{looked-enough, looked-sights, may_put-granted, done-its, done-unused}
 use Rattle.fast_path.proofs.grants.grant_with_slots.Goals as goal
 
 pub returns-then-load_strong-ne0-clause-quiet : goal.returns-then-load_strong-ne0-clause-quiet

@@ -4,7 +4,7 @@ use Rattle.lock_world.specs.World.{Loaded}
 use Rattle.lock_world.specs.AccountSteps.{account_tracing}
 use Rattle.shared_rule.specs.Boards.{Seated}
 use Rattle.fast_path.specs.Grants.{HasOwnSlots}
-use Rattle.fast_path.proofs.GrantSlots.{has_own_slots}
+use Rattle.fast_path.proofs.Lemmas.GrantSlots.{has_own_slots}
 use Rattle.fast_path.proofs.grants.try_grant.Goals as goal
 
 pub grant_with_slots-requires-clause-in_hand : goal.grant_with_slots-requires-clause-in_hand

@@ -3,8 +3,8 @@ use Rattle.lock_table.specs.declared.no_memory.NoMemory.{NoMemory}
 use Rattle.shared_rule.specs.History.{slots_here}
 use Rattle.lock_table.specs.declared.rows.SlotRow.{SlotRow}
 use Rattle.fast_path.specs.Rows.{rows_of_slot, rows_below, BeginsWith}
-use Rattle.fast_path.proofs.Loading.{loading-begun, loading-next, loading-shows_shared}
-use Rattle.fast_path.proofs.SlotRows.{rows_below-start, listed-next, listed-same, listed-out, behind-more}
+use Rattle.fast_path.proofs.Lemmas.Loads.{loading-begun, loading-next, loading-shows_shared}
+use Rattle.fast_path.proofs.Lemmas.SlotRows.{rows_below-start, listed-next, listed-same, listed-out, behind-more}
 use Rattle.fast_path.proofs.listing.append_slots.Goals as goal
 use Rattle.fast_path.proofs.listing.append_slots.Goals.{then-is_ok, else-is_ok}
 

@@ -1,7 +1,7 @@
 use Rattle.std.proofs.Common.{◌∙◌, ◌*◌, ℕ, sym, ap, rules}
 use Rattle.shared_rule.specs.Boards.{Seated}
-use Rattle.fast_path.proofs.Reading.{reads, slots-shared, may_unshare}
-use Rattle.fast_path.proofs.SlotRows.{lists-session}
+use Rattle.fast_path.proofs.Lemmas.Reads.{reads, slots-shared, may_unshare}
+use Rattle.fast_path.proofs.Lemmas.SlotRows.{lists-session}
 use Rattle.fast_path.proofs.listing.session_rows.Goals as goal
 
 pub append_slots-listed-requires : goal.append_slots-listed-requires

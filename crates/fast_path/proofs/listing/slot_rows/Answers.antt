@@ -1,9 +1,9 @@
 use Rattle.std.proofs.Common.{◌≡◌, ◌∙◌, ◌+◌, ℕ, Ok, Err, refl, subst, arith}
 use Rattle.std.specs.Prelude.{IfSome}
 use Rattle.shared_rule.specs.Boards.{Seated}
-use Rattle.fast_path.proofs.Quiet.{sharing-next}
+use Rattle.fast_path.proofs.Lemmas.Quiet.{sharing-next}
 use Rattle.fast_path.specs.Rows.{ListsSession, rows_of_all}
-use Rattle.fast_path.proofs.SlotRows.{listing-begun, listing-next, listing-stops, behind-more, behind-cut}
+use Rattle.fast_path.proofs.Lemmas.SlotRows.{listing-begun, listing-next, listing-stops, behind-more, behind-cut}
 use Rattle.fast_path.proofs.listing.slot_rows.Goals as goal
 
 pub loop-number-init : goal.loop-number-init

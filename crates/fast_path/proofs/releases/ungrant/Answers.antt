@@ -5,10 +5,10 @@ use Rattle.lock_world.specs.SlotHolds.{group_of_relation, slot_holds, used_in}
 use Rattle.shared_rule.specs.Boards.{Seated}
 use Rattle.shared_rule.specs.Quiet.{TakesSlots}
 use Rattle.fast_path.specs.Quiet.{quiet_ungranting}
-use Rattle.fast_path.proofs.Quiet.{quiet-some}
+use Rattle.fast_path.proofs.Lemmas.Quiet.{quiet-some}
 use Rattle.fast_path.specs.Slots.{group_of_tag, count_in}
-use Rattle.fast_path.proofs.Releasing.{none-used, no-its, no-mode, some-used, may_put-cleared, clears, finds_none}
-use Rattle.fast_path.proofs.Releasing.{recounted-kept, recounted-less}
+use Rattle.fast_path.proofs.Lemmas.Releases.{none-used, no-its, no-mode, some-used, may_put-cleared, clears, finds_none}
+use Rattle.fast_path.proofs.Lemmas.Releases.{recounted-kept, recounted-less}
 use Rattle.fast_path.proofs.releases.ungrant.Goals as goal
 use Rattle.fast_path.proofs.releases.ungrant.Goals.{then-in_use, else-in_use, in-Some+else-has, in_default}
 

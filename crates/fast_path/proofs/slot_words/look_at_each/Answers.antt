@@ -1,8 +1,8 @@
 use Rattle.std.proofs.Common.{◌≡◌, ◌∙◌, ℕ, ◌+◌, refl, sym, subst, arith, rules}
 use Rattle.lock_world.specs.SlotHolds.{group_size, place_in_group}
 use Rattle.shared_rule.specs.History.{slots_here}
-use Rattle.fast_path.proofs.Loading.{loading-begun, loading-next, loading-shows}
-use Rattle.fast_path.proofs.Looking.{SightsBelow, sights-none, sights-its, sights-other, sights-unused, sights-same, sights-all}
+use Rattle.fast_path.proofs.Lemmas.Loads.{loading-begun, loading-next, loading-shows}
+use Rattle.fast_path.proofs.Lemmas.Sights.{SightsBelow, sights-none, sights-its, sights-other, sights-unused, sights-same, sights-all}
 use Rattle.fast_path.proofs.slot_words.look_at_each.Goals as goal
 use Rattle.fast_path.proofs.slot_words.look_at_each.Goals.{then-in_use+then-relation, then-in_use+else-relation}
 use Rattle.fast_path.proofs.slot_words.look_at_each.Goals.{else-in_use}

@@ -2,7 +2,7 @@ use Rattle.std.proofs.Common.{◌≡◌, ◌≤◌}
 use Rattle.lock_world.specs.SlotHolds.{place_in_group}
 use Rattle.shared_rule.specs.History.{slots_here}
 use Rattle.fast_path.specs.Slots.{account_loading}
-use Rattle.fast_path.proofs.Looking.{SightsBelow}
+use Rattle.fast_path.proofs.Lemmas.Sights.{SightsBelow}
 use Rattle.fast_path.proofs.slot_words.look_at_each.Given as goal
 
 abbrev pub invariant-loop-index : goal.invariant-loop-index

@@ -3,9 +3,9 @@ use Rattle.std.specs.Prelude.{not}
 use Rattle.lock_world.specs.SlotHolds.{group_size, used_in}
 use Rattle.shared_rule.specs.History.{slots_here}
 use Rattle.fast_path.specs.Slots.{slot_from_top, account_loading}
-use Rattle.fast_path.proofs.Loading.{loading-begun, loading-next, loading-shows}
-use Rattle.fast_path.proofs.LookingFromTop.{SeesFromTop, sees-none, sees-same, sees-other, sees-first, sees-later}
-use Rattle.fast_path.proofs.LookingFromTop.{found-its, found-unused, found-end}
+use Rattle.fast_path.proofs.Lemmas.Loads.{loading-begun, loading-next, loading-shows}
+use Rattle.fast_path.proofs.Lemmas.SightsForGrant.{SeesFromTop, sees-none, sees-same, sees-other, sees-first, sees-later}
+use Rattle.fast_path.proofs.Lemmas.SightsForGrant.{found-its, found-unused, found-end}
 use Rattle.fast_path.proofs.slot_words.look_from_top.Goals as goal
 use Rattle.fast_path.proofs.slot_words.look_from_top.Goals.{then-in_use+else-relation, else-in_use+else-used_count-use_count}
 use Rattle.fast_path.proofs.slot_words.look_from_top.Goals.{then-is_none, else-is_none}

@@ -1,7 +1,7 @@
 use Rattle.std.proofs.Common.{◌≡◌, ◌≤◌}
 use Rattle.shared_rule.specs.History.{slots_here}
 use Rattle.fast_path.specs.Slots.{slot_from_top, account_loading}
-use Rattle.fast_path.proofs.LookingFromTop.{SeesFromTop}
+use Rattle.fast_path.proofs.Lemmas.SightsForGrant.{SeesFromTop}
 use Rattle.fast_path.proofs.slot_words.look_from_top.Given as goal
 
 abbrev pub invariant-loop-step : goal.invariant-loop-step

@@ -1,4 +1,4 @@
-use Rattle.fast_path.proofs.Adopting.{has-both, may_put-moved, adopts-moved}
+use Rattle.fast_path.proofs.Lemmas.Adopts.{has-both, may_put-moved, adopts-moved}
 use Rattle.fast_path.proofs.transfers.adopt.Goals as goal
 
 pub move_modes-moved-requires-clause-in_hand : goal.move_modes-moved-requires-clause-in_hand

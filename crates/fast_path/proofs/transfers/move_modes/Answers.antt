@@ -4,9 +4,9 @@ use Rattle.lock_world.specs.SlotHolds.{group_size}
 use Rattle.shared_rule.specs.Boards.{Seated}
 use Rattle.lock_table.specs.Content.{add_hold}
 use Rattle.fast_path.specs.Turns.{MovesSome}
-use Rattle.fast_path.proofs.Showing.{weak_mode-exists}
-use Rattle.fast_path.proofs.Moving.{moving-begun, moving-skips, not_there-yet, not_awaited-yet, moving-stops}
-use Rattle.fast_path.proofs.Moving.{may_transfer, moving-next, moving-same}
+use Rattle.fast_path.proofs.Lemmas.Shows.{weak_mode-exists}
+use Rattle.fast_path.proofs.Lemmas.Moves.{moving-begun, moving-skips, not_there-yet, not_awaited-yet, moving-stops}
+use Rattle.fast_path.proofs.Lemmas.Moves.{may_transfer, moving-next, moving-same}
 use Rattle.fast_path.proofs.transfers.move_modes.Goals as goal
 use Rattle.fast_path.proofs.transfers.move_modes.Goals.{then-has+else-is_err, else-has}
 

@@ -1,5 +1,5 @@
 use Rattle.std.proofs.Common.{◌≡◌, None}
-use Rattle.fast_path.proofs.Moving.{IsMoving}
+use Rattle.fast_path.proofs.Lemmas.Moves.{IsMoving}
 use Rattle.fast_path.proofs.transfers.move_modes.Given as goal
 
 abbrev pub invariant-loop-number : goal.invariant-loop-number

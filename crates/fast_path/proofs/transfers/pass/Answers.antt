@@ -1,5 +1,5 @@
 use Rattle.std.proofs.Common.{◌∙◌, sym}
-use Rattle.fast_path.proofs.Passing.{looks, may_pass-elsewhere}
+use Rattle.fast_path.proofs.Lemmas.Turns.{looks, may_pass-elsewhere}
 use Rattle.fast_path.proofs.transfers.pass.Goals as goal
 
 pub pass_fast-requires-clause-lawful : goal.pass_fast-requires-clause-lawful

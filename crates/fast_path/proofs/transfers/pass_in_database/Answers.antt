@@ -4,9 +4,9 @@ use Rattle.lock_world.specs.SlotHolds.{group_size, group_of_relation}
 use Rattle.shared_rule.specs.Boards.{Seated}
 use Rattle.shared_rule.specs.History.{slots_here}
 use Rattle.fast_path.specs.Slots.{IsSeenOf}
-use Rattle.fast_path.proofs.Looking.{slot-below}
-use Rattle.fast_path.proofs.Passing.{next-before, finds, relation-found, group-found, may_pass-nothing, may_pass-adopted}
-use Rattle.fast_path.proofs.Passing.{passes-nothing, passes-adopting, stops-adopting}
+use Rattle.fast_path.proofs.Lemmas.Sights.{slot-below}
+use Rattle.fast_path.proofs.Lemmas.Turns.{next-before, finds, relation-found, group-found, may_pass-nothing, may_pass-adopted}
+use Rattle.fast_path.proofs.Lemmas.Turns.{passes-nothing, passes-adopting, stops-adopting}
 use Rattle.fast_path.proofs.transfers.pass_in_database.Goals as goal
 
 pub adopt-requires-clause-there : goal.adopt-requires-clause-there

@@ -2,9 +2,9 @@ use Rattle.std.proofs.Common.{◌≡◌, ◌∙◌, ◌+◌, ◌∷◌, ℕ, sub
 use Rattle.std.specs.Prelude.{IfSome}
 use Rattle.shared_rule.specs.Boards.{Seated}
 use Rattle.shared_rule.specs.Quiet.{CountsStrong}
-use Rattle.fast_path.proofs.Quiet.{turns-next}
+use Rattle.fast_path.proofs.Lemmas.Quiet.{turns-next}
 use Rattle.fast_path.specs.Transfers.{Passes, StopsAt}
-use Rattle.fast_path.proofs.Transferring.{transfer-next, transfer-stops}
+use Rattle.fast_path.proofs.Lemmas.Transfers.{transfer-next, transfer-stops}
 use Rattle.fast_path.proofs.transfers.transfer.Goals as goal
 
 pub loop-number-preserved : goal.loop-number-preserved

@@ -2,9 +2,9 @@ use Rattle.std.proofs.Common.{◌<◌, sym, ap, ◌∙◌, length, arith}
 use Rattle.std.proofs.lemmas.List.{get_or_default}
 use Rattle.local_locks.specs.Owned.{is_of}
 use Rattle.local_locks.specs.Slots.{opened}
-use Rattle.local_locks.proofs.IndexLaws.{noted_within}
-use Rattle.local_locks.proofs.OpenLaws.{length-opened}
-use Rattle.local_locks.proofs.LookLaws.{missing_of}
+use Rattle.local_locks.proofs.Lemmas.Indexes.{noted_within}
+use Rattle.local_locks.proofs.Lemmas.OpenSlots.{length-opened}
+use Rattle.local_locks.proofs.Lemmas.Looks.{missing_of}
 use Rattle.local_locks.proofs.looks.glance_at.Goals as goal
 
 pub bounds-slots-place : goal.bounds-slots-place

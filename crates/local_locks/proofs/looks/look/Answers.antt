@@ -2,8 +2,8 @@ use Rattle.std.proofs.Common.{◌≢◌, sym, ap, ◌∙◌}
 use Rattle.std.proofs.lemmas.List.{get_or_default}
 use Rattle.local_locks.specs.Owned.{is_of, count_in_all}
 use Rattle.local_locks.specs.Slots.{entry_at}
-use Rattle.local_locks.proofs.OpenLaws.{slot_at-opened, entry_in-held}
-use Rattle.local_locks.proofs.LookLaws.{place_of}
+use Rattle.local_locks.proofs.Lemmas.OpenSlots.{slot_at-opened, entry_in-held}
+use Rattle.local_locks.proofs.Lemmas.Looks.{place_of}
 use Rattle.local_locks.proofs.looks.look.Goals as goal
 
 pub returns-then-is_held : goal.returns-then-is_held

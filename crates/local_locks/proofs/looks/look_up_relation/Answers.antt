@@ -1,9 +1,9 @@
 use Rattle.std.proofs.Common.{◌<◌, sym, ap, ◌∙◌, length, of_calls, arith}
 use Rattle.modes_core.specs.declared.tags.Tag.TheVariants.{Relation}
 use Rattle.local_locks.specs.Slots.{opened, entry_at, is_held_as, hash_of}
-use Rattle.local_locks.proofs.IndexLaws.{noted_within}
-use Rattle.local_locks.proofs.OpenLaws.{length-opened, slot_at-opened, entry_in-held}
-use Rattle.local_locks.proofs.LookLaws.{place_of, missing_of, held_parts}
+use Rattle.local_locks.proofs.Lemmas.Indexes.{noted_within}
+use Rattle.local_locks.proofs.Lemmas.OpenSlots.{length-opened, slot_at-opened, entry_in-held}
+use Rattle.local_locks.proofs.Lemmas.Looks.{place_of, missing_of, held_parts}
 use Rattle.local_locks.proofs.looks.look_up_relation.Goals as goal
 
 pub find-requires : goal.find-requires

@@ -3,8 +3,8 @@ use Rattle.std.specs.List.{IsDistinct}
 use Rattle.local_locks.specs.declared.records.Entry.{Entry}
 use Rattle.local_locks.specs.Owned.{are_of_same}
 use Rattle.local_locks.specs.Slots.{IsOnce, opened}
-use Rattle.local_locks.proofs.IndexLaws.{noted_many}
-use Rattle.local_locks.proofs.KeptLaws.{distinct_of, once_of}
+use Rattle.local_locks.proofs.Lemmas.Indexes.{noted_many}
+use Rattle.local_locks.proofs.Lemmas.Kept.{distinct_of, once_of}
 use Rattle.local_locks.proofs.slots.compact.Goals as goal
 
 pub note_all-requires-clause-once : goal.note_all-requires-clause-once

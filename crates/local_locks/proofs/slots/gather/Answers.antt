@@ -5,11 +5,11 @@ use Rattle.std.proofs.lemmas.List.{length-take, get_or_default}
 use Rattle.local_locks.specs.declared.records.Entry.{Entry}
 use Rattle.local_locks.specs.Owned.{count_in_all}
 use Rattle.local_locks.specs.Slots.{Slots, opened, slot_at, present, entry_at, entry_in}
-use Rattle.local_locks.proofs.SlotLaws.{present-take, slot_at-take, slot_at-past, length-full, length-present-le, and_some}
-use Rattle.local_locks.proofs.OpenLaws.{length-opened, opened-take, opened_some, slot_at-opened, entry_in-empty, entry_in-held}
+use Rattle.local_locks.proofs.Lemmas.Slots.{present-take, slot_at-take, slot_at-past, length-full, length-present-le, and_some}
+use Rattle.local_locks.proofs.Lemmas.OpenSlots.{length-opened, opened-take, opened_some, slot_at-opened, entry_in-empty, entry_in-held}
 use Rattle.local_locks.specs.Levels.{Rows, row_at, had, told, AreMoved}
-use Rattle.local_locks.proofs.LevelLaws.{had-alike}
-use Rattle.local_locks.proofs.RowLaws.{moved-on, moved-down}
+use Rattle.local_locks.proofs.Lemmas.Levels.{had-alike}
+use Rattle.local_locks.proofs.Lemmas.Rows.{moved-on, moved-down}
 use Rattle.local_locks.proofs.slots.gather.Goals as goal
 use Rattle.local_locks.proofs.slots.gather.Goals.{then-is_held, else-is_held}
 

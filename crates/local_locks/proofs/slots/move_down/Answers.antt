@@ -2,10 +2,10 @@ use Rattle.std.proofs.Common.{◌≡◌, ◌≢◌, ◌<◌, Some, None, length,
 use Rattle.std.proofs.lemmas.Bool.{cases_eq}
 use Rattle.std.proofs.lemmas.List.{length-set}
 use Rattle.local_locks.specs.Slots.{Slots, opened, slot_at, present, entry_in}
-use Rattle.local_locks.proofs.SlotLaws.{present-move, slot_at-set, slot_at-set_other, slot_at-within}
-use Rattle.local_locks.proofs.OpenLaws.{opened-set, opened_some, entry_in-held}
+use Rattle.local_locks.proofs.Lemmas.Slots.{present-move, slot_at-set, slot_at-set_other, slot_at-within}
+use Rattle.local_locks.proofs.Lemmas.OpenSlots.{opened-set, opened_some, entry_in-held}
 use Rattle.local_locks.specs.Levels.{had}
-use Rattle.local_locks.proofs.RowLaws.{had-move}
+use Rattle.local_locks.proofs.Lemmas.Rows.{had-move}
 use Rattle.local_locks.proofs.slots.move_down.Goals as goal
 
 -- the slots after the move

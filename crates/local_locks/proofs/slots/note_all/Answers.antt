@@ -2,8 +2,8 @@ use Rattle.std.proofs.Common.{◌<◌, length, refl, ap, ◌∙◌, inl, inr, ar
 use Rattle.std.proofs.lemmas.Bool.{cases_lt}
 use Rattle.std.proofs.lemmas.List.{get_or_default, length-take}
 use Rattle.local_locks.specs.Slots.{opened, key_hash}
-use Rattle.local_locks.proofs.IndexLaws.{indexed-nil}
-use Rattle.local_locks.proofs.SlotSteps.{noted-next}
+use Rattle.local_locks.proofs.Lemmas.Indexes.{indexed-nil}
+use Rattle.local_locks.proofs.Lemmas.SlotSteps.{noted-next}
 use Rattle.local_locks.proofs.slots.note_all.Goals as goal
 
 pub insert_last-requires-clause-last : goal.insert_last-requires-clause-last

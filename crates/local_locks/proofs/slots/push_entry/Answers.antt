@@ -1,7 +1,7 @@
 use Rattle.std.proofs.Common.{◌≡◌, ◌++◌, ◌∷◌, [], sym, ap, ◌∙◌, subst, length, arith}
 use Rattle.local_locks.specs.Slots.{Slots, IsIndexed, opened}
-use Rattle.local_locks.proofs.IndexLaws.{noted_within, pushed-indexed}
-use Rattle.local_locks.proofs.OpenLaws.{length-opened, opened-push, entry_in-held}
+use Rattle.local_locks.proofs.Lemmas.Indexes.{noted_within, pushed-indexed}
+use Rattle.local_locks.proofs.Lemmas.OpenSlots.{length-opened, opened-push, entry_in-held}
 use Rattle.local_locks.proofs.slots.push_entry.Goals as goal
 
 pub returns-clause-indexed : goal.returns-clause-indexed

@@ -2,7 +2,7 @@ use Rattle.std.proofs.Common.{ap, ◌∙◌}
 use Rattle.std.proofs.lemmas.List.{get_or_default}
 use Rattle.local_locks.specs.Owned.{raised}
 use Rattle.local_locks.specs.Slots.{entry_at}
-use Rattle.local_locks.proofs.OpenLaws.{opened-held, raised-held}
+use Rattle.local_locks.proofs.Lemmas.OpenSlots.{opened-held, raised-held}
 use Rattle.local_locks.proofs.slots.raise.Goals as goal
 
 pub returns-clause-slots : goal.returns-clause-slots

@@ -4,7 +4,7 @@ use Rattle.std.proofs.lemmas.Bool.{false≢true, ne_eqb, cases_eq}
 use Rattle.local_locks.specs.declared.records.Entry.{Entry}
 use Rattle.local_locks.specs.Owned.{count_in_all, after_end}
 use Rattle.local_locks.specs.Slots.{entry_at}
-use Rattle.local_locks.proofs.OpenLaws.{Settled, settled-empty, settled-left, slot_at-opened, entry_in-held, entry_in-empty}
+use Rattle.local_locks.proofs.Lemmas.OpenSlots.{Settled, settled-empty, settled-left, slot_at-opened, entry_in-held, entry_in-empty}
 use Rattle.local_locks.proofs.slots.settle.Goals as goal
 use Rattle.local_locks.proofs.slots.settle.Goals.{then-is_held+else-total-eq0, else-is_held}
 

@@ -1,4 +1,4 @@
-use Rattle.local_locks.proofs.OpenLaws.{Settled}
+use Rattle.local_locks.proofs.Lemmas.OpenSlots.{Settled}
 use Rattle.local_locks.proofs.slots.settle.Given as goal
 
 abbrev pub invariant-loop-place : goal.invariant-loop-place

@@ -5,7 +5,7 @@ use Rattle.local_locks.specs.declared.records.Entry.{Entry}
 use Rattle.local_locks.specs.Owned.{count_in_all}
 use Rattle.local_locks.specs.Slots.{entry_at}
 use Rattle.local_locks.specs.Levels.{Rows, row_at, had_in, without_level}
-use Rattle.local_locks.proofs.RowLaws.{Goes_on, goes_on-start, goes_on-next, goes_on-ended}
+use Rattle.local_locks.proofs.Lemmas.Rows.{Goes_on, goes_on-start, goes_on-next, goes_on-ended}
 use Rattle.local_locks.proofs.slots.settle_inner.Goals as goal
 use Rattle.local_locks.proofs.slots.settle_inner.Goals.{else-is_held-via-then-is_held+else-total-eq0, else-is_held-via-else-is_held}
 

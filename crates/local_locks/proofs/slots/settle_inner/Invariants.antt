@@ -1,5 +1,5 @@
 use Rattle.std.proofs.Common.{◌≡◌, ◌-◌, length, vec_capacity}
-use Rattle.local_locks.proofs.RowLaws.{Goes_on}
+use Rattle.local_locks.proofs.Lemmas.Rows.{Goes_on}
 use Rattle.local_locks.proofs.slots.settle_inner.Given as goal
 
 abbrev pub invariant-loop-place : goal.invariant-loop-place

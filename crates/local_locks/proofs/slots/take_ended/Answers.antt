@@ -3,9 +3,9 @@ use Rattle.std.specs.Option.{option_map}
 use Rattle.std.proofs.lemmas.List.{get_or_default, length-set}
 use Rattle.local_locks.specs.declared.records.Entry.{Entry}
 use Rattle.local_locks.specs.Slots.{Slots, opened, slot_at, present, entry_at, entry_in, key_hash}
-use Rattle.local_locks.proofs.IndexLaws.{indexed-left}
-use Rattle.local_locks.proofs.OpenLaws.{opened-set, opened_some}
-use Rattle.local_locks.proofs.SlotSteps.{taken-out}
+use Rattle.local_locks.proofs.Lemmas.Indexes.{indexed-left}
+use Rattle.local_locks.proofs.Lemmas.OpenSlots.{opened-set, opened_some}
+use Rattle.local_locks.proofs.Lemmas.SlotSteps.{taken-out}
 use Rattle.local_locks.proofs.slots.take_ended.Goals as goal
 
 -- the slots with this one emptied

@@ -2,9 +2,9 @@ use Rattle.std.proofs.Common.{ℕ, None, length, refl, sym, ap, ◌∙◌, inl, 
 use Rattle.std.proofs.lemmas.Bool.{cases_lt}
 use Rattle.std.proofs.lemmas.List.{take-set-le}
 use Rattle.local_locks.specs.Slots.{IsCut, IsIndexed, IsTakenOut, opened, entry_at, key_hash}
-use Rattle.local_locks.proofs.IndexLaws.{noted_some}
-use Rattle.local_locks.proofs.OpenLaws.{length-opened, opened-take}
-use Rattle.local_locks.proofs.SlotSteps.{leaves}
+use Rattle.local_locks.proofs.Lemmas.Indexes.{noted_some}
+use Rattle.local_locks.proofs.Lemmas.OpenSlots.{length-opened, opened-take}
+use Rattle.local_locks.proofs.Lemmas.SlotSteps.{leaves}
 use Rattle.local_locks.proofs.slots.take_last.Goals as goal
 
 -- the hash that the place is noted under

@@ -1,8 +1,8 @@
 use Rattle.std.proofs.Common.{take, set, sym, ap, subst, ◌∙◌}
 use Rattle.local_locks.specs.Slots.{IsCut, IsIndexed, IsTakenOut, opened, entry_in, entry_at}
-use Rattle.local_locks.proofs.IndexLaws.{noted_some}
-use Rattle.local_locks.proofs.OpenLaws.{length-opened, opened-set, opened-take}
-use Rattle.local_locks.proofs.SlotSteps.{leaves}
+use Rattle.local_locks.proofs.Lemmas.Indexes.{noted_some}
+use Rattle.local_locks.proofs.Lemmas.OpenSlots.{length-opened, opened-set, opened-take}
+use Rattle.local_locks.proofs.Lemmas.SlotSteps.{leaves}
 use Rattle.local_locks.proofs.slots.take_out.Goals as goal
 
 pub remove-requires : goal.remove-requires

@@ -1,5 +1,5 @@
 use Rattle.lock_manager.specs.Crews.{AreOf}
-use Rattle.lock_example.proofs.Pools.{AllAreBack}
+use Rattle.lock_example.proofs.Lemmas.Pools.{AllAreBack}
 use Rattle.lock_example.proofs.rush.come_and_go.Given as goal
 
 abbrev pub invariant-connections : goal.invariant-connections

@@ -1,6 +1,6 @@
 use Rattle.std.specs.Prelude.{vec_len}
 use Rattle.lock_manager.specs.Crews.{AreOf}
-use Rattle.lock_example.proofs.Pools.{StaffHasOthers}
+use Rattle.lock_example.proofs.Lemmas.Pools.{StaffHasOthers}
 use Rattle.lock_example.proofs.shifts.dismiss.Given as goal
 
 abbrev pub invariant-staff : goal.invariant-staff

@@ -1,5 +1,5 @@
 use Rattle.lock_manager.specs.Crews.{AreOf}
-use Rattle.lock_example.proofs.Pools.{StaffHasOthers}
+use Rattle.lock_example.proofs.Lemmas.Pools.{StaffHasOthers}
 use Rattle.lock_example.proofs.shifts.hire.Given as goal
 
 abbrev pub invariant-staff : goal.invariant-staff

@@ -8,11 +8,11 @@ use Rattle.modes_core.specs.declared.modes.Mode.{Mode}
 use Rattle.modes_core.specs.declared.tags.Tag.{Tag}
 use Rattle.modes_core.specs.Mode.{mode_eq}
 use Rattle.modes_core.specs.Tag.{tag_eq, is_strong_on}
-use Rattle.modes_core.proofs.Laws.{mode_eq-refl, mode_eq-same, tag_eq-refl, tag_eq-same}
+use Rattle.modes_core.proofs.Lemmas.Conflicts.{mode_eq-refl, mode_eq-same, tag_eq-refl, tag_eq-same}
 use Rattle.local_locks.specs.declared.records.Entry.{Entry}
 use Rattle.local_locks.specs.Owned.{is_of, has_entry, are_of_same}
 use Rattle.fast_path.specs.declared.use_counts.UseCounts.{UseCounts}
-use Rattle.lock_table.proofs.HoldLists.{count_by-cons}
+use Rattle.lock_table.proofs.Lemmas.HoldLists.{count_by-cons}
 use Rattle.lock_world.specs.Account.{Account}
 use Rattle.lock_world.specs.Tallies.{Held, AreSoMany, is_this}
 use Rattle.shared_rule.specs.Boards.{Seated, Stack}

@@ -19,18 +19,18 @@ use Rattle.lock_world.specs.AccountSteps.{account_taking}
 use Rattle.lock_world.specs.Happens.{last_of}
 use Rattle.lock_world.specs.SlotHolds.{slot_holds, relation_of, OneSlotEach, InUseHasDatabase}
 use Rattle.lock_world.specs.World.{TraceEntry, Loaded, Took, Episode}
-use Rattle.lock_world.proofs.Slots.Eligible.{eligible-is}
-use Rattle.lock_world.proofs.Slots.Remembered.{slot_holds-fewer}
-use Rattle.lock_world.proofs.Unmissed.{seen-or-taken}
+use Rattle.lock_world.proofs.Lemmas.Slots.Eligible.{eligible-is}
+use Rattle.lock_world.proofs.Lemmas.Slots.Remembered.{slot_holds-fewer}
+use Rattle.lock_world.proofs.Lemmas.Unmissed.{seen-or-taken}
 use Rattle.shared_rule.specs.Boards.{Stack, stack_taking}
 use Rattle.fast_path.specs.Rows.{rows_of_all, loads_of_all, times_shown, ReadsSlots}
-use Rattle.fast_path.proofs.LoadsAt.{LoadsAt, loads-at}
-use Rattle.fast_path.proofs.Times.{times-all, times-some}
+use Rattle.fast_path.proofs.Lemmas.LoadsAt.{LoadsAt, loads-at}
+use Rattle.fast_path.proofs.Lemmas.Times.{times-all, times-some}
 use Rattle.lock_manager.specs.declared.listing.Listing.{Listing}
 use Rattle.lock_table.specs.WholeContent.{content_at}
 use Rattle.lock_manager.specs.Listings.{listing_steps, IsOfCaller, AreOfCaller, times_in_table, times_listed}
 use Rattle.lock_manager.specs.Listings.{LeftItsSlot, ListsOwn, MissesNone}
-use Rattle.lock_table.proofs.PartitionRows.{waits-foreign}
+use Rattle.lock_table.proofs.Lemmas.PartitionRows.{waits-foreign}
 
 -- A partition that was taken is the one taken last of those in hand, once those taken after it are put.
 pub taken-last :

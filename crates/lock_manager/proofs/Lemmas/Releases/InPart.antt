@@ -19,7 +19,7 @@ use Rattle.shared_rule.specs.Waiters.{WaitsExist}
 use Rattle.shared_rule.specs.Lawful.{MayPutPart}
 use Rattle.shared_rule.specs.History.{taken_of}
 use Rattle.shared_rule.specs.Episodes.{account_episode}
-use Rattle.shared_rule.proofs.Episodes.{fresh_hand, taken-in_hand, taken-put}
+use Rattle.shared_rule.proofs.Lemmas.Episodes.{fresh_hand, taken-in_hand, taken-put}
 use Rattle.fast_path.specs.declared.use_counts.UseCounts.{UseCounts}
 use Rattle.lock_manager.specs.Releases.{Wakens, Tells, ReleasesInPart, ReleasesHold, LooksNowhere, FindsNone, Releases, account_released}
 use Rattle.lock_manager.proofs.Lemmas.Moves.{may_make}

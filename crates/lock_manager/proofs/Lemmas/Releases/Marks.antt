@@ -8,8 +8,8 @@ use Rattle.std.proofs.lemmas.List.{take-append-drop, drop_more, drop_all}
 use Rattle.modes_core.specs.declared.modes.Mode.{Mode}
 use Rattle.modes_core.specs.declared.tags.Tag.{Tag}
 use Rattle.modes_core.specs.Tag.{tag_eq}
-use Rattle.modes_core.proofs.Laws.{tag_eq-refl}
-use Rattle.local_locks.proofs.EntryLaws.{same_key}
+use Rattle.modes_core.proofs.Lemmas.Conflicts.{tag_eq-refl}
+use Rattle.local_locks.proofs.Lemmas.Entries.{same_key}
 use Rattle.lock_table.specs.declared.moves.Move.{Move}
 use Rattle.lock_table.specs.declared.moves.Move.TheVariants.{Keep, Grant, Join, Release, Leave, Adopt}
 use Rattle.lock_table.specs.Content.{Wait, Content, remove_hold}
@@ -17,17 +17,17 @@ use Rattle.lock_table.specs.Queue.{IsSplitOf, Wakes, waits_there, remove_wait, q
 use Rattle.lock_table.specs.Moves.{Moves}
 use Rattle.lock_table.specs.Put.{set_at}
 use Rattle.lock_table.specs.Waiter.{whose_and_mode}
-use Rattle.lock_table.proofs.HoldLists.{count_by-cons, count_by-append, count_by-filter}
-use Rattle.lock_table.proofs.ListLemmas.{any-counted, counted-any}
-use Rattle.lock_table.proofs.ListingLemmas.{count_by-map}
-use Rattle.lock_table.proofs.PutLemmas.{put_here, set_at-here, set_at-twice}
-use Rattle.lock_table.proofs.QueueLaws.{wakes-split}
+use Rattle.lock_table.proofs.Lemmas.HoldLists.{count_by-cons, count_by-append, count_by-filter}
+use Rattle.lock_table.proofs.Lemmas.Lists.{any-counted, counted-any}
+use Rattle.lock_table.proofs.Lemmas.Listing.{count_by-map}
+use Rattle.lock_table.proofs.Lemmas.Put.{put_here, set_at-here, set_at-twice}
+use Rattle.lock_table.proofs.Lemmas.QueueLaws.{wakes-split}
 use Rattle.lock_world.specs.Account.{Account, InHand}
 use Rattle.lock_world.specs.AccountSteps.{account_marking, account_putting, hand_recording, own_moved, own_with}
 use Rattle.lock_world.specs.AccountLaw.{MayMoveBy, MayMarkNextBy, MayPutRecordedBy}
 use Rattle.lock_world.specs.Happens.Partitions.{WaitIsOver}
 use Rattle.lock_world.specs.Happens.Waits.{unmarked_but}
-use Rattle.lock_world.proofs.Counters.Lists.{any-map}
+use Rattle.lock_world.proofs.Lemmas.Counters.Lists.{any-map}
 use Rattle.shared_rule.specs.Boards.{Seated}
 use Rattle.shared_rule.specs.History.{taken_of, is_among, in_hand, sessions_told, account_granting, account_granting_by}
 use Rattle.shared_rule.specs.Lawful.{MayMarkBy, MayPutPart}

@@ -4,7 +4,7 @@ use Rattle.modes_core.specs.declared.modes.Mode.{Mode}
 use Rattle.shared_rule.specs.Boards.{Stack, stack_owing, stack_waking}
 use Rattle.shared_rule.specs.History.{sessions_told}
 use Rattle.shared_rule.specs.Owed.{owing, waking}
-use Rattle.shared_rule.proofs.Stacks.{with_owed, waking-first}
+use Rattle.shared_rule.proofs.Lemmas.Stacks.{with_owed, waking-first}
 
 -- Whom a session owes a wake, while it marks those whom a move lets go and then wakes them, in the order of the list.
 

@@ -7,7 +7,7 @@ use Rattle.lock_table.specs.Content.{Content}
 use Rattle.lock_table.specs.Moves.{Moves}
 use Rattle.lock_table.specs.Put.{set_at}
 use Rattle.lock_table.specs.Queue.{waits_there}
-use Rattle.lock_table.proofs.PutLemmas.{set_at-here, set_at-same, set_at-twice}
+use Rattle.lock_table.proofs.Lemmas.Put.{set_at-here, set_at-same, set_at-twice}
 use Rattle.wait_queue.specs.declared.requests.Decision.TheVariants.{Granted, Queued}
 use Rattle.wait_queue.specs.declared.requests.Kind.{Kind}
 use Rattle.wait_queue.specs.declared.requests.Kind.TheVariants.{Conditional, Waiting}
@@ -20,7 +20,7 @@ use Rattle.lock_world.specs.Counted.{is_done}
 use Rattle.lock_world.specs.World.{Took, Episode}
 use Rattle.shared_rule.specs.History.{taken_of, in_hand}
 use Rattle.shared_rule.specs.Lawful.{MayPutPart}
-use Rattle.shared_rule.proofs.Episodes.{fresh_hand, taken-in_hand, may_keep}
+use Rattle.shared_rule.proofs.Lemmas.Episodes.{fresh_hand, taken-in_hand, may_keep}
 use Rattle.shared_rule.specs.Boards.{Stack}
 use Rattle.lock_manager.specs.Rest.{IsIdle}
 use Rattle.lock_manager.specs.Requests.{DecidesInPart, account_awaiting}

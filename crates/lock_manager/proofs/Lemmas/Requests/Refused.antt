@@ -8,7 +8,7 @@ use Rattle.lock_table.specs.Content.{Content}
 use Rattle.lock_table.specs.Clash.{ClashIs}
 use Rattle.lock_table.specs.Queue.{waits_there}
 use Rattle.lock_world.specs.Headline.{IsThereAs}
-use Rattle.lock_world.proofs.Headline.{clash-in_the_way}
+use Rattle.lock_world.proofs.Lemmas.Headline.{clash-in_the_way}
 
 -- What a refused request names: what it clashes with is another session's where that which asks has no wait there.
 is_there-another :

@@ -19,7 +19,7 @@ use Rattle.lock_world.specs.AccountFacts.{OwnHoldsStand}
 use Rattle.lock_world.specs.AccountSteps.{account_uncounting, own_with}
 use Rattle.lock_world.specs.Counted.{Counted, is_counted, uncounting}
 use Rattle.lock_world.specs.World.{TraceEntry, Took, Episode, Loaded}
-use Rattle.lock_world.proofs.Slots.Eligible.{eligible-is}
+use Rattle.lock_world.proofs.Lemmas.Slots.Eligible.{eligible-is}
 use Rattle.fast_path.specs.Grants.{Grants, IsFull}
 use Rattle.fast_path.specs.Transfers.{IsAfterScan, Transfers, IsCutShort, TransfersOrNot}
 use Rattle.shared_rule.specs.Boards.{Seated}
@@ -27,7 +27,7 @@ use Rattle.fast_path.specs.declared.use_counts.UseCounts.{UseCounts}
 use Rattle.lock_manager.specs.Rest.{IsUseCount}
 use Rattle.lock_manager.specs.Acquires.{IsOwnRefusal}
 use Rattle.lock_manager.specs.Requests.{LeadsToTable, DecidesInPart, Decides, Requests, IsRequested, counted_granted, account_awaiting, account_decided}
-use Rattle.fast_path.proofs.Counting.{counted_at, uncounting-last}
+use Rattle.fast_path.proofs.Lemmas.Counts.{counted_at, uncounting-last}
 use Rattle.lock_table.specs.Content.{Content}
 use Rattle.lock_manager.proofs.Lemmas.Rest.Acquires.{use_count-same, use_count-fewer}
 

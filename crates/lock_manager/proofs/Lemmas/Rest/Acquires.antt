@@ -10,17 +10,17 @@ use Rattle.modes_core.specs.declared.sessions.Owner.TheVariants.{Session, Transa
 use Rattle.modes_core.specs.Tag.{is_strong_on}
 use Rattle.local_locks.specs.declared.records.Entry.{Entry}
 use Rattle.local_locks.specs.Owned.{Owned, max_count, is_of, has_entry, owner_count_of, raised, change, new_entry, with_one_more}
-use Rattle.local_locks.proofs.EntryLaws.{same_key, same_key-from, has_entry-with_one_more}
+use Rattle.local_locks.proofs.Lemmas.Entries.{same_key, same_key-from, has_entry-with_one_more}
 use Rattle.lock_world.specs.Account.{Account}
 use Rattle.lock_world.specs.AccountSteps.{own_with, account_storing}
 use Rattle.lock_world.specs.Counted.{Counted, is_counted}
 use Rattle.lock_world.specs.SlotHolds.{used_in, AreInGroups, ShowsNoMore}
-use Rattle.lock_world.proofs.Slots.Used.{used-nothing, in_groups-fewer}
+use Rattle.lock_world.proofs.Lemmas.Slots.Used.{used-nothing, in_groups-fewer}
 use Rattle.shared_rule.specs.History.{blank_account}
 use Rattle.shared_rule.specs.Boards.{Stack, nothing_due}
 use Rattle.fast_path.specs.declared.use_counts.UseCounts.{UseCounts}
 use Rattle.fast_path.specs.Slots.{count_in, AreCounted}
-use Rattle.fast_path.proofs.GroupCounts.{counted-fewer}
+use Rattle.fast_path.proofs.Lemmas.GroupCounts.{counted-fewer}
 use Rattle.lock_manager.specs.Rest.{counted_for, account_at_rest, IsUseCount, IsAtRest}
 use Rattle.lock_manager.specs.Requests.{counted_granted, account_granted}
 use Rattle.lock_manager.proofs.Lemmas.Rest.Ends.{own_with-key, with_strong, counted_for-cons, rest-same}

@@ -7,14 +7,14 @@ use Rattle.modes_core.specs.declared.modes.Mode.{Mode}
 use Rattle.modes_core.specs.declared.tags.Tag.{Tag}
 use Rattle.modes_core.specs.Mode.{mode_eq}
 use Rattle.modes_core.specs.Tag.{tag_eq, is_strong_on}
-use Rattle.modes_core.proofs.Laws.{tag_eq-same}
+use Rattle.modes_core.proofs.Lemmas.Conflicts.{tag_eq-same}
 use Rattle.local_locks.specs.declared.records.Entry.{Entry}
 use Rattle.local_locks.specs.declared.ends.End.{End}
 use Rattle.local_locks.specs.declared.ends.End.TheVariants.{Commit, Abort, Close, Inner}
 use Rattle.local_locks.specs.Owned.{Owned, is_of, has_entry, are_of_same, is_ended, after_end, ended_by, left_by, found_by, count_up_to, with_next_ended}
-use Rattle.local_locks.proofs.EntryLaws.{same_key, same_key-from, same_key-refl, has_entry-ended, has_entry-next, has_entry-last, has_entry-found}
-use Rattle.local_locks.proofs.EndLaws.{with_next_ended-left}
-use Rattle.lock_table.proofs.PutLemmas.{put_here, put_else}
+use Rattle.local_locks.proofs.Lemmas.Entries.{same_key, same_key-from, same_key-refl, has_entry-ended, has_entry-next, has_entry-last, has_entry-found}
+use Rattle.local_locks.proofs.Lemmas.Ends.{with_next_ended-left}
+use Rattle.lock_table.proofs.Lemmas.Put.{put_here, put_else}
 use Rattle.lock_table.specs.Put.{put}
 use Rattle.lock_world.specs.Account.{Account}
 use Rattle.lock_world.specs.AccountSteps.{own_with}

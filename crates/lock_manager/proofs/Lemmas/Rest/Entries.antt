@@ -8,11 +8,11 @@ use Rattle.modes_core.specs.declared.sessions.Owner.{Owner}
 use Rattle.modes_core.specs.declared.sessions.Owner.TheVariants.{Session, Transaction}
 use Rattle.modes_core.specs.Mode.{mode_eq}
 use Rattle.modes_core.specs.Tag.{tag_eq, is_strong_on}
-use Rattle.modes_core.proofs.Laws.{tag_eq-same}
+use Rattle.modes_core.proofs.Lemmas.Conflicts.{tag_eq-same}
 use Rattle.local_locks.specs.declared.records.Entry.{Entry}
 use Rattle.local_locks.specs.declared.ends.End.TheVariants.{Close}
 use Rattle.local_locks.specs.Owned.{is_of, has_entry, total_of, lowered, change, entries_but, with_one_less, left_by}
-use Rattle.local_locks.proofs.EntryLaws.{same_key-from, same_key-refl, has_entry-some, has_entry-with_one_less, others-give_up, keys-still_held}
+use Rattle.local_locks.proofs.Lemmas.Entries.{same_key-from, same_key-refl, has_entry-some, has_entry-with_one_less, others-give_up, keys-still_held}
 use Rattle.lock_world.specs.Account.{Account}
 use Rattle.lock_world.specs.AccountSteps.{own_with}
 use Rattle.lock_world.specs.Counted.{Counted, is_counted, uncounting}

@@ -5,7 +5,7 @@ use Rattle.modes_core.specs.declared.modes.Mode.{Mode}
 use Rattle.modes_core.specs.declared.tags.Tag.{Tag}
 use Rattle.modes_core.specs.Mode.{mode_eq, number_of}
 use Rattle.modes_core.specs.ModeSet.{set_has}
-use Rattle.modes_core.proofs.Laws.{each_mode, mode_eq-refl, mode_eq-same, number_of-same}
+use Rattle.modes_core.proofs.Lemmas.Conflicts.{each_mode, mode_eq-refl, mode_eq-same, number_of-same}
 use Rattle.local_locks.specs.declared.records.Entry.{Entry}
 use Rattle.local_locks.specs.Owned.{has_entry}
 

@@ -14,7 +14,7 @@ use Rattle.fast_path.specs.declared.use_counts.UseCounts.{UseCounts}
 use Rattle.lock_manager.specs.Rest.{counted_for, account_at_rest, IsUseCount, IsAtRest}
 use Rattle.lock_manager.specs.Requests.{counted_granted, account_granted}
 use Rattle.lock_manager.specs.Waiting.{IsWaiting, account_cancelled}
-use Rattle.fast_path.proofs.Counting.{counted_at, uncounting-last}
+use Rattle.fast_path.proofs.Lemmas.Counts.{counted_at, uncounting-last}
 use Rattle.lock_manager.proofs.Lemmas.Rest.Acquires.{use_count-same, counted-none}
 use Rattle.lock_manager.proofs.Lemmas.Waiting.Looks.{rest-taken_over}
 use Rattle.lock_manager.proofs.Lemmas.Requests.Whole.{if-true}

@@ -12,7 +12,7 @@ use Rattle.lock_table.specs.OwnWait.{OwnWait}
 use Rattle.lock_table.specs.Put.{set_at}
 use Rattle.lock_table.specs.Queue.{waits_there, remove_wait, Wakes}
 use Rattle.lock_table.specs.Waiter.{whose_and_mode}
-use Rattle.lock_table.proofs.PutLemmas.{set_at-same, set_at-twice}
+use Rattle.lock_table.proofs.Lemmas.Put.{set_at-same, set_at-twice}
 use Rattle.lock_world.specs.Account.{Account, InHand}
 use Rattle.lock_world.specs.AccountFacts.{KnowsContent}
 use Rattle.lock_world.specs.AccountLaw.{MayLeaveBy}
@@ -22,7 +22,7 @@ use Rattle.shared_rule.specs.Boards.{Seated, Stack}
 use Rattle.shared_rule.specs.Waiters.{WaitsExist}
 use Rattle.shared_rule.specs.History.{taken_of, in_hand, is_among, sessions_told, is_granted, account_cleared, account_left}
 use Rattle.shared_rule.specs.Lawful.{MayPutPart, MayClearBy}
-use Rattle.shared_rule.proofs.Episodes.{fresh_hand, taken-in_hand}
+use Rattle.shared_rule.proofs.Lemmas.Episodes.{fresh_hand, taken-in_hand}
 use Rattle.lock_manager.specs.Releases.{Wakens, Tells, account_marked}
 use Rattle.lock_manager.specs.Waiting.{IsInWait, FindsGrant, account_cancelled}
 use Rattle.lock_manager.proofs.Lemmas.Moves.{may_make}

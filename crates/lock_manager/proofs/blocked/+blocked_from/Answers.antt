@@ -1,6 +1,6 @@
 use Rattle.std.proofs.Common.{arith, ◌≡◌, ℕ, ◌+◌, ◌∷◌, ◌++◌, ap, sym}
-use Rattle.lock_table.proofs.PartitionRows.{rows-ok}
-use Rattle.shared_rule.proofs.Episodes.{may_keep-since, kept-since}
+use Rattle.lock_table.proofs.Lemmas.PartitionRows.{rows-ok}
+use Rattle.shared_rule.proofs.Lemmas.Episodes.{may_keep-since, kept-since}
 use Rattle.shared_rule.specs.Boards.{Seated}
 use Rattle.lock_manager.specs.Listings.{listing_steps, AreOfCaller}
 use Rattle.lock_manager.specs.Blocked.{AppendsBlocked}

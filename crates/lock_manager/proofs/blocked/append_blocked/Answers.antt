@@ -1,7 +1,7 @@
 use Rattle.std.proofs.Common.{◌≡◌, ◌+◌, ◌<◌, ◌++◌, [], ◌∷◌, length, sym, ap, ◌∙◌, subst, take, arith}
 use Rattle.std.specs.Global.{Vec}
 use Rattle.lock_manager.specs.declared.blocked.Blocked.{Blocked}
-use Rattle.lock_table.proofs.HoldLists.{take_one_more}
+use Rattle.lock_table.proofs.Lemmas.HoldLists.{take_one_more}
 use Rattle.lock_manager.proofs.Lemmas.Blocked.{BlockedSoFar, so_far-granted, so_far-awaited}
 use Rattle.lock_manager.proofs.blocked.append_blocked.Goals as goal
 use Rattle.lock_manager.proofs.blocked.append_blocked.Goals.{then-not-row+in_ok-blockers+in_ok-push, else-not-row}

@@ -1,6 +1,6 @@
 use Rattle.std.proofs.Common.{◌≡◌, ◌<◌, arith, true, false, sym, ◌∙◌}
 use Rattle.local_locks.specs.Owned.{has_entry, total_of}
-use Rattle.local_locks.proofs.EntryLaws.{has_entry-none, has_entry-some}
+use Rattle.local_locks.proofs.Lemmas.Entries.{has_entry-none, has_entry-some}
 use Rattle.lock_manager.proofs.Lemmas.Sessions.Held.{none-held, all-held, IsHeldBelow-with, IsHeldBelow-without, IsHeldBelow-none}
 use Rattle.lock_manager.proofs.held.modes_held.Goals as goal
 use Rattle.lock_manager.proofs.held.modes_held.Goals.{in-Some+then-total-ne0, in-Some+else-total-ne0, in_default}

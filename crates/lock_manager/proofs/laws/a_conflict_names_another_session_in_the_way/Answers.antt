@@ -1,4 +1,4 @@
-use Rattle.lock_world.proofs.Headline.{clash-in_the_way}
+use Rattle.lock_world.proofs.Lemmas.Headline.{clash-in_the_way}
 use Rattle.lock_manager.proofs.Lemmas.Requests.Refused.{clash-another}
 use Rattle.lock_manager.proofs.laws.a_conflict_names_another_session_in_the_way.Goals as goal
 

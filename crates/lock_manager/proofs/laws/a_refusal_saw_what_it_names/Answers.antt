@@ -3,9 +3,9 @@ use Rattle.modes_core.specs.Tag.{partition_of}
 use Rattle.lock_world.specs.Account.{Account}
 use Rattle.lock_world.specs.World.{World, TraceEntry, Took, Episode, opening}
 use Rattle.lock_world.specs.Headline.{RefusalsSawWhatTheyName}
-use Rattle.lock_world.proofs.Refusals.{refusals-saw}
-use Rattle.lock_world.proofs.SafeWorld.Opening.{opening-safe}
-use Rattle.shared_rule.proofs.Told.{leads-runs}
+use Rattle.lock_world.proofs.Lemmas.Refusals.{refusals-saw}
+use Rattle.lock_world.proofs.Lemmas.SafeWorld.Opening.{opening-safe}
+use Rattle.shared_rule.proofs.Lemmas.Told.{leads-runs}
 use Rattle.lock_manager.proofs.laws.a_refusal_saw_what_it_names.Goals as goal
 use Rattle.modes_core.specs.Sessions.{most_sessions}
 

@@ -5,11 +5,11 @@ use Rattle.lock_table.specs.Content.{Content}
 use Rattle.lock_table.specs.Queue.{waits_there}
 use Rattle.lock_world.specs.World.{World, Hand}
 use Rattle.lock_world.specs.SafeWorld.{SafeWorld, tabled}
-use Rattle.lock_world.proofs.FromSafe.{session-stands, stands-once}
-use Rattle.lock_world.proofs.FromSafeWorld.{live-within}
+use Rattle.lock_world.proofs.Lemmas.FromSafe.{session-stands, stands-once}
+use Rattle.lock_world.proofs.Lemmas.FromSafeWorld.{live-within}
 use Rattle.lock_records.specs.Counts.{AreCountsOf, IsUntouched}
 use Rattle.lock_records.specs.View.{RecordView, content_of}
-use Rattle.lock_records.proofs.Sessions.{count-sessions}
+use Rattle.lock_records.proofs.Lemmas.Sessions.{count-sessions}
 use Rattle.modes_core.specs.declared.tags.Tag.{Tag}
 use Rattle.shared_rule.specs.Layout.{content_shelf_of}
 use Rattle.shared_rule.specs.Ruled.{IsHomeUnlessInHand, IsAtHome}

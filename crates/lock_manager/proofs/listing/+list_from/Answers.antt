@@ -1,6 +1,6 @@
 use Rattle.std.proofs.Common.{arith, ◌+◌, ◌∷◌, ap, sym}
-use Rattle.lock_table.proofs.PartitionRows.{rows-then, rows-refused}
-use Rattle.shared_rule.proofs.Episodes.{may_keep-since, kept-since}
+use Rattle.lock_table.proofs.Lemmas.PartitionRows.{rows-then, rows-refused}
+use Rattle.shared_rule.proofs.Lemmas.Episodes.{may_keep-since, kept-since}
 use Rattle.lock_manager.specs.Listings.{listing_steps}
 use Rattle.lock_manager.proofs.Lemmas.Listings.Own.{taken-last, caller-first}
 use Rattle.shared_rule.specs.Boards.{Seated}

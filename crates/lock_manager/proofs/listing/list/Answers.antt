@@ -6,7 +6,7 @@ use Rattle.fast_path.specs.Rows.{rows_of_all, loads_of_all}
 use Rattle.lock_manager.specs.declared.listing.Listing.{Listing}
 use Rattle.lock_manager.specs.Rest.{IsAtRest}
 use Rattle.lock_manager.specs.Listings.{listing_steps, AreOfCaller}
-use Rattle.lock_table.proofs.PartitionRows.{rows-ok}
+use Rattle.lock_table.proofs.Lemmas.PartitionRows.{rows-ok}
 use Rattle.lock_manager.proofs.Lemmas.Listings.Own.{lists-own, misses-none}
 use Rattle.lock_manager.proofs.Lemmas.Rest.Reads.{rest-read_slots, rest-read}
 use Rattle.lock_manager.proofs.listing.list.Given as given

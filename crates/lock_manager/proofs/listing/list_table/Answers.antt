@@ -4,7 +4,7 @@ use Rattle.std.proofs.lemmas.List.Sorted.{length_permutation}
 use Rattle.lock_table.specs.declared.rows.TableRow.{TableRow}
 use Rattle.lock_table.specs.Listing.{IsListing}
 use Rattle.lock_table.specs.WholeContent.{whole_of, content_at}
-use Rattle.lock_table.proofs.PartitionRows.{RowsMore, IsListing-all, rows-ok}
+use Rattle.lock_table.proofs.Lemmas.PartitionRows.{RowsMore, IsListing-all, rows-ok}
 use Rattle.lock_manager.proofs.listing.list_table.Goals as goal
 
 pub returns-clause-listed : goal.returns-clause-listed

@@ -2,7 +2,7 @@ use Rattle.std.proofs.Common.{◌≡◌, refl, sym, ap, ◌∙◌, subst}
 use Rattle.local_locks.specs.declared.ends.End.{End}
 use Rattle.local_locks.specs.declared.ends.End.TheVariants.{Commit, Abort, Close, Inner}
 use Rattle.local_locks.specs.Owned.{ended_by, found_by, outer_after}
-use Rattle.local_locks.proofs.EntryLaws.{distinct-found}
+use Rattle.local_locks.proofs.Lemmas.Entries.{distinct-found}
 use Rattle.shared_rule.specs.Boards.{Seated}
 use Rattle.lock_manager.specs.Rest.{IsUseCount}
 use Rattle.lock_manager.proofs.Lemmas.Rest.Acquires.{rest-database}

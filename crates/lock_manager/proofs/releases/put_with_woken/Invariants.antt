@@ -1,6 +1,6 @@
 use Rattle.std.proofs.Common.{◌≡◌, take, drop}
 use Rattle.shared_rule.specs.History.{sessions_told}
-use Rattle.shared_rule.proofs.Stacks.{with_owed}
+use Rattle.shared_rule.proofs.Lemmas.Stacks.{with_owed}
 use Rattle.lock_manager.proofs.Lemmas.Releases.Marks.{IsTelling}
 use Rattle.lock_manager.proofs.releases.put_with_woken.Given as goal
 

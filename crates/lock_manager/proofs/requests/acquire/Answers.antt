@@ -5,7 +5,7 @@ use Rattle.local_locks.specs.Owned.{has_entry, with_one_more}
 use Rattle.lock_world.specs.Happens.Counters.{most_counted}
 use Rattle.lock_manager.specs.Requests.{Requests, IsRequested}
 use Rattle.lock_manager.specs.Quiet.{MakesNone, OfRequest}
-use Rattle.local_locks.proofs.NewLaws.{reserved-new}
+use Rattle.local_locks.proofs.Lemmas.NewEntries.{reserved-new}
 use Rattle.lock_manager.proofs.Lemmas.Rest.Acquires.{not_held_yet, rest-not_counted, rest-few, rest-granted, rest-again}
 use Rattle.lock_manager.proofs.Lemmas.Requests.Whole.{never-queued, requested-not_own}
 use Rattle.lock_manager.proofs.Lemmas.Requests.Answered.{begins-refused, answers-refused}

@@ -6,7 +6,7 @@ use Rattle.fast_path.specs.declared.use_counts.UseCounts.{UseCounts}
 use Rattle.wait_queue.specs.declared.requests.Decision.{Decision}
 use Rattle.lock_manager.specs.Rest.{IsUseCount}
 use Rattle.lock_manager.specs.Requests.{DecidesInPart}
-use Rattle.fast_path.proofs.Counting.{counted_at}
+use Rattle.fast_path.proofs.Lemmas.Counts.{counted_at}
 use Rattle.lock_manager.proofs.Lemmas.Requests.Whole.{IsLed, led-transferred, led-decides, led-account, led-refused_steps, led-refused_strong, led-refused_use_count}
 use Rattle.lock_manager.proofs.Lemmas.Requests.Whole.{strong-counted, requests-decided, transferred, cut_short, scanned-use_count, decided-use_count}
 use Rattle.lock_manager.proofs.requests.request_strong.Given as given

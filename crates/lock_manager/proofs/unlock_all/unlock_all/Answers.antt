@@ -3,7 +3,7 @@ use Rattle.lock_manager.specs.Quiet.{QuietOfReleases}
 use Rattle.std.proofs.Common.{◌≡◌, ◌+◌, [], length, refl, sym, ap, ◌∙◌, subst, arith}
 use Rattle.local_locks.specs.Owned.{with_one_less}
 use Rattle.modes_core.specs.declared.sessions.Owner.TheVariants.{Session}
-use Rattle.local_locks.proofs.EntryLaws.{gone-released}
+use Rattle.local_locks.proofs.Lemmas.Entries.{gone-released}
 use Rattle.shared_rule.specs.Boards.{Seated}
 use Rattle.lock_manager.specs.Rest.{IsUseCount}
 use Rattle.lock_manager.proofs.Lemmas.Advisory.{GivenBack, given-back, none-unlocked, none-left, unlocked-few, unlocks-next, unlocks-quiet}

@@ -1,5 +1,5 @@
 use Rattle.std.proofs.Common.{refl, sym, ◌∙◌}
-use Rattle.local_locks.proofs.EntryLaws.{has_entry-none}
+use Rattle.local_locks.proofs.Lemmas.Entries.{has_entry-none}
 use Rattle.lock_manager.proofs.Lemmas.Requests.InPart.{may_put-kept}
 use Rattle.lock_manager.proofs.waiting.has_waiters.Goals as goal
 

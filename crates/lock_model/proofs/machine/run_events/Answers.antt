@@ -5,8 +5,8 @@ use Rattle.lock_world.specs.declared.events.Event.{Event}
 use Rattle.lock_world.specs.World.{World, opening}
 use Rattle.lock_world.specs.Happens.{Next, Runs}
 use Rattle.lock_model.specs.Shows.{Shows}
-use Rattle.lock_world.proofs.SafeWorld.Opening.{opening-safe}
-use Rattle.lock_world.proofs.SafeWorld.Runs.{Next-safe, Runs-none, Runs-push}
+use Rattle.lock_world.proofs.Lemmas.SafeWorld.Opening.{opening-safe}
+use Rattle.lock_world.proofs.Lemmas.SafeWorld.Runs.{Next-safe, Runs-none, Runs-push}
 use Rattle.lock_model.proofs.machine.run_events.Goals as goal
 
 pub loop-event-preserved : goal.loop-event-preserved

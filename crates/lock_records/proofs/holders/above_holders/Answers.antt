@@ -2,8 +2,8 @@ use Rattle.std.proofs.Common.{◌≡◌, ℕ, ◌<◌, ◌≤◌, ◌+◌, ◌==
 use Rattle.std.specs.Ordering.{nat_cmp, ord_max}
 use Rattle.std.proofs.lemmas.Bool.{cases_lt, cases_Bool, false_from_ne_true, lt-ltb, le-ltb}
 use Rattle.lock_records.specs.Holders.{holder_at}
-use Rattle.lock_records.proofs.Chains.{GoesOn, goes-on, goes-as, in-parts, in-nothing, key-there}
-use Rattle.lock_records.proofs.Held.{held-from, same-holder}
+use Rattle.lock_records.proofs.Lemmas.Chains.{GoesOn, goes-on, goes-as, in-parts, in-nothing, key-there}
+use Rattle.lock_records.proofs.Lemmas.Held.{held-from, same-holder}
 use Rattle.lock_records.proofs.holders.above_holders.Goals as goal
 use Rattle.lock_records.proofs.holders.above_holders.Goals.{In-loop-step}
 

@@ -1,8 +1,8 @@
 use Rattle.std.proofs.Common.{◌≡◌, ◌≢◌, ◌<◌, length, sym, ap, ◌∙◌, subst, inl, inr, arith}
 use Rattle.std.proofs.lemmas.Bool.{eqb-true, eqb-false}
 use Rattle.lock_records.specs.Holders.{holder_at, IsChain}
-use Rattle.lock_records.proofs.Chains.{GoesOn, goes-on, in-parts, in-nothing, key-there}
-use Rattle.lock_records.proofs.Held.{same-holder}
+use Rattle.lock_records.proofs.Lemmas.Chains.{GoesOn, goes-on, in-parts, in-nothing, key-there}
+use Rattle.lock_records.proofs.Lemmas.Held.{same-holder}
 use Rattle.lock_records.proofs.holders.find_holder.Goals as goal
 use Rattle.lock_records.proofs.holders.find_holder.Goals.{In-loop-step}
 

@@ -3,10 +3,10 @@ use Rattle.std.proofs.lemmas.Bool.{both_ways}
 use Rattle.modes_core.specs.ModeSet.{set_has}
 use Rattle.lock_records.specs.declared.holders.HolderRecord.{HolderRecord}
 use Rattle.lock_records.specs.Holders.{IsHolderAt}
-use Rattle.lock_records.proofs.Held.{same-holder, holds-at, holds-none}
-use Rattle.lock_records.proofs.ModeSets.{without-own, without-else}
-use Rattle.lock_records.proofs.Steps.{written-set, SetsHold-modes, chain-changed}
-use Rattle.lock_records.proofs.Taken.{SetsHold-taken}
+use Rattle.lock_records.proofs.Lemmas.Held.{same-holder, holds-at, holds-none}
+use Rattle.lock_records.proofs.Lemmas.ModeSets.{without-own, without-else}
+use Rattle.lock_records.proofs.Lemmas.Steps.{written-set, SetsHold-modes, chain-changed}
+use Rattle.lock_records.proofs.Lemmas.Taken.{SetsHold-taken}
 use Rattle.lock_records.proofs.holders.lower_holder.Goals as goal
 use Rattle.lock_records.proofs.holders.lower_holder.Goals.{After-index_mut}
 

@@ -1,6 +1,6 @@
 use Rattle.std.proofs.Common.{◌<◌, length, sym, ap, subst, arith}
-use Rattle.lock_records.proofs.Chains.{GoesOn, goes-on, goes-as, key-there}
-use Rattle.lock_records.proofs.Lowest.{LowestBut, LowestBut-start, LowestBut-more, LowestBut-end}
+use Rattle.lock_records.proofs.Lemmas.Chains.{GoesOn, goes-on, goes-as, key-there}
+use Rattle.lock_records.proofs.Lemmas.Lowest.{LowestBut, LowestBut-start, LowestBut-more, LowestBut-end}
 use Rattle.lock_records.proofs.holders.lowest_holder.Goals as goal
 use Rattle.lock_records.proofs.holders.lowest_holder.Goals.{In-loop-step}
 

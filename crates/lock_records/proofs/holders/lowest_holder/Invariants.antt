@@ -1,6 +1,6 @@
 use Rattle.std.proofs.Common.{◌≡◌, ℕ, ◌+◌, List, length}
 use Rattle.lock_records.specs.Holders.{IsChain}
-use Rattle.lock_records.proofs.Lowest.{LowestBut}
+use Rattle.lock_records.proofs.Lemmas.Lowest.{LowestBut}
 use Rattle.lock_records.proofs.holders.lowest_holder.Given as goal
 
 abbrev pub invariant-loop-step : goal.invariant-loop-step

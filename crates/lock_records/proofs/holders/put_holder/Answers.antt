@@ -1,7 +1,7 @@
 use Rattle.std.proofs.Common.{◌<◌, ◌≤◌, Some, length, ap, ◌∙◌, arith}
-use Rattle.lock_records.proofs.Chains.{chain-short}
-use Rattle.lock_records.proofs.ModeSets.{with-own, with-else}
-use Rattle.lock_records.proofs.Steps.{IsWritten, SetsHold-put, chain-put}
+use Rattle.lock_records.proofs.Lemmas.Chains.{chain-short}
+use Rattle.lock_records.proofs.Lemmas.ModeSets.{with-own, with-else}
+use Rattle.lock_records.proofs.Lemmas.Steps.{IsWritten, SetsHold-put, chain-put}
 use Rattle.lock_records.proofs.holders.put_holder.Goals as goal
 use Rattle.lock_records.proofs.holders.put_holder.Goals.{After-insert_reserved-holders}
 use Rattle.modes_core.specs.Sessions.{most_sessions}

@@ -1,8 +1,8 @@
 use Rattle.std.proofs.Common.{true, sym, ap, ◌∙◌}
 use Rattle.lock_records.specs.Holders.{IsHolderAt}
-use Rattle.lock_records.proofs.Held.{same-holder}
-use Rattle.lock_records.proofs.ModeSets.{with-own, with-else}
-use Rattle.lock_records.proofs.Steps.{written-set, SetsHold-modes, chain-changed}
+use Rattle.lock_records.proofs.Lemmas.Held.{same-holder}
+use Rattle.lock_records.proofs.Lemmas.ModeSets.{with-own, with-else}
+use Rattle.lock_records.proofs.Lemmas.Steps.{written-set, SetsHold-modes, chain-changed}
 use Rattle.lock_records.proofs.holders.raise_holder.Goals as goal
 use Rattle.lock_records.proofs.holders.raise_holder.Goals.{After-with-holder}
 

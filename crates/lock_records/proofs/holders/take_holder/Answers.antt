@@ -1,10 +1,10 @@
 use Rattle.std.proofs.Common.{◌≡◌, ◌-◌, ◌∷◌, length, None, refl, sym, ap, ◌∙◌, subst, arith}
 use Rattle.lock_records.specs.declared.holders.HolderRecord.{HolderRecord}
 use Rattle.lock_records.specs.Holders.{holder_at, IsHolderAt, IsHolderChain}
-use Rattle.lock_records.proofs.Held.{same-holder}
-use Rattle.lock_records.proofs.Chains.{GoesOn, chain-head, goes-as, key-there}
-use Rattle.lock_records.proofs.Steps.{IsWritten, written-set}
-use Rattle.lock_records.proofs.Taken.{chain-headless, head-taken, gap-filled, chain-filled}
+use Rattle.lock_records.proofs.Lemmas.Held.{same-holder}
+use Rattle.lock_records.proofs.Lemmas.Chains.{GoesOn, chain-head, goes-as, key-there}
+use Rattle.lock_records.proofs.Lemmas.Steps.{IsWritten, written-set}
+use Rattle.lock_records.proofs.Lemmas.Taken.{chain-headless, head-taken, gap-filled, chain-filled}
 use Rattle.lock_records.proofs.holders.take_holder.Goals as goal
 use Rattle.lock_records.proofs.holders.take_holder.Goals.{After-remove-head, After-index_mut-gap}
 

@@ -1,7 +1,7 @@
 use Rattle.std.proofs.Common.{◌+◌, not, Some, Vec, Global, sym, ap, ◌∙◌, arith, refl}
 use Rattle.lock_table.specs.declared.rows.TableRow.{TableRow}
 use Rattle.lock_records.specs.Rows.{shown_below, shown_by}
-use Rattle.lock_records.proofs.Listings.{below-start, below-next, below-none, below-all, appends-none, appends-like, appends-more, on-ok}
+use Rattle.lock_records.proofs.Lemmas.Listings.{below-start, below-next, below-none, below-all, appends-none, appends-like, appends-more, on-ok}
 use Rattle.lock_records.proofs.listing.push_holds.Goals as goal
 use Rattle.lock_records.proofs.listing.push_holds.Goals.{in-Some+else-is_err, in_default}
 

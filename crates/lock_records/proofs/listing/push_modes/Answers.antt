@@ -1,8 +1,8 @@
 use Rattle.std.proofs.Common.{◌≡◌, ◌+◌, not, Vec, Global, sym, ap, ◌∙◌, arith, refl}
 use Rattle.std.proofs.lemmas.Bool.{cond-true}
-use Rattle.modes_core.proofs.Laws.{number_of-same}
+use Rattle.modes_core.proofs.Lemmas.Conflicts.{number_of-same}
 use Rattle.lock_table.specs.declared.rows.TableRow.{TableRow}
-use Rattle.lock_records.proofs.Listings.{shown_under, under-first, under-last, under-skip, under-push, under-mode, appends-none, appends-like, appends-one}
+use Rattle.lock_records.proofs.Lemmas.Listings.{shown_under, under-first, under-last, under-skip, under-push, under-mode, appends-none, appends-like, appends-one}
 use Rattle.lock_records.proofs.listing.push_modes.Goals as goal
 use Rattle.lock_records.proofs.listing.push_modes.Goals.{in-Some+then-has+else-is_err, in-Some+else-has, in_default}
 

@@ -1,5 +1,5 @@
 use Rattle.lock_records.specs.Rows.{AppendsRows}
-use Rattle.lock_records.proofs.Listings.{shown_under}
+use Rattle.lock_records.proofs.Lemmas.Listings.{shown_under}
 use Rattle.lock_records.proofs.listing.push_modes.Given as goal
 
 abbrev pub invariant-loop-number : goal.invariant-loop-number

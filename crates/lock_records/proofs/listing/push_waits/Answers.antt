@@ -1,7 +1,7 @@
 use Rattle.std.proofs.Common.{not, take, ap, ◌∙◌}
 use Rattle.std.proofs.lemmas.Bool.{cond-true}
 use Rattle.lock_records.specs.Rows.{awaited_row, awaited_in}
-use Rattle.lock_records.proofs.Listings.{appends-one, awaited-more}
+use Rattle.lock_records.proofs.Lemmas.Listings.{appends-one, awaited-more}
 use Rattle.lock_records.proofs.listing.push_waits.Goals as goal
 
 pub loop-waiter-preserved : goal.loop-waiter-preserved

@@ -1,6 +1,6 @@
 use Rattle.std.proofs.Common.{refl, inl, inr, subst}
 use Rattle.lock_records.specs.Locks.{IsIdle, IsCounting}
-use Rattle.lock_records.proofs.IndexLaws.{same-lock, same-itself}
+use Rattle.lock_records.proofs.Lemmas.Indexes.{same-lock, same-itself}
 use Rattle.lock_records.proofs.locks.drop_empty.Goals as goal
 
 pub index-requires : goal.index-requires

@@ -1,7 +1,7 @@
 use Rattle.std.proofs.Common.{◌≡◌, ap, ◌∙◌, arith, subst}
 use Rattle.place_index.specs.Notes.{IsOneMore}
 use Rattle.lock_records.specs.declared.locks.LockRecord.{LockRecord}
-use Rattle.lock_records.proofs.IndexLaws.{noted-at, noted-dropped, gone-dropped, same-locks, same-lock, nothing-there}
+use Rattle.lock_records.proofs.Lemmas.Indexes.{noted-at, noted-dropped, gone-dropped, same-locks, same-lock, nothing-there}
 use Rattle.lock_records.proofs.locks.drop_lock.Goals as goal
 
 pub overflow_cast-place : goal.overflow_cast-place

@@ -1,7 +1,7 @@
 use Rattle.std.proofs.Common.{◌<◌, ◌∙◌, arith}
 use Rattle.std.proofs.lemmas.Bool.{false≢true}
 use Rattle.place_index.specs.Notes.{times}
-use Rattle.lock_records.proofs.IndexLaws.{is_on-at, noted-at}
+use Rattle.lock_records.proofs.Lemmas.Indexes.{is_on-at, noted-at}
 use Rattle.lock_records.proofs.locks.find_lock_by_index.Goals as goal
 
 pub returns-in-None-clause-absent : goal.returns-in-None-clause-absent

@@ -1,5 +1,5 @@
 use Rattle.std.proofs.Common.{inl}
-use Rattle.lock_records.proofs.IndexLaws.{same-itself}
+use Rattle.lock_records.proofs.Lemmas.Indexes.{same-itself}
 use Rattle.lock_records.proofs.locks.find_or_make_lock.Goals as goal
 
 pub returns-in-Some-clause-made : goal.returns-in-Some-clause-made

@@ -1,5 +1,5 @@
 use Rattle.std.proofs.Common.{◌∙◌}
-use Rattle.modes_core.proofs.Equality.{tag_equals}
+use Rattle.modes_core.proofs.Lemmas.Equality.{tag_equals}
 use Rattle.lock_records.proofs.locks.is_same_tag.Goals as goal
 
 pub returns : goal.returns

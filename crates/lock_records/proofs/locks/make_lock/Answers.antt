@@ -2,7 +2,7 @@ use Rattle.std.proofs.Common.{◌≡◌, ap, ◌∙◌, inr, arith, subst}
 use Rattle.place_index.specs.Notes.{IsOneMore}
 use Rattle.lock_records.specs.declared.locks.LockRecord.{LockRecord}
 use Rattle.lock_records.specs.Locks.{note_times}
-use Rattle.lock_records.proofs.IndexLaws.{noted-made, same-locks, same-lock, nothing-there}
+use Rattle.lock_records.proofs.Lemmas.Indexes.{noted-made, same-locks, same-lock, nothing-there}
 use Rattle.lock_records.proofs.locks.make_lock.Goals as goal
 
 pub insert-requires-clause-free : goal.insert-requires-clause-free

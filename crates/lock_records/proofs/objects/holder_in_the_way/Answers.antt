@@ -1,6 +1,6 @@
 use Rattle.std.proofs.Common.{ap, sym, ◌∙◌}
 use Rattle.lock_records.specs.Holders.{holds_in}
-use Rattle.lock_records.proofs.Relocked.{nobody-holds, conflict-found}
+use Rattle.lock_records.proofs.Lemmas.Relocked.{nobody-holds, conflict-found}
 use Rattle.lock_records.proofs.objects.holder_in_the_way.Goals as goal
 
 pub returns-then-not-meets : goal.returns-then-not-meets

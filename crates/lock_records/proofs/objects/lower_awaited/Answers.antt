@@ -1,7 +1,7 @@
 use Rattle.std.proofs.Common.{ap, ◌∙◌, refl}
 use Rattle.lock_records.specs.declared.locks.LockRecord.{LockRecord}
-use Rattle.lock_records.proofs.IndexLaws.{same-lock}
-use Rattle.lock_records.proofs.Relocked.{relocked-set, room-set}
+use Rattle.lock_records.proofs.Lemmas.Indexes.{same-lock}
+use Rattle.lock_records.proofs.Lemmas.Relocked.{relocked-set, room-set}
 use Rattle.lock_records.proofs.objects.lower_awaited.Goals as goal
 
 pub returns-clause-lock : goal.returns-clause-lock

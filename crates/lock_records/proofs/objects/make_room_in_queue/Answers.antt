@@ -4,8 +4,8 @@ use Rattle.lock_records.specs.declared.locks.LockRecord.{LockRecord}
 use Rattle.lock_records.specs.Counting.{awaited_of}
 use Rattle.lock_records.specs.Tally.{counts_in}
 use Rattle.lock_records.specs.Queues.{queue_on}
-use Rattle.lock_records.proofs.IndexLaws.{same-lock}
-use Rattle.lock_records.proofs.QueueWrites.{queues-unchanged}
+use Rattle.lock_records.proofs.Lemmas.Indexes.{same-lock}
+use Rattle.lock_records.proofs.Lemmas.QueueWrites.{queues-unchanged}
 use Rattle.lock_records.proofs.objects.make_room_in_queue.Goals as goal
 
 pub index-requires : goal.index-requires

@@ -1,6 +1,6 @@
 use Rattle.std.proofs.Common.{sym, ◌∙◌}
-use Rattle.lock_records.proofs.QueueRecords.{nobody-waits}
-use Rattle.lock_records.proofs.QueueWrites.{queues-unchanged}
+use Rattle.lock_records.proofs.Lemmas.QueueRecords.{nobody-waits}
+use Rattle.lock_records.proofs.Lemmas.QueueWrites.{queues-unchanged}
 use Rattle.lock_records.proofs.objects.make_room_to_wait.Goals as goal
 
 pub returns-then-waiting-eq0-clause-room : goal.returns-then-waiting-eq0-clause-room

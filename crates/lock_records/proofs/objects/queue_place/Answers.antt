@@ -1,6 +1,6 @@
 use Rattle.std.proofs.Common.{sym, ◌∙◌}
 use Rattle.lock_records.specs.Queues.{queue_on}
-use Rattle.lock_records.proofs.Queues.{queue-empty}
+use Rattle.lock_records.proofs.Lemmas.Queues.{queue-empty}
 use Rattle.lock_records.proofs.objects.queue_place.Goals as goal
 
 pub returns-then-is_empty-clause-absent : goal.returns-then-is_empty-clause-absent

@@ -2,9 +2,9 @@ use Rattle.std.proofs.Common.{◌<◌, ap, ◌∙◌, refl, arith}
 use Rattle.lock_records.specs.declared.locks.LockRecord.{LockRecord}
 use Rattle.lock_records.specs.Holders.{holds_in}
 use Rattle.lock_records.specs.Locks.{IsLockAt}
-use Rattle.lock_records.proofs.GrantedCounts.{granted-some}
-use Rattle.lock_records.proofs.IndexLaws.{same-lock}
-use Rattle.lock_records.proofs.Relocked.{relocked-set, room-set, counts-lowered}
+use Rattle.lock_records.proofs.Lemmas.GrantedCounts.{granted-some}
+use Rattle.lock_records.proofs.Lemmas.Indexes.{same-lock}
+use Rattle.lock_records.proofs.Lemmas.Relocked.{relocked-set, room-set, counts-lowered}
 use Rattle.lock_records.proofs.objects.remove_hold.Goals as goal
 use Rattle.lock_records.proofs.objects.remove_hold.Goals.{After-index_mut-lock}
 use Rattle.modes_core.specs.Sessions.{most_sessions}

@@ -1,5 +1,5 @@
 use Rattle.std.proofs.Common.{sym, ◌∙◌}
-use Rattle.lock_records.proofs.ModeSets.{some-met, none-met}
+use Rattle.lock_records.proofs.Lemmas.ModeSets.{some-met, none-met}
 use Rattle.lock_records.proofs.sets.has_some.Goals as goal
 
 pub returns-clause-some : goal.returns-clause-some

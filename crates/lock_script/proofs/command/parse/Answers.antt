@@ -1,7 +1,7 @@
 use Rattle.std.proofs.Common.{◌≢◌, ◌∙◌, ap, sym, arith, rules}
 use Rattle.std.specs.Prelude.{slice_index_or}
-use Rattle.lock_script.proofs.DefectLemmas.{of_err, texts, means_nothing}
-use Rattle.lock_script.proofs.CommandLemmas.{command-Addresses, command-NamesCounter, command-NamesFree}
+use Rattle.lock_script.proofs.Lemmas.Defects.{of_err, texts, means_nothing}
+use Rattle.lock_script.proofs.Lemmas.Commands.{command-Addresses, command-NamesCounter, command-NamesFree}
 use Rattle.lock_script.proofs.command.parse.Goals as goal
 
 pub returns-clause-addressed : goal.returns-clause-addressed

@@ -1,6 +1,6 @@
 use Rattle.std.proofs.Common.{arith, ◌∙◌, sym}
 use Rattle.lock_script.specs.declared.faults.Defect.TheVariants.{BadObject}
-use Rattle.lock_script.proofs.DefectLemmas.{of_err, no_value, some_value, blocked-named, caller-right, open-right, second_of_three, third_of_three}
+use Rattle.lock_script.proofs.Lemmas.Defects.{of_err, no_value, some_value, blocked-named, caller-right, open-right, second_of_three, third_of_three}
 use Rattle.lock_script.proofs.command.parse_blockers.Goals as goal
 
 pub returns-in_err-other-clause-refused : goal.returns-in_err-other-clause-refused

@@ -1,6 +1,6 @@
 use Rattle.std.proofs.Common.{arith}
 use Rattle.lock_script.specs.declared.commands.WordKind.TheVariants.{CallerName, OpenName}
-use Rattle.lock_script.proofs.DefectLemmas.{of_err, both-named, caller-right, second_wrong}
+use Rattle.lock_script.proofs.Lemmas.Defects.{of_err, both-named, caller-right, second_wrong}
 use Rattle.lock_script.proofs.command.parse_cancel.Goals as goal
 
 pub returns-in_err-other-clause-refused : goal.returns-in_err-other-clause-refused

@@ -1,6 +1,6 @@
 use Rattle.std.proofs.Common.{arith, ◌∙◌, sym}
 use Rattle.lock_script.specs.declared.faults.Defect.TheVariants.{BadOwner}
-use Rattle.lock_script.proofs.DefectLemmas.{of_err, no_value, some_value, owned-named, owned-named_owner, owner_wrong}
+use Rattle.lock_script.proofs.Lemmas.Defects.{of_err, no_value, some_value, owned-named, owned-named_owner, owner_wrong}
 use Rattle.lock_script.proofs.command.parse_owned_target.Goals as goal
 
 pub returns-in_err-owner-in-len4-clause-refused : goal.returns-in_err-owner-in-len4-clause-refused

@@ -1,7 +1,7 @@
 use Rattle.std.proofs.Common.{arith, ◌∙◌, sym}
 use Rattle.lock_script.specs.declared.commands.WordKind.TheVariants.{CallerName, TagWord}
 use Rattle.lock_script.specs.declared.faults.Defect.TheVariants.{BadObject}
-use Rattle.lock_script.proofs.DefectLemmas.{of_err, no_value, caller-right, second_wrong}
+use Rattle.lock_script.proofs.Lemmas.Defects.{of_err, no_value, caller-right, second_wrong}
 use Rattle.lock_script.proofs.command.parse_queue.Goals as goal
 
 pub returns-in_err-object-clause-refused : goal.returns-in_err-object-clause-refused

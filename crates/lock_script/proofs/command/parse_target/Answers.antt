@@ -3,7 +3,7 @@ use Rattle.std.specs.Prelude.{◌≢◌}
 use Rattle.modes_core.specs.declared.modes.Mode.{Mode}
 use Rattle.modes_core.specs.Mode.{name_of}
 use Rattle.lock_script.specs.declared.faults.Defect.TheVariants.{BadObject, BadMode}
-use Rattle.lock_script.proofs.DefectLemmas.{of_err, no_value, of_none, some_value, caller-right, tag-right}
+use Rattle.lock_script.proofs.Lemmas.Defects.{of_err, no_value, of_none, some_value, caller-right, tag-right}
 use Rattle.lock_script.proofs.command.parse_target.Goals as goal
 
 pub returns-in_err-tag-clause-refused : goal.returns-in_err-tag-clause-refused

@@ -1,6 +1,6 @@
 use Rattle.std.proofs.Common.{◌≡◌, ◌∙◌, sym, true}
 use Rattle.std.specs.Prelude.{is_some}
-use Rattle.lock_script.proofs.DefectLemmas.{found-not_free}
+use Rattle.lock_script.proofs.Lemmas.Defects.{found-not_free}
 use Rattle.lock_script.proofs.kept.is_called.Goals as goal
 
 pub returns-clause-called : goal.returns-clause-called

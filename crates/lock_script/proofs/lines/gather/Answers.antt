@@ -1,5 +1,5 @@
 use Rattle.std.proofs.Common.{rules, arith, ◌≡◌, ◌≢◌}
-use Rattle.lock_script.proofs.Gathering.{CutsLine-at_end, CutsLine-at_feed, HasLongLine-goes_on}
+use Rattle.lock_script.proofs.Lemmas.Gathering.{CutsLine-at_end, CutsLine-at_feed, HasLongLine-goes_on}
 use Rattle.lock_script.proofs.lines.gather.Goals as goal
 
 pub returns-in-None-clause-line : goal.returns-in-None-clause-line

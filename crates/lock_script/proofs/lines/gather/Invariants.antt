@@ -1,6 +1,6 @@
 use Rattle.std.proofs.Common.{◌≡◌, [], ◌∷◌, length}
 use Rattle.std.specs.Io.KnownBytes.{prepend_known}
-use Rattle.lock_script.proofs.Gathering.{Gathers}
+use Rattle.lock_script.proofs.Lemmas.Gathering.{Gathers}
 use Rattle.lock_script.proofs.lines.gather.Given as goal
 
 abbrev pub invariant-loop-at : goal.invariant-loop-at

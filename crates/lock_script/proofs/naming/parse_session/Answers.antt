@@ -3,7 +3,7 @@ use Rattle.std.specs.Prelude.{is_some}
 use Rattle.lock_script.specs.declared.commands.WordKind.TheVariants.{FreeName, Number}
 use Rattle.lock_script.specs.Sessions.{IsUnknown}
 use Rattle.lock_script.specs.declared.faults.Defect.TheVariants.{BadName, BadNumber}
-use Rattle.lock_script.proofs.DefectLemmas.{of_err, no_value, some_value, name-is, free_in, first_taken, free-right, second_wrong}
+use Rattle.lock_script.proofs.Lemmas.Defects.{of_err, no_value, some_value, name-is, free_in, first_taken, free-right, second_wrong}
 use Rattle.lock_script.proofs.naming.parse_session.Goals as goal
 
 pub returns-then-is_some-clause-refused : goal.returns-then-is_some-clause-refused

@@ -1,6 +1,6 @@
 use Rattle.std.proofs.lemmas.Str.{IsCharBoundary-after_ascii, IsCharBoundary-before_ascii}
 use Rattle.lock_script.specs.Words.{is_blank}
-use Rattle.lock_script.proofs.WordLemmas.{no_parts, first_place, parts-round, first_blank-below}
+use Rattle.lock_script.proofs.Lemmas.Words.{no_parts, first_place, parts-round, first_blank-below}
 use Rattle.lock_script.proofs.words.cut_at_blank.Goals as goal
 
 pub returns-in-None-clause-parts : goal.returns-in-None-clause-parts

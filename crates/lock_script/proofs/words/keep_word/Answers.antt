@@ -1,6 +1,6 @@
 use Rattle.std.proofs.Common.{arith, ◌≡◌, ◌≢◌, ◌<◌, length}
 use Rattle.std.proofs.lemmas.Bool.Decides.{nat_tests}
-use Rattle.lock_script.proofs.WordLemmas.{kept-full, kept-empty, kept-word}
+use Rattle.lock_script.proofs.Lemmas.Words.{kept-full, kept-empty, kept-word}
 use Rattle.lock_script.proofs.words.keep_word.Goals as goal
 
 pub returns-then-is_full : goal.returns-then-is_full

@@ -1,7 +1,7 @@
 use Rattle.std.proofs.Common.{◌≡◌, true}
 use Rattle.std.specs.Prelude.{is_some}
 use Rattle.lock_script.specs.Words.{number_in}
-use Rattle.lock_script.proofs.WordLemmas.{no_advisory-past}
+use Rattle.lock_script.proofs.Lemmas.Words.{no_advisory-past}
 use Rattle.lock_script.proofs.words.parse_advisory.Goals as goal
 
 pub returns-then-is_some : goal.returns-then-is_some

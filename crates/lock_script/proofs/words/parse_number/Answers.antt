@@ -1,6 +1,6 @@
 use Rattle.std.proofs.Common.{sym}
 use Rattle.std.proofs.lemmas.Str.Parse.{parse_digits}
-use Rattle.lock_script.proofs.WordLemmas.{numerals, number_in-None}
+use Rattle.lock_script.proofs.Lemmas.Words.{numerals, number_in-None}
 use Rattle.lock_script.proofs.words.parse_number.Goals as goal
 
 pub returns-in-Err : goal.returns-in-Err

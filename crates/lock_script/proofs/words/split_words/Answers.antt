@@ -1,4 +1,4 @@
-use Rattle.lock_script.proofs.WordLemmas.{words-step, words-end}
+use Rattle.lock_script.proofs.Lemmas.Words.{words-step, words-end}
 use Rattle.lock_script.proofs.words.split_words.Goals as goal
 
 pub loop-word-preserved : goal.loop-word-preserved

@@ -7,7 +7,7 @@ use Rattle.lock_table.specs.declared.waits.Waiter.{Waiter}
 use Rattle.lock_table.specs.Content.{Wait}
 use Rattle.lock_table.specs.Clash.{first_waiter}
 use Rattle.lock_table.specs.Waiter.{shown_wait}
-use Rattle.lock_table.proofs.FindLemmas.{find-none}
+use Rattle.lock_table.proofs.Lemmas.Find.{find-none}
 use Rattle.lock_table.proofs.answering.waiter_against.Goals as goal
 
 -- where nobody waits at the front, nobody waits in conflict

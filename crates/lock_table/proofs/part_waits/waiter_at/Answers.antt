@@ -3,7 +3,7 @@ use Rattle.std.proofs.lemmas.List.{take_all}
 use Rattle.std.proofs.lemmas.Option.{slice_get_past}
 use Rattle.lock_table.specs.declared.part_waits.PartWait.{PartWait}
 use Rattle.lock_table.specs.PartWaits.{queues_in}
-use Rattle.lock_table.proofs.WaitLists.{waiter-there}
+use Rattle.lock_table.proofs.Lemmas.WaitLists.{waiter-there}
 use Rattle.lock_table.proofs.part_waits.waiter_at.Goals as goal
 
 pub returns-then-before-eq0 : goal.returns-then-before-eq0

@@ -1,5 +1,5 @@
 use Rattle.std.proofs.Common.{◌<◌, ◌≤◌, length, refl, ap, sym, ◌∙◌, arith, rules}
-use Rattle.lock_table.proofs.Waking.{Waking-start, Waking-stay_at, Waking-go_at, Waking-end_at, Waking-end, same_requests-end, one_wait_each-end}
+use Rattle.lock_table.proofs.Lemmas.Waking.{Waking-start, Waking-stay_at, Waking-go_at, Waking-end_at, Waking-end, same_requests-end, one_wait_each-end}
 use Rattle.lock_table.proofs.part_waits.wake_queue.Goals as goal
 
 pub loop-place-init : goal.loop-place-init

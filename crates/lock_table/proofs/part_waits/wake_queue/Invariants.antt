@@ -1,5 +1,5 @@
 use Rattle.std.proofs.Common.{◌≡◌, ◌+◌, ◌-◌, ◌≤◌, take, drop, length, vec_len, vec_capacity}
-use Rattle.lock_table.proofs.Waking.{Waking}
+use Rattle.lock_table.proofs.Lemmas.Waking.{Waking}
 use Rattle.lock_table.proofs.part_waits.wake_queue.Given as goal
 
 abbrev pub invariant-loop-place : goal.invariant-loop-place

@@ -1,5 +1,5 @@
 use Rattle.std.proofs.Common.{arith}
-use Rattle.lock_table.proofs.PartLemmas.{AreEmptyParts-push}
+use Rattle.lock_table.proofs.Lemmas.Parts.{AreEmptyParts-push}
 use Rattle.lock_table.proofs.parts.empty_parts.Goals as goal
 
 pub loop-part-preserved : goal.loop-part-preserved

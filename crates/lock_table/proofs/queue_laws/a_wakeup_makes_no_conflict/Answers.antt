@@ -1,4 +1,4 @@
-use Rattle.lock_table.proofs.QueueLaws.{woken-no_conflict}
+use Rattle.lock_table.proofs.Lemmas.QueueLaws.{woken-no_conflict}
 use Rattle.lock_table.proofs.queue_laws.a_wakeup_makes_no_conflict.Goals as goal
 
 pub returns : goal.returns

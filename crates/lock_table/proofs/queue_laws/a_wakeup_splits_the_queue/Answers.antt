@@ -1,4 +1,4 @@
-use Rattle.lock_table.proofs.QueueLaws.{woken-split}
+use Rattle.lock_table.proofs.Lemmas.QueueLaws.{woken-split}
 use Rattle.lock_table.proofs.queue_laws.a_wakeup_splits_the_queue.Goals as goal
 
 pub returns : goal.returns

@@ -1,4 +1,4 @@
-use Rattle.lock_table.proofs.QueueLaws.{joined-none_free}
+use Rattle.lock_table.proofs.Lemmas.QueueLaws.{joined-none_free}
 use Rattle.lock_table.proofs.queue_laws.joining_leaves_none_free.Goals as goal
 
 pub returns : goal.returns

@@ -1,4 +1,4 @@
-use Rattle.lock_table.proofs.OneAnswer.{waiting_answer-one}
+use Rattle.lock_table.proofs.Lemmas.OneAnswer.{waiting_answer-one}
 use Rattle.lock_table.proofs.queue_laws.there_is_one_answer.Goals as goal
 
 pub returns : goal.returns

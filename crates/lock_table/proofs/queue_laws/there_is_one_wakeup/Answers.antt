@@ -1,4 +1,4 @@
-use Rattle.lock_table.proofs.QueueLaws.{one_wakes}
+use Rattle.lock_table.proofs.Lemmas.QueueLaws.{one_wakes}
 use Rattle.lock_table.proofs.queue_laws.there_is_one_wakeup.Goals as goal
 
 pub returns : goal.returns

@@ -1,4 +1,4 @@
-use Rattle.lock_table.proofs.QueueLaws.{woken-none_free, none_free-wakes}
+use Rattle.lock_table.proofs.Lemmas.QueueLaws.{woken-none_free, none_free-wakes}
 use Rattle.lock_table.proofs.queue_laws.waking_again_changes_nothing.Goals as goal
 
 pub returns : goal.returns

@@ -1,4 +1,4 @@
-use Rattle.lock_table.proofs.QueueLemmas.{granted-no_holder}
+use Rattle.lock_table.proofs.Lemmas.Queues.{granted-no_holder}
 use Rattle.lock_table.proofs.queue_laws.what_is_granted_conflicts_with_no_holder.Goals as goal
 
 pub returns : goal.returns

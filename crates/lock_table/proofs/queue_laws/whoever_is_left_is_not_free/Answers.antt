@@ -1,4 +1,4 @@
-use Rattle.lock_table.proofs.QueueLaws.{woken-none_free}
+use Rattle.lock_table.proofs.Lemmas.QueueLaws.{woken-none_free}
 use Rattle.lock_table.proofs.queue_laws.whoever_is_left_is_not_free.Goals as goal
 
 pub returns : goal.returns

@@ -1,4 +1,4 @@
-use Rattle.lock_world.proofs.FromSafeWorld.{permitted-none}
+use Rattle.lock_world.proofs.Lemmas.FromSafeWorld.{permitted-none}
 use Rattle.lock_world.proofs.laws.a_counter_read_as_zero_is_a_permission.Goals as goal
 
 pub returns-clause-lock_is_held : goal.returns-clause-lock_is_held

@@ -1,5 +1,5 @@
-use Rattle.lock_world.proofs.Refusals.{refusals-saw}
-use Rattle.lock_world.proofs.SafeWorld.Opening.{opening-safe}
+use Rattle.lock_world.proofs.Lemmas.Refusals.{refusals-saw}
+use Rattle.lock_world.proofs.Lemmas.SafeWorld.Opening.{opening-safe}
 use Rattle.lock_world.proofs.laws.a_refusal_saw_what_it_names.Goals as goal
 
 pub returns : goal.returns

@@ -1,5 +1,5 @@
 use Rattle.lock_world.specs.SafeWorld.{tabled}
-use Rattle.lock_world.proofs.FromSafe.{entry-stands, stands-once, stands-in_one_queue}
+use Rattle.lock_world.proofs.Lemmas.FromSafe.{entry-stands, stands-once, stands-in_one_queue}
 use Rattle.lock_world.proofs.laws.a_session_waits_once.Goals as goal
 
 pub returns-clause-recorded : goal.returns-clause-recorded

@@ -1,4 +1,4 @@
-use Rattle.lock_world.proofs.Words.Wait.{asked_word-asked, asked_word-state, asked_word-sum}
+use Rattle.lock_world.proofs.Lemmas.Words.Wait.{asked_word-asked, asked_word-state, asked_word-sum}
 use Rattle.lock_world.proofs.laws.asking_sets_one_bit.Goals as goal
 
 pub returns-clause-asked : goal.returns-clause-asked

@@ -1,4 +1,4 @@
-use Rattle.lock_world.proofs.Closed.{closed-empty}
+use Rattle.lock_world.proofs.Lemmas.Closed.{closed-empty}
 use Rattle.lock_world.proofs.laws.closed_numbers_are_forgotten.Goals as goal
 
 pub returns : goal.returns

@@ -1,6 +1,6 @@
 use Rattle.lock_world.specs.SafeWorld.{tabled}
-use Rattle.lock_world.proofs.FromSafe.{awaits-for}
-use Rattle.lock_world.proofs.Headline.{headline}
+use Rattle.lock_world.proofs.Lemmas.FromSafe.{awaits-for}
+use Rattle.lock_world.proofs.Lemmas.Headline.{headline}
 use Rattle.lock_world.specs.Headline.{InPartition}
 use Rattle.lock_world.proofs.laws.counters_show_what_is_counted.Goals as goal
 

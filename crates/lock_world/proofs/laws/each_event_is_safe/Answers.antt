@@ -1,4 +1,4 @@
-use Rattle.lock_world.proofs.SafeWorld.Runs.{event-safe}
+use Rattle.lock_world.proofs.Lemmas.SafeWorld.Runs.{event-safe}
 use Rattle.lock_world.proofs.laws.each_event_is_safe.Goals as goal
 
 pub returns : goal.returns

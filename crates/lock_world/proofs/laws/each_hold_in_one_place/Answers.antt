@@ -1,7 +1,7 @@
-use Rattle.lock_world.proofs.Slots.Bits.{shown-held}
-use Rattle.lock_world.proofs.Slots.Used.{none_past-groups}
+use Rattle.lock_world.proofs.Lemmas.Slots.Bits.{shown-held}
+use Rattle.lock_world.proofs.Lemmas.Slots.Used.{none_past-groups}
 use Rattle.modes_core.specs.declared.tags.Tag.TheVariants.{Relation}
-use Rattle.lock_world.proofs.FromSafeWorld.{held-in_table, shown-in_no_content, shown-in_one_slot}
+use Rattle.lock_world.proofs.Lemmas.FromSafeWorld.{held-in_table, shown-in_no_content, shown-in_one_slot}
 use Rattle.lock_world.proofs.laws.each_hold_in_one_place.Goals as goal
 
 pub returns-clause-in_content : goal.returns-clause-in_content

@@ -1,6 +1,6 @@
 use Rattle.lock_world.specs.World.{opening}
-use Rattle.lock_world.proofs.SafeWorld.Opening.{opening-safe}
-use Rattle.lock_world.proofs.SafeWorld.Runs.{through-safe, Runs-safe}
+use Rattle.lock_world.proofs.Lemmas.SafeWorld.Opening.{opening-safe}
+use Rattle.lock_world.proofs.Lemmas.SafeWorld.Runs.{through-safe, Runs-safe}
 use Rattle.lock_world.proofs.laws.every_world_is_safe.Goals as goal
 
 pub returns-clause-last : goal.returns-clause-last

@@ -1,4 +1,4 @@
-use Rattle.lock_world.proofs.FromSafeWorld.{no_conflict-own_world, no_conflict-slot_content}
+use Rattle.lock_world.proofs.Lemmas.FromSafeWorld.{no_conflict-own_world, no_conflict-slot_content}
 use Rattle.lock_world.proofs.laws.no_two_conflicting_holds.Goals as goal
 
 pub returns-clause-in_contents : goal.returns-clause-in_contents

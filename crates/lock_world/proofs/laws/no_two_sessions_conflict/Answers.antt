@@ -1,4 +1,4 @@
-use Rattle.lock_world.proofs.Headline.{headline}
+use Rattle.lock_world.proofs.Lemmas.Headline.{headline}
 use Rattle.lock_world.proofs.laws.no_two_sessions_conflict.Goals as goal
 
 pub returns-clause-no_two_conflict : goal.returns-clause-no_two_conflict

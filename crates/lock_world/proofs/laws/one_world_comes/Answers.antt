@@ -1,6 +1,6 @@
 use Rattle.lock_world.specs.World.{opening}
-use Rattle.lock_world.proofs.SafeWorld.Opening.{opening-safe}
-use Rattle.lock_world.proofs.Unique.Runs.{one_run}
+use Rattle.lock_world.proofs.Lemmas.SafeWorld.Opening.{opening-safe}
+use Rattle.lock_world.proofs.Lemmas.Unique.Runs.{one_run}
 use Rattle.lock_world.proofs.laws.one_world_comes.Goals as goal
 
 pub returns : goal.returns

@@ -1,4 +1,4 @@
-use Rattle.lock_world.proofs.SafeWorld.Opening.{opening-safe}
+use Rattle.lock_world.proofs.Lemmas.SafeWorld.Opening.{opening-safe}
 use Rattle.lock_world.proofs.laws.opening_is_safe.Goals as goal
 
 pub returns : goal.returns

@@ -1,5 +1,5 @@
-use Rattle.lock_world.proofs.Others.Events.{event-others}
-use Rattle.lock_world.proofs.Others.WaitWords.{left_or_marked}
+use Rattle.lock_world.proofs.Lemmas.Others.Events.{event-others}
+use Rattle.lock_world.proofs.Lemmas.Others.WaitWords.{left_or_marked}
 use Rattle.lock_world.proofs.laws.others_are_untouched.Goals as goal
 
 pub returns-clause-account : goal.returns-clause-account

@@ -2,10 +2,10 @@ use Rattle.std.proofs.Common.{subst}
 use Rattle.lock_world.specs.World.{opening}
 use Rattle.lock_world.specs.Tallies.{OwnStand}
 use Rattle.lock_world.specs.Account.{account}
-use Rattle.lock_world.proofs.SafeWorld.Opening.{opening-safe}
-use Rattle.lock_world.proofs.SafeWorld.Runs.{Runs-safe}
-use Rattle.lock_world.proofs.Remembered.{remembered-once, groups-of_run}
-use Rattle.lock_world.proofs.OwnStand.{own-stand, shows-left}
+use Rattle.lock_world.proofs.Lemmas.SafeWorld.Opening.{opening-safe}
+use Rattle.lock_world.proofs.Lemmas.SafeWorld.Runs.{Runs-safe}
+use Rattle.lock_world.proofs.Lemmas.Remembered.{remembered-once, groups-of_run}
+use Rattle.lock_world.proofs.Lemmas.OwnStand.{own-stand, shows-left}
 use Rattle.lock_world.proofs.laws.own_holds_are_in_slots_or_contents.Goals as goal
 
 pub returns-clause-stand : goal.returns-clause-stand

@@ -2,9 +2,9 @@ use Rattle.std.proofs.Common.{◌≡◌, Some, None, sym, ◌∙◌}
 use Rattle.std.proofs.lemmas.Bool.{false_from_ne_true}
 use Rattle.lw_word.specs.WaitList.{stands_in}
 use Rattle.lock_world.specs.SafeWorld.{tabled}
-use Rattle.lock_world.proofs.FromSafe.{spent-not_held, spent-not_queued}
-use Rattle.lock_world.proofs.SafeWorld.Tabled.{not_own-no_slot}
-use Rattle.lock_world.proofs.Slots.Remembered.{no_hold-no_slot}
+use Rattle.lock_world.proofs.Lemmas.FromSafe.{spent-not_held, spent-not_queued}
+use Rattle.lock_world.proofs.Lemmas.SafeWorld.Tabled.{not_own-no_slot}
+use Rattle.lock_world.proofs.Lemmas.Slots.Remembered.{no_hold-no_slot}
 use Rattle.lock_world.proofs.laws.spent_sessions_have_nothing.Goals as goal
 
 pub returns-clause-no_hold : goal.returns-clause-no_hold

@@ -1,7 +1,7 @@
 use Rattle.std.proofs.Common.{sym, subst}
 use Rattle.lw_word.specs.LightweightWord.{IsListLocked}
 use Rattle.lock_world.specs.WaitLists.{partition_lock, fast_lock}
-use Rattle.lock_world.proofs.ListWords.{lock_word-partition, lock_word-fast}
+use Rattle.lock_world.proofs.Lemmas.ListWords.{lock_word-partition, lock_word-fast}
 use Rattle.lock_world.proofs.laws.wait_lists_are_in_order.Goals as goal
 
 pub returns-clause-partition_locked : goal.returns-clause-partition_locked

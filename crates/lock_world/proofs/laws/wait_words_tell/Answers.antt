@@ -1,6 +1,6 @@
 use Rattle.lock_world.specs.SafeWorld.{tabled}
-use Rattle.lock_world.proofs.FromSafe.{idle-shows, queued-shows, waiting-stands}
-use Rattle.lock_world.proofs.FromSafeWorld.{granted-held_world}
+use Rattle.lock_world.proofs.Lemmas.FromSafe.{idle-shows, queued-shows, waiting-stands}
+use Rattle.lock_world.proofs.Lemmas.FromSafeWorld.{granted-held_world}
 use Rattle.lock_world.proofs.laws.wait_words_tell.Goals as goal
 
 pub returns-clause-idle : goal.returns-clause-idle

@@ -4,13 +4,13 @@ use Rattle.lock_table.specs.Total.{total}
 use Rattle.lock_world.specs.World.{opening}
 use Rattle.lock_world.specs.SlotHolds.{group_size, most_groups, slot_count}
 use Rattle.lock_world.specs.Tallies.{OwnStand}
-use Rattle.lock_world.proofs.FromSafeWorld.{holder-within}
-use Rattle.lock_world.proofs.SafeWorld.Opening.{opening-safe}
-use Rattle.lock_world.proofs.SafeWorld.Runs.{Runs-safe}
-use Rattle.lock_world.proofs.Remembered.{remembered-once, groups-of_run}
-use Rattle.lock_world.proofs.OwnStand.{own-stand, shows-left}
-use Rattle.lock_world.proofs.Tallies.Counters.{counters-sum}
-use Rattle.lock_world.proofs.Tallies.Sessions.{all-sum}
+use Rattle.lock_world.proofs.Lemmas.FromSafeWorld.{holder-within}
+use Rattle.lock_world.proofs.Lemmas.SafeWorld.Opening.{opening-safe}
+use Rattle.lock_world.proofs.Lemmas.SafeWorld.Runs.{Runs-safe}
+use Rattle.lock_world.proofs.Lemmas.Remembered.{remembered-once, groups-of_run}
+use Rattle.lock_world.proofs.Lemmas.OwnStand.{own-stand, shows-left}
+use Rattle.lock_world.proofs.Lemmas.Tallies.Counters.{counters-sum}
+use Rattle.lock_world.proofs.Lemmas.Tallies.Sessions.{all-sum}
 use Rattle.lock_world.proofs.laws.what_all_sessions_own_adds_up.Goals as goal
 
 within-all : (groups place : ℕ) → groups ≤ most_groups → place < group_size * groups → place < slot_count

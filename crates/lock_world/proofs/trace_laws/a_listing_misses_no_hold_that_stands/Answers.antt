@@ -1,7 +1,7 @@
 use Rattle.std.proofs.Common.{◌≡◌, [], ◌∷◌, ◌++◌, refl, subst, sym}
-use Rattle.lock_table.proofs.PutLemmas.{set_at-here}
+use Rattle.lock_table.proofs.Lemmas.Put.{set_at-here}
 use Rattle.lock_world.specs.World.{World, Took}
-use Rattle.lock_world.proofs.Listing.{stays-in_content, taken-has}
+use Rattle.lock_world.proofs.Lemmas.Listing.{stays-in_content, taken-has}
 use Rattle.lock_world.proofs.trace_laws.a_listing_misses_no_hold_that_stands.Goals as goal
 
 pub returns-clause-misses_none : goal.returns-clause-misses_none

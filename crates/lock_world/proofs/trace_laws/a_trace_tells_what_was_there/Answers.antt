@@ -1,6 +1,6 @@
 use Rattle.lock_world.specs.World.{Loaded, AskedToCancel, Episode}
-use Rattle.lock_world.proofs.Telling.{added-tells, each-told}
-use Rattle.lock_world.proofs.SafeWorld.Opening.{opening-safe}
+use Rattle.lock_world.proofs.Lemmas.Telling.{added-tells, each-told}
+use Rattle.lock_world.proofs.Lemmas.SafeWorld.Opening.{opening-safe}
 use Rattle.lock_world.proofs.trace_laws.a_trace_tells_what_was_there.Goals as goal
 
 pub returns-clause-loaded : goal.returns-clause-loaded

@@ -1,7 +1,7 @@
 use Rattle.std.proofs.Common.{None, subst, inl, inr}
 use Rattle.lock_world.specs.World.{Episode}
 use Rattle.lock_world.specs.Safe.{EpisodesAreMoves}
-use Rattle.lock_world.proofs.Traces.{episode-sound, was_taken}
+use Rattle.lock_world.proofs.Lemmas.Traces.{episode-sound, was_taken}
 use Rattle.lock_world.proofs.trace_laws.each_episode_is_one_move.Goals as goal
 
 pub returns-clause-moved : goal.returns-clause-moved

@@ -1,7 +1,7 @@
 use Rattle.std.proofs.Common.{◌≡◌, ◌≢◌, ℕ, ap, ◌∙◌, arith}
 use Rattle.lock_world.specs.WaitWord.{wait_state}
-use Rattle.lock_world.proofs.Wakes.Reasons.{has-reason}
-use Rattle.lock_world.proofs.Wakes.Runs.{keeps-well, well-waits}
+use Rattle.lock_world.proofs.Lemmas.Wakes.Reasons.{has-reason}
+use Rattle.lock_world.proofs.Lemmas.Wakes.Runs.{keeps-well, well-waits}
 use Rattle.lock_world.proofs.wake_laws.every_waiter_has_a_reason.Goals as goal
 
 -- A word that shows granted is not one that shows waiting.

@@ -1,4 +1,4 @@
-use Rattle.lock_world.proofs.Wakes.Runs.{keeps-well, well-waits, well-sleeps}
+use Rattle.lock_world.proofs.Lemmas.Wakes.Runs.{keeps-well, well-waits, well-sleeps}
 use Rattle.lock_world.proofs.wake_laws.no_call_is_lost.Goals as goal
 
 pub returns-clause-waits : goal.returns-clause-waits

@@ -1,4 +1,4 @@
-use Rattle.lock_world.proofs.Wakes.Runs.{keeps-well, keeps-in_order, keeps-order, well-not_all}
+use Rattle.lock_world.proofs.Lemmas.Wakes.Runs.{keeps-well, keeps-in_order, keeps-order, well-not_all}
 use Rattle.lock_world.proofs.wake_laws.no_circle_of_sleepers.Goals as goal
 
 pub returns-clause-in_order : goal.returns-clause-in_order

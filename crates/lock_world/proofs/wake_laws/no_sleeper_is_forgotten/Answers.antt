@@ -1,4 +1,4 @@
-use Rattle.lock_world.proofs.Wakes.Runs.{turn-nobody, keeps-well, well-owed}
+use Rattle.lock_world.proofs.Lemmas.Wakes.Runs.{turn-nobody, keeps-well, well-owed}
 use Rattle.lock_world.proofs.wake_laws.no_sleeper_is_forgotten.Goals as goal
 
 pub returns-clause-each_turn : goal.returns-clause-each_turn

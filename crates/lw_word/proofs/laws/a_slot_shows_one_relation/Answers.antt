@@ -1,4 +1,4 @@
-use Rattle.lw_word.proofs.SlotLemmas.{relation_in-slot_word, mode_bits-slot_word, in_use-shows, not_in_use-shows, shows-of}
+use Rattle.lw_word.proofs.Lemmas.Slots.{relation_in-slot_word, mode_bits-slot_word, in_use-shows, not_in_use-shows, shows-of}
 use Rattle.lw_word.proofs.laws.a_slot_shows_one_relation.Goals as goal
 
 pub returns-clause-relation : goal.returns-clause-relation

@@ -1,4 +1,4 @@
-use Rattle.lw_word.proofs.WaitLemmas.{wakeup-split, wakeup-somebody, wakeup-all_taken, wakeup-none_left}
+use Rattle.lw_word.proofs.Lemmas.Waits.{wakeup-split, wakeup-somebody, wakeup-all_taken, wakeup-none_left}
 use Rattle.lw_word.proofs.laws.a_wakeup_splits_the_list.Goals as goal
 
 pub returns-clause-split : goal.returns-clause-split

@@ -1,5 +1,5 @@
 use Rattle.lw_word.specs.Packing.{word_of-state_of}
-use Rattle.lw_word.proofs.WordLemmas.{state_of-word_of, IsLightweightWord-word_of}
+use Rattle.lw_word.proofs.Lemmas.Words.{state_of-word_of, IsLightweightWord-word_of}
 use Rattle.lw_word.proofs.laws.a_word_and_what_it_says_are_one.Goals as goal
 
 pub returns-clause-number : goal.returns-clause-number

@@ -1,4 +1,4 @@
-use Rattle.lw_word.proofs.FlagLemmas.{has_waiters_word-has_waiters, has_waiters_word-holders, has_waiters_word-list_locked, has_waiters_word-release_ok, list_locked_word-has_waiters, list_locked_word-holders, list_locked_word-locked, list_locked_word-release_ok, release_ok_word-has_waiters, release_ok_word-holders, release_ok_word-list_locked, release_ok_word-release_ok}
+use Rattle.lw_word.proofs.Lemmas.Flags.{has_waiters_word-has_waiters, has_waiters_word-holders, has_waiters_word-list_locked, has_waiters_word-release_ok, list_locked_word-has_waiters, list_locked_word-holders, list_locked_word-locked, list_locked_word-release_ok, release_ok_word-has_waiters, release_ok_word-holders, release_ok_word-list_locked, release_ok_word-release_ok}
 use Rattle.lw_word.proofs.laws.setting_a_flag_sets_it_alone.Goals as goal
 
 pub returns-clause-list_locked : goal.returns-clause-list_locked

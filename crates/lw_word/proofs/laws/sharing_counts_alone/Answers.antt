@@ -1,4 +1,4 @@
-use Rattle.lw_word.proofs.WordLemmas.{shared_word-shared, shared_word-exclusive, unshared_word-shared, unshared_word-exclusive}
+use Rattle.lw_word.proofs.Lemmas.Words.{shared_word-shared, shared_word-exclusive, unshared_word-shared, unshared_word-exclusive}
 use Rattle.lw_word.proofs.laws.sharing_counts_alone.Goals as goal
 
 pub returns-clause-shared : goal.returns-clause-shared

@@ -1,4 +1,4 @@
-use Rattle.lw_word.proofs.WordLemmas.{taken_word-exclusive, taken_word-shared, taken_word-flags, put_word-free_to_share, put_word-shared, put_word-flags}
+use Rattle.lw_word.proofs.Lemmas.Words.{taken_word-exclusive, taken_word-shared, taken_word-flags, put_word-free_to_share, put_word-shared, put_word-flags}
 use Rattle.lw_word.proofs.laws.taking_turns_one_bit.Goals as goal
 
 pub returns-clause-taken : goal.returns-clause-taken

@@ -1,5 +1,5 @@
 use Rattle.std.proofs.Common.{◌/◌, ◌%◌, ◌^◌}
-use Rattle.lw_word.proofs.StateLemmas.{IsFreeFor-exclusive, IsFreeFor-shared, bit_is_set}
+use Rattle.lw_word.proofs.Lemmas.States.{IsFreeFor-exclusive, IsFreeFor-shared, bit_is_set}
 use Rattle.lw_word.proofs.laws.the_record_says_what_the_bits_say.Goals as goal
 
 pub returns-clause-free : goal.returns-clause-free

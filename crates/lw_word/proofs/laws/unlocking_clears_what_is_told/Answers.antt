@@ -1,4 +1,4 @@
-use Rattle.lw_word.proofs.FlagLemmas.{list_unlocked_word-list_locked, list_unlocked_word-holders, list_unlocked_word-release_ok, list_unlocked_word-not_release_ok, list_unlocked_word-has_waiters, list_unlocked_word-no_waiters}
+use Rattle.lw_word.proofs.Lemmas.Flags.{list_unlocked_word-list_locked, list_unlocked_word-holders, list_unlocked_word-release_ok, list_unlocked_word-not_release_ok, list_unlocked_word-has_waiters, list_unlocked_word-no_waiters}
 use Rattle.lw_word.proofs.laws.unlocking_clears_what_is_told.Goals as goal
 
 pub returns-clause-list : goal.returns-clause-list

@@ -4,7 +4,7 @@ use Rattle.std.specs.Vec.{vec_len}
 use Rattle.lw_word.specs.declared.wait_lists.LwWaiter.{LwWaiter}
 use Rattle.lw_word.specs.WaitList.{wants_to_share}
 use Rattle.lw_word.specs.declared.wait_lists.TheConstants.{MOST_TAKEN_OFF}
-use Rattle.lw_word.proofs.SharersInPlace.{takes-start, takes-one, leaves-one, takes-all}
+use Rattle.lw_word.proofs.Lemmas.SharersInPlace.{takes-start, takes-one, leaves-one, takes-all}
 use Rattle.lw_word.proofs.wait_lists.take_sharers_off.Goals as goal
 use Rattle.lw_word.proofs.wait_lists.take_sharers_off.Goals.{then-is_shared+then-len-lt-MOST_TAKEN_OFF, else-is_shared, else-is_shared-via-then-is_shared+else-len-lt-MOST_TAKEN_OFF, else-is_shared-via-else-is_shared}
 

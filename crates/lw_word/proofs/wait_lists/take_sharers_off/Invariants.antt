@@ -1,7 +1,7 @@
 use Rattle.std.proofs.Common.{◌≡◌, ◌≤◌}
 use Rattle.std.specs.Vec.{vec_len, vec_capacity}
 use Rattle.lw_word.specs.declared.wait_lists.TheConstants.{MOST_TAKEN_OFF}
-use Rattle.lw_word.proofs.SharersInPlace.{TakesInPlace}
+use Rattle.lw_word.proofs.Lemmas.SharersInPlace.{TakesInPlace}
 use Rattle.lw_word.proofs.wait_lists.take_sharers_off.Given as goal
 
 abbrev pub invariant-loop-index : goal.invariant-loop-index

@@ -1,4 +1,4 @@
-use Rattle.modes_core.proofs.Laws.{conflict_comm}
+use Rattle.modes_core.proofs.Lemmas.Conflicts.{conflict_comm}
 use Rattle.modes_core.proofs.mode_sets.conflict_is_symmetric.Goals as goal
 
 pub returns : goal.returns

@@ -1,6 +1,6 @@
 use Rattle.std.proofs.lemmas.Bool.{leb-true, le-leb}
 use Rattle.modes_core.specs.Mode.{number_of}
-use Rattle.modes_core.proofs.Laws.{weak-conflict}
+use Rattle.modes_core.proofs.Lemmas.Conflicts.{weak-conflict}
 use Rattle.modes_core.proofs.mode_sets.slot_modes_conflict_with_counted_ones.Goals as goal
 
 pub returns : goal.returns

@@ -2,8 +2,8 @@ use Rattle.std.proofs.Common.{ℕ, ◌<◌, false, length, sym, ap, subst, ◌�
 use Rattle.std.proofs.lemmas.Bool.{false≢true, cases_eq, cases_lt}
 use Rattle.place_index.specs.declared.links.Link.{Link}
 use Rattle.place_index.specs.Chains.{link_at, note_at, head_at, is_under, chain, start_of, IsLast}
-use Rattle.place_index.proofs.NoteLaws.{link_read, note_past, under_of, noted_of}
-use Rattle.place_index.proofs.LinkLaws.{in_chain, next_of, under_read, walk_ends}
+use Rattle.place_index.proofs.Lemmas.Notes.{link_read, note_past, under_of, noted_of}
+use Rattle.place_index.proofs.Lemmas.Links.{in_chain, next_of, under_read, walk_ends}
 use Rattle.place_index.proofs.chains.find.Goals as goal
 use Rattle.place_index.proofs.chains.find.Given as given
 use Rattle.place_index.proofs.chains.find.Goals.{else-hash-via-then-hash+else-is_it, else-hash-via-else-hash}

@@ -3,8 +3,8 @@ use Rattle.std.specs.Prelude.{Some, None}
 use Rattle.place_index.specs.declared.links.Link.{Link}
 use Rattle.place_index.specs.Notes.{no_place}
 use Rattle.place_index.specs.Chains.{link_at, note_at, head_at, is_noted, start_of, IsLinkedTo}
-use Rattle.place_index.proofs.NoteLaws.{link_read, note_of-noted, note_of-free, noted_of, count-alike}
-use Rattle.place_index.proofs.LinkLaws.{linked-none, linked-past, linked-here, here_noted, relinked}
+use Rattle.place_index.proofs.Lemmas.Notes.{link_read, note_of-noted, note_of-free, noted_of, count-alike}
+use Rattle.place_index.proofs.Lemmas.Links.{linked-none, linked-past, linked-here, here_noted, relinked}
 use Rattle.place_index.proofs.chains.link_all.Goals as goal
 use Rattle.place_index.proofs.chains.link_all.Goals.{then-is_noted, else-is_noted}
 

@@ -3,9 +3,9 @@ use Rattle.std.proofs.lemmas.List.{get_or-set_other, length-set}
 use Rattle.place_index.specs.declared.links.Link.{Link}
 use Rattle.place_index.specs.Chains.{end_of_chain, free_link, note_at, next_at, chain, start_of}
 use Rattle.std.proofs.lemmas.Bool.{false≢true}
-use Rattle.place_index.proofs.NoteLaws.{link_read}
-use Rattle.place_index.proofs.ChainLaws.{in_none}
-use Rattle.place_index.proofs.LinkLaws.{read_behind, linked-between}
+use Rattle.place_index.proofs.Lemmas.Notes.{link_read}
+use Rattle.place_index.proofs.Lemmas.Chains.{in_none}
+use Rattle.place_index.proofs.Lemmas.Links.{read_behind, linked-between}
 use Rattle.place_index.proofs.chains.link_behind.Goals as goal
 use Rattle.place_index.proofs.chains.link_behind.Goals.{then-loop-next-test+else-next-place, else-loop-next-test}
 

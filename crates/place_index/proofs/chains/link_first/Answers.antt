@@ -1,6 +1,6 @@
 use Rattle.std.proofs.Common.{ℕ, ◌<◌, length, set, sym, ap, subst, ◌∙◌}
 use Rattle.place_index.specs.Chains.{head_at, start_of, IsLinked}
-use Rattle.place_index.proofs.LinkLaws.{linked-first}
+use Rattle.place_index.proofs.Lemmas.Links.{linked-first}
 use Rattle.place_index.proofs.chains.link_first.Goals as goal
 
 pub returns-clause-linked : goal.returns-clause-linked

@@ -2,8 +2,8 @@ use Rattle.std.proofs.Common.{◌≢◌, ◌<◌, length, set, sym, ap, subst, �
 use Rattle.std.proofs.lemmas.List.{get_or-set_other, length-set}
 use Rattle.place_index.specs.declared.links.Link.{Link}
 use Rattle.place_index.specs.Chains.{free_link, link_at, note_at, IsLinked}
-use Rattle.place_index.proofs.NoteLaws.{link_read, under_of, noted_within}
-use Rattle.place_index.proofs.LinkLaws.{read_before, unlinked-behind}
+use Rattle.place_index.proofs.Lemmas.Notes.{link_read, under_of, noted_within}
+use Rattle.place_index.proofs.Lemmas.Links.{read_before, unlinked-behind}
 use Rattle.place_index.proofs.chains.unlink_behind.Goals as goal
 
 pub overflow_cast-before-in-loop-next : goal.overflow_cast-before-in-loop-next

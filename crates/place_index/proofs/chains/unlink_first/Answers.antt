@@ -1,8 +1,8 @@
 use Rattle.std.proofs.Common.{ℕ, ◌<◌, length, set, sym, ap, subst, ◌∙◌}
 use Rattle.place_index.specs.declared.links.Link.{Link}
 use Rattle.place_index.specs.Chains.{note_at, start_of, IsLinked}
-use Rattle.place_index.proofs.NoteLaws.{link_read, under_of, noted_within}
-use Rattle.place_index.proofs.LinkLaws.{unlinked-first}
+use Rattle.place_index.proofs.Lemmas.Notes.{link_read, under_of, noted_within}
+use Rattle.place_index.proofs.Lemmas.Links.{unlinked-first}
 use Rattle.place_index.proofs.chains.unlink_first.Goals as goal
 
 pub returns-clause-linked : goal.returns-clause-linked

@@ -1,5 +1,5 @@
 use Rattle.std.proofs.Common.{ℕ, List, ap}
-use Rattle.scenario.proofs.InTurn.{is-kept}
+use Rattle.scenario.proofs.Lemmas.InTurn.{is-kept}
 use Rattle.scenario.proofs.kept.kept_or_fault.Goals as goal
 
 pub returns-in-Ok-keep : goal.returns-in-Ok-keep

@@ -7,7 +7,7 @@ use Rattle.scenario.specs.declared.answers.Answer.TheVariants as answer
 use Rattle.std.proofs.lemmas.Result.{on_ok_weaker}
 use Rattle.scenario.specs.Heard.{HearsAll, Listed, told_of}
 use Rattle.scenario.specs.declared.answers.Row.TheVariants as row
-use Rattle.scenario.proofs.Hearing.{hears-more}
+use Rattle.scenario.proofs.Lemmas.Hearing.{hears-more}
 use Rattle.scenario.proofs.listener.tell_answer.Goals as goal
 
 queue-not_none : (it : Answer) (rows : Vec Waiter) → it ≡ answer.Queue rows → it ≡ answer.NoMemory → ⊥

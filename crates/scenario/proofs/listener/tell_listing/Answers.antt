@@ -3,7 +3,7 @@ use Rattle.std.specs.Prelude.{map, min, vec_len}
 use Rattle.std.proofs.lemmas.Result.{on_ok_weaker}
 use Rattle.scenario.specs.Heard.{HearsAll, Listed}
 use Rattle.scenario.specs.declared.answers.Row.TheVariants as row
-use Rattle.scenario.proofs.Hearing.{hears-append, hears-more}
+use Rattle.scenario.proofs.Lemmas.Hearing.{hears-append, hears-more}
 use Rattle.scenario.proofs.listener.tell_listing.Goals as goal
 
 pub returns : goal.returns

@@ -1,6 +1,6 @@
 use Rattle.scenario.specs.Heard.{Listed}
 use Rattle.scenario.specs.declared.answers.Row.TheVariants as row
-use Rattle.scenario.proofs.Hearing.{hears-next}
+use Rattle.scenario.proofs.Lemmas.Hearing.{hears-next}
 use Rattle.scenario.proofs.listener.tell_table.Goals as goal
 
 pub rows-preserved : goal.rows-preserved

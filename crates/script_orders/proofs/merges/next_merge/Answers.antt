@@ -1,7 +1,7 @@
 use Rattle.std.proofs.Common.{◌+◌}
 use Rattle.std.proofs.lemmas.List.Sorted.{IsPermutation-trans, length_permutation}
-use Rattle.script_orders.proofs.MergeLemmas.{comes_later, same_at}
-use Rattle.script_orders.proofs.NextLemmas.{is_step, none_between}
+use Rattle.script_orders.proofs.Lemmas.Merges.{comes_later, same_at}
+use Rattle.script_orders.proofs.Lemmas.Next.{is_step, none_between}
 use Rattle.script_orders.proofs.merges.next_merge.Goals as goal
 
 pub returns-clause-same : goal.returns-clause-same

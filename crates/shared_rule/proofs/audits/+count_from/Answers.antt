@@ -1,15 +1,15 @@
 use Rattle.std.proofs.Common.{◌+◌, ap, ◌∙◌, sym, subst, arith}
 use Rattle.lock_world.specs.Account.{Account}
-use Rattle.shared_rule.proofs.Led.{led-further}
+use Rattle.shared_rule.proofs.Lemmas.Led.{led-further}
 use Rattle.lock_table.specs.Content.{Content}
-use Rattle.lock_table.proofs.PartitionRows.{rows-then, rows-refused}
+use Rattle.lock_table.proofs.Lemmas.PartitionRows.{rows-then, rows-refused}
 use Rattle.shared_rule.specs.Audits.{holding_steps, all_slot_loads}
 use Rattle.shared_rule.specs.declared.rule.TableSizes.{TableSizes}
 use Rattle.shared_rule.specs.Gatherings.{KnowsAll}
 use Rattle.shared_rule.specs.History.{first_account}
 use Rattle.shared_rule.specs.Plays.{Side}
-use Rattle.shared_rule.proofs.Auditing.{counts-slots, counts-more, mid-account}
-use Rattle.shared_rule.proofs.Episodes.{may_keep-since}
+use Rattle.shared_rule.proofs.Lemmas.Auditing.{counts-slots, counts-more, mid-account}
+use Rattle.shared_rule.proofs.Lemmas.Episodes.{may_keep-since}
 use Rattle.shared_rule.proofs.audits.+count_from.Goals as goal
 use Rattle.shared_rule.proofs.audits.+count_from.Goals.{then-is_ok, else-is_ok}
 

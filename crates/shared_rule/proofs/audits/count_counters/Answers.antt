@@ -1,7 +1,7 @@
 use Rattle.std.proofs.Common.{refl, ap, ◌∙◌}
 use Rattle.shared_rule.specs.Plays.{Side}
-use Rattle.shared_rule.proofs.Auditing.{counters-none, counters-load}
-use Rattle.shared_rule.proofs.FurtherViews.{same-seat, same-seat_then}
+use Rattle.shared_rule.proofs.Lemmas.Auditing.{counters-none, counters-load}
+use Rattle.shared_rule.proofs.Lemmas.FurtherViews.{same-seat, same-seat_then}
 use Rattle.shared_rule.proofs.audits.count_counters.Goals as goal
 
 pub loop-index-init : goal.loop-index-init

@@ -2,8 +2,8 @@ use Rattle.std.proofs.Common.{◌≡◌, ◌*◌, arith, refl, ◌∙◌, subst}
 use Rattle.std.specs.Prelude.{IfSome}
 use Rattle.lock_world.specs.SlotHolds.{group_size}
 use Rattle.shared_rule.specs.Audits.{SeesSlots}
-use Rattle.shared_rule.proofs.Auditing.{sees-no_session, sees-session}
-use Rattle.shared_rule.proofs.FurtherViews.{same-seat, same-seat_then}
+use Rattle.shared_rule.proofs.Lemmas.Auditing.{sees-no_session, sees-session}
+use Rattle.shared_rule.proofs.Lemmas.FurtherViews.{same-seat, same-seat_then}
 use Rattle.shared_rule.proofs.audits.count_slots.Goals as goal
 
 pub loop-number-init : goal.loop-number-init

@@ -1,7 +1,7 @@
 use Rattle.std.proofs.Common.{◌+◌, arith, refl, ap, ◌∙◌}
 use Rattle.shared_rule.specs.Plays.{Side}
-use Rattle.shared_rule.proofs.Auditing.{sees-none, sees-load}
-use Rattle.shared_rule.proofs.FurtherViews.{same-seat, same-seat_then}
+use Rattle.shared_rule.proofs.Lemmas.Auditing.{sees-none, sees-load}
+use Rattle.shared_rule.proofs.Lemmas.FurtherViews.{same-seat, same-seat_then}
 use Rattle.shared_rule.proofs.audits.count_slots_of.Goals as goal
 
 pub loop-slot-init : goal.loop-slot-init

@@ -1,12 +1,12 @@
 use Rattle.std.proofs.Common.{ℕ, refl, sym, ap, ◌∙◌, subst}
 use Rattle.lock_world.specs.declared.events.Word.TheVariants.{Slot}
 use Rattle.shared_rule.specs.Gatherings.{KnowsOfAll}
-use Rattle.shared_rule.proofs.Events.Words.{names-one}
+use Rattle.shared_rule.proofs.Lemmas.Events.Words.{names-one}
 use Rattle.shared_rule.specs.Layout.{index_of_word}
 use Rattle.shared_rule.specs.declared.history.Mark.{Mark}
 use Rattle.shared_rule.specs.Looks.{word_looked_at}
-use Rattle.shared_rule.proofs.Events.Loads.{loading_slot-lawful}
-use Rattle.shared_rule.proofs.Events.Gatherings.{looks_over_at}
+use Rattle.shared_rule.proofs.Lemmas.Events.Loads.{loading_slot-lawful}
+use Rattle.shared_rule.proofs.Lemmas.Events.Gatherings.{looks_over_at}
 use Rattle.shared_rule.proofs.audits.look_over_slot.Goals as goal
 
 pub look_over_as-requires-clause-allowed : goal.look_over_as-requires-clause-allowed

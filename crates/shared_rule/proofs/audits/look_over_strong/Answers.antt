@@ -2,9 +2,9 @@ use Rattle.std.proofs.Common.{ℕ, refl, ap}
 use Rattle.lock_world.specs.declared.events.Word.TheVariants.{Strong}
 use Rattle.shared_rule.specs.declared.history.Mark.{Mark}
 use Rattle.shared_rule.specs.Looks.{word_looked_at}
-use Rattle.shared_rule.proofs.Events.Words.{names-one}
-use Rattle.shared_rule.proofs.Events.Loads.{loading_strong-lawful}
-use Rattle.shared_rule.proofs.Events.Gatherings.{looks_over_at}
+use Rattle.shared_rule.proofs.Lemmas.Events.Words.{names-one}
+use Rattle.shared_rule.proofs.Lemmas.Events.Loads.{loading_strong-lawful}
+use Rattle.shared_rule.proofs.Lemmas.Events.Gatherings.{looks_over_at}
 use Rattle.shared_rule.proofs.audits.look_over_strong.Goals as goal
 
 pub look_over_as-requires-clause-allowed : goal.look_over_as-requires-clause-allowed

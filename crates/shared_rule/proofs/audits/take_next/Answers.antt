@@ -2,10 +2,10 @@ use Rattle.std.proofs.Common.{ap, ◌∙◌, inl}
 use Rattle.lock_world.specs.Account.{Account, ListAccount}
 use Rattle.shared_rule.specs.History.{first_account}
 use Rattle.shared_rule.specs.Todos.{Todo, first_todo, todo_attempted}
-use Rattle.shared_rule.proofs.Taken.{account-noted, todo-noted}
+use Rattle.shared_rule.proofs.Lemmas.Taken.{account-noted, todo-noted}
 use Rattle.shared_rule.specs.Marks.{TookPart}
 use Rattle.shared_rule.specs.Plays.{Side}
-use Rattle.shared_rule.proofs.Auditing.{took-session, took-above}
+use Rattle.shared_rule.proofs.Lemmas.Auditing.{took-session, took-above}
 use Rattle.shared_rule.proofs.audits.take_next.Goals as goal
 
 pub returns-clause-session_there : goal.returns-clause-session_there

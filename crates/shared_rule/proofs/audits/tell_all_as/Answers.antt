@@ -2,7 +2,7 @@ use Rattle.std.proofs.Common.{ap, rules, subst}
 use mathlib.Core.Option.{none}
 use Rattle.atomic_table.specs.Table.{step}
 use Rattle.shared_rule.specs.Gatherings.{KnowsAll}
-use Rattle.shared_rule.proofs.Events.Gatherings.{tells_all_at}
+use Rattle.shared_rule.proofs.Lemmas.Events.Gatherings.{tells_all_at}
 use Rattle.shared_rule.specs.declared.rule.TableSizes.{TableSizes}
 use Rattle.shared_rule.proofs.audits.tell_all_as.Goals as goal
 

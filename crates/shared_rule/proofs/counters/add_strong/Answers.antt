@@ -5,8 +5,8 @@ use Rattle.lock_world.specs.AccountLaw.{MayCountBy}
 use Rattle.shared_rule.specs.declared.history.History.{History}
 use Rattle.shared_rule.specs.Layout.{index_of_word}
 use Rattle.shared_rule.specs.History.{first_account}
-use Rattle.shared_rule.proofs.Events.Words.{marks_at}
-use Rattle.shared_rule.proofs.Events.Counters.{counting-lawful}
+use Rattle.shared_rule.proofs.Lemmas.Events.Words.{marks_at}
+use Rattle.shared_rule.proofs.Lemmas.Events.Counters.{counting-lawful}
 use Rattle.shared_rule.proofs.counters.add_strong.Goals as goal
 
 pub fetch_add_as-requires-clause-allowed : goal.fetch_add_as-requires-clause-allowed

@@ -1,6 +1,6 @@
 use Rattle.lock_world.specs.declared.events.Word.TheVariants.{Strong}
-use Rattle.shared_rule.proofs.Events.Words.{marks_at}
-use Rattle.shared_rule.proofs.Events.Loads.{loading_strong-lawful}
+use Rattle.shared_rule.proofs.Lemmas.Events.Words.{marks_at}
+use Rattle.shared_rule.proofs.Lemmas.Events.Loads.{loading_strong-lawful}
 use Rattle.shared_rule.proofs.counters.load_strong.Goals as goal
 
 pub load_as-requires-clause-allowed : goal.load_as-requires-clause-allowed

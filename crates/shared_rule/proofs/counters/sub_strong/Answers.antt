@@ -5,8 +5,8 @@ use Rattle.lock_world.specs.AccountLaw.{MayUncountBy}
 use Rattle.shared_rule.specs.declared.history.History.{History}
 use Rattle.shared_rule.specs.Layout.{index_of_word}
 use Rattle.shared_rule.specs.History.{first_account}
-use Rattle.shared_rule.proofs.Events.Words.{marks_at}
-use Rattle.shared_rule.proofs.Events.Counters.{uncounting-lawful}
+use Rattle.shared_rule.proofs.Lemmas.Events.Words.{marks_at}
+use Rattle.shared_rule.proofs.Lemmas.Events.Counters.{uncounting-lawful}
 use Rattle.shared_rule.proofs.counters.sub_strong.Goals as goal
 
 pub fetch_sub_as-requires-clause-allowed : goal.fetch_sub_as-requires-clause-allowed

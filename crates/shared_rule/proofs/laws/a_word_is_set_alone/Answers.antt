@@ -1,4 +1,4 @@
-use Rattle.shared_rule.proofs.Shown.{words-set}
+use Rattle.shared_rule.proofs.Lemmas.Shown.{words-set}
 use Rattle.shared_rule.proofs.laws.a_word_is_set_alone.Goals as goal
 
 pub returns : goal.returns

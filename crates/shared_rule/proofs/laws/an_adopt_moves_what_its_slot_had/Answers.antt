@@ -1,5 +1,5 @@
 use Rattle.std.proofs.Common.{refl}
-use Rattle.shared_rule.proofs.Adopted.{was-in_slot}
+use Rattle.shared_rule.proofs.Lemmas.Adopted.{was-in_slot}
 use Rattle.shared_rule.proofs.laws.an_adopt_moves_what_its_slot_had.Goals as goal
 
 pub returns : goal.returns

@@ -1,4 +1,4 @@
-use Rattle.shared_rule.proofs.GivenOut.{has-history}
+use Rattle.shared_rule.proofs.Lemmas.GivenOut.{has-history}
 use Rattle.shared_rule.proofs.laws.each_number_given_out_has_its_history.Goals as goal
 
 pub returns : goal.returns

@@ -1,4 +1,4 @@
-use Rattle.shared_rule.proofs.Shown.{within}
+use Rattle.shared_rule.proofs.Lemmas.Shown.{within}
 use Rattle.shared_rule.proofs.laws.each_word_is_within_the_table.Goals as goal
 
 pub returns : goal.returns

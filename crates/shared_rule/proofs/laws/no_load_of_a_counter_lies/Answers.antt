@@ -1,4 +1,4 @@
-use Rattle.shared_rule.proofs.NoLie.{load-shows}
+use Rattle.shared_rule.proofs.Lemmas.NoLie.{load-shows}
 use Rattle.shared_rule.proofs.laws.no_load_of_a_counter_lies.Goals as goal
 
 pub returns : goal.returns

@@ -1,4 +1,4 @@
-use Rattle.shared_rule.proofs.GivenOut.{no-seat_vanishes}
+use Rattle.shared_rule.proofs.Lemmas.GivenOut.{no-seat_vanishes}
 use Rattle.shared_rule.proofs.laws.no_seat_vanishes.Goals as goal
 
 pub returns : goal.returns

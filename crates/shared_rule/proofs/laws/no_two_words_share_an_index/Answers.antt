@@ -1,4 +1,4 @@
-use Rattle.shared_rule.proofs.Shown.{one_index}
+use Rattle.shared_rule.proofs.Lemmas.Shown.{one_index}
 use Rattle.shared_rule.proofs.laws.no_two_words_share_an_index.Goals as goal
 
 pub returns : goal.returns

@@ -1,5 +1,5 @@
 use Rattle.shared_rule.specs.Tells.{steps_of}
-use Rattle.shared_rule.proofs.QuietSteps.{told-quiet}
+use Rattle.shared_rule.proofs.Lemmas.QuietSteps.{told-quiet}
 use Rattle.shared_rule.proofs.laws.the_quiet_steps_are_those_of_the_run.Goals as goal
 
 pub returns-clause-at_seat : goal.returns-clause-at_seat

@@ -1,4 +1,4 @@
-use Rattle.lock_world.proofs.Wakes.Runs.{keeps-well, keeps-in_order, well-owed}
+use Rattle.lock_world.proofs.Lemmas.Wakes.Runs.{keeps-well, keeps-in_order, well-owed}
 use Rattle.shared_rule.proofs.laws.the_table_forgets_no_sleeper.Goals as goal
 
 pub returns : goal.returns

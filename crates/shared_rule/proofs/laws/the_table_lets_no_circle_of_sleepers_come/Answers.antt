@@ -1,4 +1,4 @@
-use Rattle.lock_world.proofs.Wakes.Runs.{keeps-well, keeps-in_order, keeps-order, well-not_all}
+use Rattle.lock_world.proofs.Lemmas.Wakes.Runs.{keeps-well, keeps-in_order, keeps-order, well-not_all}
 use Rattle.shared_rule.proofs.laws.the_table_lets_no_circle_of_sleepers_come.Goals as goal
 
 pub returns : goal.returns

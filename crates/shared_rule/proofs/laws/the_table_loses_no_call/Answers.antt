@@ -2,8 +2,8 @@ use Rattle.std.proofs.Common.{ℕ, sym, ap, ◌∙◌, subst}
 use Rattle.lock_world.specs.World.{MakesSteps, opening}
 use Rattle.lock_world.specs.Wakes.{nothing_beside, KeepsInOrder}
 use Rattle.shared_rule.specs.Tells.{turns_of}
-use Rattle.shared_rule.proofs.Looks.{run-looks, told-looks}
-use Rattle.lock_world.proofs.Wakes.Runs.{keeps-well, keeps-in_order, well-waits, well-sleeps}
+use Rattle.shared_rule.proofs.Lemmas.Looks.{run-looks, told-looks}
+use Rattle.lock_world.proofs.Lemmas.Wakes.Runs.{keeps-well, keeps-in_order, well-waits, well-sleeps}
 use Rattle.shared_rule.specs.Todos.{Todo}
 use Rattle.shared_rule.proofs.laws.the_table_loses_no_call.Goals as goal
 

@@ -1,10 +1,10 @@
 use Rattle.std.proofs.Common.{◌≤◌, ◌∷◌, sym, subst, arith}
 use Rattle.lock_world.specs.World.{World, opening}
 use Rattle.lock_world.specs.Headline.{RefusalsSawWhatTheyName}
-use Rattle.lock_world.proofs.Headline.{headline}
-use Rattle.lock_world.proofs.Refusals.{refusals-saw}
-use Rattle.lock_world.proofs.SafeWorld.Opening.{opening-safe}
-use Rattle.shared_rule.proofs.Told.{leads-runs}
+use Rattle.lock_world.proofs.Lemmas.Headline.{headline}
+use Rattle.lock_world.proofs.Lemmas.Refusals.{refusals-saw}
+use Rattle.lock_world.proofs.Lemmas.SafeWorld.Opening.{opening-safe}
+use Rattle.shared_rule.proofs.Lemmas.Told.{leads-runs}
 use Rattle.shared_rule.proofs.laws.the_table_shows_no_two_sessions_in_conflict.Goals as goal
 use Rattle.modes_core.specs.Sessions.{most_sessions}
 

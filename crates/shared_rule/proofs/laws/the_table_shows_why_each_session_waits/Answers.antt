@@ -1,4 +1,4 @@
-use Rattle.lock_world.proofs.Wakes.Reasons.{has-reason}
+use Rattle.lock_world.proofs.Lemmas.Wakes.Reasons.{has-reason}
 use Rattle.shared_rule.proofs.laws.the_table_shows_why_each_session_waits.Goals as goal
 
 pub returns : goal.returns

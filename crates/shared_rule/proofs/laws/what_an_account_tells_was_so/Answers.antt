@@ -4,10 +4,10 @@ use Rattle.lock_world.specs.declared.events.Event.{Event}
 use Rattle.lock_world.specs.declared.events.Step.TheVariants.{JoinSeat}
 use Rattle.lock_world.specs.Happens.{RunsThrough, last_of}
 use Rattle.lock_world.specs.World.{World, opening}
-use Rattle.lock_world.proofs.SafeWorld.Opening.{opening-safe}
-use Rattle.lock_world.proofs.Telling.{each-told}
-use Rattle.shared_rule.proofs.MetViews.{before-get}
-use Rattle.shared_rule.proofs.Told.{leads-runs, through-both, last-both}
+use Rattle.lock_world.proofs.Lemmas.SafeWorld.Opening.{opening-safe}
+use Rattle.lock_world.proofs.Lemmas.Telling.{each-told}
+use Rattle.shared_rule.proofs.Lemmas.MetViews.{before-get}
+use Rattle.shared_rule.proofs.Lemmas.Told.{leads-runs, through-both, last-both}
 use Rattle.shared_rule.proofs.laws.what_an_account_tells_was_so.Goals as goal
 use Rattle.modes_core.specs.Sessions.{most_sessions}
 

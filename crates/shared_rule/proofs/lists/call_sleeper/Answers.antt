@@ -1,9 +1,9 @@
 use Rattle.std.proofs.Common.{ap, refl}
 use Rattle.shared_rule.specs.Marks.{CalledSleeper}
 use Rattle.shared_rule.specs.Plays.{Side}
-use Rattle.shared_rule.proofs.Events.Words.{calls_at}
-use Rattle.shared_rule.proofs.Frame.{calls_one_asleep}
-use Rattle.shared_rule.proofs.Led.{led-marked}
+use Rattle.shared_rule.proofs.Lemmas.Events.Words.{calls_at}
+use Rattle.shared_rule.proofs.Lemmas.Frame.{calls_one_asleep}
+use Rattle.shared_rule.proofs.Lemmas.Led.{led-marked}
 use Rattle.shared_rule.proofs.lists.call_sleeper.Goals as goal
 use Rattle.std.proofs.Common.{refl}
 

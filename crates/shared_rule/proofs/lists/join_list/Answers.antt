@@ -8,10 +8,10 @@ use Rattle.shared_rule.specs.History.{first_account, list_here}
 use Rattle.shared_rule.specs.Plays.{Side, account_at}
 use Rattle.lock_world.specs.Wakes.Waking.{NoneOr}
 use Rattle.shared_rule.specs.Todos.{first_todo}
-use Rattle.shared_rule.proofs.Taken.{flagged-known, owes-known, joins-known}
-use Rattle.shared_rule.proofs.Events.Words.{stores_at_own}
-use Rattle.shared_rule.proofs.Events.ListSteps.{joining-lawful}
-use Rattle.shared_rule.proofs.Led.{led_to-as, led-marked}
+use Rattle.shared_rule.proofs.Lemmas.Taken.{flagged-known, owes-known, joins-known}
+use Rattle.shared_rule.proofs.Lemmas.Events.Words.{stores_at_own}
+use Rattle.shared_rule.proofs.Lemmas.Events.ListSteps.{joining-lawful}
+use Rattle.shared_rule.proofs.Lemmas.Led.{led_to-as, led-marked}
 use Rattle.shared_rule.proofs.lists.join_list.Goals as goal
 
 pub store_as-requires-clause-allowed : goal.store_as-requires-clause-allowed

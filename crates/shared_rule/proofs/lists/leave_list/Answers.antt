@@ -7,9 +7,9 @@ use Rattle.shared_rule.specs.declared.history.History.{History}
 use Rattle.shared_rule.specs.Marks.{LeftList}
 use Rattle.shared_rule.specs.History.{first_account, first_number, list_here}
 use Rattle.shared_rule.specs.Plays.{account_at}
-use Rattle.shared_rule.proofs.Events.Words.{stores_at_own}
-use Rattle.shared_rule.proofs.Events.ListSteps.{leaving-lawful}
-use Rattle.shared_rule.proofs.Led.{led_to-as, led-marked}
+use Rattle.shared_rule.proofs.Lemmas.Events.Words.{stores_at_own}
+use Rattle.shared_rule.proofs.Lemmas.Events.ListSteps.{leaving-lawful}
+use Rattle.shared_rule.proofs.Lemmas.Led.{led_to-as, led-marked}
 use Rattle.shared_rule.proofs.lists.leave_list.Goals as goal
 
 pub store_as-requires-clause-allowed : goal.store_as-requires-clause-allowed

@@ -1,9 +1,9 @@
 use Rattle.std.proofs.Common.{refl}
 use Rattle.lock_world.specs.declared.events.Word.TheVariants.{Sleep}
 use Rattle.shared_rule.specs.Marks.{LoadedSleep}
-use Rattle.shared_rule.proofs.Events.Words.{marks_at_own}
-use Rattle.shared_rule.proofs.Events.ListSteps.{loading_sleep-lawful}
-use Rattle.shared_rule.proofs.Led.{led-marked}
+use Rattle.shared_rule.proofs.Lemmas.Events.Words.{marks_at_own}
+use Rattle.shared_rule.proofs.Lemmas.Events.ListSteps.{loading_sleep-lawful}
+use Rattle.shared_rule.proofs.Lemmas.Led.{led-marked}
 use Rattle.shared_rule.proofs.lists.load_sleep.Goals as goal
 
 pub load_as-requires-clause-allowed : goal.load_as-requires-clause-allowed

@@ -2,9 +2,9 @@ use Rattle.std.proofs.Common.{rules, ap}
 use Rattle.shared_rule.specs.Marks.{SawHeld}
 use Rattle.shared_rule.specs.LwLocks.{lock_number}
 use Rattle.shared_rule.specs.Plays.{Side}
-use Rattle.shared_rule.proofs.Taken.{tries-known}
-use Rattle.shared_rule.proofs.Events.Lists.{sees_held_at}
-use Rattle.shared_rule.proofs.Led.{led-noted, led-none}
+use Rattle.shared_rule.proofs.Lemmas.Taken.{tries-known}
+use Rattle.shared_rule.proofs.Lemmas.Events.Lists.{sees_held_at}
+use Rattle.shared_rule.proofs.Lemmas.Led.{led-noted, led-none}
 use Rattle.shared_rule.proofs.lists.look_at_lock.Goals as goal
 
 pub load-requires : goal.load-requires

@@ -5,10 +5,10 @@ use Rattle.shared_rule.specs.History.{first_account}
 use Rattle.shared_rule.specs.Todos.{first_todo, TellsNobodyBy}
 use Rattle.shared_rule.specs.LwLocks.{word_of_lock, lock_number}
 use Rattle.shared_rule.specs.Plays.{Side}
-use Rattle.shared_rule.proofs.Events.Words.{names-none, looks_at}
-use Rattle.shared_rule.proofs.Events.ListSteps.{setting_release_ok-lawful}
-use Rattle.shared_rule.proofs.Events.ListShelves.{lock-word_there}
-use Rattle.shared_rule.proofs.Led.{led-marked}
+use Rattle.shared_rule.proofs.Lemmas.Events.Words.{names-none, looks_at}
+use Rattle.shared_rule.proofs.Lemmas.Events.ListSteps.{setting_release_ok-lawful}
+use Rattle.shared_rule.proofs.Lemmas.Events.ListShelves.{lock-word_there}
+use Rattle.shared_rule.proofs.Lemmas.Led.{led-marked}
 use Rattle.shared_rule.proofs.lists.set_release_ok.Goals as goal
 
 pub fetch_or_as-requires-clause-allowed : goal.fetch_or_as-requires-clause-allowed

@@ -5,9 +5,9 @@ use Rattle.lock_world.specs.AccountLaw.{MayTakeOffBy}
 use Rattle.shared_rule.specs.declared.history.History.{History}
 use Rattle.shared_rule.specs.History.{first_account, first_number}
 use Rattle.shared_rule.specs.Plays.{Side}
-use Rattle.shared_rule.proofs.Events.Words.{stores_at}
-use Rattle.shared_rule.proofs.Events.ListSteps.{taking_off-lawful}
-use Rattle.shared_rule.proofs.Led.{led-marked}
+use Rattle.shared_rule.proofs.Lemmas.Events.Words.{stores_at}
+use Rattle.shared_rule.proofs.Lemmas.Events.ListSteps.{taking_off-lawful}
+use Rattle.shared_rule.proofs.Lemmas.Led.{led-marked}
 use Rattle.shared_rule.proofs.lists.take_off.Goals as goal
 
 pub store_as-requires-clause-allowed : goal.store_as-requires-clause-allowed

@@ -4,9 +4,9 @@ use Rattle.lock_world.specs.AccountLaw.{MayTellBy}
 use Rattle.shared_rule.specs.declared.history.History.{History}
 use Rattle.shared_rule.specs.History.{first_account}
 use Rattle.shared_rule.specs.Plays.{Side}
-use Rattle.shared_rule.proofs.Events.Words.{stores_at}
-use Rattle.shared_rule.proofs.Events.ListSteps.{telling-lawful}
-use Rattle.shared_rule.proofs.Led.{led-marked}
+use Rattle.shared_rule.proofs.Lemmas.Events.Words.{stores_at}
+use Rattle.shared_rule.proofs.Lemmas.Events.ListSteps.{telling-lawful}
+use Rattle.shared_rule.proofs.Lemmas.Led.{led-marked}
 use Rattle.shared_rule.proofs.lists.tell.Goals as goal
 
 pub store_as-requires-clause-allowed : goal.store_as-requires-clause-allowed

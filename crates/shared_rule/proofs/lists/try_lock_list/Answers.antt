@@ -9,14 +9,14 @@ use Rattle.shared_rule.specs.Layout.{list_shelf_of}
 use Rattle.shared_rule.specs.LwLocks.{lock_number, LockExists}
 use Rattle.shared_rule.specs.History.{noting, first_account}
 use Rattle.shared_rule.specs.Todos.{TellsNobodyBy}
-use Rattle.shared_rule.proofs.Taken.{look-known}
-use Rattle.shared_rule.proofs.Events.Lists.{locks_list_at}
-use Rattle.shared_rule.proofs.Events.ListShelves.{list-same}
+use Rattle.shared_rule.proofs.Lemmas.Taken.{look-known}
+use Rattle.shared_rule.proofs.Lemmas.Events.Lists.{locks_list_at}
+use Rattle.shared_rule.proofs.Lemmas.Events.ListShelves.{list-same}
 use Rattle.std.specs.Global.{Box}
 use Rattle.lw_word.specs.WaitList.{Waiting, stands_in}
 use Rattle.shared_rule.specs.Plays.{Side, account_at, number_at}
-use Rattle.shared_rule.proofs.Led.{led-noted, led_to-as}
-use Rattle.shared_rule.proofs.Sides.{last-shelf, last-came, last-set}
+use Rattle.shared_rule.proofs.Lemmas.Led.{led-noted, led_to-as}
+use Rattle.shared_rule.proofs.Lemmas.Sides.{last-shelf, last-came, last-set}
 use Rattle.shared_rule.specs.declared.rule.TableSizes.{TableSizes}
 use Rattle.shared_rule.specs.Waiters.{WaitersExist}
 use Rattle.shared_rule.proofs.lists.try_lock_list.Goals as goal

@@ -8,9 +8,9 @@ use Rattle.shared_rule.specs.LwLocks.{lock_number}
 use Rattle.shared_rule.specs.History.{first_account, noting}
 use Rattle.shared_rule.specs.Plays.{Side}
 use Rattle.shared_rule.specs.Todos.{IsLeftWellBy, first_todo}
-use Rattle.shared_rule.proofs.Events.Lists.{unlocks_list_at}
-use Rattle.shared_rule.proofs.Led.{led-noted}
-use Rattle.shared_rule.proofs.Sides.{last-shelf}
+use Rattle.shared_rule.proofs.Lemmas.Events.Lists.{unlocks_list_at}
+use Rattle.shared_rule.proofs.Lemmas.Led.{led-noted}
+use Rattle.shared_rule.proofs.Lemmas.Sides.{last-shelf}
 use Rattle.shared_rule.proofs.lists.unlock_list.Goals as goal
 
 pub unlock_as-requires-clause-allowed : goal.unlock_as-requires-clause-allowed

@@ -2,9 +2,9 @@ use Rattle.std.proofs.Common.{rules, ap, subst}
 use Rattle.lw_word.specs.declared.words.LwMode.TheVariants.{Exclusive}
 use Rattle.shared_rule.specs.Acquires.{GetsSlots}
 use Rattle.lock_world.specs.WaitLists.{fast_lock}
-use Rattle.shared_rule.proofs.Taken.{attempt-known}
-use Rattle.shared_rule.proofs.Acquires.{took-slots}
-use Rattle.shared_rule.proofs.Events.Locks.{takes_fast_at}
+use Rattle.shared_rule.proofs.Lemmas.Taken.{attempt-known}
+use Rattle.shared_rule.proofs.Lemmas.Acquires.{took-slots}
+use Rattle.shared_rule.proofs.Lemmas.Events.Locks.{takes_fast_at}
 use Rattle.shared_rule.specs.declared.rule.TableSizes.{TableSizes}
 use Rattle.shared_rule.proofs.locks.attempt_fast.Goals as goal
 

@@ -1,6 +1,6 @@
 use Rattle.lock_world.specs.declared.events.Word.TheVariants.{Fast}
-use Rattle.shared_rule.proofs.Events.Words.{marks_at_own}
-use Rattle.shared_rule.proofs.Events.Loads.{loading_fast-lawful}
+use Rattle.shared_rule.proofs.Lemmas.Events.Words.{marks_at_own}
+use Rattle.shared_rule.proofs.Lemmas.Events.Loads.{loading_fast-lawful}
 use Rattle.shared_rule.proofs.locks.load_fast.Goals as goal
 
 pub load_as-requires-clause-allowed : goal.load_as-requires-clause-allowed

@@ -5,10 +5,10 @@ use Rattle.lock_world.specs.AccountLaw.{MayPassBy}
 use Rattle.shared_rule.specs.declared.history.History.{History}
 use Rattle.shared_rule.specs.Marks.{Passed}
 use Rattle.shared_rule.specs.History.{first_account}
-use Rattle.shared_rule.proofs.Taken.{due-known}
-use Rattle.shared_rule.proofs.Events.Words.{IsAlwaysLawful, marks_at}
-use Rattle.shared_rule.proofs.Events.Locks.{passing-lawful}
-use Rattle.shared_rule.proofs.Led.{led-marked}
+use Rattle.shared_rule.proofs.Lemmas.Taken.{due-known}
+use Rattle.shared_rule.proofs.Lemmas.Events.Words.{IsAlwaysLawful, marks_at}
+use Rattle.shared_rule.proofs.Lemmas.Events.Locks.{passing-lawful}
+use Rattle.shared_rule.proofs.Lemmas.Led.{led-marked}
 use Rattle.shared_rule.proofs.locks.pass_fast_home.Goals as goal
 
 pub fetch_sub_as-requires-clause-allowed : goal.fetch_sub_as-requires-clause-allowed

@@ -3,8 +3,8 @@ use Rattle.shared_rule.specs.declared.history.History.{History}
 use Rattle.shared_rule.specs.History.{first_number}
 use Rattle.shared_rule.specs.Plays.{TookSlots}
 use Rattle.lock_world.specs.WaitLists.{fast_lock}
-use Rattle.shared_rule.proofs.Taken.{attempt-known}
-use Rattle.shared_rule.proofs.Events.Locks.{tries_fast_at}
+use Rattle.shared_rule.proofs.Lemmas.Taken.{attempt-known}
+use Rattle.shared_rule.proofs.Lemmas.Events.Locks.{tries_fast_at}
 use Rattle.shared_rule.specs.declared.rule.TableSizes.{TableSizes}
 use Rattle.shared_rule.proofs.locks.take_own_fast.Goals as goal
 

@@ -4,7 +4,7 @@ use Rattle.lock_world.specs.Account.{Account, ListAccount}
 use Rattle.shared_rule.specs.History.{first_account}
 use Rattle.shared_rule.specs.Marks.{LoadedFast}
 use Rattle.shared_rule.specs.Plays.{Side, HasSession}
-use Rattle.shared_rule.proofs.Taken.{session-noted, account-noted, todo-noted}
+use Rattle.shared_rule.proofs.Lemmas.Taken.{session-noted, account-noted, todo-noted}
 use Rattle.shared_rule.proofs.locks.try_take_fast.Goals as goal
 
 pub take_own_fast-requires-clause-session : goal.take_own_fast-requires-clause-session

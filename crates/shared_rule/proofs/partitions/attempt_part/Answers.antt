@@ -5,12 +5,12 @@ use Rattle.shared_rule.specs.declared.kept.Kept.TheVariants.{Part, Nothing}
 use Rattle.shared_rule.specs.Layout.{content_shelf_of}
 use Rattle.shared_rule.specs.History.{noting}
 use Rattle.lock_world.specs.WaitLists.{partition_lock}
-use Rattle.shared_rule.proofs.Taken.{attempt-known}
-use Rattle.shared_rule.proofs.Events.Partitions.{takes_part_at, part-same}
+use Rattle.shared_rule.proofs.Lemmas.Taken.{attempt-known}
+use Rattle.shared_rule.proofs.Lemmas.Events.Partitions.{takes_part_at, part-same}
 use Rattle.lock_world.specs.AccountSteps.{account_taking}
 use Rattle.shared_rule.specs.Plays.{Side, account_at, number_at}
-use Rattle.shared_rule.proofs.Led.{led-noted, led_to-as}
-use Rattle.shared_rule.proofs.Sides.{last-shelf, last-came, last-set}
+use Rattle.shared_rule.proofs.Lemmas.Led.{led-noted, led_to-as}
+use Rattle.shared_rule.proofs.Lemmas.Sides.{last-shelf, last-came, last-set}
 use Rattle.shared_rule.specs.declared.rule.TableSizes.{TableSizes}
 use Rattle.shared_rule.specs.Waiters.{WaitsExist}
 use Rattle.shared_rule.proofs.partitions.attempt_part.Goals as goal

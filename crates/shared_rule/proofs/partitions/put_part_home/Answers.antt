@@ -7,11 +7,11 @@ use Rattle.shared_rule.specs.declared.kept.Kept.TheVariants.{Part}
 use Rattle.shared_rule.specs.Plays.{Side}
 use Rattle.shared_rule.specs.Layout.{content_shelf_of}
 use Rattle.shared_rule.specs.History.{first_account, first_number, noting}
-use Rattle.shared_rule.proofs.Taken.{due-known}
-use Rattle.shared_rule.proofs.Events.Partitions.{puts_part_at}
+use Rattle.shared_rule.proofs.Lemmas.Taken.{due-known}
+use Rattle.shared_rule.proofs.Lemmas.Events.Partitions.{puts_part_at}
 use Rattle.shared_rule.specs.Marks.{PutPart}
-use Rattle.shared_rule.proofs.Led.{led-noted}
-use Rattle.shared_rule.proofs.Sides.{last-shelf}
+use Rattle.shared_rule.proofs.Lemmas.Led.{led-noted}
+use Rattle.shared_rule.proofs.Lemmas.Sides.{last-shelf}
 use Rattle.shared_rule.proofs.partitions.put_part_home.Goals as goal
 
 pub put_home_as-requires-clause-allowed : goal.put_home_as-requires-clause-allowed

@@ -2,13 +2,13 @@ use Rattle.std.proofs.Common.{◌≡◌, false, List, Some, inl, sym, ap, ◌∙
 use Rattle.lw_word.specs.declared.wait_lists.LwWaiter.{LwWaiter}
 use Rattle.lw_word.specs.WaitList.{Waiting, stands_in, without}
 use Rattle.shared_rule.specs.LwLocks.{lock_number}
-use Rattle.shared_rule.proofs.TakenOff.{left-alone}
+use Rattle.shared_rule.proofs.Lemmas.TakenOff.{left-alone}
 use Rattle.lock_world.specs.Account.{Account, ListAccount}
 use Rattle.lock_world.specs.AccountSteps.{account_unlocking_list, account_leaving_list}
 use Rattle.shared_rule.specs.History.{list_here}
 use Rattle.shared_rule.specs.Plays.{account_at, number_at}
 use Rattle.shared_rule.specs.Todos.{Todo, still_has}
-use Rattle.shared_rule.proofs.Queueing.{list-in_hand, dequeued, taken_off-told, won-todo, got-left}
+use Rattle.shared_rule.proofs.Lemmas.Queueing.{list-in_hand, dequeued, taken_off-told, won-todo, got-left}
 use Rattle.shared_rule.proofs.queues.dequeue_self.Goals as goal
 
 pub leave_list-requires-clause-lawful : goal.leave_list-requires-clause-lawful

@@ -7,8 +7,8 @@ use Rattle.shared_rule.specs.Layout.{list_shelf_of}
 use Rattle.shared_rule.specs.LwLocks.{lock_number}
 use Rattle.shared_rule.specs.Plays.{account_at, todo_at}
 use Rattle.shared_rule.specs.Todos.{Todo, todo_looked}
-use Rattle.shared_rule.proofs.Acquires.{nothing-then_got}
-use Rattle.shared_rule.proofs.Led.{led-self, led_by-todo, led_to-then, looked-same}
+use Rattle.shared_rule.proofs.Lemmas.Acquires.{nothing-then_got}
+use Rattle.shared_rule.proofs.Lemmas.Led.{led-self, led_by-todo, led_to-then, looked-same}
 use Rattle.shared_rule.proofs.queues.lock_list.Goals as goal
 
 pub loop-init : goal.loop-init

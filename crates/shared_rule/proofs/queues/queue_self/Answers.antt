@@ -1,8 +1,8 @@
 use Rattle.std.proofs.Common.{◌≡◌, ℕ, Option, Some, None, refl, sym, ap, ◌∙◌, subst}
 use Rattle.lock_world.specs.Account.{Account, ListAccount, ListInHand}
 use Rattle.shared_rule.specs.LwLocks.{lock_number}
-use Rattle.shared_rule.proofs.Orders.{latest-with}
-use Rattle.shared_rule.proofs.Queueing.{list-in_hand, stands-still, queued}
+use Rattle.shared_rule.proofs.Lemmas.Orders.{latest-with}
+use Rattle.shared_rule.proofs.Lemmas.Queueing.{list-in_hand, stands-still, queued}
 use Rattle.lock_world.specs.Wakes.Waking.{NoneOr}
 use Rattle.shared_rule.specs.Plays.{account_at, todo_at}
 use Rattle.shared_rule.specs.Todos.{Todo, IsLatestBy, tries_next, lock_of_list}

@@ -1,7 +1,7 @@
 use Rattle.std.proofs.Common.{◌∙◌}
 use Rattle.lock_world.specs.AccountSteps.{account_loading_sleep}
 use Rattle.shared_rule.specs.Plays.{account_at}
-use Rattle.shared_rule.proofs.Led.{led-as, led-then, slept-told, slept-on}
+use Rattle.shared_rule.proofs.Lemmas.Led.{led-as, led-then, slept-told, slept-on}
 use Rattle.shared_rule.proofs.queues.sleep_until_told.Goals as goal
 
 pub returns-then-shown-clause-led : goal.returns-then-shown-clause-led

@@ -1,5 +1,5 @@
 use Rattle.std.proofs.Common.{rules}
-use Rattle.shared_rule.proofs.Events.Seats.{closes}
+use Rattle.shared_rule.proofs.Lemmas.Events.Seats.{closes}
 use Rattle.shared_rule.proofs.seats.close.Goals as goal
 
 pub join_seat-requires : goal.join_seat-requires

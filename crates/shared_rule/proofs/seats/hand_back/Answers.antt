@@ -1,5 +1,5 @@
 use Rattle.std.proofs.Common.{rules}
-use Rattle.shared_rule.proofs.Events.Seats.{hands_back}
+use Rattle.shared_rule.proofs.Lemmas.Events.Seats.{hands_back}
 use Rattle.shared_rule.proofs.seats.hand_back.Goals as goal
 
 pub split_seat-requires : goal.split_seat-requires

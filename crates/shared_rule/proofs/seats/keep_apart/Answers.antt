@@ -1,5 +1,5 @@
 use Rattle.std.proofs.Common.{rules}
-use Rattle.shared_rule.proofs.Events.Seats.{keeps_apart}
+use Rattle.shared_rule.proofs.Lemmas.Events.Seats.{keeps_apart}
 use Rattle.shared_rule.proofs.seats.keep_apart.Goals as goal
 
 pub join_seat-requires : goal.join_seat-requires

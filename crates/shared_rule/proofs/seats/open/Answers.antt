@@ -1,5 +1,5 @@
 use Rattle.std.proofs.Common.{rules}
-use Rattle.shared_rule.proofs.Events.Seats.{opens}
+use Rattle.shared_rule.proofs.Lemmas.Events.Seats.{opens}
 use Rattle.shared_rule.proofs.seats.open.Goals as goal
 
 pub split_seat-requires : goal.split_seat-requires

@@ -1,7 +1,7 @@
 use Rattle.std.proofs.Common.{rules}
 use mathlib.Core.Option.{none}
 use Rattle.atomic_table.specs.Table.{step}
-use Rattle.shared_rule.proofs.Events.Seats.{tells_closed}
+use Rattle.shared_rule.proofs.Lemmas.Events.Seats.{tells_closed}
 use Rattle.shared_rule.proofs.seats.tell_closed.Goals as goal
 
 pub load-requires : goal.load-requires

@@ -5,9 +5,9 @@ use Rattle.shared_rule.specs.History.{first_account}
 use Rattle.lw_word.specs.declared.words.LwMode.TheVariants.{Shared}
 use Rattle.shared_rule.specs.Acquires.{GetsSlots}
 use Rattle.lock_world.specs.WaitLists.{fast_lock}
-use Rattle.shared_rule.proofs.Taken.{attempt-known}
-use Rattle.shared_rule.proofs.Acquires.{shared-slots}
-use Rattle.shared_rule.proofs.Events.Locks.{shares_fast_at}
+use Rattle.shared_rule.proofs.Lemmas.Taken.{attempt-known}
+use Rattle.shared_rule.proofs.Lemmas.Acquires.{shared-slots}
+use Rattle.shared_rule.proofs.Lemmas.Events.Locks.{shares_fast_at}
 use Rattle.shared_rule.specs.declared.rule.TableSizes.{TableSizes}
 use Rattle.shared_rule.proofs.sharing.attempt_share.Goals as goal
 

@@ -2,8 +2,8 @@ use Rattle.std.proofs.Common.{ℕ, refl, ap, inl, inr}
 use Rattle.lock_world.specs.declared.events.Word.TheVariants.{Database}
 use Rattle.shared_rule.specs.declared.history.Mark.{Mark}
 use Rattle.shared_rule.specs.Looks.{word_looked_at}
-use Rattle.shared_rule.proofs.Events.Words.{names-one, looks_at}
-use Rattle.shared_rule.proofs.Events.Loads.{loading_database-lawful}
+use Rattle.shared_rule.proofs.Lemmas.Events.Words.{names-one, looks_at}
+use Rattle.shared_rule.proofs.Lemmas.Events.Loads.{loading_database-lawful}
 use Rattle.shared_rule.proofs.slots.load_database.Goals as goal
 
 pub look_as-requires-clause-allowed : goal.look_as-requires-clause-allowed

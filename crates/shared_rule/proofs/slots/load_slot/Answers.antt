@@ -3,8 +3,8 @@ use Rattle.lock_world.specs.declared.events.Word.TheVariants.{Slot}
 use Rattle.shared_rule.specs.declared.history.Mark.{Mark}
 use Rattle.shared_rule.specs.Looks.{word_looked_at}
 use Rattle.shared_rule.specs.Layout.{index_of_word}
-use Rattle.shared_rule.proofs.Events.Words.{names-one, looks_at}
-use Rattle.shared_rule.proofs.Events.Loads.{loading_slot-lawful}
+use Rattle.shared_rule.proofs.Lemmas.Events.Words.{names-one, looks_at}
+use Rattle.shared_rule.proofs.Lemmas.Events.Loads.{loading_slot-lawful}
 use Rattle.shared_rule.proofs.slots.load_slot.Goals as goal
 
 pub look_as-requires-clause-allowed : goal.look_as-requires-clause-allowed

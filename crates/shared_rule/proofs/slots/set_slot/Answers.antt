@@ -8,10 +8,10 @@ use Rattle.shared_rule.specs.declared.history.History.{History}
 use Rattle.shared_rule.specs.Marks as mark
 use Rattle.shared_rule.specs.Layout.{index_of_word}
 use Rattle.shared_rule.specs.History.{first_account, first_number}
-use Rattle.shared_rule.proofs.Events.Words.{IsAlwaysLawful, stores_at_own}
-use Rattle.lock_world.proofs.Slots.Eligible.{eligible-is}
-use Rattle.shared_rule.proofs.SlotWords.{its-slot}
-use Rattle.shared_rule.proofs.Events.Slots.{setting-lawful}
+use Rattle.shared_rule.proofs.Lemmas.Events.Words.{IsAlwaysLawful, stores_at_own}
+use Rattle.lock_world.proofs.Lemmas.Slots.Eligible.{eligible-is}
+use Rattle.shared_rule.proofs.Lemmas.SlotWords.{its-slot}
+use Rattle.shared_rule.proofs.Lemmas.Events.Slots.{setting-lawful}
 use Rattle.shared_rule.proofs.slots.set_slot.Goals as goal
 
 pub with-word-requires-clause-slot_mode : goal.with-word-requires-clause-slot_mode

@@ -4,8 +4,8 @@ use Rattle.shared_rule.specs.declared.history.History.{History}
 use Rattle.shared_rule.specs.Marks.{StoredDatabase}
 use Rattle.shared_rule.specs.History.{first_account}
 use Rattle.shared_rule.specs.Seats.{HoldsNothing}
-use Rattle.shared_rule.proofs.Events.Words.{IsAlwaysLawful, stores_at_own}
-use Rattle.shared_rule.proofs.Events.Slots.{storing-lawful}
+use Rattle.shared_rule.proofs.Lemmas.Events.Words.{IsAlwaysLawful, stores_at_own}
+use Rattle.shared_rule.proofs.Lemmas.Events.Slots.{storing-lawful}
 use Rattle.shared_rule.proofs.slots.store_database.Goals as goal
 
 pub store_as-requires-clause-allowed : goal.store_as-requires-clause-allowed

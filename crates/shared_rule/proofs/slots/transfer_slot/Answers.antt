@@ -9,9 +9,9 @@ use Rattle.shared_rule.specs.declared.history.History.{History}
 use Rattle.shared_rule.specs.Marks as mark
 use Rattle.shared_rule.specs.History.{first_account}
 use Rattle.shared_rule.specs.Layout.{index_of_word}
-use Rattle.shared_rule.proofs.Events.Words.{IsAlwaysLawful, stores_at}
-use Rattle.shared_rule.proofs.SlotWords.{shown-weak}
-use Rattle.shared_rule.proofs.Events.Slots.{transferring-lawful}
+use Rattle.shared_rule.proofs.Lemmas.Events.Words.{IsAlwaysLawful, stores_at}
+use Rattle.shared_rule.proofs.Lemmas.SlotWords.{shown-weak}
+use Rattle.shared_rule.proofs.Lemmas.Events.Slots.{transferring-lawful}
 use Rattle.shared_rule.proofs.slots.transfer_slot.Goals as goal
 
 pub without-word-requires : goal.without-word-requires

@@ -10,7 +10,7 @@ use Rattle.lock_world.specs.World.{opening, word_in}
 use Rattle.shared_rule.specs.Layout.{block_start, block_of, index_of_word, IsInTable}
 use Rattle.shared_rule.specs.declared.rule.TableSizes.{TableSizes}
 use Rattle.lock_world.specs.SlotHolds.{group_size}
-use Rattle.shared_rule.proofs.Blocks.{session-below, slot-not_early, slot-not_fast}
+use Rattle.shared_rule.proofs.Lemmas.Blocks.{session-below, slot-not_early, slot-not_fast}
 use Rattle.shared_rule.proofs.table.first_words.Goals as goal
 
 -- Words that stand apart are set one after the other, and all else stays.

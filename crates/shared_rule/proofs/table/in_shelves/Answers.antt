@@ -1,6 +1,6 @@
 use Rattle.std.proofs.Common.{◌≡◌, ℕ, ◌+◌, length, ap, ◌∙◌, arith}
 use Rattle.shared_rule.specs.Layout.{content_shelf_of, list_shelf_of}
-use Rattle.shared_rule.proofs.Opening.{new-longer, lists-longer}
+use Rattle.shared_rule.proofs.Lemmas.Opening.{new-longer, lists-longer}
 use Rattle.shared_rule.proofs.table.in_shelves.Goals as goal
 
 pub loop-index-2-preserved : goal.loop-index-2-preserved

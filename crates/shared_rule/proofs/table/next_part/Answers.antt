@@ -1,4 +1,4 @@
-use Rattle.shared_rule.proofs.Opening.{others-empty, last-new}
+use Rattle.shared_rule.proofs.Lemmas.Opening.{others-empty, last-new}
 use Rattle.shared_rule.proofs.table.next_part.Goals as goal
 
 pub returns-in-Some-clause-empty : goal.returns-in-Some-clause-empty

@@ -1,7 +1,7 @@
 use Rattle.std.proofs.Common.{ℕ, List, sym, subst}
 use Rattle.lock_world.specs.World.{opening}
 use Rattle.shared_rule.specs.Shown.{WordsAreShown}
-use Rattle.shared_rule.proofs.Opening.{opening-ruled}
+use Rattle.shared_rule.proofs.Lemmas.Opening.{opening-ruled}
 use Rattle.shared_rule.proofs.table.open.Goals as goal
 
 pub new-requires : goal.new-requires

@@ -3,8 +3,8 @@ use Rattle.lock_world.specs.declared.events.Word.TheVariants.{Wait}
 use Rattle.std.specs.Prelude.{bit_or}
 use Rattle.shared_rule.specs.declared.history.Mark.{Mark}
 use Rattle.shared_rule.specs.Looks.{word_looked_at}
-use Rattle.shared_rule.proofs.Events.Words.{names-one, looks_at}
-use Rattle.shared_rule.proofs.Events.Waits.{asking-lawful}
+use Rattle.shared_rule.proofs.Lemmas.Events.Words.{names-one, looks_at}
+use Rattle.shared_rule.proofs.Lemmas.Events.Waits.{asking-lawful}
 use Rattle.shared_rule.proofs.waits.ask_cancel.Goals as goal
 
 pub fetch_or_as-requires-clause-allowed : goal.fetch_or_as-requires-clause-allowed

@@ -1,7 +1,7 @@
 use Rattle.std.proofs.Common.{refl}
 use Rattle.shared_rule.specs.Marks.{CalledWaiter}
-use Rattle.shared_rule.proofs.Events.Words.{calls_at}
-use Rattle.shared_rule.proofs.Frame.{calls_one_waiting}
+use Rattle.shared_rule.proofs.Lemmas.Events.Words.{calls_at}
+use Rattle.shared_rule.proofs.Lemmas.Frame.{calls_one_waiting}
 use Rattle.shared_rule.proofs.waits.call_waiter.Goals as goal
 
 pub load_as-requires-clause-allowed : goal.load_as-requires-clause-allowed

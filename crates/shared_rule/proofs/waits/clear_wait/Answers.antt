@@ -2,10 +2,10 @@ use Rattle.std.proofs.Common.{List, subst}
 use Rattle.lock_world.specs.declared.events.Word.TheVariants.{Wait}
 use Rattle.shared_rule.specs.declared.history.History.{History}
 use Rattle.shared_rule.specs.History.{first_account, first_number}
-use Rattle.shared_rule.proofs.Events.Words.{stores_at_own}
+use Rattle.shared_rule.proofs.Lemmas.Events.Words.{stores_at_own}
 use Rattle.lock_table.specs.OwnWait.{OwnWait}
 use Rattle.shared_rule.specs.Lawful.{MayClearBy}
-use Rattle.shared_rule.proofs.Events.Waits.{clearing-lawful}
+use Rattle.shared_rule.proofs.Lemmas.Events.Waits.{clearing-lawful}
 use Rattle.shared_rule.proofs.waits.clear_wait.Goals as goal
 
 pub store_as-requires-clause-allowed : goal.store_as-requires-clause-allowed

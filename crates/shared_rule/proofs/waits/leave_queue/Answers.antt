@@ -2,14 +2,14 @@ use Rattle.std.proofs.Common.{◌≡◌, List, map, ap, ◌∙◌, subst}
 use Rattle.lock_world.specs.declared.events.Word.TheVariants.{Wait}
 use Rattle.shared_rule.specs.declared.history.History.{History}
 use Rattle.shared_rule.specs.History.{first_account, first_number}
-use Rattle.shared_rule.proofs.Events.Words.{stores_at_own}
+use Rattle.shared_rule.proofs.Lemmas.Events.Words.{stores_at_own}
 use Rattle.lock_world.specs.Account.{InHand}
 use Rattle.lock_table.specs.Content as contents
 use Rattle.lock_table.specs.Waiter.{whose_and_mode}
 use Rattle.lock_table.specs.OwnWait.{OwnWait}
 use Rattle.lock_world.specs.AccountLaw.{MayLeaveBy}
 use Rattle.shared_rule.specs.Marks.{LeftQueue}
-use Rattle.shared_rule.proofs.Events.Waits.{leaving-lawful, told-granted}
+use Rattle.shared_rule.proofs.Lemmas.Events.Waits.{leaving-lawful, told-granted}
 use Rattle.shared_rule.proofs.waits.leave_queue.Goals as goal
 
 pub store_as-requires-clause-allowed : goal.store_as-requires-clause-allowed

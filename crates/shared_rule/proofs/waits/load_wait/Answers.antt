@@ -1,6 +1,6 @@
 use Rattle.lock_world.specs.declared.events.Word.TheVariants.{Wait}
-use Rattle.shared_rule.proofs.Events.Words.{marks_at_own}
-use Rattle.shared_rule.proofs.Events.Waits.{loading_wait-lawful}
+use Rattle.shared_rule.proofs.Lemmas.Events.Words.{marks_at_own}
+use Rattle.shared_rule.proofs.Lemmas.Events.Waits.{loading_wait-lawful}
 use Rattle.shared_rule.proofs.waits.load_wait.Goals as goal
 
 pub load_as-requires-clause-allowed : goal.load_as-requires-clause-allowed

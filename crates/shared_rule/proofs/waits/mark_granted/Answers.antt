@@ -2,13 +2,13 @@ use Rattle.std.proofs.Common.{◌≡◌, ◌+◌, ◌%◌, ◌^◌, List, map, a
 use Rattle.lock_world.specs.declared.events.Word.TheVariants.{Wait}
 use Rattle.shared_rule.specs.declared.history.History.{History}
 use Rattle.shared_rule.specs.History.{first_account, first_number}
-use Rattle.shared_rule.proofs.Events.Words.{marks_at}
+use Rattle.shared_rule.proofs.Lemmas.Events.Words.{marks_at}
 use Rattle.lock_world.specs.Account.{InHand}
 use Rattle.lock_table.specs.Content as contents
 use Rattle.lock_table.specs.Waiter.{whose_and_mode}
 use Rattle.shared_rule.specs.Lawful.{MayMarkBy}
 use Rattle.shared_rule.specs.Marks.{MarkedGranted}
-use Rattle.shared_rule.proofs.Events.Waits.{marking-lawful, told-granted}
+use Rattle.shared_rule.proofs.Lemmas.Events.Waits.{marking-lawful, told-granted}
 use Rattle.shared_rule.proofs.waits.mark_granted.Goals as goal
 
 pub fetch_add_as-requires-clause-allowed : goal.fetch_add_as-requires-clause-allowed

@@ -2,12 +2,12 @@ use Rattle.std.proofs.Common.{List, [], subst}
 use Rattle.lock_world.specs.declared.events.Word.TheVariants.{Wait}
 use Rattle.shared_rule.specs.declared.history.History.{History}
 use Rattle.shared_rule.specs.History.{first_account, first_number}
-use Rattle.shared_rule.proofs.Events.Words.{stores_at_own}
+use Rattle.shared_rule.proofs.Lemmas.Events.Words.{stores_at_own}
 use Rattle.lock_world.specs.Account.{InHand}
 use Rattle.modes_core.specs.Tag.{partition_of}
 use Rattle.lock_table.specs.declared.moves.Move.TheVariants.{Join}
 use Rattle.lock_world.specs.AccountLaw.{MayMoveBy}
-use Rattle.shared_rule.proofs.Events.Waits.{setting_waiting-lawful}
+use Rattle.shared_rule.proofs.Lemmas.Events.Waits.{setting_waiting-lawful}
 use Rattle.shared_rule.proofs.waits.set_waiting.Goals as goal
 
 pub store_as-requires-clause-allowed : goal.store_as-requires-clause-allowed

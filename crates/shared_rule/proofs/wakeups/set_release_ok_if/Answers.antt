@@ -1,6 +1,6 @@
 use Rattle.shared_rule.specs.LwLocks.{lock_number}
 use Rattle.shared_rule.specs.Plays.{account_at, number_at, todo_at}
-use Rattle.shared_rule.proofs.Led.{led_by-todo, none-owed, owes-none}
+use Rattle.shared_rule.proofs.Lemmas.Led.{led_by-todo, none-owed, owes-none}
 use Rattle.shared_rule.proofs.wakeups.set_release_ok_if.Goals as goal
 
 pub returns-clause-led : goal.returns-clause-led

@@ -1,9 +1,9 @@
 use Rattle.std.proofs.Common.{refl, sym, ◌∙◌, subst, arith, drop, ◌+◌}
 use Rattle.shared_rule.specs.Plays.{account_at, number_at, todo_at}
 use Rattle.shared_rule.specs.Wakeups.{all_owed, MayTakeAllOff}
-use Rattle.shared_rule.proofs.Led.{led_to-as, led_by-todo, led_to-itself, led-self}
-use Rattle.shared_rule.proofs.Queueing.{may_take_off-first, off-next, off-last, owed-next, owed-last}
-use Rattle.shared_rule.proofs.Waiters.{one-below}
+use Rattle.shared_rule.proofs.Lemmas.Led.{led_to-as, led_by-todo, led_to-itself, led-self}
+use Rattle.shared_rule.proofs.Lemmas.Queueing.{may_take_off-first, off-next, off-last, owed-next, owed-last}
+use Rattle.shared_rule.proofs.Lemmas.Waiters.{one-below}
 use Rattle.shared_rule.proofs.wakeups.take_all_off.Goals as goal
 
 pub loop-waiter-init : goal.loop-waiter-init

@@ -2,9 +2,9 @@ use Rattle.shared_rule.specs.Todos.{todo_calling}
 use Rattle.std.proofs.Common.{refl, sym, ap, ◌∙◌, subst, arith, drop, ◌+◌}
 use Rattle.shared_rule.specs.Plays.{account_at, todo_at}
 use Rattle.shared_rule.specs.Wakeups.{all_called, MayTellAll}
-use Rattle.shared_rule.proofs.Led.{led_to-as, led_by-todo, led_to-itself, led-self}
-use Rattle.shared_rule.proofs.Queueing.{may_tell-first, told-next, told-last, called-next, called-last}
-use Rattle.shared_rule.proofs.Waiters.{one-below}
+use Rattle.shared_rule.proofs.Lemmas.Led.{led_to-as, led_by-todo, led_to-itself, led-self}
+use Rattle.shared_rule.proofs.Lemmas.Queueing.{may_tell-first, told-next, told-last, called-next, called-last}
+use Rattle.shared_rule.proofs.Lemmas.Waiters.{one-below}
 use Rattle.shared_rule.proofs.wakeups.tell_all.Goals as goal
 
 pub loop-waiter-init : goal.loop-waiter-init

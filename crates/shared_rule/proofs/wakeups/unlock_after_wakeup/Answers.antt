@@ -1,7 +1,7 @@
 use Rattle.lock_world.specs.AccountSteps.{account_unlocking_list}
 use Rattle.shared_rule.specs.Plays.{account_at, todo_at}
-use Rattle.shared_rule.proofs.Woken.{well-then}
-use Rattle.shared_rule.proofs.Led.{led-then}
+use Rattle.shared_rule.proofs.Lemmas.Woken.{well-then}
+use Rattle.shared_rule.proofs.Lemmas.Led.{led-then}
 use Rattle.shared_rule.proofs.wakeups.unlock_after_wakeup.Goals as goal
 
 pub returns-clause-led : goal.returns-clause-led

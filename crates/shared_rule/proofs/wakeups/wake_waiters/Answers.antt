@@ -1,16 +1,16 @@
 use Rattle.std.proofs.Common.{◌≡◌, ℕ, ◌≤◌, List, ap, ◌∙◌, subst}
 use Rattle.lw_word.specs.declared.wait_lists.LwWaiter.{LwWaiter}
 use Rattle.lw_word.specs.WaitList.{Waiting, times_in, taken_off, left_waiting}
-use Rattle.lw_word.proofs.WaitLemmas.{wakeup-somebody}
+use Rattle.lw_word.proofs.Lemmas.Waits.{wakeup-somebody}
 use Rattle.shared_rule.specs.LwLocks.{lock_number}
 use Rattle.shared_rule.specs.Plays.{account_at, number_at, todo_at}
 use Rattle.lock_world.specs.Account.{ListAccount}
 use Rattle.shared_rule.specs.Todos.{Todo, todo_looked}
 use Rattle.std.proofs.Common.{sym}
 use Rattle.std.proofs.lemmas.Bool.{both_ways}
-use Rattle.shared_rule.proofs.Woken.{some-off, not-there, may-take_all_off, left-in_hand, may-tell_all, woken, left-well, owed-else}
+use Rattle.shared_rule.proofs.Lemmas.Woken.{some-off, not-there, may-take_all_off, left-in_hand, may-tell_all, woken, left-well, owed-else}
 use Rattle.shared_rule.specs.Waiters.{WaitersExist}
-use Rattle.shared_rule.proofs.Waiters.{taken-below}
+use Rattle.shared_rule.proofs.Lemmas.Waiters.{taken-below}
 use Rattle.shared_rule.proofs.wakeups.wake_waiters.Goals as goal
 
 pub take_all_off-requires-clause-lawful : goal.take_all_off-requires-clause-lawful

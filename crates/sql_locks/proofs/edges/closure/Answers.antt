@@ -1,5 +1,5 @@
 use Rattle.std.proofs.Common.{rules, ◌≡◌, length}
-use Rattle.sql_locks.proofs.FollowLemmas.{under_way_more, under_way_last, under_way_done}
+use Rattle.sql_locks.proofs.Lemmas.Follow.{under_way_more, under_way_last, under_way_done}
 use Rattle.sql_locks.proofs.edges.closure.Goals as goal
 
 pub returns-then-len-before : goal.returns-then-len-before

@@ -1,6 +1,6 @@
 use Rattle.std.proofs.Common.{length}
 use Rattle.sql_locks.specs.Reach.{edges_of}
-use Rattle.sql_locks.proofs.FollowLemmas.{IsUnderWay}
+use Rattle.sql_locks.proofs.Lemmas.Follow.{IsUnderWay}
 use Rattle.sql_locks.proofs.edges.closure.Given as goal
 
 abbrev pub invariant-steps : goal.invariant-steps

@@ -2,7 +2,7 @@ use Rattle.std.proofs.Common.{rules, ◌≡◌, ◌<◌, [], ◌∷◌, ◌++◌
 use Rattle.std.proofs.lemmas.List.{take_more}
 use Rattle.std.proofs.lemmas.List.Elements.{Contains-append_left, Contains-push, Contains-push_cases}
 use Rattle.sql_locks.specs.declared.edges.Edge.{Edge}
-use Rattle.sql_locks.proofs.FollowLemmas.{follow_rest, follow_taken}
+use Rattle.sql_locks.proofs.Lemmas.Follow.{follow_rest, follow_taken}
 use Rattle.sql_locks.proofs.edges.follow.Goals as goal
 use Rattle.sql_locks.proofs.edges.follow.Goals.{then-not-is_among+in_ok-push, else-not-is_among+then-not-is_among-2+in_ok-push-2, else-not-is_among+else-not-is_among-2}
 

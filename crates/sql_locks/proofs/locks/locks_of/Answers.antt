@@ -5,7 +5,7 @@ use Rattle.sql_locks.specs.declared.forms.Part.{Part}
 use Rattle.sql_locks.specs.declared.forms.Start.TheVariants.{Target}
 use Rattle.sql_locks.specs.declared.forms.Along.TheVariants.{Nothing}
 use Rattle.sql_locks.specs.declared.forms.Hop.TheVariants.{Stay}
-use Rattle.sql_locks.proofs.LockLemmas.{locks_more}
+use Rattle.sql_locks.proofs.Lemmas.Locks.{locks_more}
 use Rattle.sql_locks.proofs.locks.locks_of.Goals as goal
 
 pub loop-part-preserved : goal.loop-part-preserved

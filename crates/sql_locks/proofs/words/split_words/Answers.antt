@@ -1,6 +1,6 @@
 use Rattle.std.proofs.Common.{rules, ◌≡◌, [], ◌∷◌, ◌++◌, length}
 use Rattle.sql_locks.specs.Words.{text_of}
-use Rattle.sql_locks.proofs.WordLemmas.{read_more}
+use Rattle.sql_locks.proofs.Lemmas.Words.{read_more}
 use Rattle.sql_locks.proofs.words.split_words.Goals as goal
 
 pub loop-rest-preserved : goal.loop-rest-preserved

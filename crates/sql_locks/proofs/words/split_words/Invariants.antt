@@ -1,5 +1,5 @@
 use Rattle.std.proofs.Common.{length}
-use Rattle.sql_locks.proofs.WordLemmas.{IsRead}
+use Rattle.sql_locks.proofs.Lemmas.Words.{IsRead}
 use Rattle.sql_locks.proofs.words.split_words.Given as goal
 
 abbrev pub invariant-loop-rest : goal.invariant-loop-rest

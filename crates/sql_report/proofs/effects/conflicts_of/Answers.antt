@@ -3,7 +3,7 @@ use Rattle.modes_core.specs.declared.modes.Mode.{Mode}
 use Rattle.modes_core.specs.declared.modes.Mode.TheVariants.{AccessShare, RowShare, RowExclusive, ShareUpdateExclusive, Share, ShareRowExclusive, Exclusive, AccessExclusive}
 use Rattle.modes_core.specs.ModeSet.{set_has}
 use Rattle.sql_report.specs.Clash.{clashes}
-use Rattle.sql_report.proofs.BoolSteps.{or_false}
+use Rattle.sql_report.proofs.Lemmas.BoolSteps.{or_false}
 use Rattle.sql_report.proofs.effects.conflicts_of.Goals as goal
 
 pub returns : goal.returns

@@ -4,7 +4,7 @@ use Rattle.modes_core.specs.Mode.{mode_eq}
 use Rattle.modes_core.specs.ModeSet.{set_has}
 use Rattle.modes_core.specs.Conflict.{conflict}
 use Rattle.sql_report.specs.Clash.{clashes}
-use Rattle.sql_report.proofs.BoolSteps.{and_true_or, and_false_or}
+use Rattle.sql_report.proofs.Lemmas.BoolSteps.{and_true_or, and_false_or}
 use Rattle.sql_report.proofs.effects.with_clashing.Goals as goal
 
 pub returns-then-meets : goal.returns-then-meets

@@ -2,7 +2,7 @@ use Rattle.std.proofs.Common.{rules, ◌≡◌, ◌+◌, ◌<◌, [], ◌∷◌,
 use Rattle.std.proofs.lemmas.List.{take_more}
 use Rattle.sql_locks.specs.declared.forms.Form.TheVariants.{Select}
 use Rattle.sql_locks.specs.declared.locks.Act.{Act}
-use Rattle.sql_report.proofs.LockSteps.{locks_of_more}
+use Rattle.sql_report.proofs.Lemmas.LockSteps.{locks_of_more}
 use Rattle.sql_report.proofs.outcome.locks_of_acts.Goals as goal
 
 pub loop-act-preserved : goal.loop-act-preserved

@@ -3,7 +3,7 @@ use Rattle.modes_core.specs.declared.modes.Mode.{Mode}
 use Rattle.modes_core.specs.declared.modes.Mode.TheVariants.{AccessShare}
 use Rattle.modes_core.specs.Mode.{mode_eq}
 use Rattle.sql_locks.specs.declared.locks.Lock.{Lock}
-use Rattle.sql_report.proofs.LockSteps.{any_more}
+use Rattle.sql_report.proofs.Lemmas.LockSteps.{any_more}
 use Rattle.sql_report.proofs.outcome.modes_on.Goals as goal
 
 pub loop-lock-init : goal.loop-lock-init

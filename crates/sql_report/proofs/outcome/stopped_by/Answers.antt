@@ -4,7 +4,7 @@ use Rattle.modes_core.specs.declared.modes.Mode.TheVariants.{AccessShare}
 use Rattle.modes_core.specs.Conflict.{conflict}
 use Rattle.sql_locks.specs.declared.locks.Lock.{Lock}
 use Rattle.sql_report.specs.Outcome.{others_know}
-use Rattle.sql_report.proofs.LockSteps.{any_more}
+use Rattle.sql_report.proofs.Lemmas.LockSteps.{any_more}
 use Rattle.sql_report.proofs.outcome.stopped_by.Goals as goal
 
 pub loop-lock-init : goal.loop-lock-init

@@ -2,7 +2,7 @@ use Rattle.std.proofs.Common.{◌≡◌, ◌||◌, ◌&&◌, Bool, true, false, 
 use Rattle.modes_core.specs.declared.modes.Mode.{Mode}
 use Rattle.modes_core.specs.Mode.{mode_eq}
 use Rattle.modes_core.specs.ModeSet.{set_has}
-use Rattle.sql_report.proofs.BoolSteps.{and_true_or, and_false_or}
+use Rattle.sql_report.proofs.Lemmas.BoolSteps.{and_true_or, and_false_or}
 use Rattle.sql_report.proofs.outcome.with_shared.Goals as goal
 
 pub returns-then-has : goal.returns-then-has

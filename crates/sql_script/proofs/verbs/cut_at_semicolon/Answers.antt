@@ -1,5 +1,5 @@
 use Rattle.std.proofs.Common.{rules}
-use Rattle.sql_script.proofs.WordLemmas.{semicolon-at}
+use Rattle.sql_script.proofs.Lemmas.Words.{semicolon-at}
 use Rattle.sql_script.proofs.verbs.cut_at_semicolon.Goals as goal
 
 pub returns : goal.returns

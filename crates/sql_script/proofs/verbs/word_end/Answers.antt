@@ -2,7 +2,7 @@ use Rattle.std.proofs.Common.{ap}
 use Rattle.std.specs.Prelude.{length}
 use Rattle.std.specs.Option.{unwrap_or}
 use Rattle.std.proofs.lemmas.Str.{IsCharBoundary-before_ascii}
-use Rattle.sql_script.proofs.WordLemmas.{first_space-below, first_space-within}
+use Rattle.sql_script.proofs.Lemmas.Words.{first_space-below, first_space-within}
 use Rattle.sql_script.proofs.verbs.word_end.Goals as goal
 
 pub returns-in-Some-clause-end : goal.returns-in-Some-clause-end

@@ -2,7 +2,7 @@ use Rattle.std.proofs.Common.{◌≡◌, ℕ, ◌++◌, ap, ◌∙◌, inl, inr,
 use Rattle.std.proofs.Math.Nat.{eq-or-lt_of_le}
 use Rattle.std.specs.Prelude.{IfSome}
 use Rattle.wait_queue.specs.Queues.{holding_of, lists_below}
-use Rattle.wait_queue.proofs.BlockerLemmas.{lists_below-start, lists_below-more, lists_below-rest_empty, holding-nothing}
+use Rattle.wait_queue.proofs.Lemmas.Blockers.{lists_below-start, lists_below-more, lists_below-rest_empty, holding-nothing}
 use Rattle.wait_queue.proofs.queues.append_holding.Goals as goal
 use Rattle.modes_core.specs.Sessions.{most_sessions}
 

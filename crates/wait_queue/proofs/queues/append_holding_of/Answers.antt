@@ -1,5 +1,5 @@
 use Rattle.std.proofs.Common.{◌≡◌, ◌++◌, sym, ◌∙◌, subst, OnOk}
-use Rattle.wait_queue.proofs.BlockerLemmas.{holding-another}
+use Rattle.wait_queue.proofs.Lemmas.Blockers.{holding-another}
 use Rattle.wait_queue.proofs.queues.append_holding_of.Goals as goal
 
 pub returns : goal.returns

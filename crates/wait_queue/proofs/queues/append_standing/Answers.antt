@@ -2,7 +2,7 @@ use Rattle.std.proofs.Common.{◌≡◌, ℕ, ◌++◌, take, sym, ap, ◌∙◌
 use Rattle.std.specs.Prelude.{option_map}
 use Rattle.std.proofs.lemmas.List.{flat_map_more}
 use Rattle.lock_table.specs.Waiter.{shown_wait}
-use Rattle.lock_table.proofs.FindLemmas.{take-at}
+use Rattle.lock_table.proofs.Lemmas.Find.{take-at}
 use Rattle.wait_queue.specs.Queues.{standing, standing_of}
 use Rattle.wait_queue.proofs.queues.append_standing.Goals as goal
 

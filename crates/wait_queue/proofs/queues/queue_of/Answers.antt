@@ -2,8 +2,8 @@ use Rattle.std.proofs.Common.{◌≡◌, ◌≤◌, length, take, map, refl, sym
 use Rattle.std.specs.Prelude.{slice_get}
 use Rattle.std.proofs.lemmas.List.{take_all}
 use Rattle.lock_table.specs.Waiter.{shown_wait}
-use Rattle.lock_table.proofs.FindLemmas.{all-before}
-use Rattle.wait_queue.proofs.BlockerLemmas.{copied-more}
+use Rattle.lock_table.proofs.Lemmas.Find.{all-before}
+use Rattle.wait_queue.proofs.Lemmas.Blockers.{copied-more}
 use Rattle.wait_queue.proofs.queues.queue_of.Goals as goal
 
 pub loop-waiter-init : goal.loop-waiter-init

@@ -5,8 +5,8 @@ use Rattle.std.proofs.lemmas.List.{take_all}
 use Rattle.std.proofs.lemmas.Option.{slice_get_within}
 use Rattle.lock_table.specs.Queue.{waits_there}
 use Rattle.lock_table.specs.Waiter.{shown_wait}
-use Rattle.lock_table.proofs.FindLemmas.{take-at, none-at, find-at, find-none, all-before}
-use Rattle.wait_queue.proofs.BlockerLemmas.{before-at}
+use Rattle.lock_table.proofs.Lemmas.Find.{take-at, none-at, find-at, find-none, all-before}
+use Rattle.wait_queue.proofs.Lemmas.Blockers.{before-at}
 use Rattle.wait_queue.proofs.queues.wait_of.Goals as goal
 
 pub loop-waiter-init : goal.loop-waiter-init

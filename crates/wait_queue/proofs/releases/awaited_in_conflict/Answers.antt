@@ -1,5 +1,5 @@
 use Rattle.std.proofs.Common.{◌∙◌}
-use Rattle.lock_table.proofs.WalkLemmas.{awaited-first}
+use Rattle.lock_table.proofs.Lemmas.Walk.{awaited-first}
 use Rattle.wait_queue.proofs.releases.awaited_in_conflict.Goals as goal
 
 pub returns : goal.returns

@@ -1,6 +1,6 @@
 use Rattle.std.proofs.Common.{not, sym, ap, ◌∙◌}
-use Rattle.lock_table.proofs.QueueLemmas.{waits_there-mode}
-use Rattle.wait_queue.proofs.RemovalLemmas.{remove_wait-none}
+use Rattle.lock_table.proofs.Lemmas.Queues.{waits_there-mode}
+use Rattle.wait_queue.proofs.Lemmas.Removal.{remove_wait-none}
 use Rattle.wait_queue.proofs.removals.remove_waiter.Goals as goal
 
 pub returns-in-None-clause-found : goal.returns-in-None-clause-found

@@ -1,4 +1,4 @@
-use Rattle.wait_queue.proofs.DecideLemmas.{awaits_mode-none}
+use Rattle.wait_queue.proofs.Lemmas.Decide.{awaits_mode-none}
 use Rattle.wait_queue.proofs.requests.decide.Goals as goal
 
 pub begin-requires-clause-not_awaited : goal.begin-requires-clause-not_awaited

@@ -1,5 +1,5 @@
-use Rattle.shared_rule.proofs.Stacks.{taken-last}
-use Rattle.floor_tests.proofs.Putting.{may_put}
+use Rattle.shared_rule.proofs.Lemmas.Stacks.{taken-last}
+use Rattle.floor_tests.proofs.Lemmas.Putting.{may_put}
 use Rattle.floor_tests.proofs.shared.boards.keep_once.Goals as goal
 
 pub put_part-requires-clause-in_hand : goal.put_part-requires-clause-in_hand

@@ -1,4 +1,4 @@
-use Rattle.floor_tests.proofs.Putting.{may_put}
+use Rattle.floor_tests.proofs.Lemmas.Putting.{may_put}
 use Rattle.floor_tests.proofs.shared.latecomers.visit.Goals as goal
 
 pub put_part-requires-clause-lawful : goal.put_part-requires-clause-lawful

@@ -10,7 +10,7 @@ use Rattle.lock_world.specs.AccountLaw.{MaySetSlotBy}
 use Rattle.shared_rule.specs.History.{blank_account, slots_here}
 use Rattle.shared_rule.specs.Boards.{Seated}
 use Rattle.shared_rule.specs.Slots.{TakesFast}
-use Rattle.shared_rule.proofs.FirstSlot.{table, ready_account, none-in_use, ready, first-set, after_first, second-set}
+use Rattle.shared_rule.proofs.Lemmas.FirstSlot.{table, ready_account, none-in_use, ready, first-set, after_first, second-set}
 use Rattle.floor_tests.proofs.shared.slots.set_twice.Goals as goal
 
 -- The account once the counter is read, and the slots in hand, none of them in use.

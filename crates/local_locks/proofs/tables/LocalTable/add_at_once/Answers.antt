@@ -1,15 +1,15 @@
 use Rattle.std.specs.Prelude.{vec_capacity}
 use Rattle.local_locks.specs.Levels.{IsLeveledTable}
-use Rattle.local_locks.proofs.LevelRows.{paced-first, leveled-first}
-use Rattle.local_locks.proofs.LevelTables.{table-with}
+use Rattle.local_locks.proofs.Lemmas.LevelRows.{paced-first, leveled-first}
+use Rattle.local_locks.proofs.Lemmas.LevelTables.{table-with}
 use Rattle.std.proofs.Common.{inl, Vec, Global, ◌≡◌, ◌<◌, List, length, true, refl, sym, ap, subst, ◌∙◌, arith}
 use Rattle.std.specs.Prelude.{is_some}
 use Rattle.local_locks.specs.Owned.{IsWellOwned, max_count, is_of, count_for, has_entry, owner_count_of, with_one_more}
 use Rattle.local_locks.specs.Slots.{IsPlaceOf, opened, entry_at, present}
 use Rattle.local_locks.specs.declared.records.Entry.{Entry}
-use Rattle.local_locks.proofs.LevelLaws.{well_owned}
-use Rattle.local_locks.proofs.LookLaws.{place_read}
-use Rattle.local_locks.proofs.TableSteps.{IsTable-raised_held, entries-raised, owner_count-at}
+use Rattle.local_locks.proofs.Lemmas.Levels.{well_owned}
+use Rattle.local_locks.proofs.Lemmas.Looks.{place_read}
+use Rattle.local_locks.proofs.Lemmas.TableSteps.{IsTable-raised_held, entries-raised, owner_count-at}
 use Rattle.local_locks.proofs.tables.LocalTable.add_at_once.Goals as goal
 
 pub returns-in-Nothing-clause-well_owned : goal.returns-in-Nothing-clause-well_owned

@@ -6,10 +6,10 @@ use Rattle.local_locks.specs.Levels.{IsLeveledTable}
 use Rattle.local_locks.specs.Slots.{IsPlaceOf, opened, entry_at, present}
 use Rattle.local_locks.specs.declared.ends.Progress.{Progress}
 use Rattle.local_locks.specs.declared.records.Entry.{Entry}
-use Rattle.local_locks.proofs.LevelLaws.{well_owned}
-use Rattle.local_locks.proofs.TableSteps.{entries-raised}
-use Rattle.local_locks.proofs.LevelRows.{paced-looked}
-use Rattle.local_locks.proofs.LevelTables.{raised-table}
+use Rattle.local_locks.proofs.Lemmas.Levels.{well_owned}
+use Rattle.local_locks.proofs.Lemmas.TableSteps.{entries-raised}
+use Rattle.local_locks.proofs.Lemmas.LevelRows.{paced-looked}
+use Rattle.local_locks.proofs.Lemmas.LevelTables.{raised-table}
 use Rattle.local_locks.proofs.tables.LocalTable.add_looked_up.Goals as goal
 
 pub returns-in_default-clause-well_owned : goal.returns-in_default-clause-well_owned

@@ -2,9 +2,9 @@ use Rattle.std.proofs.Common.{◌+◌, ◌∷◌, ◌++◌, [], refl, ap, subst,
 use Rattle.local_locks.specs.Owned.{IsWellOwned, of_transaction}
 use Rattle.local_locks.specs.Slots.{opened}
 use Rattle.local_locks.specs.Levels.{row_at, outer_of}
-use Rattle.local_locks.proofs.LevelLaws.{well_owned, length-outer, had-now}
-use Rattle.local_locks.proofs.LevelSteps.{leveled-begun}
-use Rattle.local_locks.proofs.LevelTables.{table-with}
+use Rattle.local_locks.proofs.Lemmas.Levels.{well_owned, length-outer, had-now}
+use Rattle.local_locks.proofs.Lemmas.LevelSteps.{leveled-begun}
+use Rattle.local_locks.proofs.Lemmas.LevelTables.{table-with}
 use Rattle.local_locks.proofs.tables.LocalTable.begin_nested.Goals as goal
 
 pub returns-then-self-eq-MOST_INNER-clause-well_owned : goal.returns-then-self-eq-MOST_INNER-clause-well_owned

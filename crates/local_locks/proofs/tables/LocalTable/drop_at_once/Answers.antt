@@ -6,15 +6,15 @@ use Rattle.modes_core.specs.declared.sessions.Owner.{Owner}
 use Rattle.local_locks.specs.declared.records.Entry.{Entry}
 use Rattle.local_locks.specs.Owned.{IsWellOwned, max_count, count_for, count_in_all, own_count_of, total_of, with_one_less}
 use Rattle.local_locks.specs.Levels.{row_at, IsLeveledTable}
-use Rattle.local_locks.proofs.LevelLaws.{owned_of, own_count-at}
-use Rattle.local_locks.proofs.LevelRows.{paced-hinted, leveled-first, first_lists}
-use Rattle.local_locks.proofs.LevelSteps.{own_count-first}
-use Rattle.local_locks.proofs.LevelTables.{table-with, taken-table}
+use Rattle.local_locks.proofs.Lemmas.Levels.{owned_of, own_count-at}
+use Rattle.local_locks.proofs.Lemmas.LevelRows.{paced-hinted, leveled-first, first_lists}
+use Rattle.local_locks.proofs.Lemmas.LevelSteps.{own_count-first}
+use Rattle.local_locks.proofs.Lemmas.LevelTables.{table-with, taken-table}
 use Rattle.local_locks.specs.Slots.{Slots, IsIndexed, IsKept, IsTable, IsPlaceOf, opened, entry_at, present}
-use Rattle.local_locks.proofs.OpenLaws.{slot_at-opened, entry_in-held, more-by}
-use Rattle.local_locks.proofs.LookLaws.{place_read, some_held}
-use Rattle.local_locks.proofs.LevelLaws.{well_owned}
-use Rattle.local_locks.proofs.TableSteps.{kept-lowered, entries-lowered, entries-taken, total-lowered, IsCounted-lowered}
+use Rattle.local_locks.proofs.Lemmas.OpenSlots.{slot_at-opened, entry_in-held, more-by}
+use Rattle.local_locks.proofs.Lemmas.Looks.{place_read, some_held}
+use Rattle.local_locks.proofs.Lemmas.Levels.{well_owned}
+use Rattle.local_locks.proofs.Lemmas.TableSteps.{kept-lowered, entries-lowered, entries-taken, total-lowered, IsCounted-lowered}
 use Rattle.local_locks.proofs.tables.LocalTable.drop_at_once.Goals as goal
 use Rattle.local_locks.proofs.tables.LocalTable.drop_at_once.Goals.{Then-lower_held}
 

@@ -4,15 +4,15 @@ use Rattle.local_locks.specs.declared.answers.Unlocked.TheVariants.{Released, St
 use Rattle.local_locks.specs.Owned.{IsWellOwned, entry_for, own_count_of, count_for, count_in_all, total_of, with_one_less}
 use Rattle.std.specs.Prelude.{None}
 use Rattle.local_locks.specs.Levels.{row_at, own_count_in, outer_of, IsLeveled}
-use Rattle.local_locks.proofs.LevelLaws.{own_count-at, own_count-none}
-use Rattle.local_locks.proofs.LevelRows.{paced-looked}
-use Rattle.local_locks.proofs.LevelSteps.{leveled-lowered, outer-gone, only-inner, own_count-within}
-use Rattle.local_locks.proofs.LevelTables.{table-with, taken-table, forgot-one}
+use Rattle.local_locks.proofs.Lemmas.Levels.{own_count-at, own_count-none}
+use Rattle.local_locks.proofs.Lemmas.LevelRows.{paced-looked}
+use Rattle.local_locks.proofs.Lemmas.LevelSteps.{leveled-lowered, outer-gone, only-inner, own_count-within}
+use Rattle.local_locks.proofs.Lemmas.LevelTables.{table-with, taken-table, forgot-one}
 use Rattle.local_locks.specs.Slots.{Slots, IsKept, IsPlaceOf, key_hash, opened, entry_at, present}
 use Rattle.local_locks.specs.declared.records.Entry.{Entry}
-use Rattle.local_locks.proofs.LevelLaws.{well_owned}
-use Rattle.local_locks.proofs.SlotLaws.{is_of-same}
-use Rattle.local_locks.proofs.TableSteps.{kept-lowered, entries-lowered, entries-taken, total-lowered, IsCounted-lowered}
+use Rattle.local_locks.proofs.Lemmas.Levels.{well_owned}
+use Rattle.local_locks.proofs.Lemmas.Slots.{is_of-same}
+use Rattle.local_locks.proofs.Lemmas.TableSteps.{kept-lowered, entries-lowered, entries-taken, total-lowered, IsCounted-lowered}
 use Rattle.local_locks.proofs.tables.LocalTable.drop_elsewhere.Goals as goal
 
 pub returns-in_default-clause-well_owned : goal.returns-in_default-clause-well_owned

@@ -7,15 +7,15 @@ use Rattle.local_locks.specs.declared.records.Entry.{Entry}
 use Rattle.local_locks.specs.Owned.{count_in_all, ended_by, left_by, with_next_ended, without_innermost}
 use Rattle.local_locks.specs.Slots.{opened, slot_at, present, at_start, IsKept}
 use Rattle.local_locks.specs.Levels.{row_at, had_in, outer_of, without_level, IsLeveled, IsLeveledTable}
-use Rattle.local_locks.proofs.SlotLaws.{and_some}
-use Rattle.local_locks.proofs.OpenLaws.{length-opened, opened_some}
-use Rattle.local_locks.proofs.EndLaws.{ended_by-next, ended_by-none, left_by-next}
-use Rattle.local_locks.proofs.EndSteps.{kept-compact}
-use Rattle.local_locks.proofs.LevelLaws.{well_owned, length-outer, outer-same, outer-taken}
-use Rattle.local_locks.proofs.LevelRows.{paced-ended}
-use Rattle.local_locks.proofs.LevelSteps.{leveled-moved, outer-gone}
-use Rattle.local_locks.proofs.LevelTables.{table-with, taken-table, forgot-one, leveled-past}
-use Rattle.local_locks.proofs.InnerSteps.{without, found-depth, outer-settled, leveled-settled, leveled-all, kept-settled, find-all, left-all, find-inner, present-inner, nothing-inner}
+use Rattle.local_locks.proofs.Lemmas.Slots.{and_some}
+use Rattle.local_locks.proofs.Lemmas.OpenSlots.{length-opened, opened_some}
+use Rattle.local_locks.proofs.Lemmas.Ends.{ended_by-next, ended_by-none, left_by-next}
+use Rattle.local_locks.proofs.Lemmas.EndSteps.{kept-compact}
+use Rattle.local_locks.proofs.Lemmas.Levels.{well_owned, length-outer, outer-same, outer-taken}
+use Rattle.local_locks.proofs.Lemmas.LevelRows.{paced-ended}
+use Rattle.local_locks.proofs.Lemmas.LevelSteps.{leveled-moved, outer-gone}
+use Rattle.local_locks.proofs.Lemmas.LevelTables.{table-with, taken-table, forgot-one, leveled-past}
+use Rattle.local_locks.proofs.Lemmas.InnerSteps.{without, found-depth, outer-settled, leveled-settled, leveled-all, kept-settled, find-all, left-all, find-inner, present-inner, nothing-inner}
 use Rattle.local_locks.proofs.tables.LocalTable.end_innermost.Goals as goal
 
 -- ---- it came to the end of the slots

@@ -5,16 +5,16 @@ use Rattle.local_locks.specs.declared.records.Entry.{Entry}
 use Rattle.local_locks.specs.Owned.{is_ended, ended_by, left_by, with_next_ended}
 use Rattle.local_locks.specs.Slots.{IsKept, IsIndexed, opened, slot_at, present, came_to, reached}
 use Rattle.local_locks.specs.declared.ends.Progress.{Progress}
-use Rattle.local_locks.proofs.LevelLaws.{well_owned}
+use Rattle.local_locks.proofs.Lemmas.Levels.{well_owned}
 use Rattle.local_locks.specs.Levels.{row_at}
-use Rattle.local_locks.proofs.LevelLaws.{length-outer}
-use Rattle.local_locks.proofs.LevelRows.{leveled-empty}
-use Rattle.local_locks.proofs.LevelTables.{table-with, leveled-ended, moved-first}
-use Rattle.local_locks.proofs.KeptLaws.{past-le}
-use Rattle.local_locks.proofs.OpenLaws.{length-opened, opened_some}
-use Rattle.local_locks.proofs.EndLaws.{ended_by-next, ended_by-none, left_by-next, with_next_ended-none, present-passed, find-passed}
-use Rattle.local_locks.proofs.EndSteps.{Walked, walked-slots, kept-walked, kept-tidy, kept-next, walked_ended, walked_passed, walked_place}
-use Rattle.local_locks.proofs.TableSteps.{kept-taken}
+use Rattle.local_locks.proofs.Lemmas.Levels.{length-outer}
+use Rattle.local_locks.proofs.Lemmas.LevelRows.{leveled-empty}
+use Rattle.local_locks.proofs.Lemmas.LevelTables.{table-with, leveled-ended, moved-first}
+use Rattle.local_locks.proofs.Lemmas.Kept.{past-le}
+use Rattle.local_locks.proofs.Lemmas.OpenSlots.{length-opened, opened_some}
+use Rattle.local_locks.proofs.Lemmas.Ends.{ended_by-next, ended_by-none, left_by-next, with_next_ended-none, present-passed, find-passed}
+use Rattle.local_locks.proofs.Lemmas.EndSteps.{Walked, walked-slots, kept-walked, kept-tidy, kept-next, walked_ended, walked_passed, walked_place}
+use Rattle.local_locks.proofs.Lemmas.TableSteps.{kept-taken}
 use Rattle.local_locks.proofs.tables.LocalTable.end_transaction.Goals as goal
 
 -- ---- it came to the end of the slots

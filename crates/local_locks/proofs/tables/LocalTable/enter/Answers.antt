@@ -1,18 +1,18 @@
 use Rattle.std.specs.Prelude.{vec_capacity}
 use Rattle.place_index.specs.Notes.{no_place}
 use Rattle.local_locks.specs.Levels.{row_at, outer_of, IsLeveled}
-use Rattle.local_locks.proofs.LevelRows.{paced-looked}
-use Rattle.local_locks.proofs.LevelSteps.{Keeps_outer, leveled-pushed}
+use Rattle.local_locks.proofs.Lemmas.LevelRows.{paced-looked}
+use Rattle.local_locks.proofs.Lemmas.LevelSteps.{Keeps_outer, leveled-pushed}
 use Rattle.std.proofs.Common.{◌≡◌, ◌≤◌, min, ◌<◌, ◌+◌, ◌∷◌, ◌++◌, [], Some, false, sym, ap, subst, cond, ◌∙◌, length, arith}
 use Rattle.local_locks.specs.Owned.{IsCounted, raised, new_entry, has_entry, with_one_more, change}
 use Rattle.local_locks.specs.Slots.{Slots, IsKept, IsIndexed, opened, present, back_to}
 use Rattle.local_locks.specs.declared.ends.Progress.{Progress}
 use Rattle.local_locks.specs.declared.records.Entry.{Entry}
-use Rattle.local_locks.proofs.SlotLaws.{present-push}
-use Rattle.local_locks.proofs.OpenLaws.{length-opened}
-use Rattle.local_locks.proofs.LookLaws.{no_entry, absent_key, new_entry-key}
-use Rattle.local_locks.proofs.LevelLaws.{well_owned}
-use Rattle.local_locks.proofs.TableSteps.{kept-pushed, IsCounted-new}
+use Rattle.local_locks.proofs.Lemmas.Slots.{present-push}
+use Rattle.local_locks.proofs.Lemmas.OpenSlots.{length-opened}
+use Rattle.local_locks.proofs.Lemmas.Looks.{no_entry, absent_key, new_entry-key}
+use Rattle.local_locks.proofs.Lemmas.Levels.{well_owned}
+use Rattle.local_locks.proofs.Lemmas.TableSteps.{kept-pushed, IsCounted-new}
 use Rattle.local_locks.proofs.tables.LocalTable.enter.Goals as goal
 
 pub push_entry-requires-clause-absent : goal.push_entry-requires-clause-absent

@@ -2,9 +2,9 @@ use Rattle.std.proofs.Common.{◌≤◌, ◌∙◌, sym, refl, subst, arith, len
 use Rattle.std.specs.Prelude.{vec_capacity}
 use Rattle.local_locks.specs.Owned.{IsWellOwned}
 use Rattle.local_locks.specs.Levels.{IsLeveledTable}
-use Rattle.local_locks.proofs.LevelLaws.{well_owned}
-use Rattle.local_locks.proofs.LevelRows.{unless_err}
-use Rattle.local_locks.proofs.LevelTables.{grown-table}
+use Rattle.local_locks.proofs.Lemmas.Levels.{well_owned}
+use Rattle.local_locks.proofs.Lemmas.LevelRows.{unless_err}
+use Rattle.local_locks.proofs.Lemmas.LevelTables.{grown-table}
 use Rattle.local_locks.proofs.tables.LocalTable.grow.Goals as goal
 
 pub returns-then-len-eq-MAX_SLOTS-clause-well_owned : goal.returns-then-len-eq-MAX_SLOTS-clause-well_owned

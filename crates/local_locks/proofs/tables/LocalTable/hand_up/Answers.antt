@@ -3,11 +3,11 @@ use Rattle.local_locks.specs.declared.records.Entry.{Entry}
 use Rattle.local_locks.specs.Owned.{IsWellOwned}
 use Rattle.local_locks.specs.Slots.{opened}
 use Rattle.local_locks.specs.Levels.{row_at, outer_of, IsLeveled}
-use Rattle.local_locks.proofs.OpenLaws.{length-opened}
-use Rattle.local_locks.proofs.LevelLaws.{well_owned, length-outer, outer-taken}
-use Rattle.local_locks.proofs.LevelRows.{paced-ended}
-use Rattle.local_locks.proofs.LevelSteps.{leveled-handed}
-use Rattle.local_locks.proofs.LevelTables.{table-with}
+use Rattle.local_locks.proofs.Lemmas.OpenSlots.{length-opened}
+use Rattle.local_locks.proofs.Lemmas.Levels.{well_owned, length-outer, outer-taken}
+use Rattle.local_locks.proofs.Lemmas.LevelRows.{paced-ended}
+use Rattle.local_locks.proofs.Lemmas.LevelSteps.{leveled-handed}
+use Rattle.local_locks.proofs.Lemmas.LevelTables.{table-with}
 use Rattle.local_locks.proofs.tables.LocalTable.hand_up.Goals as goal
 
 pub returns-then-self-eq0-clause-well_owned : goal.returns-then-self-eq0-clause-well_owned

@@ -2,7 +2,7 @@ use Rattle.std.proofs.Common.{ap, subst, arith, length}
 use Rattle.local_locks.specs.Owned.{IsWellOwned}
 use Rattle.local_locks.specs.Slots.{opened}
 use Rattle.local_locks.specs.Levels.{row_at}
-use Rattle.local_locks.proofs.LevelLaws.{well_owned, length-outer}
+use Rattle.local_locks.proofs.Lemmas.Levels.{well_owned, length-outer}
 use Rattle.local_locks.proofs.tables.LocalTable.level.Goals as goal
 
 pub returns-clause-level : goal.returns-clause-level

@@ -3,9 +3,9 @@ use Rattle.local_locks.specs.declared.records.Entry.{Entry}
 use Rattle.local_locks.specs.declared.ends.Progress.{Progress}
 use Rattle.local_locks.specs.Slots.{opened, IsTable, at_start}
 use Rattle.local_locks.specs.Levels.{Rows, row_at}
-use Rattle.local_locks.proofs.EndSteps.{table-empty}
-use Rattle.local_locks.proofs.LevelLaws.{well_owned}
-use Rattle.local_locks.proofs.LevelRows.{leveled-empty, unless_err}
+use Rattle.local_locks.proofs.Lemmas.EndSteps.{table-empty}
+use Rattle.local_locks.proofs.Lemmas.Levels.{well_owned}
+use Rattle.local_locks.proofs.Lemmas.LevelRows.{leveled-empty, unless_err}
 use Rattle.local_locks.proofs.tables.LocalTable.new.Goals as goal
 
 pub invariant_of-result : goal.invariant_of-result

@@ -5,7 +5,7 @@ use Rattle.local_locks.specs.declared.records.Entry.{Entry}
 use Rattle.local_locks.specs.Owned.{IsWellOwned, entry_for, own_count_of}
 use Rattle.local_locks.specs.Slots.{IsPlaceOf, opened, entry_at, present}
 use Rattle.local_locks.specs.Levels.{row_at, own_count_in}
-use Rattle.local_locks.proofs.LevelLaws.{well_owned, own_count-at, own_count-none}
+use Rattle.local_locks.proofs.Lemmas.Levels.{well_owned, own_count-at, own_count-none}
 use Rattle.local_locks.proofs.tables.LocalTable.owner_count.Goals as goal
 
 pub returns-in-Some-clause-count : goal.returns-in-Some-clause-count

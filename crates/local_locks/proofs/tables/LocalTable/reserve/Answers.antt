@@ -1,4 +1,4 @@
-use Rattle.local_locks.proofs.LevelLaws.{well_owned}
+use Rattle.local_locks.proofs.Lemmas.Levels.{well_owned}
 use Rattle.local_locks.proofs.tables.LocalTable.reserve.Goals as goal
 
 pub returns-after-count-clause-well_owned : goal.returns-after-count-clause-well_owned

@@ -1,6 +1,6 @@
 use Rattle.std.proofs.Common.{subst}
 use Rattle.local_locks.specs.Owned.{IsWellOwned}
-use Rattle.local_locks.proofs.LevelLaws.{well_owned}
+use Rattle.local_locks.proofs.Lemmas.Levels.{well_owned}
 use Rattle.local_locks.proofs.tables.LocalTable.reserve_new.Goals as goal
 
 pub returns-then-self-clause-well_owned : goal.returns-then-self-clause-well_owned

@@ -1,15 +1,15 @@
 use Rattle.local_locks.specs.Levels.{row_at}
-use Rattle.local_locks.proofs.LevelLaws.{outer-same}
-use Rattle.local_locks.proofs.LevelSteps.{leveled-moved}
-use Rattle.local_locks.proofs.LevelTables.{table-with}
+use Rattle.local_locks.proofs.Lemmas.Levels.{outer-same}
+use Rattle.local_locks.proofs.Lemmas.LevelSteps.{leveled-moved}
+use Rattle.local_locks.proofs.Lemmas.LevelTables.{table-with}
 use Rattle.std.proofs.Common.{ap, ◌∙◌, sym, subst, arith}
 use Rattle.local_locks.specs.declared.ends.Progress.{Progress}
 use Rattle.local_locks.specs.Owned.{IsWellOwned}
 use Rattle.local_locks.specs.Slots.{opened, IsKept}
-use Rattle.local_locks.proofs.LevelLaws.{well_owned}
-use Rattle.local_locks.proofs.EndSteps.{kept-compact}
-use Rattle.local_locks.proofs.SlotLaws.{length-present-le}
-use Rattle.local_locks.proofs.OpenLaws.{length-opened}
+use Rattle.local_locks.proofs.Lemmas.Levels.{well_owned}
+use Rattle.local_locks.proofs.Lemmas.EndSteps.{kept-compact}
+use Rattle.local_locks.proofs.Lemmas.Slots.{length-present-le}
+use Rattle.local_locks.proofs.Lemmas.OpenSlots.{length-opened}
 use Rattle.local_locks.proofs.tables.LocalTable.use_slots_again.Goals as goal
 
 pub invariant_of-self : goal.invariant_of-self

@@ -4,7 +4,7 @@ use Rattle.modes_core.specs.declared.refusals.Refusal.{Refusal}
 use Rattle.modes_core.specs.declared.refusals.Refusal.TheVariants.{NotHeld}
 use Rattle.local_locks.specs.declared.answers.Unlocked.{Unlocked}
 use Rattle.local_locks.specs.Owned.{has_entry, with_one_less}
-use Rattle.local_locks.proofs.EntryLaws.{own-entry, gone-released}
+use Rattle.local_locks.proofs.Lemmas.Entries.{own-entry, gone-released}
 use Rattle.lock_manager.specs.declared.sessions.Own.{Own}
 use Rattle.lock_manager.specs.Rest.{IsUseCount, IsAtRest}
 use Rattle.lock_manager.proofs.Lemmas.Rest.Acquires.{rest-database}

@@ -1,5 +1,5 @@
 use Rattle.lock_model.specs.CountedLists.{passed_by}
-use Rattle.lock_model.proofs.CountedLists.{mapped_more}
+use Rattle.lock_model.proofs.Lemmas.CountedLists.{mapped_more}
 use Rattle.lock_model.proofs.machine.counters.pass.Goals as goal
 
 pub loop-c-preserved : goal.loop-c-preserved

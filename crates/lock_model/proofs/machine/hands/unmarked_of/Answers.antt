@@ -2,8 +2,8 @@ use Rattle.std.proofs.Common.{◌≡◌, ◌<◌, ◌∙◌, length, refl, false
 use Rattle.std.proofs.Math.ListN.{length-set}
 use Rattle.std.proofs.lemmas.List.{take_all}
 use Rattle.lock_model.specs.Shows.{names_in}
-use Rattle.lock_model.proofs.Shows.Places.{get_or-one_value}
-use Rattle.lock_model.proofs.Shows.Hands.{marks-one_more}
+use Rattle.lock_model.proofs.Lemmas.Shows.Places.{get_or-one_value}
+use Rattle.lock_model.proofs.Lemmas.Shows.Hands.{marks-one_more}
 use Rattle.lock_model.proofs.machine.hands.unmarked_of.Goals as goal
 
 pub loop-whose-init : goal.loop-whose-init

@@ -5,8 +5,8 @@ use Rattle.std.specs.Prelude.{List}
 use Rattle.lock_model.specs.declared.machine.plain.Hold.{Hold}
 use Rattle.lock_model.specs.PlainLists.{table_holds_of}
 use Rattle.lock_model.specs.SlotRows.{fast_path_rows}
-use Rattle.lock_model.proofs.HoldOrder.{IsSorted-hold}
-use Rattle.lock_model.proofs.PlainLists.{gathered-more, gathered-all, EachOnce-more}
+use Rattle.lock_model.proofs.Lemmas.HoldOrder.{IsSorted-hold}
+use Rattle.lock_model.proofs.Lemmas.PlainLists.{gathered-more, gathered-all, EachOnce-more}
 use Rattle.lock_model.proofs.machine.plain_lists.gather_holds.Goals as goal
 
 pub loop-part-preserved : goal.loop-part-preserved

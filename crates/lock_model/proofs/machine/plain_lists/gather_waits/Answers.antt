@@ -1,7 +1,7 @@
 use Rattle.std.proofs.Common.{◌≡◌, rules}
 use Rattle.std.proofs.lemmas.List.Sorted.{answers_always}
 use Rattle.lock_model.specs.declared.machine.plain.QueuedWait.{QueuedWait}
-use Rattle.lock_model.proofs.PlainLists.{queued_waits_of, gathered-all, waits-sorted}
+use Rattle.lock_model.proofs.Lemmas.PlainLists.{queued_waits_of, gathered-all, waits-sorted}
 use Rattle.lock_model.proofs.machine.plain_lists.gather_waits.Goals as goal
 
 pub returns-clause-all : goal.returns-clause-all

@@ -1,6 +1,6 @@
 use Rattle.std.proofs.Common.{◌≡◌, [], ◌++◌, get_or, arith, ap, ◌∙◌}
 use Rattle.lock_model.specs.SlotRows.{lists_below, slot_rows}
-use Rattle.lock_model.proofs.SlotRows.{lists_below-start, lists_below-more}
+use Rattle.lock_model.proofs.Lemmas.SlotRows.{lists_below-start, lists_below-more}
 use Rattle.lock_model.proofs.machine.slot_rows.append_session.Goals as goal
 
 pub loop-place-init : goal.loop-place-init

@@ -1,7 +1,7 @@
 use Rattle.std.proofs.Common.{◌≡◌, ℕ, [], ◌++◌, get_or, Option, arith, ap, ◌∙◌, subst}
 use Rattle.std.specs.Prelude.{IfSome}
 use Rattle.lock_model.specs.SlotRows.{lists_below, session_rows}
-use Rattle.lock_model.proofs.SlotRows.{lists_below-start, lists_below-more}
+use Rattle.lock_model.proofs.Lemmas.SlotRows.{lists_below-start, lists_below-more}
 use Rattle.lock_model.proofs.machine.slot_rows.append_slot_holds.Goals as goal
 
 pub loop-number-init : goal.loop-number-init

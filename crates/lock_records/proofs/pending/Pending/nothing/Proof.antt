@@ -23,7 +23,7 @@ use denote.Triple.Entry.{alive}
 use denote.Triple.Spec.{Meets, triple_of}
 use denote.Triple.Table.{entered}
 use denote.Triple.Walked.{says, Stays, walk_of, ends_at, walk_Meets}
-use Rattle.lock_records.proofs.Walks.{none, none_made}
+use Rattle.lock_records.proofs.Lemmas.Walks.{none, none_made}
 use Rattle.lock_records.specs.contracts.pending.Pending as Pending
 use Rattle.lock_records.specs.contracts.pending.Pending.nothing as F
 use Rattle.lock_records.specs.contracts.pending.Pending.nothing.Key.{name as #self}

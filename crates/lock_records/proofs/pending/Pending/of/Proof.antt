@@ -25,7 +25,7 @@ use denote.Triple.Entry.{alive}
 use denote.Triple.Spec.{Meets, triple_of}
 use denote.Triple.Table.{entered}
 use denote.Triple.Walked.{says, Stays, stay_dropped, walk_of, ends_at, walk_Meets, Goes-dropped}
-use Rattle.lock_records.proofs.Walks.{none, none_made}
+use Rattle.lock_records.proofs.Lemmas.Walks.{none, none_made}
 use Rattle.lock_records.specs.contracts.pending.Pending as Pending
 use Rattle.lock_table.specs.contracts.request.Request as Request
 use Rattle.lock_records.specs.contracts.pending.Pending.of as F

@@ -4,10 +4,10 @@ use Rattle.lock_records.specs.Tally.{counts_in}
 use Rattle.lock_records.specs.Counting.{total_of, granted_of}
 use Rattle.lock_records.specs.Holders.{holds_in}
 use Rattle.lock_records.specs.Objects.{IsLock}
-use Rattle.lock_records.proofs.CountLaws.{total-same, totals, total-some}
-use Rattle.lock_records.proofs.IndexLaws.{same-lock}
-use Rattle.lock_records.proofs.ObjectLaws.{no-wait}
-use Rattle.lock_records.proofs.Parts.{nothing-held}
+use Rattle.lock_records.proofs.Lemmas.Counts.{total-same, totals, total-some}
+use Rattle.lock_records.proofs.Lemmas.Indexes.{same-lock}
+use Rattle.lock_records.proofs.Lemmas.Objects.{no-wait}
+use Rattle.lock_records.proofs.Lemmas.Parts.{nothing-held}
 use Rattle.lock_records.proofs.records.Records.counts.Goals as goal
 use Rattle.lock_records.proofs.records.Records.counts.Goals.{After-index}
 

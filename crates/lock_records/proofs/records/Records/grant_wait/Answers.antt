@@ -8,10 +8,10 @@ use Rattle.lock_records.specs.Queues.{queue_on, IsQueueAt}
 use Rattle.lock_records.specs.Holders.{holds_in}
 use Rattle.lock_records.specs.Objects.{IsHeldLock}
 use Rattle.lock_records.specs.View.{RecordView}
-use Rattle.lock_records.proofs.Changes.{objects-woken, held-awaited}
-use Rattle.lock_records.proofs.IndexLaws.{noted-relocked, same-lock}
-use Rattle.lock_records.proofs.Parts.{awaited-has, not-held-more, not-awaited-left, counts-awaited}
-use Rattle.lock_records.proofs.Queues.{awaits-there}
+use Rattle.lock_records.proofs.Lemmas.Changes.{objects-woken, held-awaited}
+use Rattle.lock_records.proofs.Lemmas.Indexes.{noted-relocked, same-lock}
+use Rattle.lock_records.proofs.Lemmas.Parts.{awaited-has, not-held-more, not-awaited-left, counts-awaited}
+use Rattle.lock_records.proofs.Lemmas.Queues.{awaits-there}
 use Rattle.lock_records.proofs.records.Records.grant_wait.Goals as goal
 use Rattle.lock_records.proofs.records.Records.grant_wait.Goals.{After-find_lock}
 

@@ -3,13 +3,13 @@ use Rattle.std.specs.Prelude.{count_by, is_some}
 use Rattle.lock_table.specs.declared.request.Request.{Request}
 use Rattle.lock_table.specs.Queue.{awaits_mode}
 use Rattle.lock_records.specs.Queues.{HasRoomInQueue, queue_on, waiting_in}
-use Rattle.lock_records.proofs.QueueWrites.{total-none}
+use Rattle.lock_records.proofs.Lemmas.QueueWrites.{total-none}
 use Rattle.lock_records.specs.declared.locks.LockRecord.{LockRecord}
 use Rattle.lock_records.specs.declared.holders.HolderRecord.{HolderRecord}
 use Rattle.lock_records.specs.Holders.{holds_in}
 use Rattle.lock_records.specs.Locks.{AreNoted}
 use Rattle.lock_records.specs.Objects.{HasRoom}
-use Rattle.lock_records.proofs.Parts.{nothing-said, objects-same, objects-none, noted-none}
+use Rattle.lock_records.proofs.Lemmas.Parts.{nothing-said, objects-same, objects-none, noted-none}
 use Rattle.lock_records.proofs.records.Records.new.Goals as goal
 
 pub invariant_of-result : goal.invariant_of-result

@@ -3,7 +3,7 @@ use Rattle.std.proofs.lemmas.Result.{on_ok_weaker}
 use Rattle.lock_records.specs.Rows.{shown_below, awaited_below}
 use Rattle.lock_records.specs.Records.{view_of}
 use Rattle.lock_records.specs.View.{RecordView}
-use Rattle.lock_records.proofs.Listings.{appends-more, shown-once, on-ok}
+use Rattle.lock_records.proofs.Lemmas.Listings.{appends-more, shown-once, on-ok}
 use Rattle.lock_records.proofs.records.Records.push_rows.Goals as goal
 
 pub returns-clause-ok : goal.returns-clause-ok

@@ -4,8 +4,8 @@ use Rattle.lock_records.specs.declared.locks.LockRecord.{LockRecord}
 use Rattle.lock_records.specs.Counting.{awaited_of}
 use Rattle.lock_records.specs.Tally.{counts_in}
 use Rattle.lock_records.specs.Queues.{queue_on}
-use Rattle.lock_records.proofs.IndexLaws.{same-lock}
-use Rattle.lock_records.proofs.ObjectLaws.{no-wait}
+use Rattle.lock_records.proofs.Lemmas.Indexes.{same-lock}
+use Rattle.lock_records.proofs.Lemmas.Objects.{no-wait}
 use Rattle.lock_records.proofs.records.Records.queue_of.Goals as goal
 
 pub queue_place-requires : goal.queue_place-requires

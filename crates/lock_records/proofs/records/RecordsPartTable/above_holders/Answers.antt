@@ -1,8 +1,8 @@
 use Rattle.std.proofs.Common.{subst}
 use Rattle.lock_records.specs.declared.locks.LockRecord.{LockRecord}
 use Rattle.lock_records.specs.Holders.{IsHolderChain}
-use Rattle.lock_records.proofs.IndexLaws.{same-lock}
-use Rattle.lock_records.proofs.Parts.{nothing-held}
+use Rattle.lock_records.proofs.Lemmas.Indexes.{same-lock}
+use Rattle.lock_records.proofs.Lemmas.Parts.{nothing-held}
 use Rattle.lock_records.proofs.records.RecordsPartTable.above_holders.Goals as goal
 
 pub above_holders-requires-clause-chain : goal.above_holders-requires-clause-chain

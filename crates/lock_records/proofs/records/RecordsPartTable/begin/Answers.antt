@@ -6,7 +6,7 @@ use Rattle.lock_table.specs.declared.request.Request.{Request}
 use Rattle.lock_records.specs.declared.wait_queues.QueueRecord.{QueueRecord}
 use Rattle.lock_table.specs.Queue.{awaits_mode}
 use Rattle.lock_records.specs.Queues.{HasRoomInQueue, queue_on, waiting_in}
-use Rattle.lock_records.proofs.ObjectLaws.{no-wait}
+use Rattle.lock_records.proofs.Lemmas.Objects.{no-wait}
 use Rattle.lock_table.specs.Content.{Wait}
 use Rattle.modes_core.specs.declared.tags.Tag.{Tag}
 use Rattle.lock_records.specs.declared.locks.LockRecord.{LockRecord}
@@ -15,7 +15,7 @@ use Rattle.lock_records.specs.Holders.{holds_in}
 use Rattle.lock_records.specs.Locks.{AreNoted, HasNoLock, IsLockAt}
 use Rattle.lock_records.specs.Objects.{HasRoom, AreObjects, IsObject}
 use Rattle.lock_records.specs.View.{RecordView, Capacity, GrowsWhereFull}
-use Rattle.lock_records.proofs.Parts.{objects-same, noted-grown, one-said}
+use Rattle.lock_records.proofs.Lemmas.Parts.{objects-same, noted-grown, one-said}
 use Rattle.lock_records.proofs.records.RecordsPartTable.begin.Goals as goal
 use Rattle.lock_records.proofs.records.RecordsPartTable.begin.Goals.{After-make_room, After-make_room_to_wait}
 

@@ -2,7 +2,7 @@ use Rattle.std.proofs.Common.{ap, ◌∙◌}
 use Rattle.std.proofs.lemmas.Bool.{both_ways}
 use Rattle.lock_records.specs.Holders.{holds_in}
 use Rattle.lock_records.specs.View.{RecordView}
-use Rattle.lock_records.proofs.Parts.{nothing-held}
+use Rattle.lock_records.proofs.Lemmas.Parts.{nothing-held}
 use Rattle.lock_records.proofs.records.RecordsPartTable.conflict_of.Goals as goal
 
 pub holder_in_the_way-requires-clause-held : goal.holder_in_the_way-requires-clause-held

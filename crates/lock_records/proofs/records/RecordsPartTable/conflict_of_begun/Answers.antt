@@ -3,8 +3,8 @@ use Rattle.std.proofs.lemmas.Bool.{both_ways}
 use Rattle.lock_records.specs.Holders.{holds_in}
 use Rattle.lock_records.specs.Objects.{IsHeldLock}
 use Rattle.lock_records.specs.View.{RecordView}
-use Rattle.lock_records.proofs.IndexLaws.{same-lock}
-use Rattle.lock_records.proofs.Parts.{nothing-held}
+use Rattle.lock_records.proofs.Lemmas.Indexes.{same-lock}
+use Rattle.lock_records.proofs.Lemmas.Parts.{nothing-held}
 use Rattle.lock_records.proofs.records.RecordsPartTable.conflict_of_begun.Goals as goal
 
 pub returns-then-self : goal.returns-then-self

@@ -5,9 +5,9 @@ use Rattle.lock_records.specs.Queues.{HasRoomInQueue, queue_on, waiting_in}
 use Rattle.lock_records.specs.Holders.{holds_in}
 use Rattle.lock_records.specs.Objects.{HasRoom}
 use Rattle.lock_records.specs.View.{RecordView}
-use Rattle.lock_records.proofs.Changes.{objects-granted}
-use Rattle.lock_records.proofs.IndexLaws.{noted-relocked}
-use Rattle.lock_records.proofs.Parts.{nothing-said, made-held}
+use Rattle.lock_records.proofs.Lemmas.Changes.{objects-granted}
+use Rattle.lock_records.proofs.Lemmas.Indexes.{noted-relocked}
+use Rattle.lock_records.proofs.Lemmas.Parts.{nothing-said, made-held}
 use Rattle.lock_records.proofs.records.RecordsPartTable.grant.Goals as goal
 
 pub add_hold-requires-clause-held : goal.add_hold-requires-clause-held

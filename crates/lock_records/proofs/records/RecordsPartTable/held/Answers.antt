@@ -3,9 +3,9 @@ use Rattle.modes_core.specs.ModeSet.{set_has}
 use Rattle.lock_records.specs.declared.holders.HolderRecord.{HolderRecord}
 use Rattle.lock_records.specs.declared.locks.LockRecord.{LockRecord}
 use Rattle.lock_records.specs.Holders.{IsHolderChain}
-use Rattle.lock_records.proofs.Held.{holds-at, holds-none, same-holder}
-use Rattle.lock_records.proofs.IndexLaws.{same-lock}
-use Rattle.lock_records.proofs.Parts.{nothing-held}
+use Rattle.lock_records.proofs.Lemmas.Held.{holds-at, holds-none, same-holder}
+use Rattle.lock_records.proofs.Lemmas.Indexes.{same-lock}
+use Rattle.lock_records.proofs.Lemmas.Parts.{nothing-held}
 use Rattle.lock_records.proofs.records.RecordsPartTable.held.Goals as goal
 
 pub returns-in_default : goal.returns-in_default

@@ -7,9 +7,9 @@ use Rattle.lock_records.specs.Holders.{holds_in}
 use Rattle.lock_records.specs.Objects.{HasRoom}
 use Rattle.lock_records.specs.Queues.{HasRoomInQueue, queue_on, waiting_in}
 use Rattle.lock_records.specs.View.{RecordView}
-use Rattle.lock_records.proofs.Changes.{objects-joined}
-use Rattle.lock_records.proofs.IndexLaws.{noted-relocked}
-use Rattle.lock_records.proofs.Parts.{nothing-said, counts-few}
+use Rattle.lock_records.proofs.Lemmas.Changes.{objects-joined}
+use Rattle.lock_records.proofs.Lemmas.Indexes.{noted-relocked}
+use Rattle.lock_records.proofs.Lemmas.Parts.{nothing-said, counts-few}
 use Rattle.lock_records.proofs.records.RecordsPartTable.join.Goals as goal
 use Rattle.lock_records.proofs.records.RecordsPartTable.join.Goals.{After-capacity-most}
 use Rattle.modes_core.specs.Sessions.{most_sessions}

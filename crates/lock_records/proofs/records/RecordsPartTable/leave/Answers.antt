@@ -3,10 +3,10 @@ use Rattle.lock_table.specs.Queue.{awaits_mode}
 use Rattle.lock_records.specs.Queues.{queue_on, IsQueueAt}
 use Rattle.lock_records.specs.Holders.{holds_in}
 use Rattle.lock_records.specs.View.{RecordView}
-use Rattle.lock_records.proofs.Changes.{objects-left}
-use Rattle.lock_records.proofs.IndexLaws.{noted-relocked}
-use Rattle.lock_records.proofs.Parts.{awaited-has, not-awaited-left, counts-awaited, unchanged-left}
-use Rattle.lock_records.proofs.Queues.{awaits-there, wait-mode}
+use Rattle.lock_records.proofs.Lemmas.Changes.{objects-left}
+use Rattle.lock_records.proofs.Lemmas.Indexes.{noted-relocked}
+use Rattle.lock_records.proofs.Lemmas.Parts.{awaited-has, not-awaited-left, counts-awaited, unchanged-left}
+use Rattle.lock_records.proofs.Lemmas.Queues.{awaits-there, wait-mode}
 use Rattle.lock_records.proofs.records.RecordsPartTable.leave.Goals as goal
 use Rattle.lock_records.proofs.records.RecordsPartTable.leave.Goals.{In_ok-mode}
 

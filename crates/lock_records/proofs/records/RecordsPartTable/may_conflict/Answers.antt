@@ -6,10 +6,10 @@ use Rattle.lock_records.specs.Objects.{IsLock}
 use Rattle.lock_records.specs.Queues.{queue_on}
 use Rattle.lock_records.specs.Holders.{holds_in}
 use Rattle.lock_records.specs.View.{RecordView}
-use Rattle.lock_records.proofs.ObjectLaws.{no-wait}
-use Rattle.lock_records.proofs.Parts.{nothing-held}
-use Rattle.lock_records.proofs.Queues.{none-awaits}
-use Rattle.lock_records.proofs.Relocked.{nobody-holds}
+use Rattle.lock_records.proofs.Lemmas.Objects.{no-wait}
+use Rattle.lock_records.proofs.Lemmas.Parts.{nothing-held}
+use Rattle.lock_records.proofs.Lemmas.Queues.{none-awaits}
+use Rattle.lock_records.proofs.Lemmas.Relocked.{nobody-holds}
 use Rattle.lock_records.proofs.records.RecordsPartTable.may_conflict.Goals as goal
 use Rattle.lock_records.proofs.records.RecordsPartTable.may_conflict.Goals.{In-Some}
 

@@ -3,7 +3,7 @@ use Rattle.std.specs.Prelude.{IsPermutation, if◌then◌else◌}
 use Rattle.std.proofs.lemmas.List.Sorted.{length_permutation, sum_by-IsPermutation}
 use Rattle.lock_table.specs.declared.rows.TableRow.{TableRow}
 use Rattle.lock_table.specs.Listing.{row_eq}
-use Rattle.lock_table.proofs.ListingLemmas.{sorted_behind, behind_old}
+use Rattle.lock_table.proofs.Lemmas.Listing.{sorted_behind, behind_old}
 use Rattle.lock_records.proofs.records.RecordsPartTable.rows.Goals as goal
 
 pub returns-in-Ok-clause-ok : goal.returns-in-Ok-clause-ok

@@ -5,12 +5,12 @@ use Rattle.lock_records.specs.declared.locks.LockRecord.{LockRecord}
 use Rattle.lock_records.specs.Counting.{awaited_of}
 use Rattle.lock_records.specs.Tally.{counts_in}
 use Rattle.lock_records.specs.Queues.{queue_on}
-use Rattle.lock_records.proofs.Queues.{some-awaits, none-awaits}
+use Rattle.lock_records.proofs.Lemmas.Queues.{some-awaits, none-awaits}
 use Rattle.lock_records.specs.Holders.{holds_in}
 use Rattle.lock_records.specs.View.{RecordView}
-use Rattle.lock_records.proofs.Changes.{objects-ungranted}
-use Rattle.lock_records.proofs.IndexLaws.{noted-relocked, same-lock}
-use Rattle.lock_records.proofs.Parts.{held-has, not-held-less}
+use Rattle.lock_records.proofs.Lemmas.Changes.{objects-ungranted}
+use Rattle.lock_records.proofs.Lemmas.Indexes.{noted-relocked, same-lock}
+use Rattle.lock_records.proofs.Lemmas.Parts.{held-has, not-held-less}
 use Rattle.lock_records.proofs.records.RecordsPartTable.ungrant.Goals as goal
 
 pub unreachable-requires : goal.unreachable-requires

@@ -1,6 +1,6 @@
 use Rattle.std.proofs.Common.{◌≡◌, length, slice_get, sym, ap, ◌∙◌, arith}
 use Rattle.lock_records.specs.Queues.{queue_on}
-use Rattle.lock_records.proofs.QueueRecords.{nobody-waits}
+use Rattle.lock_records.proofs.Lemmas.QueueRecords.{nobody-waits}
 use Rattle.lock_records.proofs.records.RecordsPartTable.waiter.Goals as goal
 
 pub returns-then-waiting-eq0-clause-wait : goal.returns-then-waiting-eq0-clause-wait

@@ -5,9 +5,9 @@ use Rattle.lock_table.specs.Content.{Wait}
 use Rattle.lock_table.specs.Queue.{awaits_mode}
 use Rattle.lock_records.specs.Queues.{queue_on, waiting_in}
 use Rattle.lock_table.specs.Waiter.{shown_wait}
-use Rattle.lock_table.proofs.WalkLemmas.{StandFor-none, StandFor-more}
+use Rattle.lock_table.proofs.Lemmas.Walk.{StandFor-none, StandFor-more}
 use Rattle.lock_records.specs.View.{RecordView, content_of}
-use Rattle.lock_records.proofs.Wakings.{WakingTo, waking-start, waking-stay, waking-go, waking-end, seam, behind-some, behind-none, free-from, not-free-from, awaits-middle}
+use Rattle.lock_records.proofs.Lemmas.Wakings.{WakingTo, waking-start, waking-stay, waking-go, waking-end, seam, behind-some, behind-none, free-from, not-free-from, awaits-middle}
 use Rattle.lock_records.proofs.records.RecordsPartTable.wake.Goals as goal
 use Rattle.lock_records.proofs.records.RecordsPartTable.wake.Goals.{In-Some, After-grant_wait}
 

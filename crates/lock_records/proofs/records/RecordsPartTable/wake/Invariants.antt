@@ -4,7 +4,7 @@ use Rattle.lock_table.specs.Content.{Wait}
 use Rattle.lock_records.specs.Queues.{queue_on, waiting_in}
 use Rattle.lock_table.specs.Walk.{StandFor}
 use Rattle.lock_records.specs.View.{content_of}
-use Rattle.lock_records.proofs.Wakings.{WakingTo}
+use Rattle.lock_records.proofs.Lemmas.Wakings.{WakingTo}
 use Rattle.lock_records.proofs.records.RecordsPartTable.wake.Given as goal
 
 abbrev pub invariant-loop-waiter : goal.invariant-loop-waiter

@@ -1,7 +1,7 @@
 use Rattle.std.proofs.Common.{◌≡◌, ◌≢◌, ◌<◌, ◌-◌, ◌∙◌, arith}
 use Rattle.modes_core.specs.Mode.{number_of}
 use Rattle.lock_records.specs.Tally.{counts_in}
-use Rattle.lock_records.proofs.Tallies.{IsTally-set, counts-set, sum-least, mask-without, mask-same}
+use Rattle.lock_records.proofs.Lemmas.Tallies.{IsTally-set, counts-set, sum-least, mask-without, mask-same}
 use Rattle.lock_records.proofs.tally.Tally.lower.Goals as goal
 
 pub invariant_of-self : goal.invariant_of-self

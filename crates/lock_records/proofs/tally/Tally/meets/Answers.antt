@@ -1,8 +1,8 @@
 use Rattle.std.proofs.Common.{◌<◌, sym, ap, ◌∙◌, arith}
 use Rattle.std.proofs.lemmas.Bool.{not-true, not-false, eqb-true, eqb-false, both_ways, false_from_ne_true}
 use Rattle.lock_records.specs.Tally.{counts_in}
-use Rattle.lock_records.proofs.ModeSets.{meet-some}
-use Rattle.lock_records.proofs.Lowest.{unmet}
+use Rattle.lock_records.proofs.Lemmas.ModeSets.{meet-some}
+use Rattle.lock_records.proofs.Lemmas.Lowest.{unmet}
 use Rattle.lock_records.proofs.tally.Tally.meets.Goals as goal
 
 pub returns-clause-some : goal.returns-clause-some

@@ -1,4 +1,4 @@
-use Rattle.lock_records.proofs.Tallies.{IsTally-new, none-there}
+use Rattle.lock_records.proofs.Lemmas.Tallies.{IsTally-new, none-there}
 use Rattle.modes_core.specs.Mode.{number_of}
 use Rattle.lock_records.proofs.tally.Tally.new.Goals as goal
 

@@ -1,7 +1,7 @@
 use Rattle.std.proofs.Common.{◌≡◌, ◌<◌, ◌≤◌, ◌+◌, ◌*◌, sum, ◌∙◌, arith}
 use Rattle.modes_core.specs.Mode.{number_of}
 use Rattle.lock_records.specs.Tally.{counts_in, most_tallied}
-use Rattle.lock_records.proofs.Tallies.{IsTally-set, counts-set, sum-small, mask-with}
+use Rattle.lock_records.proofs.Lemmas.Tallies.{IsTally-set, counts-set, sum-small, mask-with}
 use Rattle.lock_records.proofs.tally.Tally.raise.Goals as goal
 
 pub overflow_add-self-2 : goal.overflow_add-self-2

@@ -1,7 +1,7 @@
 use Rattle.std.proofs.Common.{◌≤◌, ◌*◌, sum, ap, ◌∙◌, arith, List, ℕ}
 use Rattle.lock_records.specs.Tally.{counts_in, most_tallied}
 use Rattle.lock_records.specs.Counting.{total_of}
-use Rattle.lock_records.proofs.Tallies.{sum-small, sum-modes}
+use Rattle.lock_records.proofs.Lemmas.Tallies.{sum-small, sum-modes}
 use Rattle.lock_records.proofs.tally.Tally.total.Goals as goal
 
 pub returns-clause-value : goal.returns-clause-value

@@ -2,7 +2,7 @@ use Rattle.std.proofs.Common.{List, ap, ◌∙◌}
 use Rattle.std.specs.Prelude.{option_map}
 use Rattle.lock_table.specs.Content.{Wait}
 use Rattle.lock_table.specs.Queue.{wait_in}
-use Rattle.lock_records.proofs.QueueRecords.{shown-mode}
+use Rattle.lock_records.proofs.Lemmas.QueueRecords.{shown-mode}
 use Rattle.lock_records.proofs.wait_queues.WaitQueues.awaited_mode.Goals as goal
 
 pub returns : goal.returns

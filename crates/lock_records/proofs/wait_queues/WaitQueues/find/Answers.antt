@@ -2,7 +2,7 @@ use Rattle.std.proofs.Common.{◌≡◌, ℕ, ◌≤◌, false, None, length, in
 use Rattle.std.proofs.lemmas.Bool.{cases_lt}
 use Rattle.std.proofs.lemmas.List.{get_or_past}
 use Rattle.lock_records.specs.Queues.{QueuesView, queue_at, is_queue_of}
-use Rattle.lock_records.proofs.QueueWrites.{queue-absent, is_queue-at}
+use Rattle.lock_records.proofs.Lemmas.QueueWrites.{queue-absent, is_queue-at}
 use Rattle.lock_records.proofs.wait_queues.WaitQueues.find.Goals as goal
 
 pub returns-clause-absent : goal.returns-clause-absent

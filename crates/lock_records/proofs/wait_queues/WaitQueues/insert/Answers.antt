@@ -5,8 +5,8 @@ use Rattle.lock_table.specs.Queue.{joined}
 use Rattle.lock_table.specs.Waiter.{shown_wait}
 use Rattle.lock_records.specs.declared.wait_queues.QueueRecord.{QueueRecord}
 use Rattle.lock_records.specs.Queues.{QueuesView, queue_on, waiting_in, IsQueueAt, HasRoomInQueue}
-use Rattle.lock_records.proofs.QueueRecords.{requeued-are, requeued-queue, requeued-total, shown-joined}
-use Rattle.lock_records.proofs.QueueWrites.{queue-record, queue-is, somebody-there, set-here, set-else}
+use Rattle.lock_records.proofs.Lemmas.QueueRecords.{requeued-are, requeued-queue, requeued-total, shown-joined}
+use Rattle.lock_records.proofs.Lemmas.QueueWrites.{queue-record, queue-is, somebody-there, set-here, set-else}
 use Rattle.lock_records.proofs.wait_queues.WaitQueues.insert.Goals as goal
 use Rattle.lock_records.proofs.wait_queues.WaitQueues.insert.Goals.{After-index_mut, In-Ok}
 

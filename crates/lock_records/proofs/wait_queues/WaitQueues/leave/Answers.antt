@@ -12,8 +12,8 @@ use Rattle.lock_table.specs.Waiter.{shown_wait}
 use Rattle.lock_table.specs.declared.waits.Waiter.{Waiter}
 use Rattle.lock_records.specs.declared.wait_queues.QueueRecord.{QueueRecord}
 use Rattle.lock_records.specs.Queues.{QueuesView, queue_at, queue_on, waiting_in, IsQueueAt, AreQueues}
-use Rattle.lock_records.proofs.QueueRecords.{requeued-are, requeued-queue, counted-at, requeued-room, dropped-room, dropped-are, dropped-queue, dropped-total, left-shown, shown-any}
-use Rattle.lock_records.proofs.QueueWrites.{queue-record, queue-is, total-written, count-set, set-here, set-else}
+use Rattle.lock_records.proofs.Lemmas.QueueRecords.{requeued-are, requeued-queue, counted-at, requeued-room, dropped-room, dropped-are, dropped-queue, dropped-total, left-shown, shown-any}
+use Rattle.lock_records.proofs.Lemmas.QueueWrites.{queue-record, queue-is, total-written, count-set, set-here, set-else}
 use Rattle.lock_records.proofs.wait_queues.WaitQueues.leave.Goals as goal
 use Rattle.lock_records.proofs.wait_queues.WaitQueues.leave.Goals.{After-index, After-remove}
 

@@ -1,7 +1,7 @@
 use Rattle.std.proofs.Common.{◌≡◌, List, Option, sym, subst}
 use Rattle.lock_records.specs.declared.wait_queues.QueueRecord.{QueueRecord}
 use Rattle.lock_records.specs.Queues.{AreQueues, waiting_in}
-use Rattle.lock_records.proofs.QueueWrites.{queues-none, total-none}
+use Rattle.lock_records.proofs.Lemmas.QueueWrites.{queues-none, total-none}
 use Rattle.lock_records.proofs.wait_queues.WaitQueues.new.Goals as goal
 
 pub invariant_of-result : goal.invariant_of-result

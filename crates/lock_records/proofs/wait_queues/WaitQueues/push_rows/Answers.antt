@@ -2,7 +2,7 @@ use Rattle.std.proofs.Common.{◌+◌, not, length, Vec, Global, sym, ap, ◌∙
 use Rattle.lock_table.specs.declared.rows.TableRow.{TableRow}
 use Rattle.lock_records.specs.Queues.{QueuesView, queue_at}
 use Rattle.lock_records.specs.Rows.{awaited_in, awaited_at, awaited_below}
-use Rattle.lock_records.proofs.Listings.{waits-start, waits-next, waits-none, waits-all, appends-none, appends-like, appends-more, on-ok}
+use Rattle.lock_records.proofs.Lemmas.Listings.{waits-start, waits-next, waits-none, waits-all, appends-none, appends-like, appends-more, on-ok}
 use Rattle.lock_records.proofs.wait_queues.WaitQueues.push_rows.Goals as goal
 use Rattle.lock_records.proofs.wait_queues.WaitQueues.push_rows.Goals.{in-Some+else-is_err, in_default}
 

@@ -2,8 +2,8 @@ use Rattle.std.proofs.Common.{refl, ◌≡◌, ◌≢◌, ◌<◌, [], List, Opt
 use Rattle.std.proofs.Math.ListN.{set}
 use Rattle.lock_records.specs.declared.wait_queues.QueueRecord.{QueueRecord}
 use Rattle.lock_records.specs.Queues.{QueuesView, HasSameQueues, queue_at, waiting_in, IsQueueAt}
-use Rattle.lock_records.proofs.QueueRecords.{requeued-are, requeued-has-room, requeued-total}
-use Rattle.lock_records.proofs.QueueWrites.{queue-record, waits-same, count-set, set-here, set-else}
+use Rattle.lock_records.proofs.Lemmas.QueueRecords.{requeued-are, requeued-has-room, requeued-total}
+use Rattle.lock_records.proofs.Lemmas.QueueWrites.{queue-record, waits-same, count-set, set-here, set-else}
 use Rattle.lock_records.proofs.wait_queues.WaitQueues.reserve_in.Goals as goal
 use Rattle.lock_records.proofs.wait_queues.WaitQueues.reserve_in.Goals.{After-reserve}
 

@@ -3,7 +3,7 @@ use Rattle.std.proofs.Common.{◌≡◌, ◌≢◌, ◌<◌, vec_len, vec_capaci
 use Rattle.lock_table.specs.Waiter.{shown_wait}
 use Rattle.lock_table.specs.declared.waits.Waiter.{Waiter}
 use Rattle.lock_records.specs.Queues.{QueuesView, queue_on, waiting_in}
-use Rattle.lock_records.proofs.QueueRecords.{started-are, started-queue, started-total}
+use Rattle.lock_records.proofs.Lemmas.QueueRecords.{started-are, started-queue, started-total}
 use Rattle.lock_records.proofs.wait_queues.WaitQueues.start.Goals as goal
 use Rattle.lock_records.proofs.wait_queues.WaitQueues.start.Goals.{After-insert_reserved}
 

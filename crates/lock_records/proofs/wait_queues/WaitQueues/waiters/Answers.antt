@@ -2,7 +2,7 @@ use Rattle.std.proofs.Common.{map, sym, ap, ◌∙◌, subst}
 use Rattle.lock_table.specs.Waiter.{shown_wait}
 use Rattle.lock_records.specs.declared.wait_queues.QueueRecord.{QueueRecord}
 use Rattle.lock_records.specs.Queues.{QueuesView, IsQueueAt}
-use Rattle.lock_records.proofs.QueueWrites.{queue-is, queue-record}
+use Rattle.lock_records.proofs.Lemmas.QueueWrites.{queue-is, queue-record}
 use Rattle.lock_records.proofs.wait_queues.WaitQueues.waiters.Goals as goal
 
 pub returns : goal.returns

@@ -1,6 +1,6 @@
 use Rattle.std.proofs.Common.{arith, ap}
 use Rattle.lock_script.specs.Bytes.{ByteView}
-use Rattle.lock_script.proofs.Known.{Consumes-next, Consumes-filled}
+use Rattle.lock_script.proofs.Lemmas.Known.{Consumes-next, Consumes-filled}
 use Rattle.lock_script.proofs.bytes.ByteSource.next_byte.Goals as goal
 use Rattle.lock_script.proofs.bytes.ByteSource.next_byte.Goals.{then-self+in_ok-read+else-read-eq0, else-self}
 

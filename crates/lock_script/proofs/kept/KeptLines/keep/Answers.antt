@@ -1,5 +1,5 @@
 use Rattle.std.proofs.Common.{◌≡◌, get_or, rules}
-use Rattle.lock_script.proofs.KeptLemmas.{kept-if, refused-if}
+use Rattle.lock_script.proofs.Lemmas.Kept.{kept-if, refused-if}
 use Rattle.lock_script.proofs.kept.KeptLines.keep.Goals as goal
 
 pub returns-in-Some : goal.returns-in-Some

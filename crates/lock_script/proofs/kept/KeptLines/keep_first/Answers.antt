@@ -1,5 +1,5 @@
 use Rattle.std.proofs.Common.{◌≡◌, ◌++◌, ◌∷◌, [], rules}
-use Rattle.lock_script.proofs.KeptLemmas.{first-order}
+use Rattle.lock_script.proofs.Lemmas.Kept.{first-order}
 use Rattle.lock_script.proofs.kept.KeptLines.keep_first.Goals as goal
 
 pub returns-clause-kept : goal.returns-clause-kept

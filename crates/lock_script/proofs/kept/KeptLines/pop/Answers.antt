@@ -1,5 +1,5 @@
 use Rattle.std.proofs.Common.{◌≡◌, get_or, rules}
-use Rattle.lock_script.proofs.KeptLemmas.{taken-if, none-if}
+use Rattle.lock_script.proofs.Lemmas.Kept.{taken-if, none-if}
 use Rattle.lock_script.proofs.kept.KeptLines.pop.Goals as goal
 
 pub returns-in-Some : goal.returns-in-Some

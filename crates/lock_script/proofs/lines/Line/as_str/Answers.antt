@@ -1,6 +1,6 @@
 use Rattle.std.proofs.lemmas.Str.{IsUtf8-from_ascii}
 use Rattle.std.specs.Str.{IsUtf8}
-use Rattle.lock_script.proofs.TextBytes.{text-below}
+use Rattle.lock_script.proofs.Lemmas.TextBytes.{text-below}
 use Rattle.lock_script.proofs.lines.Line.as_str.Goals as goal
 
 pub unreachable-requires : goal.unreachable-requires

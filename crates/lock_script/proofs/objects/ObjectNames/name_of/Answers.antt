@@ -1,4 +1,4 @@
-use Rattle.lock_script.proofs.ObjectLemmas.{if-given}
+use Rattle.lock_script.proofs.Lemmas.Objects.{if-given}
 use Rattle.lock_script.proofs.objects.ObjectNames.name_of.Goals as goal
 
 pub returns-clause-reads_back : goal.returns-clause-reads_back

@@ -1,7 +1,7 @@
 use Rattle.std.proofs.Common.{◌≡◌, ◌++◌, [], ◌∷◌, rules}
 use Rattle.lock_script.specs.Objects.{AreApart}
 use Rattle.lock_script.specs.declared.objects.NamedObject.{NamedObject}
-use Rattle.lock_script.proofs.ObjectLemmas.{apart-push}
+use Rattle.lock_script.proofs.Lemmas.Objects.{apart-push}
 use Rattle.lock_script.proofs.objects.ObjectNames.push.Goals as goal
 
 pub invariant_of-self-2 : goal.invariant_of-self-2

@@ -1,8 +1,8 @@
 use Rattle.std.proofs.Common.{◌<◌, ◌∙◌, length, arith, sym}
 use Rattle.lock_script.specs.declared.sessions.Named.{Named}
 use Rattle.lock_script.specs.Names.{NotAfter}
-use Rattle.lock_script.proofs.NameLemmas.{each-more, after-place}
-use Rattle.lock_script.proofs.NameOrder.{earlier-NotAfter, later-NotAfter}
+use Rattle.lock_script.proofs.Lemmas.Names.{each-more, after-place}
+use Rattle.lock_script.proofs.Lemmas.NameOrder.{earlier-NotAfter, later-NotAfter}
 use Rattle.lock_script.proofs.sessions.ByName.place_of.Goals as goal
 
 pub returns-then-lt-clause-after : goal.returns-then-lt-clause-after

@@ -2,7 +2,7 @@ use Rattle.std.proofs.Common.{◌≡◌, ◌<◌, ◌∙◌, refl, ap, sym, subs
 use Rattle.std.proofs.lemmas.List.{get_or_default}
 use Rattle.lock_script.specs.declared.sessions.Named.{Named}
 use Rattle.lock_script.specs.Lending.{with_session}
-use Rattle.lock_script.proofs.Lending.{set-session}
+use Rattle.lock_script.proofs.Lemmas.Lending.{set-session}
 use Rattle.lock_script.proofs.sessions.ByName.session_mut.Goals as goal
 
 pub returns : goal.returns

@@ -1,6 +1,6 @@
 use Rattle.std.proofs.Common.{sym, ◌∙◌}
 use Rattle.modes_core.specs.ModeSet.{set_has}
-use Rattle.lock_table.proofs.PlaceLemmas.{place-last, place-deadlock, place-behind_waiters, place-beside_holders, place-granted}
+use Rattle.lock_table.proofs.Lemmas.Places.{place-last, place-deadlock, place-behind_waiters, place-beside_holders, place-granted}
 use Rattle.lock_table.proofs.answering.place.answer_by_place.Goals as goal
 
 pub returns-in_default : goal.returns-in_default

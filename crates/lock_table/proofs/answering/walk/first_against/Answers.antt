@@ -2,7 +2,7 @@ use Rattle.std.proofs.Common.{Bool, ◌||◌, ap, ◌∙◌}
 use Rattle.modes_core.specs.declared.modes.Mode.{Mode}
 use Rattle.modes_core.specs.Mode.{mode_eq}
 use Rattle.modes_core.specs.ModeSet.{set_has}
-use Rattle.lock_table.proofs.WalkLemmas.{first-met}
+use Rattle.lock_table.proofs.Lemmas.Walk.{first-met}
 use Rattle.lock_table.proofs.answering.walk.first_against.Goals as goal
 
 pub returns : goal.returns

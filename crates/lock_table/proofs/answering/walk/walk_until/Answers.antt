@@ -3,8 +3,8 @@ use Rattle.std.proofs.lemmas.Option.{slice_get_within}
 use Rattle.modes_core.specs.ModeSet.{set_has}
 use Rattle.lock_table.specs.Waiter.{shown_wait}
 use Rattle.lock_table.specs.Queue.{conflicts_with_some}
-use Rattle.lock_table.proofs.FindLemmas.{take-at, none-at}
-use Rattle.lock_table.proofs.WalkLemmas.{StandFor-none, StandFor-more}
+use Rattle.lock_table.proofs.Lemmas.Find.{take-at, none-at}
+use Rattle.lock_table.proofs.Lemmas.Walk.{StandFor-none, StandFor-more}
 use Rattle.lock_table.proofs.answering.walk.walk_until.Goals as goal
 
 pub loop-waiter-init : goal.loop-waiter-init

@@ -1,7 +1,7 @@
 use Rattle.std.proofs.Common.{◌≡◌, ap, arith}
 use Rattle.lock_table.specs.PartWaits.{times_in}
-use Rattle.lock_table.proofs.Options.{ForSome-some}
-use Rattle.lock_table.proofs.WaitLists.{times_in-none}
+use Rattle.lock_table.proofs.Lemmas.Options.{ForSome-some}
+use Rattle.lock_table.proofs.Lemmas.WaitLists.{times_in-none}
 use Rattle.lock_table.proofs.part_lists.PartListsPartTable.begin.Goals as goal
 
 pub invariant_of-self : goal.invariant_of-self

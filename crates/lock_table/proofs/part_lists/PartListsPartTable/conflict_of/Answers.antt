@@ -4,8 +4,8 @@ use Rattle.lock_table.specs.declared.request.Request.{Request}
 use Rattle.lock_table.specs.Request.{is_in_the_way_of}
 use Rattle.lock_table.specs.PartView.{holds_in}
 use Rattle.lock_table.specs.Clash.{HolderInTheWay}
-use Rattle.lock_table.proofs.HoldLists.{take_one_more}
-use Rattle.lock_table.proofs.Holders.{HolderInTheWay-skip, HolderInTheWay-take}
+use Rattle.lock_table.proofs.Lemmas.HoldLists.{take_one_more}
+use Rattle.lock_table.proofs.Lemmas.Holders.{HolderInTheWay-skip, HolderInTheWay-take}
 use Rattle.lock_table.proofs.part_lists.PartListsPartTable.conflict_of.Goals as goal
 use Rattle.lock_table.proofs.part_lists.PartListsPartTable.conflict_of.Goals.{then-is_in_the_way, else-is_in_the_way}
 

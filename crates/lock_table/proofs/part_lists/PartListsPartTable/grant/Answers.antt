@@ -1,9 +1,9 @@
 use Rattle.std.proofs.Common.{◌≡◌, ◌<◌, ◌+◌, ap, ◌∙◌, vec_len, vec_capacity, arith}
 use Rattle.lock_table.specs.declared.request.Request.{Request}
 use Rattle.lock_table.specs.PartWaits.{times_in, queues_in}
-use Rattle.lock_table.proofs.HoldLists.{add_hold-push}
-use Rattle.lock_table.proofs.WaitLists.{one_more_once, times_in-hold}
-use Rattle.lock_table.proofs.Options.{ForSome-none}
+use Rattle.lock_table.proofs.Lemmas.HoldLists.{add_hold-push}
+use Rattle.lock_table.proofs.Lemmas.WaitLists.{one_more_once, times_in-hold}
+use Rattle.lock_table.proofs.Lemmas.Options.{ForSome-none}
 use Rattle.lock_table.proofs.part_lists.PartListsPartTable.grant.Goals as goal
 
 pub invariant_of-self : goal.invariant_of-self

@@ -1,5 +1,5 @@
 use Rattle.std.proofs.Common.{◌∙◌, sym, take}
-use Rattle.lock_table.proofs.HoldLists.{take_one_more, held-take, held-skip}
+use Rattle.lock_table.proofs.Lemmas.HoldLists.{take_one_more, held-take, held-skip}
 use Rattle.lock_table.proofs.part_lists.PartListsPartTable.held.Goals as goal
 use Rattle.lock_table.proofs.part_lists.PartListsPartTable.held.Goals.{then-is_on, else-is_on}
 

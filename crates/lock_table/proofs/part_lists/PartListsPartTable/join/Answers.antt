@@ -6,8 +6,8 @@ use Rattle.modes_core.specs.declared.modes.Mode.{Mode}
 use Rattle.modes_core.specs.ModeSet.{set_has}
 use Rattle.modes_core.specs.Tag.{tag_eq}
 use Rattle.lock_table.specs.PartWaits.{queues_in, times_in}
-use Rattle.lock_table.proofs.WaitLists.{times_in-join, OneWaitEach-insert, waits-inserted}
-use Rattle.lock_table.proofs.Options.{ForSome-none}
+use Rattle.lock_table.proofs.Lemmas.WaitLists.{times_in-join, OneWaitEach-insert, waits-inserted}
+use Rattle.lock_table.proofs.Lemmas.Options.{ForSome-none}
 use Rattle.lock_table.proofs.part_lists.PartListsPartTable.join.Goals as goal
 
 pub invariant_of-self : goal.invariant_of-self

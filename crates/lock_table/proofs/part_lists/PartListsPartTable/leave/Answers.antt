@@ -3,8 +3,8 @@ use Rattle.lock_table.specs.Request.{is_request_on}
 use Rattle.lock_table.specs.declared.part_waits.PartWait.{PartWait}
 use Rattle.lock_table.specs.PartView.{holds_in}
 use Rattle.lock_table.specs.PartWaits.{request_of}
-use Rattle.lock_table.proofs.HoldLists.{count_by-filter}
-use Rattle.lock_table.proofs.WaitLists.{times_in-fewer_waits, awaited-mode, waits-left}
+use Rattle.lock_table.proofs.Lemmas.HoldLists.{count_by-filter}
+use Rattle.lock_table.proofs.Lemmas.WaitLists.{times_in-fewer_waits, awaited-mode, waits-left}
 use Rattle.lock_table.proofs.part_lists.PartListsPartTable.leave.Goals as goal
 
 pub invariant_of-self : goal.invariant_of-self

@@ -6,7 +6,7 @@ use Rattle.lock_table.specs.declared.part_waits.PartWait.{PartWait}
 use Rattle.lock_table.specs.declared.rows.TableRow.{TableRow}
 use Rattle.lock_table.specs.PartView.{PartView, row_of}
 use Rattle.lock_table.specs.PartWaits.{EachOnce, awaited_row_of}
-use Rattle.lock_table.proofs.ListingLemmas.{IsListing-lists, sorted_behind, behind_old}
+use Rattle.lock_table.proofs.Lemmas.Listing.{IsListing-lists, sorted_behind, behind_old}
 use Rattle.lock_table.proofs.part_lists.PartListsPartTable.rows.Goals as goal
 
 pub returns-clause-ok : goal.returns-clause-ok

@@ -9,8 +9,8 @@ use Rattle.lock_table.specs.Request.{is_request_of}
 use Rattle.lock_table.specs.declared.request.Request.{Request}
 use Rattle.lock_table.specs.PartView.{PartView, holds_in}
 use Rattle.lock_table.specs.PartWaits.{queues_in, awaits_one_of}
-use Rattle.lock_table.proofs.HoldLists.{remove_hold-taken_out}
-use Rattle.lock_table.proofs.WaitLists.{times_in-taken_out, awaited-against}
+use Rattle.lock_table.proofs.Lemmas.HoldLists.{remove_hold-taken_out}
+use Rattle.lock_table.proofs.Lemmas.WaitLists.{times_in-taken_out, awaited-against}
 use Rattle.lock_table.proofs.part_lists.PartListsPartTable.ungrant.Goals as goal
 
 pub index_of_hold-index-requires : goal.index_of_hold-index-requires

@@ -2,8 +2,8 @@ use Rattle.std.proofs.Common.{◌∙◌, sym, ap, is_some}
 use Rattle.lock_table.specs.declared.part_waits.PartWait.{PartWait}
 use Rattle.lock_table.specs.Request.{is_request_on}
 use Rattle.lock_table.specs.PartWaits.{request_of}
-use Rattle.lock_table.proofs.FindLemmas.{is_some-find, is_some-option_map}
-use Rattle.lock_table.proofs.WaitLists.{there-in}
+use Rattle.lock_table.proofs.Lemmas.Find.{is_some-find, is_some-option_map}
+use Rattle.lock_table.proofs.Lemmas.WaitLists.{there-in}
 use Rattle.lock_table.proofs.plain_part.PlainPart.has_wait_of.Goals as goal
 
 pub returns : goal.returns

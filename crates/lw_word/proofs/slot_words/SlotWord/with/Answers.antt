@@ -1,6 +1,6 @@
 use Rattle.std.proofs.Common.{◌≡◌, bit_or, ap, ◌∙◌}
 use Rattle.lw_word.specs.SlotWord.{shows, slot_word, word_with}
-use Rattle.lw_word.proofs.SlotLemmas.{shows-word_with}
+use Rattle.lw_word.proofs.Lemmas.Slots.{shows-word_with}
 use Rattle.lw_word.proofs.slot_words.SlotWord.with.Goals as goal
 
 pub returns-clause-shown : goal.returns-clause-shown

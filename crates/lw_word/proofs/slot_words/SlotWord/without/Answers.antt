@@ -1,6 +1,6 @@
 use Rattle.std.proofs.Common.{◌≡◌, ◌-◌, bit_and, sym, ap, ◌∙◌}
 use Rattle.lw_word.specs.SlotWord.{shows, slot_word, word_without, bits_without}
-use Rattle.lw_word.proofs.SlotLemmas.{shows-word_without, word_without-last, word_without-more}
+use Rattle.lw_word.proofs.Lemmas.Slots.{shows-word_without, word_without-last, word_without-more}
 use Rattle.lw_word.proofs.slot_words.SlotWord.without.Goals as goal
 
 pub returns-then-modes-eq0-clause-shown : goal.returns-then-modes-eq0-clause-shown

@@ -2,7 +2,7 @@ use Rattle.std.proofs.Common.{◌<◌, ◌≡◌, false, ap, ◌∙◌, subst, s
 use Rattle.std.specs.Vec.{vec_len}
 use Rattle.lw_word.specs.declared.wait_lists.LwWaiter.{LwWaiter}
 use Rattle.lw_word.specs.WaitList.{Waiting, stands_in}
-use Rattle.lw_word.proofs.WaitLemmas.{EachStandsOnce-join, room_to_join}
+use Rattle.lw_word.proofs.Lemmas.Waits.{EachStandsOnce-join, room_to_join}
 use Rattle.lw_word.proofs.wait_lists.WaitList.join.Goals as goal
 
 pub push_reserved-requires : goal.push_reserved-requires

@@ -2,7 +2,7 @@ use Rattle.std.proofs.Common.{rules, not, Bool, ◌≡◌, ap, ◌∙◌, arith}
 use Rattle.std.proofs.lemmas.Fn.{filter_same}
 use Rattle.lw_word.specs.declared.wait_lists.LwWaiter.{LwWaiter}
 use Rattle.lw_word.specs.WaitList.{Waiting, is_of, without}
-use Rattle.lw_word.proofs.WaitLemmas.{EachStandsOnce-filter}
+use Rattle.lw_word.proofs.Lemmas.Waits.{EachStandsOnce-filter}
 use Rattle.lw_word.proofs.wait_lists.WaitList.leave.Goals as goal
 
 pub invariant_of-self : goal.invariant_of-self

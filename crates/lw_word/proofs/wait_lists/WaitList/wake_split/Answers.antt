@@ -1,6 +1,6 @@
 use Rattle.std.proofs.Common.{arith}
 use Rattle.lw_word.specs.declared.wait_lists.TheConstants.{MOST_TAKEN_OFF}
-use Rattle.lw_word.proofs.WaitLemmas.{EachStandsOnce-without, EachStandsOnce-rest}
+use Rattle.lw_word.proofs.Lemmas.Waits.{EachStandsOnce-without, EachStandsOnce-rest}
 use Rattle.lw_word.proofs.wait_lists.WaitList.wake_split.Goals as goal
 
 pub invariant_of-self : goal.invariant_of-self

@@ -1,4 +1,4 @@
-use Rattle.lw_word.proofs.Bits.{bit_test}
+use Rattle.lw_word.proofs.Lemmas.Bits.{bit_test}
 use Rattle.lw_word.proofs.words.LwWord.has_waiters.Goals as goal
 
 pub returns : goal.returns

@@ -3,8 +3,8 @@ use Rattle.std.proofs.lemmas.Bool.{false≢true}
 use Rattle.lw_word.specs.LightweightWord.{list_locked_word}
 use Rattle.lw_word.specs.LockState.{LockState}
 use Rattle.lw_word.specs.Packing.{word_of-state_of}
-use Rattle.lw_word.proofs.FlagLemmas.{IsLightweightWord-list_locked}
-use Rattle.lw_word.proofs.StateLemmas.{state_of-list_locked, list_free, number_is}
+use Rattle.lw_word.proofs.Lemmas.Flags.{IsLightweightWord-list_locked}
+use Rattle.lw_word.proofs.Lemmas.States.{state_of-list_locked, list_free, number_is}
 use Rattle.lw_word.proofs.words.LwWord.lock_list.Goals as goal
 
 pub invariant_of-result : goal.invariant_of-result

@@ -1,7 +1,7 @@
 use Rattle.std.proofs.Common.{◌+◌, ◌-◌, ◌≡◌, arith, sym, subst, ap, ◌∙◌}
 use Rattle.lw_word.specs.LockState.{state_of, amount_of, IsHeldIn}
 use Rattle.lw_word.specs.Packing.{word_of-state_of}
-use Rattle.lw_word.proofs.StateLemmas.{state_of-put, IsLightweightWord-put, held-amount, number_is}
+use Rattle.lw_word.proofs.Lemmas.States.{state_of-put, IsLightweightWord-put, held-amount, number_is}
 use Rattle.lw_word.proofs.words.LwWord.release.Goals as goal
 
 pub invariant_of-result : goal.invariant_of-result

@@ -1,8 +1,8 @@
 use Rattle.std.proofs.Common.{sym, ap, ◌∙◌}
 use Rattle.lw_word.specs.LightweightWord.{has_waiters_word}
 use Rattle.lw_word.specs.Packing.{word_of-state_of}
-use Rattle.lw_word.proofs.FlagLemmas.{IsLightweightWord-has_waiters}
-use Rattle.lw_word.proofs.StateLemmas.{state_of-has_waiters, number_is}
+use Rattle.lw_word.proofs.Lemmas.Flags.{IsLightweightWord-has_waiters}
+use Rattle.lw_word.proofs.Lemmas.States.{state_of-has_waiters, number_is}
 use Rattle.lw_word.proofs.words.LwWord.set_has_waiters.Goals as goal
 
 pub invariant_of-result : goal.invariant_of-result

@@ -1,8 +1,8 @@
 use Rattle.std.proofs.Common.{sym, ap, ◌∙◌}
 use Rattle.lw_word.specs.LightweightWord.{release_ok_word}
 use Rattle.lw_word.specs.Packing.{word_of-state_of}
-use Rattle.lw_word.proofs.FlagLemmas.{IsLightweightWord-release_ok}
-use Rattle.lw_word.proofs.StateLemmas.{state_of-release_ok, number_is}
+use Rattle.lw_word.proofs.Lemmas.Flags.{IsLightweightWord-release_ok}
+use Rattle.lw_word.proofs.Lemmas.States.{state_of-release_ok, number_is}
 use Rattle.lw_word.proofs.words.LwWord.set_release_ok.Goals as goal
 
 pub invariant_of-result : goal.invariant_of-result

@@ -1,8 +1,8 @@
 use Rattle.std.proofs.Common.{bit_or, sym, ap, ◌∙◌}
 use Rattle.lw_word.specs.LightweightWord.{list_unlocked_word, flag_bits}
 use Rattle.lw_word.specs.Packing.{word_of-state_of}
-use Rattle.lw_word.proofs.FlagLemmas.{IsLightweightWord-unlocked}
-use Rattle.lw_word.proofs.StateLemmas.{state_of-unlocked, number_is}
+use Rattle.lw_word.proofs.Lemmas.Flags.{IsLightweightWord-unlocked}
+use Rattle.lw_word.proofs.Lemmas.States.{state_of-unlocked, number_is}
 use Rattle.lw_word.proofs.words.LwWord.unlock_list.Goals as goal
 
 pub invariant_of-result : goal.invariant_of-result

@@ -1,5 +1,5 @@
 use Rattle.std.proofs.Common.{arith}
-use Rattle.modes_core.proofs.Masks.{bit_test, number_of-within}
+use Rattle.modes_core.proofs.Lemmas.Masks.{bit_test, number_of-within}
 use Rattle.modes_core.proofs.mode_sets.ModeSet.has.Goals as goal
 
 pub returns : goal.returns

@@ -1,7 +1,7 @@
 use Rattle.std.proofs.Common.{Option, Some, None}
 use Rattle.std.specs.Option.{IfNone}
 use Rattle.std.proofs.lemmas.Option.{IfSome_then}
-use Rattle.modes_core.proofs.Masks.{lowest_in, lowest_below, lowest_none}
+use Rattle.modes_core.proofs.Lemmas.Masks.{lowest_in, lowest_below, lowest_none}
 use Rattle.modes_core.proofs.mode_sets.ModeSet.lowest_in_both.Goals as goal
 
 none_then : {X P Q : Type 0} (o : Option X) → IfNone o P → (P → Q) → IfNone o Q

@@ -1,4 +1,4 @@
-use Rattle.modes_core.proofs.Masks.{masks_meet}
+use Rattle.modes_core.proofs.Lemmas.Masks.{masks_meet}
 use Rattle.modes_core.proofs.mode_sets.ModeSet.meets.Goals as goal
 
 pub returns : goal.returns

@@ -1,6 +1,6 @@
 use Rattle.std.proofs.Common.{arith}
 use Rattle.modes_core.specs.Mode.{number_of}
-use Rattle.modes_core.proofs.Masks.{bit_set, number_of-within, IsModeMask-with}
+use Rattle.modes_core.proofs.Lemmas.Masks.{bit_set, number_of-within, IsModeMask-with}
 use Rattle.modes_core.proofs.mode_sets.ModeSet.with.Goals as goal
 
 pub invariant_of-result : goal.invariant_of-result

@@ -1,8 +1,8 @@
 use Rattle.std.proofs.Common.{sym, ap, ◌∙◌}
 use Rattle.std.proofs.lemmas.Bool.{false_from_ne_true}
 use Rattle.modes_core.specs.Tag.{own_number_of, tag_eq}
-use Rattle.modes_core.proofs.Laws.{tag_eq-same}
-use Rattle.modes_core.proofs.Equality.{tag_equals}
+use Rattle.modes_core.proofs.Lemmas.Conflicts.{tag_eq-same}
+use Rattle.modes_core.proofs.Lemmas.Equality.{tag_equals}
 use Rattle.modes_core.proofs.tags.Tag.is_same.Goals as goal
 
 -- Tags with other numbers of their own are not the same.

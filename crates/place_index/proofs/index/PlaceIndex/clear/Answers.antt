@@ -4,7 +4,7 @@ use Rattle.std.proofs.lemmas.List.Sums.{count_by-le-length}
 use Rattle.place_index.specs.declared.links.Link.{Link}
 use Rattle.place_index.specs.Notes.{Notes}
 use Rattle.place_index.specs.Chains.{notes_in, is_noted, note_at, is_under}
-use Rattle.place_index.proofs.NoteLaws.{one_if, times-notes_in, length-notes_in, note-replicate}
+use Rattle.place_index.proofs.Lemmas.Notes.{one_if, times-notes_in, length-notes_in, note-replicate}
 use Rattle.place_index.proofs.index.PlaceIndex.clear.Goals as goal
 
 pub returns-clause-empty : goal.returns-clause-empty

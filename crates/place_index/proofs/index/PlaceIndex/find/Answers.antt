@@ -1,8 +1,8 @@
 use Rattle.std.proofs.Common.{ℕ, ◌<◌, sym, ap, subst, ◌∙◌}
 use Rattle.std.proofs.lemmas.Option.{IfSome_then}
 use Rattle.place_index.specs.Chains.{note_at, is_under}
-use Rattle.place_index.proofs.NoteLaws.{times-view}
-use Rattle.place_index.proofs.IndexLaws.{if_none, yes_of, some_of}
+use Rattle.place_index.proofs.Lemmas.Notes.{times-view}
+use Rattle.place_index.proofs.Lemmas.Index.{if_none, yes_of, some_of}
 use Rattle.place_index.proofs.index.PlaceIndex.find.Goals as goal
 
 pub find-requires-clause-callable : goal.find-requires-clause-callable

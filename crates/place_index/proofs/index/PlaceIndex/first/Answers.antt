@@ -2,9 +2,9 @@ use Rattle.std.proofs.Common.{◌≡◌, ℕ, ◌<◌, length, sym, ap, subst, �
 use Rattle.std.proofs.lemmas.Bool.{cases_eq}
 use Rattle.std.proofs.lemmas.List.{get_or_default}
 use Rattle.place_index.specs.Chains.{end_of_chain, note_at, head_at, start_of}
-use Rattle.place_index.proofs.NoteLaws.{is_under-some, times-view}
-use Rattle.place_index.proofs.LinkLaws.{none_first, some_first}
-use Rattle.place_index.proofs.IndexLaws.{some_of, none_of}
+use Rattle.place_index.proofs.Lemmas.Notes.{is_under-some, times-view}
+use Rattle.place_index.proofs.Lemmas.Links.{none_first, some_first}
+use Rattle.place_index.proofs.Lemmas.Index.{some_of, none_of}
 use Rattle.place_index.proofs.index.PlaceIndex.first.Goals as goal
 
 pub returns-else-head-len : goal.returns-else-head-len

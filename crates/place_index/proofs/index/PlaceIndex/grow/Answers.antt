@@ -2,7 +2,7 @@ use Rattle.std.proofs.Common.{◌≤◌, ◌++◌, length, take, drop, refl, sym
 use Rattle.place_index.specs.Notes.{Notes}
 use Rattle.std.proofs.lemmas.List.{take_at}
 use Rattle.place_index.specs.Chains.{note_at, is_under}
-use Rattle.place_index.proofs.NoteLaws.{one_if, times-notes_in, times-view, note-more}
+use Rattle.place_index.proofs.Lemmas.Notes.{one_if, times-notes_in, times-view, note-more}
 use Rattle.place_index.proofs.index.PlaceIndex.grow.Goals as goal
 
 pub returns-clause-notes : goal.returns-clause-notes

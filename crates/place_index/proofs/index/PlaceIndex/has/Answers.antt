@@ -1,7 +1,7 @@
 use Rattle.std.proofs.Common.{ℕ, ◌<◌, length, sym, ap, subst, ◌∙◌, arith}
 use Rattle.place_index.specs.Chains.{link_at, is_noted, note_at, is_under}
-use Rattle.place_index.proofs.NoteLaws.{one_if, link_read, note_of-noted, note_of-free, note_past, is_under-some, times-view}
-use Rattle.place_index.proofs.IndexLaws.{some_of}
+use Rattle.place_index.proofs.Lemmas.Notes.{one_if, link_read, note_of-noted, note_of-free, note_past, is_under-some, times-view}
+use Rattle.place_index.proofs.Lemmas.Index.{some_of}
 use Rattle.place_index.proofs.index.PlaceIndex.has.Goals as goal
 
 pub returns-then-place-len-clause-noted : goal.returns-then-place-len-clause-noted

@@ -2,8 +2,8 @@ use Rattle.std.proofs.Common.{◌≡◌, ◌++◌, length, take, drop, sym, ap, 
 use Rattle.std.proofs.lemmas.List.{take_at}
 use Rattle.place_index.specs.Notes.{times}
 use Rattle.place_index.specs.Chains.{note_at, is_under}
-use Rattle.place_index.proofs.NoteLaws.{one_if, times-notes_in, times-view}
-use Rattle.place_index.proofs.IndexLaws.{times-more, free_note}
+use Rattle.place_index.proofs.Lemmas.Notes.{one_if, times-notes_in, times-view}
+use Rattle.place_index.proofs.Lemmas.Index.{times-more, free_note}
 use Rattle.place_index.proofs.index.PlaceIndex.insert.Goals as goal
 
 pub link_in-requires-clause-free : goal.link_in-requires-clause-free

@@ -3,10 +3,10 @@ use Rattle.std.proofs.lemmas.Bool.{cases_eq}
 use Rattle.std.proofs.lemmas.List.{take_at}
 use Rattle.place_index.specs.Notes.{times}
 use Rattle.place_index.specs.Chains.{end_of_chain, note_at, head_at, is_under, start_of}
-use Rattle.place_index.proofs.NoteLaws.{one_if, is_under-some, times-notes_in, times-view}
-use Rattle.place_index.proofs.ChainLaws.{start_of-below}
-use Rattle.place_index.proofs.LinkLaws.{some_first}
-use Rattle.place_index.proofs.IndexLaws.{some_of, times-more, free_note}
+use Rattle.place_index.proofs.Lemmas.Notes.{one_if, is_under-some, times-notes_in, times-view}
+use Rattle.place_index.proofs.Lemmas.Chains.{start_of-below}
+use Rattle.place_index.proofs.Lemmas.Links.{some_first}
+use Rattle.place_index.proofs.Lemmas.Index.{some_of, times-more, free_note}
 use Rattle.place_index.proofs.index.PlaceIndex.insert_last.Goals as goal
 
 pub link_first-requires-clause-free : goal.link_first-requires-clause-free

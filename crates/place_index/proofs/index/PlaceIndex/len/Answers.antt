@@ -1,6 +1,6 @@
 use Rattle.std.proofs.Common.{length, sym, ap, ◌∙◌}
 use Rattle.place_index.specs.Notes.{Notes}
-use Rattle.place_index.proofs.NoteLaws.{length-notes_in}
+use Rattle.place_index.proofs.Lemmas.Notes.{length-notes_in}
 use Rattle.place_index.proofs.index.PlaceIndex.len.Goals as goal
 
 pub returns : goal.returns

@@ -2,8 +2,8 @@ use Rattle.std.proofs.Common.{◌≡◌, ℕ, ◌<◌, ◌++◌, length, take, d
 use Rattle.std.proofs.lemmas.List.{take_at}
 use Rattle.place_index.specs.Notes.{times}
 use Rattle.place_index.specs.Chains.{note_at, is_under}
-use Rattle.place_index.proofs.NoteLaws.{one_if, under_of, times-notes_in, times-view}
-use Rattle.place_index.proofs.IndexLaws.{yes_of, times-less}
+use Rattle.place_index.proofs.Lemmas.Notes.{one_if, under_of, times-notes_in, times-view}
+use Rattle.place_index.proofs.Lemmas.Index.{yes_of, times-less}
 use Rattle.place_index.proofs.index.PlaceIndex.remove.Goals as goal
 
 pub unlink-requires-clause-there : goal.unlink-requires-clause-there

@@ -4,10 +4,10 @@ use Rattle.std.proofs.lemmas.List.{take_at}
 use Rattle.place_index.specs.Notes.{Notes}
 use Rattle.place_index.specs.Chains.{head_at, is_noted, note_at, notes_in, is_under, start_of}
 use Rattle.place_index.specs.declared.links.Link.{Link}
-use Rattle.place_index.proofs.NoteLaws.{one_if, link_read, is_under-some, times-notes_in, times-view, length-notes_in}
-use Rattle.place_index.proofs.LinkLaws.{head_of_last}
-use Rattle.place_index.proofs.IndexLaws.{some_of, times-less, noted_link}
-use Rattle.place_index.proofs.ChainLaws.{start_of-below}
+use Rattle.place_index.proofs.Lemmas.Notes.{one_if, link_read, is_under-some, times-notes_in, times-view, length-notes_in}
+use Rattle.place_index.proofs.Lemmas.Links.{head_of_last}
+use Rattle.place_index.proofs.Lemmas.Index.{some_of, times-less, noted_link}
+use Rattle.place_index.proofs.Lemmas.Chains.{start_of-below}
 use Rattle.place_index.proofs.index.PlaceIndex.remove_last.Goals as goal
 
 pub index-requires : goal.index-requires

@@ -2,7 +2,7 @@ use Rattle.std.proofs.Common.{◌≡◌, ℕ, List, ◌≤◌, ◌<◌, ◌∙�
 use Rattle.std.specs.Prelude.{All}
 use Rattle.std.proofs.lemmas.List.Elements.{All-push}
 use Rattle.shared_rule.specs.Boards.{Seated}
-use Rattle.scenario.proofs.Lent.{has-room}
+use Rattle.scenario.proofs.Lemmas.Lent.{has-room}
 use Rattle.scenario.proofs.desks.ReusingDeskScriptDeskOwnSession.close.Goals as goal
 
 pub close-requires-clause-own : goal.close-requires-clause-own

@@ -1,6 +1,6 @@
 use Rattle.std.proofs.Common.{◌≡◌, ◌<◌, ◌∙◌, ap, arith, inr, refl}
 use Rattle.shared_rule.specs.Boards.{Seated}
-use Rattle.scenario.proofs.Lent.{left-so, lent-so, one-less}
+use Rattle.scenario.proofs.Lemmas.Lent.{left-so, lent-so, one-less}
 use Rattle.scenario.proofs.desks.ReusingDeskScriptDeskOwnSession.open.Goals as goal
 
 pub invariant_of-self : goal.invariant_of-self

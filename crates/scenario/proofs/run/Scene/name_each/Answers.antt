@@ -1,6 +1,6 @@
 use Rattle.std.proofs.Common.{◌∙◌}
 use Rattle.scenario.specs.Scripts.{RunsLine}
-use Rattle.scenario.proofs.InTurn.{names-item}
+use Rattle.scenario.proofs.Lemmas.InTurn.{names-item}
 use Rattle.scenario.proofs.run.Scene.name_each.Goals as goal
 
 pub tables-preserved : goal.tables-preserved

@@ -1,5 +1,5 @@
 use Rattle.std.proofs.Common.{◌∙◌, sym}
-use Rattle.scenario.proofs.InTurn.{match-true, on-ok}
+use Rattle.scenario.proofs.Lemmas.InTurn.{match-true, on-ok}
 use Rattle.scenario.proofs.run.Scene.name_table.Goals as goal
 
 pub returns-then-may_be_named-clause-named : goal.returns-then-may_be_named-clause-named

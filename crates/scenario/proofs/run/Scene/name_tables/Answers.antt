@@ -1,6 +1,6 @@
 use Rattle.std.proofs.Common.{◌∙◌}
 use Rattle.scenario.specs.Scripts.{RunsLine}
-use Rattle.scenario.proofs.InTurn.{names-turn}
+use Rattle.scenario.proofs.Lemmas.InTurn.{names-turn}
 use Rattle.scenario.proofs.run.Scene.name_tables.Goals as goal
 
 pub turns-preserved : goal.turns-preserved

@@ -3,7 +3,7 @@ use Rattle.sql_script.specs.Steps.{line_text, steps_in}
 use Rattle.sql_script.specs.declared.turns.Turn.{Turn}
 use Rattle.scenario.specs.InTurn.{TakesInEach, lines_at}
 use Rattle.scenario.specs.Scripts.{RunsLine}
-use Rattle.scenario.proofs.InTurn.{on-ok}
+use Rattle.scenario.proofs.Lemmas.InTurn.{on-ok}
 use Rattle.scenario.proofs.run.Scene.play_statements.Goals as goal
 
 pub returns-clause-played : goal.returns-clause-played

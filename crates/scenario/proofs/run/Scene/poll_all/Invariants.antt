@@ -1,5 +1,5 @@
 use Rattle.std.proofs.Common.{◌≡◌, length}
-use Rattle.scenario.proofs.Playing.{HaveGoneOn}
+use Rattle.scenario.proofs.Lemmas.Playing.{HaveGoneOn}
 use Rattle.scenario.proofs.run.Scene.poll_all.Given as goal
 
 abbrev pub invariant-passes : goal.invariant-passes

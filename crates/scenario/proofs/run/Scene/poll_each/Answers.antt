@@ -1,6 +1,6 @@
 use Rattle.std.proofs.Common.{◌<◌, ◌∙◌, Bool, arith, length, rules, subst}
 use Rattle.scenario.specs.Played.{IsPollHeard}
-use Rattle.scenario.proofs.Playing.{pass-goes, pass-stays}
+use Rattle.scenario.proofs.Lemmas.Playing.{pass-goes, pass-stays}
 use Rattle.scenario.proofs.run.Scene.poll_each.Goals as goal
 
 pub places-preserved-then-branch : goal.places-preserved-then-branch

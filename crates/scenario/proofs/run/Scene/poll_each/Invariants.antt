@@ -1,5 +1,5 @@
 use Rattle.std.proofs.Common.{◌≡◌, ◌≤◌, ◌<◌, ◌-◌, true, length}
-use Rattle.scenario.proofs.Playing.{IsUnderWay}
+use Rattle.scenario.proofs.Lemmas.Playing.{IsUnderWay}
 use Rattle.scenario.proofs.run.Scene.poll_each.Given as goal
 
 abbrev pub invariant-places : goal.invariant-places

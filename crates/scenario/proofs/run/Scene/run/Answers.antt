@@ -1,5 +1,5 @@
 use Rattle.std.proofs.lemmas.Result.{on_ok_weaker}
-use Rattle.scenario.proofs.Playing.{plays-whole}
+use Rattle.scenario.proofs.Lemmas.Playing.{plays-whole}
 use Rattle.scenario.proofs.run.Scene.run.Goals as goal
 
 pub returns-clause-played : goal.returns-clause-played

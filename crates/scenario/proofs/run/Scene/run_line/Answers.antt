@@ -1,5 +1,5 @@
 use Rattle.std.proofs.lemmas.Result.{on_ok_weaker}
-use Rattle.scenario.proofs.Lines.{line-plays, line-silent}
+use Rattle.scenario.proofs.Lemmas.Lines.{line-plays, line-silent}
 use Rattle.scenario.proofs.run.Scene.run_line.Goals as goal
 
 pub returns-in-Ok-Some-clause-played : goal.returns-in-Ok-Some-clause-played

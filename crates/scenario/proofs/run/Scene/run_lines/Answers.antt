@@ -1,7 +1,7 @@
 use Rattle.std.proofs.Common.{◌∙◌, Result}
 use Rattle.lock_script.specs.declared.faults.Fault.{Fault}
 use Rattle.scenario.specs.Scripts.{IsScriptHeard}
-use Rattle.scenario.proofs.Lines.{ends-badly, ends-unread, have-more, of-error}
+use Rattle.scenario.proofs.Lemmas.Lines.{ends-badly, ends-unread, have-more, of-error}
 use Rattle.scenario.proofs.run.Scene.run_lines.Goals as goal
 
 pub returns-in_err-line-clause-played : goal.returns-in_err-line-clause-played

@@ -1,5 +1,5 @@
 use Rattle.std.proofs.Common.{◌≡◌, ◌-◌}
-use Rattle.scenario.proofs.Lines.{HavePlayed}
+use Rattle.scenario.proofs.Lemmas.Lines.{HavePlayed}
 use Rattle.scenario.proofs.run.Scene.run_lines.Given as goal
 
 abbrev pub invariant-lines : goal.invariant-lines

@@ -2,8 +2,8 @@ use Rattle.std.proofs.Common.{◌∙◌, ℕ, List, ◌++◌, ap, subst}
 use Rattle.std.specs.Prelude.{codes}
 use Rattle.modes_core.specs.TagText.{tag_text}
 use Rattle.scenario.specs.Scripts.{RunsLine}
-use Rattle.scenario.proofs.InTurn.{on-ok}
-use Rattle.scenario.proofs.Lines.{runs-heard}
+use Rattle.scenario.proofs.Lemmas.InTurn.{on-ok}
+use Rattle.scenario.proofs.Lemmas.Lines.{runs-heard}
 use Rattle.scenario.proofs.run.Scene.run_naming.Goals as goal
 
 pub returns-in-Ok-clause-ran : goal.returns-in-Ok-clause-ran

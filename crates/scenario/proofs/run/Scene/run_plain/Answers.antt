@@ -1,6 +1,6 @@
 use Rattle.std.proofs.Common.{inl}
-use Rattle.scenario.proofs.InTurn.{on-ok}
-use Rattle.scenario.proofs.Lines.{runs-heard}
+use Rattle.scenario.proofs.Lemmas.InTurn.{on-ok}
+use Rattle.scenario.proofs.Lemmas.Lines.{runs-heard}
 use Rattle.scenario.proofs.run.Scene.run_plain.Goals as goal
 
 pub returns-clause-taken : goal.returns-clause-taken

@@ -1,7 +1,7 @@
 use Rattle.std.proofs.Common.{◌∙◌, string_bytes}
 use Rattle.scenario.specs.Scripts.{RunsLine}
-use Rattle.scenario.proofs.InTurn.{runs-one}
-use Rattle.scenario.proofs.Lines.{runs-heard}
+use Rattle.scenario.proofs.Lemmas.InTurn.{runs-one}
+use Rattle.scenario.proofs.Lemmas.Lines.{runs-heard}
 use Rattle.scenario.proofs.run.Scene.run_ready.Goals as goal
 
 pub ready-preserved : goal.ready-preserved

@@ -1,6 +1,6 @@
 use Rattle.std.proofs.Common.{inl}
-use Rattle.scenario.proofs.InTurn.{on-ok}
-use Rattle.scenario.proofs.Lines.{runs-heard}
+use Rattle.scenario.proofs.Lemmas.InTurn.{on-ok}
+use Rattle.scenario.proofs.Lemmas.Lines.{runs-heard}
 use Rattle.scenario.proofs.run.Scene.take_in.Goals as goal
 
 pub returns-in_ok-run_line-in-None-clause-taken : goal.returns-in_ok-run_line-in-None-clause-taken

@@ -1,6 +1,6 @@
 use Rattle.std.proofs.Common.{◌∙◌, string_bytes}
 use Rattle.scenario.specs.Scripts.{RunsLine}
-use Rattle.scenario.proofs.InTurn.{takes-item}
+use Rattle.scenario.proofs.Lemmas.InTurn.{takes-item}
 use Rattle.scenario.proofs.run.Scene.take_in_each.Goals as goal
 
 pub texts-preserved : goal.texts-preserved

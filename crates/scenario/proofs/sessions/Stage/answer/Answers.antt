@@ -1,5 +1,5 @@
 use Rattle.std.proofs.Common.{refl, subst}
-use Rattle.scenario.proofs.Deeds.{MayDo, may_do}
+use Rattle.scenario.proofs.Lemmas.Deeds.{MayDo, may_do}
 use Rattle.scenario.specs.Calls.{IsDeedOf}
 use Rattle.scenario.proofs.sessions.Stage.answer.Goals as goal
 

@@ -1,11 +1,11 @@
 use Rattle.std.proofs.Common.{ℕ, ◌+◌, ◌∙◌, ap, length, refl, subst, sym}
 use Rattle.std.proofs.lemmas.Result.{IfOk-weaker}
-use Rattle.lock_script.proofs.Lending.{All-called, length-with_session}
+use Rattle.lock_script.proofs.Lemmas.Lending.{All-called, length-with_session}
 use Rattle.lock_script.specs.Lending.{with_session}
 use Rattle.scenario.specs.Answered.{TellsBlockedAt}
 use Rattle.scenario.specs.Waits.{TellsBlocked}
 use Rattle.scenario.specs.Numbers.{IsKnown}
-use Rattle.scenario.proofs.Numbers.{kept-known}
+use Rattle.scenario.proofs.Lemmas.Numbers.{kept-known}
 use Rattle.scenario.proofs.sessions.Stage.blocked.Goals as goal
 
 pub invariant_of-self-clause-counted : goal.invariant_of-self-clause-counted

@@ -1,7 +1,7 @@
 use Rattle.std.proofs.Common.{arith}
-use Rattle.lock_script.proofs.SessionLemmas.{All-left, length-left, taken}
+use Rattle.lock_script.proofs.Lemmas.Sessions.{All-left, length-left, taken}
 use Rattle.scenario.specs.Numbers.{IsKnown}
-use Rattle.scenario.proofs.Numbers.{kept-known}
+use Rattle.scenario.proofs.Lemmas.Numbers.{kept-known}
 use Rattle.scenario.proofs.sessions.Stage.close.Goals as goal
 
 pub close-requires : goal.close-requires

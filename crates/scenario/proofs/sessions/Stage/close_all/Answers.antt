@@ -1,7 +1,7 @@
 use Rattle.std.proofs.Common.{arith}
-use Rattle.lock_script.proofs.SessionLemmas.{All-first, All-rest, length-rest}
+use Rattle.lock_script.proofs.Lemmas.Sessions.{All-first, All-rest, length-rest}
 use Rattle.scenario.specs.Numbers.{IsKnown}
-use Rattle.scenario.proofs.Numbers.{kept-known}
+use Rattle.scenario.proofs.Lemmas.Numbers.{kept-known}
 use Rattle.scenario.proofs.sessions.Stage.close_all.Goals as goal
 
 pub close-requires : goal.close-requires

@@ -1,11 +1,11 @@
 use Rattle.std.proofs.Common.{ℕ, ◌+◌, ◌∙◌, ap, arith, inl, inr, length, refl, remove, subst, sym}
-use Rattle.lock_script.proofs.SessionLemmas.{All-put_back, length-put_back, All-left, length-left, All-put, length-put, taken}
+use Rattle.lock_script.proofs.Lemmas.Sessions.{All-put_back, length-put_back, All-left, length-left, All-put, length-put, taken}
 use Rattle.lock_script.specs.Names.{PutsIn}
 use Rattle.scenario.specs.Waits.{IsBegun, IsQueued}
 use Rattle.scenario.specs.declared.answers.Answer.TheVariants as answer
 use Rattle.scenario.specs.declared.answers.Said.TheVariants as said
 use Rattle.scenario.specs.Numbers.{IsKnown}
-use Rattle.scenario.proofs.Numbers.{kept-known}
+use Rattle.scenario.proofs.Lemmas.Numbers.{kept-known}
 use Rattle.scenario.proofs.sessions.Stage.lock.Goals as goal
 
 pub invariant_of-self-clause-counted : goal.invariant_of-self-clause-counted

@@ -1,11 +1,11 @@
 use Rattle.std.proofs.Common.{◌∙◌, ℕ, ap, arith, inl, inr, refl, subst, sym}
 use Rattle.std.proofs.lemmas.List.Elements.{All-weaker}
-use Rattle.lock_script.proofs.SessionLemmas.{All-put, length-put}
+use Rattle.lock_script.proofs.Lemmas.Sessions.{All-put, length-put}
 use Rattle.shared_rule.specs.Boards.{Seated}
 use Rattle.scenario.specs.Numbers.{IsKnown, IsNamed, IsNumbered}
 use Rattle.scenario.specs.declared.answers.Answer.TheVariants as answer
 use Rattle.scenario.specs.declared.answers.Said.TheVariants as said
-use Rattle.scenario.proofs.Numbers.{issued-grows, known-later, length-named, named-so, number-within, number-within_names, within-limit}
+use Rattle.scenario.proofs.Lemmas.Numbers.{issued-grows, known-later, length-named, named-so, number-within, number-within_names, within-limit}
 use Rattle.scenario.proofs.sessions.Stage.open.Goals as goal
 
 pub put-requires : goal.put-requires

@@ -1,9 +1,9 @@
 use Rattle.std.proofs.Common.{ℕ, ◌+◌, ◌∙◌, ap, arith, length, refl, subst, sym}
-use Rattle.lock_script.proofs.Lending.{All-with_session, length-with_session, put_back-in_order, put_back-there}
-use Rattle.lock_script.proofs.SessionLemmas.{All-left, length-left, All-put, length-put, taken}
+use Rattle.lock_script.proofs.Lemmas.Lending.{All-with_session, length-with_session, put_back-in_order, put_back-there}
+use Rattle.lock_script.proofs.Lemmas.Sessions.{All-left, length-left, All-put, length-put, taken}
 use Rattle.scenario.specs.Waits.{GoesOn, LooksOn}
 use Rattle.scenario.specs.Numbers.{IsKnown}
-use Rattle.scenario.proofs.Numbers.{kept-known}
+use Rattle.scenario.proofs.Lemmas.Numbers.{kept-known}
 use Rattle.scenario.proofs.sessions.Stage.poll.Goals as goal
 
 pub invariant_of-self-clause-counted : goal.invariant_of-self-clause-counted

@@ -1,7 +1,7 @@
 use Rattle.std.proofs.Common.{ℕ, ◌+◌, ◌∙◌, ap, length, sym}
-use Rattle.lock_script.proofs.Lending.{All-called, length-with_session}
+use Rattle.lock_script.proofs.Lemmas.Lending.{All-called, length-with_session}
 use Rattle.scenario.specs.Numbers.{IsKnown}
-use Rattle.scenario.proofs.Numbers.{kept-known}
+use Rattle.scenario.proofs.Lemmas.Numbers.{kept-known}
 use Rattle.scenario.proofs.sessions.Stage.queue_at.Goals as goal
 
 pub invariant_of-self-clause-counted : goal.invariant_of-self-clause-counted

@@ -1,5 +1,5 @@
 use Rattle.std.proofs.Common.{inr}
-use Rattle.script_orders.proofs.TurnLemmas.{line_of_step}
+use Rattle.script_orders.proofs.Lemmas.Turns.{line_of_step}
 use Rattle.script_orders.proofs.orders.Orders.give_line.Goals as goal
 
 pub returns-clause-goes : goal.returns-clause-goes

@@ -1,5 +1,5 @@
 use Rattle.std.proofs.Common.{inl, refl}
-use Rattle.script_orders.proofs.TurnLemmas.{holds_at}
+use Rattle.script_orders.proofs.Lemmas.Turns.{holds_at}
 use Rattle.script_orders.proofs.orders.Orders.give_opening.Goals as goal
 
 pub returns-clause-goes : goal.returns-clause-goes

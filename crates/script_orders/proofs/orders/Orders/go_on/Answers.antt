@@ -1,4 +1,4 @@
-use Rattle.script_orders.proofs.TurnLemmas.{may_keep}
+use Rattle.script_orders.proofs.Lemmas.Turns.{may_keep}
 use Rattle.script_orders.proofs.orders.Orders.go_on.Goals as goal
 
 pub returns-in-Of-clause-goes : goal.returns-in-Of-clause-goes

@@ -1,5 +1,5 @@
 use Rattle.std.proofs.Common.{◌∙◌, ap, slice_index}
-use Rattle.script_orders.proofs.StoryLemmas.{same_line}
+use Rattle.script_orders.proofs.Lemmas.Stories.{same_line}
 use Rattle.script_orders.proofs.orders.Orders.next_line_of.Goals as goal
 
 pub returns-clause-line : goal.returns-clause-line

@@ -1,4 +1,4 @@
-use Rattle.script_orders.proofs.StepLemmas.{in_own_order}
+use Rattle.script_orders.proofs.Lemmas.Steps.{in_own_order}
 use Rattle.script_orders.proofs.orders.Orders.next_turn.Goals as goal
 
 pub returns-clause-in_order : goal.returns-clause-in_order

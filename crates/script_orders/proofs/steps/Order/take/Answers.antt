@@ -1,7 +1,7 @@
 use Rattle.std.proofs.Common.{◌+◌, ◌∙◌, subst, sym, slice_set}
 use Rattle.std.proofs.lemmas.List.{get_or_default}
 use Rattle.script_orders.specs.Steps.{KeepsOwnOrder}
-use Rattle.script_orders.proofs.StepLemmas.{keeps_order}
+use Rattle.script_orders.proofs.Lemmas.Steps.{keeps_order}
 use Rattle.script_orders.proofs.steps.Order.take.Goals as goal
 
 pub invariant_of-self-2 : goal.invariant_of-self-2

@@ -1,4 +1,4 @@
-use Rattle.script_orders.proofs.StoryLemmas.{found_line}
+use Rattle.script_orders.proofs.Lemmas.Stories.{found_line}
 use Rattle.script_orders.proofs.stories.Story.line.Goals as goal
 
 pub returns-then-step-len-clause-found : goal.returns-then-step-len-clause-found

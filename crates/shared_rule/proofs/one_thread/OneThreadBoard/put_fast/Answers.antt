@@ -1,5 +1,5 @@
 use Rattle.std.proofs.Common.{refl}
-use Rattle.shared_rule.proofs.AtRest.{rests-lists, released-rests}
+use Rattle.shared_rule.proofs.Lemmas.AtRest.{rests-lists, released-rests}
 use Rattle.shared_rule.proofs.one_thread.OneThreadBoard.put_fast.Goals as goal
 
 pub put_fast-requires-clause-idle : goal.put_fast-requires-clause-idle

@@ -1,7 +1,7 @@
 use Rattle.std.proofs.Common.{◌≡◌, refl, sym, subst}
 use Rattle.shared_rule.specs.Boards.{parts_in_hand, shelves_out}
-use Rattle.shared_rule.proofs.Stacks.{rest-out}
-use Rattle.shared_rule.proofs.AtRest.{rests-lists, led-rests}
+use Rattle.shared_rule.proofs.Lemmas.Stacks.{rest-out}
+use Rattle.shared_rule.proofs.Lemmas.AtRest.{rests-lists, led-rests}
 use Rattle.shared_rule.proofs.one_thread.OneThreadBoard.put_part.Goals as goal
 
 pub put_part-requires-clause-idle : goal.put_part-requires-clause-idle

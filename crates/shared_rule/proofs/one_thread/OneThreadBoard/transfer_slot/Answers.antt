@@ -2,8 +2,8 @@ use Rattle.std.proofs.Common.{ap, ◌∙◌}
 use Rattle.shared_rule.specs.Marks.{TransferredSlot}
 use Rattle.shared_rule.specs.History.{first_account}
 use Rattle.shared_rule.specs.Plays.{Side}
-use Rattle.shared_rule.proofs.Taken.{account-noted}
-use Rattle.shared_rule.proofs.AtRest.{rests-session}
+use Rattle.shared_rule.proofs.Lemmas.Taken.{account-noted}
+use Rattle.shared_rule.proofs.Lemmas.AtRest.{rests-session}
 use Rattle.shared_rule.proofs.one_thread.OneThreadBoard.transfer_slot.Goals as goal
 
 pub returns-clause-view : goal.returns-clause-view

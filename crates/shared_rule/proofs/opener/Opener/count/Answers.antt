@@ -7,8 +7,8 @@ use Rattle.shared_rule.specs.Openers.{OpenerState}
 use Rattle.shared_rule.specs.Plays.{HasSession}
 use Rattle.shared_rule.specs.Layout.{IsSized}
 use Rattle.lock_world.specs.Account.{Account}
-use Rattle.shared_rule.proofs.Idle.{free-further, first-idle, first-free, lists-told}
-use Rattle.shared_rule.proofs.AuditSums.{counts-all, has-first, are-all}
+use Rattle.shared_rule.proofs.Lemmas.Idle.{free-further, first-idle, first-free, lists-told}
+use Rattle.shared_rule.proofs.Lemmas.AuditSums.{counts-all, has-first, are-all}
 use Rattle.shared_rule.proofs.opener.Opener.count.Goals as goal
 
 pub returns : goal.returns

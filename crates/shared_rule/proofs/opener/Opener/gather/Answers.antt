@@ -7,7 +7,7 @@ use Rattle.shared_rule.specs.Openers.{OpenerState}
 use Rattle.shared_rule.specs.Plays.{Side}
 use Rattle.shared_rule.specs.Layout.{IsSized}
 use Rattle.shared_rule.specs.Quiet.{first_quiet}
-use Rattle.shared_rule.proofs.Idle.{free-with, free-lone}
+use Rattle.shared_rule.proofs.Lemmas.Idle.{free-with, free-lone}
 use Rattle.shared_rule.proofs.opener.Opener.gather.Goals as goal
 use Rattle.shared_rule.specs.Boards.{Stack, IsFree}
 

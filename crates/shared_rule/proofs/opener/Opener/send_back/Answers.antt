@@ -7,8 +7,8 @@ use Rattle.shared_rule.specs.Plays.{Side}
 use Rattle.shared_rule.specs.Layout.{IsSized}
 use Rattle.shared_rule.specs.Quiet.{first_quiet}
 use Rattle.shared_rule.specs.Seats.{all_but_last, last_of}
-use Rattle.shared_rule.proofs.Idle.{free-one, free-last, free-left, first-wakes}
-use Rattle.shared_rule.proofs.MetViews.{all_but_last-of, last_of-of, lone-last}
+use Rattle.shared_rule.proofs.Lemmas.Idle.{free-one, free-last, free-left, first-wakes}
+use Rattle.shared_rule.proofs.Lemmas.MetViews.{all_but_last-of, last_of-of, lone-last}
 use Rattle.shared_rule.proofs.opener.Opener.send_back.Goals as goal
 use Rattle.shared_rule.specs.Owed.{first_owed}
 

@@ -1,7 +1,7 @@
 use Rattle.lw_word.specs.declared.words.LwMode.TheVariants.{Exclusive}
 use Rattle.shared_rule.specs.declared.lw_locks.LwLock.TheVariants.{OfPart}
 use Rattle.shared_rule.specs.Waiting.{sought_of}
-use Rattle.shared_rule.proofs.Waiting.{part-left}
+use Rattle.shared_rule.proofs.Lemmas.Waiting.{part-left}
 use Rattle.shared_rule.proofs.part_locks.PartLockGuardedSeat.dequeue_self.Goals as goal
 
 pub returns : goal.returns

@@ -1,7 +1,7 @@
 use Rattle.std.proofs.Common.{ap}
 use Rattle.shared_rule.specs.Boards.{first_marks}
 use Rattle.shared_rule.specs.Plays.{Side}
-use Rattle.shared_rule.proofs.Sides.{told-of_both}
+use Rattle.shared_rule.proofs.Lemmas.Sides.{told-of_both}
 use Rattle.shared_rule.proofs.seat_board.SeatBoard.meet.Goals as goal
 use Rattle.shared_rule.specs.Boards.{Stack}
 

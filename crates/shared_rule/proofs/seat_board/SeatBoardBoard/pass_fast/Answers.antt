@@ -1,5 +1,5 @@
 use Rattle.std.proofs.Common.{refl}
-use Rattle.shared_rule.proofs.AtRest.{rests-lists, released-rests}
+use Rattle.shared_rule.proofs.Lemmas.AtRest.{rests-lists, released-rests}
 use Rattle.shared_rule.proofs.seat_board.SeatBoardBoard.pass_fast.Goals as goal
 
 pub pass_fast-requires-clause-idle : goal.pass_fast-requires-clause-idle

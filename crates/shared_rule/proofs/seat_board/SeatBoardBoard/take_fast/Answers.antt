@@ -1,7 +1,7 @@
 use Rattle.std.proofs.Common.{refl}
 use Rattle.shared_rule.specs.Plays.{account_at}
-use Rattle.shared_rule.proofs.Orders.{latest-slots}
-use Rattle.shared_rule.proofs.AtRest.{rests-lists, acquired-rests}
+use Rattle.shared_rule.proofs.Lemmas.Orders.{latest-slots}
+use Rattle.shared_rule.proofs.Lemmas.AtRest.{rests-lists, acquired-rests}
 use Rattle.shared_rule.proofs.seat_board.SeatBoardBoard.take_fast.Goals as goal
 
 pub take_fast-requires-clause-idle : goal.take_fast-requires-clause-idle

@@ -1,8 +1,8 @@
 use Rattle.std.proofs.Common.{◌≡◌, refl, sym, ap, subst}
 use Rattle.shared_rule.specs.Boards.{parts_in_hand, shelves_out}
 use Rattle.shared_rule.specs.Todos.{todo_attempted}
-use Rattle.shared_rule.proofs.Stacks.{more-out}
-use Rattle.shared_rule.proofs.AtRest.{rests-lists, led-rests}
+use Rattle.shared_rule.proofs.Lemmas.Stacks.{more-out}
+use Rattle.shared_rule.proofs.Lemmas.AtRest.{rests-lists, led-rests}
 use Rattle.shared_rule.proofs.seat_board.SeatBoardBoard.take_part.Goals as goal
 
 pub take_part-requires-clause-idle : goal.take_part-requires-clause-idle

@@ -1,6 +1,6 @@
 use Rattle.shared_rule.specs.Plays.{account_at}
-use Rattle.shared_rule.proofs.Idle.{tries-lists}
-use Rattle.shared_rule.proofs.AtRest.{rests-lists, tried-rests}
+use Rattle.shared_rule.proofs.Lemmas.Idle.{tries-lists}
+use Rattle.shared_rule.proofs.Lemmas.AtRest.{rests-lists, tried-rests}
 use Rattle.shared_rule.proofs.seat_board.SeatBoardBoard.try_take_fast.Goals as goal
 
 pub try_take_fast-requires-clause-idle : goal.try_take_fast-requires-clause-idle

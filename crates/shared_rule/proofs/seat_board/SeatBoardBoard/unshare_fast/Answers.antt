@@ -1,5 +1,5 @@
 use Rattle.std.proofs.Common.{refl}
-use Rattle.shared_rule.proofs.AtRest.{rests-lists, released-rests}
+use Rattle.shared_rule.proofs.Lemmas.AtRest.{rests-lists, released-rests}
 use Rattle.shared_rule.proofs.seat_board.SeatBoardBoard.unshare_fast.Goals as goal
 
 pub unshare_fast-requires-clause-idle : goal.unshare_fast-requires-clause-idle

@@ -1,6 +1,6 @@
 use Rattle.shared_rule.specs.declared.lw_locks.LwLock.TheVariants.{OfSlots}
 use Rattle.shared_rule.specs.Waiting.{sought_of}
-use Rattle.shared_rule.proofs.Waiting.{slots-left}
+use Rattle.shared_rule.proofs.Lemmas.Waiting.{slots-left}
 use Rattle.shared_rule.proofs.slot_locks.SlotsLockGuardedSeatUnit.dequeue_self.Goals as goal
 
 pub returns : goal.returns

@@ -2,7 +2,7 @@ use Rattle.std.proofs.Common.{◌≡◌, ◌∙◌, true, false, ap, sym}
 use Rattle.sql_script.specs.Known.{Known}
 use Rattle.sql_script.specs.Lines.{verb_of}
 use Rattle.sql_script.specs.declared.verbs.Verb.TheVariants as verb
-use Rattle.sql_script.proofs.Hearing.{end-heard, heard-as, statements-heard}
+use Rattle.sql_script.proofs.Lemmas.Hearing.{end-heard, heard-as, statements-heard}
 use Rattle.sql_script.proofs.script.SqlScript.hear.Goals as goal
 
 pub returns-in-Do : goal.returns-in-Do

@@ -1,6 +1,6 @@
 use Rattle.std.proofs.Common.{not, refl, ap, ◌∙◌, inl, inr}
 use Rattle.std.proofs.lemmas.Bool.{cases_Bool}
-use Rattle.lock_table.proofs.FindLemmas.{same_any}
+use Rattle.lock_table.proofs.Lemmas.Find.{same_any}
 use Rattle.lock_model.proofs.machine.hands.InHand.none_unmarked.Goals as goal
 
 pub returns : goal.returns

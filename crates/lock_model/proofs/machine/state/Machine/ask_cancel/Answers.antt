@@ -1,5 +1,5 @@
 use Rattle.std.proofs.Common.{◌≡◌, sym, ◌∙◌, arith}
-use Rattle.lock_model.proofs.Follows.Waits.Asks.{was_asked, ask_refused}
+use Rattle.lock_model.proofs.Lemmas.Follows.Waits.Asks.{was_asked, ask_refused}
 use Rattle.lock_model.proofs.machine.state.Machine.ask_cancel.Goals as goal
 
 pub returns-then-makes_steps : goal.returns-then-makes_steps

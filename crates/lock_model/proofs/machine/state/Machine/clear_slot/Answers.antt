@@ -1,7 +1,7 @@
 use Rattle.std.proofs.Common.{◌≡◌, ◌<◌, true, length, get_or, sym, ap, ◌∙◌, subst, arith}
 use Rattle.lw_word.specs.SlotWord.{word_without}
 use Rattle.lock_model.specs.SlotLooks.{slots_at, may_clear_slot}
-use Rattle.lock_model.proofs.Follows.SlotSteps.{clear_is_eligible, clear_within, slot_read, slot_was_cleared, slot_not_cleared}
+use Rattle.lock_model.proofs.Lemmas.Follows.SlotSteps.{clear_is_eligible, clear_within, slot_read, slot_was_cleared, slot_not_cleared}
 use Rattle.lock_model.proofs.machine.state.Machine.clear_slot.Goals as goal
 
 pub without-requires : goal.without-requires

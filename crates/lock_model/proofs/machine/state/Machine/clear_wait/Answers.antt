@@ -1,5 +1,5 @@
 use Rattle.std.proofs.Common.{◌≡◌, false, None, get_or, sym, ap, ◌∙◌, arith}
-use Rattle.lock_model.proofs.Follows.Waits.Clears.{clear_refused, clear_of_nothing, cleared_seen, cleared_gone, clear_too_early}
+use Rattle.lock_model.proofs.Lemmas.Follows.Waits.Clears.{clear_refused, clear_of_nothing, cleared_seen, cleared_gone, clear_too_early}
 use Rattle.lock_model.proofs.machine.state.Machine.clear_wait.Goals as goal
 use Rattle.lock_model.proofs.machine.state.Machine.clear_wait.Goals.{then-self-from-via-then-self-from, then-self-from-via-else-self-from+then-is_gone}
 

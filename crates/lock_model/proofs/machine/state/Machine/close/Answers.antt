@@ -1,12 +1,12 @@
 use Rattle.std.proofs.Common.{◌≡◌, ◌<◌, true, None, length, get_or, is_some, is_none, sym, ap, ◌∙◌, arith}
 use Rattle.lock_world.specs.declared.events.Step.TheVariants.{JoinSeat}
-use Rattle.lock_table.proofs.ListLemmas.{there_not_none, not_there_none}
-use Rattle.lock_model.proofs.Shows.Looks.{steps_not, some_wait_from}
-use Rattle.lock_model.proofs.Shows.SlotLooks.{some_slot_hold}
+use Rattle.lock_table.proofs.Lemmas.Lists.{there_not_none, not_there_none}
+use Rattle.lock_model.proofs.Lemmas.Shows.Looks.{steps_not, some_wait_from}
+use Rattle.lock_model.proofs.Lemmas.Shows.SlotLooks.{some_slot_hold}
 use Rattle.std.proofs.lemmas.Bool.{both_ways}
-use Rattle.lock_model.proofs.Follows.Counters.{nothing_needs}
-use Rattle.lock_model.proofs.Follows.Skipped.{skipped}
-use Rattle.lock_model.proofs.Follows.Seats.{was_closed, some_word, some_fast_word, some_shared_word, some_hold, keeps_somebody, no_list_needs, some_untold}
+use Rattle.lock_model.proofs.Lemmas.Follows.Counters.{nothing_needs}
+use Rattle.lock_model.proofs.Lemmas.Follows.Skipped.{skipped}
+use Rattle.lock_model.proofs.Lemmas.Follows.Seats.{was_closed, some_word, some_fast_word, some_shared_word, some_hold, keeps_somebody, no_list_needs, some_untold}
 use Rattle.lock_model.proofs.machine.state.Machine.close.Goals as goal
 use Rattle.lock_model.proofs.machine.state.Machine.close.Goals.{else-makes_steps-via-then-makes_steps+then-not-has_a_word+then-not-has_a_fast_word+then-not-shares_a_word+then-not-has_a_hold+then-not-has_a_slot+then-is_none+then-not-keeps_someone+then-counts_nothing+then-has_no_list+else-not-owes_a_telling, else-makes_steps-via-then-makes_steps+then-not-has_a_word+then-not-has_a_fast_word+then-not-shares_a_word+then-not-has_a_hold+else-not-has_a_slot, else-makes_steps-via-then-makes_steps+then-not-has_a_word+then-not-has_a_fast_word+then-not-shares_a_word+then-not-has_a_hold+then-not-has_a_slot+then-is_none+else-not-keeps_someone, else-makes_steps-via-then-makes_steps+then-not-has_a_word+then-not-has_a_fast_word+then-not-shares_a_word+then-not-has_a_hold+then-not-has_a_slot+then-is_none+then-not-keeps_someone+else-counts_nothing, else-makes_steps-via-then-makes_steps+then-not-has_a_word+then-not-has_a_fast_word+then-not-shares_a_word+then-not-has_a_hold+then-not-has_a_slot+then-is_none+then-not-keeps_someone+then-counts_nothing+else-has_no_list, else-makes_steps-via-then-makes_steps+then-not-has_a_word+then-not-has_a_fast_word+then-not-shares_a_word+then-not-has_a_hold+then-not-has_a_slot+else-is_none, else-makes_steps-via-then-makes_steps+then-not-has_a_word+then-not-has_a_fast_word+then-not-shares_a_word+else-not-has_a_hold, else-makes_steps-via-then-makes_steps+then-not-has_a_word+then-not-has_a_fast_word+else-not-shares_a_word, else-makes_steps-via-then-makes_steps+then-not-has_a_word+else-not-has_a_fast_word, else-makes_steps-via-then-makes_steps+else-not-has_a_word, else-makes_steps-via-else-makes_steps}
 

@@ -1,6 +1,6 @@
 use Rattle.std.proofs.Common.{sym, arith}
 use Rattle.lock_model.specs.declared.machine.state.Machine.{Machine}
-use Rattle.lock_model.proofs.Follows.Counters.{was_counted, not_counted}
+use Rattle.lock_model.proofs.Lemmas.Follows.Counters.{was_counted, not_counted}
 use Rattle.lock_model.proofs.machine.state.Machine.count.Goals as goal
 
 pub returns-in_ok-push-clause-followed : goal.returns-in_ok-push-clause-followed

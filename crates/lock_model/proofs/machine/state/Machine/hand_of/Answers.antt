@@ -1,5 +1,5 @@
 use Rattle.std.proofs.Common.{◌≡◌, ◌≤◌, length, sym, ap, arith}
-use Rattle.lock_model.proofs.Shows.Looks.{hand_of-past, hand_of-idle}
+use Rattle.lock_model.proofs.Lemmas.Shows.Looks.{hand_of-past, hand_of-idle}
 use Rattle.lock_model.proofs.machine.state.Machine.hand_of.Goals as goal
 use Rattle.lock_model.proofs.machine.state.Machine.hand_of.Goals.{then-index-hands-via-then-index-hands, then-index-hands-via-else-index-hands+then-not-makes_steps}
 

@@ -1,5 +1,5 @@
 use Rattle.std.proofs.Common.{refl}
-use Rattle.lock_model.proofs.Shows.Runs.{plain-shown}
+use Rattle.lock_model.proofs.Lemmas.Shows.Runs.{plain-shown}
 use Rattle.lock_model.proofs.machine.state.Machine.into_plain.Goals as goal
 
 pub returns-clause-shown : goal.returns-clause-shown

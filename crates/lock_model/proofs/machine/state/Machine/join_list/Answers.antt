@@ -1,6 +1,6 @@
 use Rattle.std.proofs.Common.{◌≡◌, get_or, sym, ap, ◌∙◌, arith}
 use Rattle.lock_model.specs.declared.machine.state.Lists.{Lists}
-use Rattle.lock_model.proofs.Follows.Lists.{has_joined, not_joined, joined_not_idle}
+use Rattle.lock_model.proofs.Lemmas.Follows.Lists.{has_joined, not_joined, joined_not_idle}
 use Rattle.lock_model.proofs.machine.state.Machine.join_list.Goals as goal
 
 pub returns-in_ok-push-clause-followed : goal.returns-in_ok-push-clause-followed

@@ -3,10 +3,10 @@ use Rattle.modes_core.specs.Tag.{partition_of}
 use Rattle.lock_table.specs.Content.{Content}
 use Rattle.lock_table.specs.PartView.{content_of}
 use Rattle.lock_table.specs.Queue.{add_wait, awaits_mode, waits_there}
-use Rattle.lock_table.proofs.QueueLemmas.{queued-within}
-use Rattle.lock_model.proofs.Shows.Places.{partition_read, get_or-one_value}
-use Rattle.lock_model.proofs.Shows.Looks.{stands_not_here, awaits_not_here}
-use Rattle.lock_model.proofs.Follows.Waits.Joins.{was_set_waiting}
+use Rattle.lock_table.proofs.Lemmas.Queues.{queued-within}
+use Rattle.lock_model.proofs.Lemmas.Shows.Places.{partition_read, get_or-one_value}
+use Rattle.lock_model.proofs.Lemmas.Shows.Looks.{stands_not_here, awaits_not_here}
+use Rattle.lock_model.proofs.Lemmas.Follows.Waits.Joins.{was_set_waiting}
 use Rattle.lock_model.proofs.machine.state.Machine.join_now.Goals as goal
 
 pub begin-requires-clause-not_awaited : goal.begin-requires-clause-not_awaited

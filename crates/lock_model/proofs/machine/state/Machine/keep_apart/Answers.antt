@@ -1,10 +1,10 @@
 use Rattle.std.proofs.Common.{Some, ◌≡◌, ◌≢◌, ◌<◌, length, sym, ◌∙◌, arith}
 use Rattle.lock_world.specs.declared.events.Step.TheVariants.{JoinSeat}
 use Rattle.std.proofs.lemmas.Bool.{eqb-false, not-true, not-false, eqb-true}
-use Rattle.lock_model.proofs.Follows.Beyond.{joining-beyond}
-use Rattle.lock_model.proofs.Shows.Looks.{steps_not}
-use Rattle.lock_model.proofs.Follows.Skipped.{skipped}
-use Rattle.lock_model.proofs.Follows.Seats.{was_kept_apart, some_word, some_fast_word, some_shared_word}
+use Rattle.lock_model.proofs.Lemmas.Follows.Beyond.{joining-beyond}
+use Rattle.lock_model.proofs.Lemmas.Shows.Looks.{steps_not}
+use Rattle.lock_model.proofs.Lemmas.Follows.Skipped.{skipped}
+use Rattle.lock_model.proofs.Lemmas.Follows.Seats.{was_kept_apart, some_word, some_fast_word, some_shared_word}
 use Rattle.lock_model.proofs.machine.state.Machine.keep_apart.Goals as goal
 use Rattle.lock_model.proofs.machine.state.Machine.keep_apart.Goals.{else-makes_steps-via-then-makes_steps+then-ne+then-makes_steps-2+then-not-has_a_word+then-not-has_a_fast_word+else-not-shares_a_word, else-makes_steps-via-then-makes_steps+then-ne+then-makes_steps-2+then-not-has_a_word+else-not-has_a_fast_word, else-makes_steps-via-then-makes_steps+then-ne+then-makes_steps-2+else-not-has_a_word, else-makes_steps-via-then-makes_steps+then-ne+else-makes_steps-2, else-makes_steps-via-then-makes_steps+else-ne, else-makes_steps-via-else-makes_steps}
 

@@ -1,6 +1,6 @@
 use Rattle.std.proofs.Common.{◌≡◌, sym, ◌∙◌, arith}
 use Rattle.lock_model.specs.declared.machine.state.Lists.{Lists}
-use Rattle.lock_model.proofs.Follows.Lists.{has_left, not_left, left_not_waiting}
+use Rattle.lock_model.proofs.Lemmas.Follows.Lists.{has_left, not_left, left_not_waiting}
 use Rattle.lock_model.proofs.machine.state.Machine.leave_list.Goals as goal
 
 pub returns-then-waits_at : goal.returns-then-waits_at

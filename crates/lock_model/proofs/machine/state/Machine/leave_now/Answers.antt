@@ -4,9 +4,9 @@ use Rattle.lock_table.specs.Content.{Content}
 use Rattle.lock_table.specs.PartView.{PartView, content_of}
 use Rattle.lock_table.specs.Queue.{waits_there, Wakes, remove_wait}
 use Rattle.lock_model.specs.Shows.{names_in}
-use Rattle.lock_model.proofs.Shows.Hands.{names_in-granted}
-use Rattle.lock_model.proofs.Shows.Places.{partition_read}
-use Rattle.lock_model.proofs.Follows.Waits.Clears.{left}
+use Rattle.lock_model.proofs.Lemmas.Shows.Hands.{names_in-granted}
+use Rattle.lock_model.proofs.Lemmas.Shows.Places.{partition_read}
+use Rattle.lock_model.proofs.Lemmas.Follows.Waits.Clears.{left}
 use Rattle.lock_model.proofs.machine.state.Machine.leave_now.Goals as goal
 
 pub returns : goal.returns

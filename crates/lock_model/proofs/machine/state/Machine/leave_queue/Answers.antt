@@ -5,9 +5,9 @@ use Rattle.lock_table.specs.declared.moves.Move.TheVariants.{Leave}
 use Rattle.lock_table.specs.PartView.{PartView, content_of}
 use Rattle.lock_table.specs.Queue.{waits_there}
 use Rattle.lock_model.specs.Shows.{hand_of}
-use Rattle.lock_model.proofs.Shows.Places.{partition_read}
-use Rattle.lock_model.proofs.Shows.Hands.{made_is, is_made, some_made, none_made}
-use Rattle.lock_model.proofs.Follows.Waits.Clears.{left_before, leave_without_hand, leave_after_move, leave_of_nothing}
+use Rattle.lock_model.proofs.Lemmas.Shows.Places.{partition_read}
+use Rattle.lock_model.proofs.Lemmas.Shows.Hands.{made_is, is_made, some_made, none_made}
+use Rattle.lock_model.proofs.Lemmas.Follows.Waits.Clears.{left_before, leave_without_hand, leave_after_move, leave_of_nothing}
 use Rattle.lock_model.proofs.machine.state.Machine.leave_queue.Goals as goal
 use Rattle.lock_model.proofs.machine.state.Machine.leave_queue.Goals.{else-has_made-via-then-has_made+else-not-waits, else-has_made-via-else-has_made}
 

@@ -1,5 +1,5 @@
 use Rattle.std.proofs.Common.{◌≡◌, sym, ◌∙◌, arith}
-use Rattle.lock_model.proofs.Follows.Lists.{has_seen_none, has_seen_else}
+use Rattle.lock_model.proofs.Lemmas.Follows.Lists.{has_seen_none, has_seen_else}
 use Rattle.lock_model.proofs.machine.state.Machine.load_sleep.Goals as goal
 
 pub returns-then-sees_no_sleep : goal.returns-then-sees_no_sleep

@@ -1,5 +1,5 @@
 use Rattle.std.proofs.Common.{◌≡◌, sym, ◌∙◌, arith}
-use Rattle.lock_model.proofs.Follows.Counters.{has_read_zero, has_read_else}
+use Rattle.lock_model.proofs.Lemmas.Follows.Counters.{has_read_zero, has_read_else}
 use Rattle.lock_model.proofs.machine.state.Machine.load_strong.Goals as goal
 
 pub returns-then-reads_zero : goal.returns-then-reads_zero

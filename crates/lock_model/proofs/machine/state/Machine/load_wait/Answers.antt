@@ -1,5 +1,5 @@
 use Rattle.std.proofs.Common.{◌≡◌, ◌<◌, length, get_or, sym, ap, ◌∙◌, arith}
-use Rattle.lock_model.proofs.Follows.Waits.Asks.{was_seen, was_loaded, load_refused, load_of_another}
+use Rattle.lock_model.proofs.Lemmas.Follows.Waits.Asks.{was_seen, was_loaded, load_refused, load_of_another}
 use Rattle.lock_model.proofs.machine.state.Machine.load_wait.Goals as goal
 use Rattle.lock_model.proofs.machine.state.Machine.load_wait.Goals.{else-makes_steps-via-then-makes_steps+then-shown-self+else-shown-eq2, else-makes_steps-via-then-makes_steps+else-shown-self, else-makes_steps-via-else-makes_steps}
 

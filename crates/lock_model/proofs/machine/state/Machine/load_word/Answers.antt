@@ -1,4 +1,4 @@
-use Rattle.lock_model.proofs.Follows.SlotSteps.{word_loaded}
+use Rattle.lock_model.proofs.Lemmas.Follows.SlotSteps.{word_loaded}
 use Rattle.lock_model.proofs.machine.state.Machine.load_word.Goals as goal
 
 pub returns : goal.returns

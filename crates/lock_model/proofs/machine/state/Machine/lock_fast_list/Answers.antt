@@ -1,7 +1,7 @@
 use Rattle.std.proofs.Common.{◌≡◌, sym, ◌∙◌, arith}
-use Rattle.lock_model.proofs.Follows.Beyond.{locking-beyond}
-use Rattle.lock_model.proofs.Follows.ListWords.{locked_fast_list}
-use Rattle.lock_model.proofs.Shows.Looks.{fast_word_from}
+use Rattle.lock_model.proofs.Lemmas.Follows.Beyond.{locking-beyond}
+use Rattle.lock_model.proofs.Lemmas.Follows.ListWords.{locked_fast_list}
+use Rattle.lock_model.proofs.Lemmas.Shows.Looks.{fast_word_from}
 use Rattle.lock_model.proofs.machine.state.Machine.lock_fast_list.Goals as goal
 
 pub returns-in-Some : goal.returns-in-Some

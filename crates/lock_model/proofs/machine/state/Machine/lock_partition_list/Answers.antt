@@ -1,6 +1,6 @@
 use Rattle.std.proofs.Common.{◌≡◌, sym, ◌∙◌, arith}
-use Rattle.lock_model.proofs.Follows.ListWords.{locked_partition_list}
-use Rattle.lock_model.proofs.Shows.Looks.{partition_word_from}
+use Rattle.lock_model.proofs.Lemmas.Follows.ListWords.{locked_partition_list}
+use Rattle.lock_model.proofs.Lemmas.Shows.Looks.{partition_word_from}
 use Rattle.lock_model.proofs.machine.state.Machine.lock_partition_list.Goals as goal
 
 pub returns-in-Some : goal.returns-in-Some

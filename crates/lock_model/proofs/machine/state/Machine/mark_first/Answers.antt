@@ -2,7 +2,7 @@ use Rattle.std.proofs.Common.{IfSome, get_or, None, sym, ap, ◌∙◌, subst}
 use Rattle.lock_model.specs.MovedPart.{IsMoved}
 use Rattle.lock_table.specs.Parts.{part_at}
 use Rattle.lock_model.specs.Shows.{IsOwnFor, names_in}
-use Rattle.lock_model.proofs.Follows.Waits.Marks.{Marks, mark_first, mark_not_woken, mark_by_no_move}
+use Rattle.lock_model.proofs.Lemmas.Follows.Waits.Marks.{Marks, mark_first, mark_not_woken, mark_by_no_move}
 use Rattle.lock_model.proofs.machine.state.Machine.mark_first.Goals as goal
 
 pub returns-in_default : goal.returns-in_default

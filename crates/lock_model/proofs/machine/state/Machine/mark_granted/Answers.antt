@@ -3,8 +3,8 @@ use Rattle.std.proofs.lemmas.Bool.{eqb-true}
 use Rattle.lock_table.specs.declared.moves.Move.TheVariants.{Release, Leave}
 use Rattle.lock_world.specs.declared.events.Step.TheVariants.{MarkGranted}
 use Rattle.lock_model.specs.Shows.{FollowsMarking}
-use Rattle.lock_model.proofs.Follows.Skipped.{skipped}
-use Rattle.lock_model.proofs.Follows.Waits.Marks.{may_mark_from}
+use Rattle.lock_model.proofs.Lemmas.Follows.Skipped.{skipped}
+use Rattle.lock_model.proofs.Lemmas.Follows.Waits.Marks.{may_mark_from}
 use Rattle.lock_model.proofs.machine.state.Machine.mark_granted.Goals as goal
 use Rattle.lock_model.proofs.machine.state.Machine.mark_granted.Goals.{then-eq-via-then-eq, then-eq-via-else-eq+then-self-from-ne1}
 

@@ -1,7 +1,7 @@
 use Rattle.std.proofs.Common.{◌∙◌, sym, inl, inr, subst}
-use Rattle.lock_table.proofs.MoveTests.{move_eq-refl}
-use Rattle.lock_model.proofs.Shows.Hands.{made_is, another_made, some_made}
-use Rattle.lock_model.proofs.Follows.Waits.Marks.{Marks, mark_without_hand, mark_of_another, mark_next}
+use Rattle.lock_table.proofs.Lemmas.MoveTests.{move_eq-refl}
+use Rattle.lock_model.proofs.Lemmas.Shows.Hands.{made_is, another_made, some_made}
+use Rattle.lock_model.proofs.Lemmas.Follows.Waits.Marks.{Marks, mark_without_hand, mark_of_another, mark_next}
 use Rattle.lock_model.proofs.machine.state.Machine.mark_in.Goals as goal
 use Rattle.lock_model.proofs.machine.state.Machine.mark_in.Goals.{else-has_made-via-then-has_made+else-is_unmarked, else-has_made-via-else-has_made}
 

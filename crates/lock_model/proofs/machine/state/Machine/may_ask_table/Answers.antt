@@ -3,7 +3,7 @@ use Rattle.std.proofs.lemmas.List.{get_or_default}
 use Rattle.modes_core.specs.Tag.{partition_of}
 use Rattle.lock_table.specs.PartView.{holds_in}
 use Rattle.lock_table.specs.Parts.{no_part, part_at}
-use Rattle.lock_table.proofs.ListLemmas.{not_there_none}
+use Rattle.lock_table.proofs.Lemmas.Lists.{not_there_none}
 use Rattle.lock_model.proofs.machine.state.Machine.may_ask_table.Goals as goal
 
 pub returns-then-is_none : goal.returns-then-is_none

@@ -1,6 +1,6 @@
 use Rattle.std.proofs.Common.{refl, ap, replicate}
-use Rattle.lock_table.proofs.PartLemmas.{AreEmptyParts-at}
-use Rattle.lock_model.proofs.Shows.Runs.{opening-shown}
+use Rattle.lock_table.proofs.Lemmas.Parts.{AreEmptyParts-at}
+use Rattle.lock_model.proofs.Lemmas.Shows.Runs.{opening-shown}
 use Rattle.lock_model.proofs.machine.state.Machine.new.Goals as goal
 
 pub returns : goal.returns

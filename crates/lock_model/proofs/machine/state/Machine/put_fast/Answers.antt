@@ -1,10 +1,10 @@
 use Rattle.std.proofs.Common.{◌≡◌, ◌≢◌, sym, ◌∙◌, arith}
 use Rattle.lock_table.specs.declared.moves.Move.TheVariants.{Keep}
-use Rattle.lock_table.proofs.MoveTests.{move_eq-same}
-use Rattle.lock_model.proofs.Follows.Beyond.{putting-beyond}
-use Rattle.lock_model.proofs.Follows.Slots.{was_put_fast, was_put_own}
-use Rattle.lock_model.proofs.Shows.Looks.{fast_word_from}
-use Rattle.lock_model.proofs.Shows.Places.{mark_read}
+use Rattle.lock_table.proofs.Lemmas.MoveTests.{move_eq-same}
+use Rattle.lock_model.proofs.Lemmas.Follows.Beyond.{putting-beyond}
+use Rattle.lock_model.proofs.Lemmas.Follows.Slots.{was_put_fast, was_put_own}
+use Rattle.lock_model.proofs.Lemmas.Shows.Looks.{fast_word_from}
+use Rattle.lock_model.proofs.Lemmas.Shows.Places.{mark_read}
 use Rattle.lock_model.proofs.machine.state.Machine.put_fast.Goals as goal
 
 pub returns-then-index-whose : goal.returns-then-index-whose

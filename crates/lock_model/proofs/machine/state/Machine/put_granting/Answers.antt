@@ -12,15 +12,15 @@ use Rattle.lock_table.specs.PartView.{content_of}
 use Rattle.lock_table.specs.Parts.{contents_in}
 use Rattle.lock_table.specs.declared.answering.Answer.TheVariants.{Granted}
 use Rattle.lock_table.specs.Queue.{awaits_mode, WaitingAnswer}
-use Rattle.lock_table.proofs.OneAnswer.{waiting_answer-one}
+use Rattle.lock_table.proofs.Lemmas.OneAnswer.{waiting_answer-one}
 use Rattle.lock_world.specs.World.{World}
 use Rattle.lock_world.specs.Happens.{Next}
 use Rattle.lock_model.specs.Shows.{Shows}
-use Rattle.lock_model.proofs.Follows.Skipped.{skipped}
-use Rattle.lock_model.proofs.Follows.Partitions.{granted, granting, exists_from}
-use Rattle.lock_model.proofs.Shows.Looks.{asks_new, awaits_not_here}
-use Rattle.lock_model.proofs.Shows.Places.{part_read}
-use Rattle.lock_model.proofs.Shows.Changes.{changed_there}
+use Rattle.lock_model.proofs.Lemmas.Follows.Skipped.{skipped}
+use Rattle.lock_model.proofs.Lemmas.Follows.Partitions.{granted, granting, exists_from}
+use Rattle.lock_model.proofs.Lemmas.Shows.Looks.{asks_new, awaits_not_here}
+use Rattle.lock_model.proofs.Lemmas.Shows.Places.{part_read}
+use Rattle.lock_model.proofs.Lemmas.Shows.Changes.{changed_there}
 use Rattle.lock_model.proofs.machine.state.Machine.put_granting.Goals as goal
 use Rattle.lock_model.proofs.machine.state.Machine.put_granting.Goals.{then-partition-via-then-partition, then-partition-via-else-partition+then-not-may_ask}
 

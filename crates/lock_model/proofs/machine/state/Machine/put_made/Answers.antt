@@ -7,7 +7,7 @@ use Rattle.lock_world.specs.World.{World}
 use Rattle.lock_world.specs.Happens.{Next}
 use Rattle.lock_world.specs.Happens.Partitions.{IsMadeByPutting}
 use Rattle.lock_model.specs.Shows.{Shows}
-use Rattle.lock_model.proofs.Follows.Partitions.{kept, not_put, exists_from}
+use Rattle.lock_model.proofs.Lemmas.Follows.Partitions.{kept, not_put, exists_from}
 use Rattle.lock_model.proofs.machine.state.Machine.put_made.Goals as goal
 
 pub set_free-requires : goal.set_free-requires

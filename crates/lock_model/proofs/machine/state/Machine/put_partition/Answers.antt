@@ -6,10 +6,10 @@ use Rattle.lock_world.specs.declared.events.Word.TheVariants.{Partition}
 use Rattle.lock_world.specs.World.{World}
 use Rattle.lock_world.specs.Happens.{Next}
 use Rattle.lock_model.specs.Shows.{Shows}
-use Rattle.lock_model.proofs.Follows.Skipped.{skipped}
-use Rattle.lock_model.proofs.Follows.Partitions.{recorded_put, not_in_hand, only_recorded}
-use Rattle.lock_model.proofs.Shows.Hands.{made_is, is_made, some_made}
-use Rattle.lock_model.proofs.Shows.Looks.{hand_from}
+use Rattle.lock_model.proofs.Lemmas.Follows.Skipped.{skipped}
+use Rattle.lock_model.proofs.Lemmas.Follows.Partitions.{recorded_put, not_in_hand, only_recorded}
+use Rattle.lock_model.proofs.Lemmas.Shows.Hands.{made_is, is_made, some_made}
+use Rattle.lock_model.proofs.Lemmas.Shows.Looks.{hand_from}
 use Rattle.lock_model.proofs.machine.state.Machine.put_partition.Goals as goal
 use Rattle.lock_model.proofs.machine.state.Machine.put_partition.Goals.{else-has_made-via-then-has_made+then-none_unmarked+else-is_over, else-has_made-via-then-has_made+else-none_unmarked, else-has_made-via-else-has_made}
 

@@ -7,8 +7,8 @@ use Rattle.lock_world.specs.declared.events.Step.TheVariants.{PutPassing}
 use Rattle.lock_world.specs.World.{World}
 use Rattle.lock_world.specs.Happens.{Next}
 use Rattle.lock_model.specs.Shows.{Shows}
-use Rattle.lock_model.proofs.Follows.Beyond.{passing-beyond}
-use Rattle.lock_model.proofs.Follows.Counters.{has_passed, not_passed}
+use Rattle.lock_model.proofs.Lemmas.Follows.Beyond.{passing-beyond}
+use Rattle.lock_model.proofs.Lemmas.Follows.Counters.{has_passed, not_passed}
 use Rattle.lock_model.proofs.machine.state.Machine.put_passing.Goals as goal
 
 pub returns-then-may_pass : goal.returns-then-may_pass

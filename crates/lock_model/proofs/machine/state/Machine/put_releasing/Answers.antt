@@ -17,9 +17,9 @@ use Rattle.lock_table.specs.Waiter.{whose_and_mode}
 use Rattle.lock_world.specs.World.{World}
 use Rattle.lock_world.specs.Happens.{Next}
 use Rattle.lock_model.specs.Shows.{Shows, IsOwnFor}
-use Rattle.lock_model.proofs.Follows.Skipped.{skipped}
-use Rattle.lock_model.proofs.Follows.Partitions.{released, releasing, release_wakes, exists_from}
-use Rattle.lock_model.proofs.Shows.Changes.{changed_there}
+use Rattle.lock_model.proofs.Lemmas.Follows.Skipped.{skipped}
+use Rattle.lock_model.proofs.Lemmas.Follows.Partitions.{released, releasing, release_wakes, exists_from}
+use Rattle.lock_model.proofs.Lemmas.Shows.Changes.{changed_there}
 use Rattle.lock_model.proofs.machine.state.Machine.put_releasing.Goals as goal
 
 pub returns-in_default : goal.returns-in_default

@@ -5,10 +5,10 @@ use Rattle.lock_world.specs.declared.events.Step.TheVariants.{SetHasWaiters}
 use Rattle.lock_world.specs.declared.events.Word.TheVariants.{Fast}
 use Rattle.lock_world.specs.WaitLists.{fast_lock}
 use Rattle.lock_model.specs.ListWords.{has_list}
-use Rattle.lock_model.proofs.Follows.Beyond.{has_waiters-beyond}
-use Rattle.lock_model.proofs.Follows.Skipped.{skipped}
-use Rattle.lock_model.proofs.Follows.ListWords.{has_waiters_in_fast, not_its_word, has_not}
-use Rattle.lock_model.proofs.Shows.Looks.{fast_word_from}
+use Rattle.lock_model.proofs.Lemmas.Follows.Beyond.{has_waiters-beyond}
+use Rattle.lock_model.proofs.Lemmas.Follows.Skipped.{skipped}
+use Rattle.lock_model.proofs.Lemmas.Follows.ListWords.{has_waiters_in_fast, not_its_word, has_not}
+use Rattle.lock_model.proofs.Lemmas.Shows.Looks.{fast_word_from}
 use Rattle.lock_model.proofs.machine.state.Machine.set_fast_has_waiters.Goals as goal
 use Rattle.lock_model.proofs.machine.state.Machine.set_fast_has_waiters.Goals.{else-has_list-via-then-has_list+else-shown-number, else-has_list-via-else-has_list}
 

@@ -3,10 +3,10 @@ use Rattle.std.proofs.lemmas.List.{get_or_default}
 use Rattle.lw_word.specs.LockState.{word_of}
 use Rattle.lock_world.specs.declared.events.Step.TheVariants.{SetReleaseOk}
 use Rattle.lock_world.specs.declared.events.Word.TheVariants.{Fast}
-use Rattle.lock_model.proofs.Follows.Beyond.{release_ok-beyond}
-use Rattle.lock_model.proofs.Follows.Skipped.{skipped}
-use Rattle.lock_model.proofs.Follows.ListWords.{release_ok_in_fast, not_its_word}
-use Rattle.lock_model.proofs.Shows.Looks.{steps_not, fast_word_from}
+use Rattle.lock_model.proofs.Lemmas.Follows.Beyond.{release_ok-beyond}
+use Rattle.lock_model.proofs.Lemmas.Follows.Skipped.{skipped}
+use Rattle.lock_model.proofs.Lemmas.Follows.ListWords.{release_ok_in_fast, not_its_word}
+use Rattle.lock_model.proofs.Lemmas.Shows.Looks.{steps_not, fast_word_from}
 use Rattle.lock_model.proofs.machine.state.Machine.set_fast_release_ok.Goals as goal
 use Rattle.lock_model.proofs.machine.state.Machine.set_fast_release_ok.Goals.{else-makes_steps-via-then-makes_steps+else-shown-number, else-makes_steps-via-else-makes_steps}
 

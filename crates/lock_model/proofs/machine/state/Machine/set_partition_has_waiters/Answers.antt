@@ -4,9 +4,9 @@ use Rattle.lw_word.specs.LockState.{word_of}
 use Rattle.lock_world.specs.declared.events.Step.TheVariants.{SetHasWaiters}
 use Rattle.lock_world.specs.declared.events.Word.TheVariants.{Partition}
 use Rattle.lock_world.specs.WaitLists.{partition_lock}
-use Rattle.lock_model.proofs.Follows.Skipped.{skipped}
-use Rattle.lock_model.proofs.Follows.ListWords.{has_waiters_in_partition, not_its_word, has_not, no_such_list}
-use Rattle.lock_model.proofs.Shows.Looks.{partition_word_from}
+use Rattle.lock_model.proofs.Lemmas.Follows.Skipped.{skipped}
+use Rattle.lock_model.proofs.Lemmas.Follows.ListWords.{has_waiters_in_partition, not_its_word, has_not, no_such_list}
+use Rattle.lock_model.proofs.Lemmas.Shows.Looks.{partition_word_from}
 use Rattle.lock_model.proofs.machine.state.Machine.set_partition_has_waiters.Goals as goal
 use Rattle.lock_model.proofs.machine.state.Machine.set_partition_has_waiters.Goals.{else-index-lt16-via-then-index-lt16+then-has_list+else-shown-number, else-index-lt16-via-then-index-lt16+else-has_list, else-index-lt16-via-else-index-lt16}
 

@@ -3,9 +3,9 @@ use Rattle.std.proofs.lemmas.List.{get_or_default}
 use Rattle.lw_word.specs.LockState.{word_of}
 use Rattle.lock_world.specs.declared.events.Step.TheVariants.{SetReleaseOk}
 use Rattle.lock_world.specs.declared.events.Word.TheVariants.{Partition}
-use Rattle.lock_model.proofs.Follows.Skipped.{skipped}
-use Rattle.lock_model.proofs.Follows.ListWords.{release_ok_in_partition, not_its_word}
-use Rattle.lock_model.proofs.Shows.Looks.{steps_not, partition_word_from}
+use Rattle.lock_model.proofs.Lemmas.Follows.Skipped.{skipped}
+use Rattle.lock_model.proofs.Lemmas.Follows.ListWords.{release_ok_in_partition, not_its_word}
+use Rattle.lock_model.proofs.Lemmas.Shows.Looks.{steps_not, partition_word_from}
 use Rattle.lock_model.proofs.machine.state.Machine.set_partition_release_ok.Goals as goal
 use Rattle.lock_model.proofs.machine.state.Machine.set_partition_release_ok.Goals.{else-index-lt16-via-then-index-lt16+then-makes_steps+else-shown-number, else-index-lt16-via-then-index-lt16+else-makes_steps, else-index-lt16-via-else-index-lt16}
 

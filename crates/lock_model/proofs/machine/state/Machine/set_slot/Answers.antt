@@ -2,7 +2,7 @@ use Rattle.std.proofs.Common.{◌≡◌, ◌<◌, ◌^◌, true, length, get_or,
 use Rattle.lw_word.specs.SlotWord.{in_use, relation_in, word_with}
 use Rattle.lock_world.specs.SlotHolds.{relation_of}
 use Rattle.lock_model.specs.SlotLooks.{slots_at, may_set_slot}
-use Rattle.lock_model.proofs.Follows.SlotSteps.{set_is_eligible, set_takes, set_within, slot_read, slot_was_set, slot_not_set}
+use Rattle.lock_model.proofs.Lemmas.Follows.SlotSteps.{set_is_eligible, set_takes, set_within, slot_read, slot_was_set, slot_not_set}
 use Rattle.lock_model.proofs.machine.state.Machine.set_slot.Goals as goal
 
 pub with-requires-clause-slot_mode : goal.with-requires-clause-slot_mode

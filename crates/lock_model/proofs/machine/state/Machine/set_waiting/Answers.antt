@@ -3,9 +3,9 @@ use Rattle.modes_core.specs.Tag.{partition_of}
 use Rattle.lock_table.specs.PartView.{content_of}
 use Rattle.lock_table.specs.Queue.{WaitingAnswer}
 use Rattle.lock_model.specs.Shows.{hand_of}
-use Rattle.lock_model.proofs.Shows.Places.{part_read}
-use Rattle.lock_model.proofs.Shows.Looks.{asks_new}
-use Rattle.lock_model.proofs.Follows.Waits.Joins.{join_without_hand, join_after_move, join_may_not, join_not_counted, join_not_answered}
+use Rattle.lock_model.proofs.Lemmas.Shows.Places.{part_read}
+use Rattle.lock_model.proofs.Lemmas.Shows.Looks.{asks_new}
+use Rattle.lock_model.proofs.Lemmas.Follows.Waits.Joins.{join_without_hand, join_after_move, join_may_not, join_not_counted, join_not_answered}
 use Rattle.lock_model.proofs.machine.state.Machine.set_waiting.Goals as goal
 use Rattle.lock_model.proofs.machine.state.Machine.set_waiting.Goals.{then-is_some-via-then-is_some, then-is_some-via-else-is_some+then-not-may_ask, then-is_some-via-else-is_some+else-not-may_ask+then-not-is_counted_for}
 

@@ -1,8 +1,8 @@
 use Rattle.std.proofs.Common.{◌≡◌, sym, ◌∙◌, arith}
-use Rattle.lock_model.proofs.Follows.Beyond.{sharing-beyond}
-use Rattle.lock_model.proofs.Follows.Sharing.{shared_fast, not_shared_fast}
-use Rattle.lock_model.proofs.Shows.Looks.{fast_word_from}
-use Rattle.lock_model.proofs.Shows.Places.{mark_read}
+use Rattle.lock_model.proofs.Lemmas.Follows.Beyond.{sharing-beyond}
+use Rattle.lock_model.proofs.Lemmas.Follows.Sharing.{shared_fast, not_shared_fast}
+use Rattle.lock_model.proofs.Lemmas.Shows.Looks.{fast_word_from}
+use Rattle.lock_model.proofs.Lemmas.Shows.Places.{mark_read}
 use Rattle.lock_model.proofs.machine.state.Machine.share_fast.Goals as goal
 
 pub returns-in-Some : goal.returns-in-Some

@@ -1,7 +1,7 @@
 use Rattle.std.proofs.Common.{◌≡◌, sym, ◌∙◌, arith}
-use Rattle.lock_model.proofs.Follows.Sharing.{shared_partition, not_shared_partition}
-use Rattle.lock_model.proofs.Shows.Looks.{partition_word_from}
-use Rattle.lock_model.proofs.Shows.Places.{mark_read}
+use Rattle.lock_model.proofs.Lemmas.Follows.Sharing.{shared_partition, not_shared_partition}
+use Rattle.lock_model.proofs.Lemmas.Shows.Looks.{partition_word_from}
+use Rattle.lock_model.proofs.Lemmas.Shows.Places.{mark_read}
 use Rattle.lock_model.proofs.machine.state.Machine.share_partition.Goals as goal
 
 pub returns-in-Some : goal.returns-in-Some

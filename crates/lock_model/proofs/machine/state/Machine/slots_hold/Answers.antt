@@ -4,7 +4,7 @@ use Rattle.std.specs.List.{list_any}
 use Rattle.lw_word.specs.SlotWord.{shows}
 use Rattle.modes_core.specs.Tag.{is_eligible_for}
 use Rattle.lock_world.specs.SlotHolds.{relation_of, any_below}
-use Rattle.lock_model.proofs.Shows.SlotLists.{any_slot-listed}
+use Rattle.lock_model.proofs.Lemmas.Shows.SlotLists.{any_slot-listed}
 use Rattle.lock_model.proofs.machine.state.Machine.slots_hold.Goals as goal
 
 pub returns-then-is_eligible : goal.returns-then-is_eligible

@@ -1,6 +1,6 @@
 use Rattle.std.proofs.Common.{◌≡◌, ◌<◌, length, get_or, is_some, sym, ap, ◌∙◌, arith}
-use Rattle.lock_table.proofs.ListLemmas.{some_at}
-use Rattle.lock_model.proofs.Follows.Seats.{was_issued, went_on}
+use Rattle.lock_table.proofs.Lemmas.Lists.{some_at}
+use Rattle.lock_model.proofs.Lemmas.Follows.Seats.{was_issued, went_on}
 use Rattle.lock_model.proofs.machine.state.Machine.split_seat.Goals as goal
 
 pub returns-then-number-self : goal.returns-then-number-self

@@ -1,5 +1,5 @@
 use Rattle.std.proofs.Common.{arith}
-use Rattle.lock_model.proofs.Follows.Beyond.{step-beyond}
+use Rattle.lock_model.proofs.Lemmas.Follows.Beyond.{step-beyond}
 use Rattle.lock_model.proofs.machine.state.Machine.step.Goals as goal
 
 pub returns-in-PutExclusive : goal.returns-in-PutExclusive

@@ -1,5 +1,5 @@
 use Rattle.std.proofs.Common.{◌≡◌, sym, ◌∙◌, arith}
-use Rattle.lock_model.proofs.Follows.SlotSteps.{database_was_stored, database_not_stored}
+use Rattle.lock_model.proofs.Lemmas.Follows.SlotSteps.{database_was_stored, database_not_stored}
 use Rattle.lock_model.proofs.machine.state.Machine.store_database.Goals as goal
 
 pub returns-then-may_store_database : goal.returns-then-may_store_database

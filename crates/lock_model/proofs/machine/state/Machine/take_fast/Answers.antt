@@ -1,7 +1,7 @@
 use Rattle.std.proofs.Common.{◌≡◌, sym, ◌∙◌, arith}
-use Rattle.lock_model.proofs.Follows.Beyond.{taking-beyond}
-use Rattle.lock_model.proofs.Follows.Slots.{taken_fast}
-use Rattle.lock_model.proofs.Shows.Looks.{fast_word_from}
+use Rattle.lock_model.proofs.Lemmas.Follows.Beyond.{taking-beyond}
+use Rattle.lock_model.proofs.Lemmas.Follows.Slots.{taken_fast}
+use Rattle.lock_model.proofs.Lemmas.Shows.Looks.{fast_word_from}
 use Rattle.lock_model.proofs.machine.state.Machine.take_fast.Goals as goal
 
 pub returns-in-Some : goal.returns-in-Some

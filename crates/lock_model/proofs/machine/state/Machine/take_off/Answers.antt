@@ -1,8 +1,8 @@
 use Rattle.std.proofs.Common.{◌≡◌, ◌≢◌, sym, ◌∙◌, arith}
 use Rattle.std.proofs.lemmas.Bool.{eqb-true, eqb-false}
 use Rattle.lock_model.specs.declared.machine.state.Lists.{Lists}
-use Rattle.lock_model.proofs.Follows.Beyond.{taking_off-beyond}
-use Rattle.lock_model.proofs.Follows.Lists.{was_taken_off, not_another, not_taken_off, taken_off_not_waiting}
+use Rattle.lock_model.proofs.Lemmas.Follows.Beyond.{taking_off-beyond}
+use Rattle.lock_model.proofs.Lemmas.Follows.Lists.{was_taken_off, not_another, not_taken_off, taken_off_not_waiting}
 use Rattle.lock_model.proofs.machine.state.Machine.take_off.Goals as goal
 
 pub returns-then-waits_at : goal.returns-then-waits_at

@@ -1,7 +1,7 @@
 use Rattle.std.proofs.Common.{false, sym, arith}
-use Rattle.lock_model.proofs.Follows.Partitions.{taken}
-use Rattle.lock_model.proofs.Shows.Looks.{partition_word_from}
-use Rattle.lock_model.proofs.Shows.Places.{get_or-one_value}
+use Rattle.lock_model.proofs.Lemmas.Follows.Partitions.{taken}
+use Rattle.lock_model.proofs.Lemmas.Shows.Looks.{partition_word_from}
+use Rattle.lock_model.proofs.Lemmas.Shows.Places.{get_or-one_value}
 use Rattle.lock_model.proofs.machine.state.Machine.take_partition.Goals as goal
 
 pub returns-in-Some : goal.returns-in-Some

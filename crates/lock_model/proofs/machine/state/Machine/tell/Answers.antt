@@ -1,6 +1,6 @@
 use Rattle.std.proofs.Common.{◌≡◌, sym, ◌∙◌, arith}
-use Rattle.lock_model.proofs.Follows.Beyond.{telling-beyond}
-use Rattle.lock_model.proofs.Follows.Lists.{was_told, not_told}
+use Rattle.lock_model.proofs.Lemmas.Follows.Beyond.{telling-beyond}
+use Rattle.lock_model.proofs.Lemmas.Follows.Lists.{was_told, not_told}
 use Rattle.lock_model.proofs.machine.state.Machine.tell.Goals as goal
 
 pub returns-then-may_tell : goal.returns-then-may_tell

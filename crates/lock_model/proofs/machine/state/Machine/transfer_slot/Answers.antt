@@ -14,10 +14,10 @@ use Rattle.lock_model.specs.Transfers.{may_adopt, may_transfer}
 use Rattle.lock_world.specs.declared.events.Step.TheVariants.{TransferSlot}
 use Rattle.lock_world.specs.World.{World}
 use Rattle.lock_world.specs.Happens.{Next}
-use Rattle.lock_model.proofs.Follows.Beyond.{transferring-beyond}
-use Rattle.lock_model.proofs.Shows.Places.{partition_read}
-use Rattle.lock_model.proofs.Follows.SlotSteps.{slot_read}
-use Rattle.lock_model.proofs.Follows.Transfers.{transfer_within, transfer_is_eligible, not_in_content, not_in_queue, was_transferred, transfer_without_hand, transfer_after_move, not_transferred, transfer_refused}
+use Rattle.lock_model.proofs.Lemmas.Follows.Beyond.{transferring-beyond}
+use Rattle.lock_model.proofs.Lemmas.Shows.Places.{partition_read}
+use Rattle.lock_model.proofs.Lemmas.Follows.SlotSteps.{slot_read}
+use Rattle.lock_model.proofs.Lemmas.Follows.Transfers.{transfer_within, transfer_is_eligible, not_in_content, not_in_queue, was_transferred, transfer_without_hand, transfer_after_move, not_transferred, transfer_refused}
 use Rattle.lock_model.proofs.machine.state.Machine.transfer_slot.Goals as goal
 use Rattle.lock_model.proofs.machine.state.Machine.transfer_slot.Goals.{then-not-may_adopt-via-then-not-may_adopt, then-not-may_adopt-via-else-not-may_adopt+then-not-may_transfer}
 

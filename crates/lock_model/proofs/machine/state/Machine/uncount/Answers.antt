@@ -1,6 +1,6 @@
 use Rattle.std.proofs.Common.{sym}
 use Rattle.lock_model.specs.declared.machine.state.Machine.{Machine}
-use Rattle.lock_model.proofs.Follows.Counters.{was_uncounted, not_uncounted}
+use Rattle.lock_model.proofs.Lemmas.Follows.Counters.{was_uncounted, not_uncounted}
 use Rattle.lock_model.proofs.machine.state.Machine.uncount.Goals as goal
 
 pub returns-then-may_uncount : goal.returns-then-may_uncount

@@ -1,8 +1,8 @@
 use Rattle.std.proofs.Common.{◌≡◌, ◌+◌, ◌*◌, sym, ap, ◌∙◌, arith}
 use Rattle.lock_model.specs.ListWords.{has_list}
-use Rattle.lock_model.proofs.Follows.Beyond.{unlocking-beyond}
-use Rattle.lock_model.proofs.Follows.ListWords.{unlocked_fast_list}
-use Rattle.lock_model.proofs.Shows.Looks.{fast_word_from}
+use Rattle.lock_model.proofs.Lemmas.Follows.Beyond.{unlocking-beyond}
+use Rattle.lock_model.proofs.Lemmas.Follows.ListWords.{unlocked_fast_list}
+use Rattle.lock_model.proofs.Lemmas.Shows.Looks.{fast_word_from}
 use Rattle.lock_model.proofs.machine.state.Machine.unlock_fast_list.Goals as goal
 
 pub returns-then-has_list : goal.returns-then-has_list

@@ -2,9 +2,9 @@ use Rattle.std.proofs.Common.{◌≡◌, sym, ◌∙◌, arith}
 use Rattle.lock_world.specs.declared.events.Step.TheVariants.{UnlockList}
 use Rattle.lock_world.specs.declared.events.Word.TheVariants.{Partition}
 use Rattle.lock_world.specs.WaitLists.{partition_lock}
-use Rattle.lock_model.proofs.Follows.Skipped.{skipped}
-use Rattle.lock_model.proofs.Follows.ListWords.{unlocked_partition_list, has_not, no_such_list}
-use Rattle.lock_model.proofs.Shows.Looks.{partition_word_from}
+use Rattle.lock_model.proofs.Lemmas.Follows.Skipped.{skipped}
+use Rattle.lock_model.proofs.Lemmas.Follows.ListWords.{unlocked_partition_list, has_not, no_such_list}
+use Rattle.lock_model.proofs.Lemmas.Shows.Looks.{partition_word_from}
 use Rattle.lock_model.proofs.machine.state.Machine.unlock_partition_list.Goals as goal
 use Rattle.lock_model.proofs.machine.state.Machine.unlock_partition_list.Goals.{else-index-lt16-via-then-index-lt16+else-has_list, else-index-lt16-via-else-index-lt16}
 

@@ -1,8 +1,8 @@
 use Rattle.std.proofs.Common.{◌≡◌, sym, ◌∙◌, arith}
-use Rattle.lock_model.proofs.Follows.Beyond.{unsharing-beyond}
-use Rattle.lock_model.proofs.Follows.Sharing.{unshared_fast}
-use Rattle.lock_model.proofs.Shows.Looks.{fast_word_from}
-use Rattle.lock_model.proofs.Shows.Places.{mark_read}
+use Rattle.lock_model.proofs.Lemmas.Follows.Beyond.{unsharing-beyond}
+use Rattle.lock_model.proofs.Lemmas.Follows.Sharing.{unshared_fast}
+use Rattle.lock_model.proofs.Lemmas.Shows.Looks.{fast_word_from}
+use Rattle.lock_model.proofs.Lemmas.Shows.Places.{mark_read}
 use Rattle.lock_model.proofs.machine.state.Machine.unshare_fast.Goals as goal
 
 pub returns-then-self-index : goal.returns-then-self-index

@@ -1,0 +1,19 @@
+-- The lemmas that proofs of several functions share.
+pub mod Loads
+pub mod GroupCounts
+pub mod Sights
+pub mod SightsForGrant
+pub mod GrantSlots
+pub mod Grants
+pub mod Releases
+pub mod Counts
+pub mod Shows
+pub mod Moves
+pub mod Adopts
+pub mod Turns
+pub mod Transfers
+pub mod Reads
+pub mod SlotRows
+pub mod Times
+pub mod LoadsAt
+pub mod Quiet

@@ -1,0 +1,3 @@
+-- The lemmas that proofs of several functions share.
+pub mod Leaving
+pub mod Putting

@@ -1,0 +1,19 @@
+-- The lemmas that proofs of several functions share.
+pub mod Slots
+pub mod Indexes
+pub mod OpenSlots
+pub mod Looks
+pub mod SlotSteps
+pub mod Ends
+pub mod Kept
+pub mod TableSteps
+pub mod EndSteps
+pub mod Owned
+pub mod NewEntries
+pub mod Entries
+pub mod Levels
+pub mod LevelRows
+pub mod LevelSteps
+pub mod LevelTables
+pub mod InnerSteps
+pub mod Rows

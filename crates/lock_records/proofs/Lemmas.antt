@@ -1,0 +1,22 @@
+-- The lemmas that proofs of several functions share.
+pub mod Tallies
+pub mod GrantedCounts
+pub mod Held
+pub mod Chains
+pub mod Steps
+pub mod ModeSets
+pub mod Taken
+pub mod Lowest
+pub mod Indexes
+pub mod Relocked
+pub mod Queues
+pub mod QueueWrites
+pub mod QueueRecords
+pub mod Objects
+pub mod Changes
+pub mod Parts
+pub mod Wakings
+pub mod Listings
+pub mod Counts
+pub mod Sessions
+pub mod Walks

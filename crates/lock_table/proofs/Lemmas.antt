@@ -1,0 +1,23 @@
+-- The lemmas that proofs of several functions share.
+pub mod Same
+pub mod HoldLists
+pub mod WaitLists
+pub mod Waking
+pub mod Holders
+pub mod Options
+pub mod Listing
+pub mod Put
+pub mod Totals
+pub mod Holds
+pub mod Queues
+pub mod QueuesOf
+pub mod OneAnswer
+pub mod Lists
+pub mod OneMove
+pub mod MoveTests
+pub mod QueueLaws
+pub mod Find
+pub mod Walk
+pub mod Places
+pub mod Parts
+pub mod PartitionRows

@@ -1,0 +1,10 @@
+-- The lemmas that proofs of several functions share.
+pub mod Deeds
+pub mod Numbers
+pub mod Hearing
+pub mod InTurn
+pub mod Lent
+pub mod Lines
+pub mod Playing
+pub mod Polling
+pub mod Printing

@@ -1,0 +1,3 @@
+-- The lemmas that proofs of several functions share.
+pub mod Hearing
+pub mod Words

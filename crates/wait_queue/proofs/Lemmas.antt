@@ -1,0 +1,4 @@
+-- The lemmas that proofs of several functions share.
+pub mod Decide
+pub mod Removal
+pub mod Blockers
